@@ -1,0 +1,3 @@
+pub mod Dated
+pub mod Names
+pub mod Refusals

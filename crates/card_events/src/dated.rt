@@ -1,0 +1,11 @@
+ghost use Rattle.std.specs.Prelude.{◌≡◌};
+ghost use Rattle.card_events.specs.Dated as spec;
+
+use card_days::Day;
+
+// Whether requests may have the day.
+pub fn is_request_day(day: Day) -> bool
+    ensures { result ≡ spec.is_request_day day }
+{
+    day.number() <= 47_481
+}

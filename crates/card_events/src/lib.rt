@@ -1,0 +1,15 @@
+//! Posts, requests and replies, and an account's history.
+#![tactic(auto)]
+
+mod dated;
+mod name;
+mod number;
+mod post;
+mod reply;
+mod request;
+
+pub use name::Name;
+pub use number::Num;
+pub use post::{Category, Finding, Place, PlanKind, Post, Terms};
+pub use reply::{Refusal, Reply};
+pub use request::{Request, Shared};
