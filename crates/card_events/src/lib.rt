@@ -2,12 +2,14 @@
 #![tactic(auto)]
 
 mod dated;
+mod kept;
 mod name;
 mod number;
 mod post;
 mod reply;
 mod request;
 
+pub use kept::{Kept, Slot};
 pub use name::Name;
 pub use number::Num;
 pub use post::{Category, Finding, Place, PlanKind, Post, Terms};
