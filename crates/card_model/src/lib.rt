@@ -1,13 +1,16 @@
-// A library with one function.
+//! The ledger's types, and the definitions of its fold: what each post, day and closing does to an account.
 #![tactic(auto)]
 
-ghost use Rattle.std.specs.Prelude.{◌≡◌};
-ghost use Rattle.card_model.specs.Echo.{echo_of};
+mod entry;
+mod fee;
+mod grace;
+mod holding;
+mod segment;
+mod task;
 
-// The `ensures` clause is the contract: what `echo` returns is `echo_of` of its argument, a definition
-// in `specs/Echo.antt`, which a caller's clause can cite too.
-pub fn echo(x: usize) -> usize
-    ensures { result ≡ echo_of x }
-{
-    x
-}
+pub use entry::{Entry, EntryKind, Note};
+pub use fee::{Fee, FeeKind};
+pub use grace::GraceCase;
+pub use holding::Holding;
+pub use segment::{Interval, Segment, Sort};
+pub use task::{Task, TaskKind};
