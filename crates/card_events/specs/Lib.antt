@@ -1,6 +1,7 @@
 pub mod Dated
 pub mod Days
 pub mod History
+pub mod Money
 pub mod Names
 pub mod Refusals
 pub mod Same

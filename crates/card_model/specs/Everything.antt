@@ -1,0 +1,20 @@
+-- All definitions of the ledger that a computed example unfolds: `unfolding everything` opens them.
+use Rattle.std.specs.Prelude.{⊤}
+use Rattle.card_events.specs.Days.{date_of, closing, due_after, is_due, credit_day, day_at, six_months_after, year_after}
+use Rattle.card_events.specs.History.{last_amend, confirmed, cents_of, effective_day, corrected_post, corrected_from}
+use Rattle.card_model.specs.Entries.{debit}
+use Rattle.card_model.specs.Segments.{segments}
+use Rattle.card_model.specs.Rates.{lowerings, capped, starts, rate_on}
+use Rattle.card_model.specs.Allocation.{best, paid_at, pay}
+use Rattle.card_model.specs.Payments.{counted, credited, met, paid, sixty_days_late}
+use Rattle.card_model.specs.Fees.{fee_for}
+use Rattle.card_model.specs.Caps.{row_for}
+use Rattle.card_model.specs.DueDates.{on_due}
+use Rattle.card_model.specs.Effects.{payment_parts, credit_parts, effect, after_posts}
+use Rattle.card_model.specs.Interest.{row, interest_sum, average_balance, accrual}
+use Rattle.card_model.specs.Closing.{post_interest, closing_interest, minimum_payment, grace_amount, close}
+use Rattle.card_model.specs.Folds.{day_after, book_after, book}
+
+unfoldable pub everything : ⊤
+unfolding date_of closing due_after is_due credit_day day_at six_months_after year_after last_amend confirmed cents_of effective_day corrected_post corrected_from debit segments lowerings capped starts rate_on best paid_at pay counted credited met paid sixty_days_late fee_for row_for on_due payment_parts credit_parts effect after_posts row interest_sum average_balance accrual post_interest closing_interest minimum_payment grace_amount close day_after book_after book
+everything = tt
