@@ -1,3 +1,4 @@
 pub mod Counts
 pub mod Dates
 pub mod DateFacts
+mod Examples
