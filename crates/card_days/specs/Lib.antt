@@ -1,1 +1,5 @@
 pub mod Range
+pub mod Civil
+pub mod Billing
+pub mod Business
+pub mod Later

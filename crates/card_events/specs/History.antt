@@ -3,9 +3,8 @@
 use Rattle.std.specs.Prelude.{ℕ, zero, suc, ◌+◌, ◌-◌, Bool, true, false, ◌==◌, if◌then◌else◌, max, unwrap_or, slice_get, List, [], ◌∷◌, Option, Some, None, pos}
 use Rattle.std.specs.List.{filter, sum_by}
 use Rattle.std.specs.Option.{option_or}
-use Rattle.card_days.specs.declared.channel.Channel.{Channel}
-use Rattle.card_days.specs.declared.channel.Channel.TheVariants as channel
-use Rattle.card_events.specs.Days.{Anchor, credit_day}
+use Rattle.card_days.specs.Business.{credit_day, is_mail}
+use Rattle.card_days.specs.declared.anchor.Anchor.{Anchor}
 use Rattle.card_events.specs.declared.kept.Kept.{Kept}
 use Rattle.card_events.specs.declared.kept.Slot.{Slot}
 use Rattle.card_events.specs.declared.post.Post.{Post}
@@ -95,10 +94,6 @@ cents_of history n (post.Amend _ _ cents) = cents
 cents_of history n _ = 0
 
 -- ---- effective days
-abbrev pub is_mail : Channel → Bool
-is_mail channel.Mail = true
-is_mail channel.Online = false
-
 -- the corrected day of a charge, and 0 for what is none
 abbrev pub charge_day : List Kept → ℕ → Option Kept → ℕ
 charge_day history n None = 0

@@ -1,5 +1,4 @@
 pub mod Dated
-pub mod Days
 pub mod History
 pub mod Money
 pub mod Names

@@ -1,7 +1,7 @@
 -- What a post does on its effective day (12 CFR 1026.10, .11(a), .13, .52(b), .53, .55(b)).
 use Rattle.std.specs.Prelude.{ℕ, zero, suc, ◌+◌, ◌-◌, Bool, true, false, ◌&&◌, ◌==◌, nat_le, nat_lt, if◌then◌else◌, min, unwrap_or, map, List, [], ◌∷◌, ◌++◌, Option, Some, None, ℤ, neg_ℤ}
 use Rattle.std.specs.List.{filter, find}
-use Rattle.card_events.specs.Days.{day_of_month, first_day}
+use Rattle.card_days.specs.Billing.{next_on}
 use Rattle.card_events.specs.History.{CorrectedPost}
 use Rattle.card_events.specs.declared.post.Place.{Place}
 use Rattle.card_events.specs.declared.post.Post.{Post}
@@ -22,7 +22,7 @@ use Rattle.card_model.specs.declared.holding.Holding.{Holding}
 -- ---- what a payment may reach
 -- the first closing on or after a day
 abbrev pub closing_from : Account → ℕ → ℕ
-closing_from a day = first_day (λ d. day_of_month d == a.anchor.close_day) 31 day
+closing_from a day = next_on a.anchor.close_day day
 
 -- the closing after that of a day's cycle
 abbrev pub second_closing : Account → ℕ → ℕ

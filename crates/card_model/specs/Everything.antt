@@ -1,7 +1,11 @@
 -- All definitions of the ledger that a computed example unfolds: `unfolding everything` opens them.
 use Rattle.std.specs.Prelude.{⊤}
-use Rattle.card_events.specs.Days.{date_of, closing, due_after, is_due, credit_day, day_at, six_months_after, year_after}
+use Rattle.card_days.specs.Civil.{days_before_year, days_of_months, day_at, year_of, date_in, date_of, date_text, first_day}
+use Rattle.card_days.specs.Billing.{closing, due_after, closings_among, cycle_of}
+use Rattle.card_days.specs.Business.{is_holiday, is_business, next_business, is_due, due_before, mail_day, credit_day, with_holiday}
+use Rattle.card_days.specs.Later.{clipped_day_at, six_months_on, year_on}
 use Rattle.card_events.specs.History.{last_amend, confirmed, cents_of, effective_day, corrected_post, corrected_from}
+use Rattle.card_events.specs.Same.{is_same_post}
 use Rattle.card_model.specs.Entries.{debit}
 use Rattle.card_model.specs.Segments.{segments}
 use Rattle.card_model.specs.Rates.{lowerings, capped, starts, rate_on}
@@ -16,5 +20,5 @@ use Rattle.card_model.specs.Closing.{post_interest, closing_interest, minimum_pa
 use Rattle.card_model.specs.Folds.{day_after, book_after, book}
 
 unfoldable pub everything : ⊤
-unfolding date_of closing due_after is_due credit_day day_at six_months_after year_after last_amend confirmed cents_of effective_day corrected_post corrected_from debit segments lowerings capped starts rate_on best paid_at pay counted credited met paid sixty_days_late fee_for row_for on_due payment_parts credit_parts effect after_posts row interest_sum average_balance accrual post_interest closing_interest minimum_payment grace_amount close day_after book_after book
+unfolding days_before_year days_of_months day_at year_of date_in date_of date_text first_day closing due_after closings_among cycle_of is_holiday is_business next_business is_due due_before mail_day credit_day with_holiday clipped_day_at six_months_on year_on last_amend confirmed cents_of effective_day corrected_post corrected_from is_same_post debit segments lowerings capped starts rate_on best paid_at pay counted credited met paid sixty_days_late fee_for row_for on_due payment_parts credit_parts effect after_posts row interest_sum average_balance accrual post_interest closing_interest minimum_payment grace_amount close day_after book_after book
 everything = tt

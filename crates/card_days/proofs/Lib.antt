@@ -1,0 +1,4 @@
+pub mod Counts
+pub mod Dates
+pub mod DateFacts
+mod Examples
