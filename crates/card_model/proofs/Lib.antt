@@ -1,0 +1,7 @@
+pub mod Balance
+pub mod Caps
+pub mod Grows
+pub mod Inert
+pub mod Past
+pub mod Posted
+pub mod Settled

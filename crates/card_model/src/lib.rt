@@ -5,6 +5,7 @@ mod entry;
 mod fee;
 mod grace;
 mod holding;
+pub mod laws;
 mod segment;
 mod task;
 

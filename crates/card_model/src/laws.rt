@@ -1,0 +1,23 @@
+//! Laws of the fold, for all lists of posts.
+ghost use Rattle.card_model.specs.Laws.{BalanceIdentity, CorrectionBack, IssuedCaps, PastIsEnough};
+
+/// The book of a day depends on the corrected posts and the fee rows up to that day alone.
+pub fn past_is_enough()
+    ensures { PastIsEnough }
+{}
+
+/// What is owed is the sum of all entries: charges, interest, fees, refunds and returned payments, less payments and
+/// credits. Holds sum to 0.
+pub fn balance_identity()
+    ensures { BalanceIdentity }
+{}
+
+/// In the book of every day, no cycle passes the interest, fees, minimum payment and grace amount that were issued.
+pub fn issued_caps()
+    ensures { IssuedCaps }
+{}
+
+/// A correction that the next post takes back leaves the book of every day as it was before both.
+pub fn correction_back()
+    ensures { CorrectionBack }
+{}
