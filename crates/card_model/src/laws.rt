@@ -1,5 +1,5 @@
 //! Laws of the fold, for all lists of posts.
-ghost use Rattle.card_model.specs.Laws.{BalanceIdentity, CorrectionBack, IssuedCaps, PastIsEnough};
+ghost use Rattle.card_model.specs.Laws.{BalanceIdentity, CorrectionBack, IssuedCaps, IssuingChangesNoPastDay, PastIsEnough};
 
 /// The book of a day depends on the corrected posts and the fee rows up to that day alone.
 pub fn past_is_enough()
@@ -20,4 +20,9 @@ pub fn issued_caps()
 /// A correction that the next post takes back leaves the book of every day as it was before both.
 pub fn correction_back()
     ensures { CorrectionBack }
+{}
+
+/// A Bill with the row that it adds changes the book of no day up to the day on which it was accepted.
+pub fn issuing_changes_no_past_day()
+    ensures { IssuingChangesNoPastDay }
 {}
