@@ -2,3 +2,5 @@ pub mod Counts
 pub mod Dates
 pub mod DateFacts
 mod Examples
+pub mod Months
+pub mod Cycles
