@@ -124,7 +124,7 @@ closing_late a h (suc k) late = by (cases_lt (first_month a + k) 25_236) (closin
 
 -- ---- due dates
 -- how many months after that of the closing
-pub due_shift : ℕ → ℕ
+unfoldable pub due_shift : ℕ → ℕ
 due_shift c = cond (nat_le c 4) 0 1
 
 due_day_by : (c : ℕ) (b : Bool) → nat_le c 4 ≡ b → 1 ≤ c → c ≤ 28 → (1 ≤ cond b (c + 24) (c - 4)) × (cond b (c + 24) (c - 4) ≤ 28)
@@ -254,3 +254,14 @@ after_closing a h day (suc r) low high e = by (cases_lt (closing a (suc r)) day)
       let bounds = month_from-bounds day a.close_day (omega (arith, h.first)) high in
       let none = first_day-below (λ d. eqb (day_of_month d) a.close_day) 31 day (closing a (suc r)) over (omega (arith, closing_grows a (suc r), later)) in
       absurd (false≢true (sym none ∙ eq-eqb _ _ (closing-day a h r (omega (arith, count, e, bounds.1)))))
+
+pub cycle_from_one : (a : Anchor) (day : ℕ) → 1 ≤ cycle_of a day
+unfolding cycle_of
+cycle_from_one a day = omega arith
+
+-- a cycle's number, in one piece with the closings around the day
+pub cycle_around : (a : Anchor) → IsAnchor a → (day k : ℕ) → a.opened ≤ day → day ≤ 48_576 → k ≡ cycle_of a day → (closing a (k - 1) < day) × (day ≤ closing a k)
+cycle_around a h day k low high e =
+    let one = cycle_from_one a day in
+    let back : suc (k - 1) ≡ k = omega arith in
+    (after_closing a h day (k - 1) low high (sym e ∙ sym back), subst (λ n. day ≤ closing a n) back (within_cycle a h day (k - 1) low high (sym e ∙ sym back)))

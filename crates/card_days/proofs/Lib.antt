@@ -4,3 +4,4 @@ pub mod DateFacts
 mod Examples
 pub mod Months
 pub mod Cycles
+pub mod Answered
