@@ -3,3 +3,4 @@ pub mod Civil
 pub mod Billing
 pub mod Business
 pub mod Later
+pub mod Months

@@ -2,7 +2,9 @@
 #![tactic(auto)]
 
 mod anchor;
+mod billing;
 mod day;
 
 pub use anchor::{Anchor, Channel};
+pub use billing::{closing, cycle_of, due};
 pub use day::Day;
