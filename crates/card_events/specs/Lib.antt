@@ -1,6 +1,5 @@
 pub mod Dated
 pub mod History
-pub mod Money
 pub mod Names
 pub mod Refusals
 pub mod Same

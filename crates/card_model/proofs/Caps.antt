@@ -7,7 +7,6 @@ use Rattle.std.proofs.lemmas.Bool.{eqb-true}
 use Rattle.card_days.specs.Billing.{due}
 use Rattle.card_days.specs.Civil.{day_of_month}
 use Rattle.card_events.specs.History.{CorrectedPost}
-use Rattle.card_events.specs.Money.{interest}
 use Rattle.card_events.specs.declared.post.Post.{Post}
 use Rattle.card_model.specs.Books.{Account, Book, all_segments, penalty_fee, present_cycle, with_fee}
 use Rattle.card_model.specs.Caps.{at_cents, capped_by, charged_fee, fee_above, issued_fee, issued_grace, issued_interest, issued_minimum, row_for}

@@ -2,7 +2,7 @@
 use Rattle.std.specs.Prelude.{ℕ, suc, ◌+◌, ◌-◌, ◌*◌, ◌/◌, Bool, ◌&&◌, ◌||◌, not, ◌==◌, nat_le, nat_lt, if◌then◌else◌, List, Option, Some, None}
 use Rattle.std.specs.List.{range_with_len, sum_by}
 use Rattle.card_events.specs.History.{CorrectedPost}
-use Rattle.card_events.specs.Money.{daily, interest}
+use Rattle.card_units.specs.Money.{daily, interest}
 use Rattle.card_model.specs.Books.{Account, Book, rate_in}
 use Rattle.card_model.specs.Cycles.{Cycle, Seen, last_cycle}
 use Rattle.card_model.specs.Effects.{size}

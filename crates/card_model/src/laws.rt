@@ -1,5 +1,5 @@
 //! Laws of the fold, for all lists of posts.
-ghost use Rattle.card_model.specs.Laws.{BalanceIdentity, CorrectionBack, IssuedCaps, IssuingChangesNoPastDay, PastIsEnough};
+ghost use Rattle.card_model.specs.Laws.{BalanceIdentity, CorrectionBack, IssuedCaps, IssuingChangesNoPastDay, PastIsEnough, Signs};
 
 /// The book of a day depends on the corrected posts and the fee rows up to that day alone.
 pub fn past_is_enough()
@@ -25,4 +25,9 @@ pub fn correction_back()
 /// A Bill with the row that it adds changes the book of no day up to the day on which it was accepted.
 pub fn issuing_changes_no_past_day()
     ensures { IssuingChangesNoPastDay }
+{}
+
+/// Credit is never above 0, and no segment but Held ever below.
+pub fn signs()
+    ensures { Signs }
 {}
