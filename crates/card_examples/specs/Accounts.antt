@@ -1,6 +1,6 @@
 -- One account, `a`, on which the worked values stand: its requests, and what they come to.
-use Rattle.std.specs.Prelude.{ℕ, ◌&&◌, ◌==◌, map, List, [], ◌∷◌, Option, Some, None, ℤ}
-use Rattle.std.specs.List.{filter, find}
+use Rattle.std.specs.Prelude.{ℕ, ◌+◌, ◌==◌, map, List, [], ◌∷◌, Option, Some, None, ℤ}
+use Rattle.std.specs.List.{filter, filter_map, find}
 use Rattle.std.specs.Option.{option_map}
 use Rattle.card_days.specs.Civil.{day_at}
 use Rattle.card_days.specs.declared.anchor.Channel.TheVariants.{Online}
@@ -58,6 +58,11 @@ charge_jan10 n place cents = to_a n (post.Charge (day_at 2024 1 10) place cents)
 abbrev pub pay_online : ℕ → ℕ → ℕ → Request
 pay_online n day cents = to_a n (post.Payment day 600 Online cents)
 
+-- a statement of the 5th of this month of 2024, issued on the 6th and paid with these cents on the 10th: posts n and n + 1
+abbrev pub issued_and_paid : ℕ → ℕ → ℕ → ℕ → List Request
+issued_and_paid n k month cents =
+    roll 2024 month 6 ∷ to_a n (post.Bill k) ∷ roll 2024 month 10 ∷ pay_online (n + 1) (day_at 2024 month 10) cents ∷ []
+
 -- ---- what they come to
 abbrev pub book_with : State → Option Lists → Book
 book_with s None = empty_book
@@ -93,16 +98,21 @@ grace_amount_after requests k = option_map (λ c. c.grace_amount) (cycle_after r
 abbrev pub fees_after : List Request → List Fee
 fees_after requests = (book_of requests).fees
 
+-- all entries: segments and cents
+abbrev pub entries_after : List Request → List (ℕ × ℤ)
+entries_after requests = map (λ e. (e.segment, e.cents)) (book_of requests).entries
+
 -- the entries of a post: segments and cents
 abbrev pub parts_after : List Request → ℕ → List (ℕ × ℤ)
 parts_after requests n = map (λ e. (e.segment, e.cents)) (filter (λ e. e.post == n) (book_of requests).entries)
 
-abbrev pub rate_with : State → Option Lists → Book → ℕ → ℕ → Option ℕ
-rate_with s None b id day = None
-rate_with s (Some l) b id day =
+abbrev pub rates_with : State → Option Lists → Book → ℕ → List ℕ → List ℕ
+rates_with s None b id days = []
+rates_with s (Some l) b id days =
     let seen = seen_on (anchor_of l.posts) (shared_rows s.shared) l.posts l.issued s.today in
-    option_map (rate_in (account_of l.posts) seen b day) (find (λ g. g.id == id) (all_segments (account_of l.posts) seen))
+    let segment = find (λ g. g.id == id) (all_segments (account_of l.posts) seen) in
+    filter_map (λ day. option_map (rate_in (account_of l.posts) seen b day) segment) days
 
--- the rate of a segment on a day, as today's book has it
-abbrev pub rate_after : List Request → ℕ → ℕ → Option ℕ
-rate_after requests id day = rate_with (run requests) (lists_of name (run requests).accounts) (book_of requests) id day
+-- the rates of a segment on these days, as today's book has them
+abbrev pub rates_after : List Request → ℕ → List ℕ → List ℕ
+rates_after requests id days = rates_with (run requests) (lists_of name (run requests).accounts) (book_of requests) id days

@@ -11,7 +11,7 @@ use Rattle.card_model.specs.Entries.{negated}
 use Rattle.card_model.specs.declared.fee.Fee.{Fee}
 use Rattle.card_model.specs.declared.fee.FeeKind.{FeeKind}
 use Rattle.card_model.specs.declared.fee.FeeKind.TheVariants.{Late, Returned}
-use Rattle.card_examples.specs.Accounts.{charge_jan10, fee_row, fees_after, interest_after, minimum_after, open_a, owed_after, parts_after, pay_online, roll, to_a}
+use Rattle.card_examples.specs.Accounts.{charge_jan10, fee_row, fees_after, interest_after, issued_and_paid, minimum_after, open_a, owed_after, parts_after, pay_online, roll, to_a}
 
 -- a fee for the due date of a cycle, charged in the next cycle
 abbrev pub fee_of : FeeKind → ℕ → Bool → ℕ → ℕ → Fee
@@ -31,11 +31,6 @@ abbrev pub returned_later : ℕ → List Request
 returned_later cents =
     billed 2500 ++ roll 2024 2 20 ∷ pay_online 4 (day_at 2024 2 20) cents ∷ roll 2024 3 4 ∷ to_a 5 (post.Return (day_at 2024 3 4) 4)
     ∷ roll 2024 3 6 ∷ []
-
--- a statement of the 5th of this month of 2024, issued on the 6th and paid with these cents on the 10th: posts n and n + 1
-abbrev pub issued_and_paid : ℕ → ℕ → ℕ → ℕ → List Request
-issued_and_paid n k month cents =
-    roll 2024 month 6 ∷ to_a n (post.Bill k) ∷ roll 2024 month 10 ∷ pay_online (n + 1) (day_at 2024 month 10) cents ∷ []
 
 -- At a hundredth of the amounts: 10 dollars of purchases, fees of 30 and 41 cents, and a floor of 50. The first due date
 -- isn't met; the minimum payments of the next five statements are paid

@@ -3,3 +3,8 @@ pub mod Interest
 pub mod Allocation
 pub mod Grace
 pub mod Fees
+pub mod Rates
+pub mod Caps
+pub mod Deferred
+pub mod Disputes
+pub mod Refusals

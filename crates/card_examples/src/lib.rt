@@ -2,9 +2,14 @@
 //! between a definition and a value that was worked out apart from it; `docs/RULES.md` names them beside the rules.
 #![tactic(auto)]
 ghost use Rattle.card_examples.specs.Allocation.{AllocationIsWorked};
+ghost use Rattle.card_examples.specs.Caps.{CapsAreWorked};
+ghost use Rattle.card_examples.specs.Deferred.{DeferredIsWorked};
+ghost use Rattle.card_examples.specs.Disputes.{DisputesAreWorked};
 ghost use Rattle.card_examples.specs.Fees.{FeesAreWorked};
 ghost use Rattle.card_examples.specs.Grace.{GraceIsWorked};
 ghost use Rattle.card_examples.specs.Interest.{InterestIsWorked};
+ghost use Rattle.card_examples.specs.Rates.{RatesAreWorked};
+ghost use Rattle.card_examples.specs.Refusals.{RefusalsAreWorked};
 
 /// Daily rates and interest (12 CFR 1026.14(b)).
 pub fn interest()
@@ -24,4 +29,29 @@ pub fn grace()
 /// Minimum payments and penalty fees (12 CFR 1026.52(b)).
 pub fn fees()
     ensures { FeesAreWorked }
+{}
+
+/// Rates: notices, lowered rates, plans and penalties (12 CFR 1026.9(c)(2), .9(g), .55(b)).
+pub fn rates()
+    ensures { RatesAreWorked }
+{}
+
+/// Deferred interest (12 CFR 1026.7(b)(14), .54).
+pub fn deferred()
+    ensures { DeferredIsWorked }
+{}
+
+/// Disputed charges (12 CFR 1026.13).
+pub fn disputes()
+    ensures { DisputesAreWorked }
+{}
+
+/// Corrections after a statement was issued.
+pub fn caps()
+    ensures { CapsAreWorked }
+{}
+
+/// Refusals, each with its value.
+pub fn refusals()
+    ensures { RefusalsAreWorked }
 {}
