@@ -1,10 +1,12 @@
 pub mod Accounts
-pub mod Interest
 pub mod Allocation
-pub mod Grace
-pub mod Fees
-pub mod Rates
 pub mod Caps
+pub mod Deadlines
 pub mod Deferred
 pub mod Disputes
+pub mod Fees
+pub mod Grace
+pub mod Interest
+pub mod Machine
+pub mod Rates
 pub mod Refusals

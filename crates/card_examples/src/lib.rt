@@ -3,11 +3,13 @@
 #![tactic(auto)]
 ghost use Rattle.card_examples.specs.Allocation.{AllocationIsWorked};
 ghost use Rattle.card_examples.specs.Caps.{CapsAreWorked};
+ghost use Rattle.card_examples.specs.Deadlines.{DeadlinesAreWorked};
 ghost use Rattle.card_examples.specs.Deferred.{DeferredIsWorked};
 ghost use Rattle.card_examples.specs.Disputes.{DisputesAreWorked};
 ghost use Rattle.card_examples.specs.Fees.{FeesAreWorked};
 ghost use Rattle.card_examples.specs.Grace.{GraceIsWorked};
 ghost use Rattle.card_examples.specs.Interest.{InterestIsWorked};
+ghost use Rattle.card_examples.specs.Machine.{MachineIsWorked};
 ghost use Rattle.card_examples.specs.Rates.{RatesAreWorked};
 ghost use Rattle.card_examples.specs.Refusals.{RefusalsAreWorked};
 
@@ -54,4 +56,14 @@ pub fn caps()
 /// Refusals, each with its value.
 pub fn refusals()
     ensures { RefusalsAreWorked }
+{}
+
+/// Deadlines and open tasks (12 CFR 1026.11(a), .13, .59).
+pub fn deadlines()
+    ensures { DeadlinesAreWorked }
+{}
+
+/// The machine: replies, keys and repeats.
+pub fn machine()
+    ensures { MachineIsWorked }
 {}
