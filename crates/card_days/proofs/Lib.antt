@@ -5,3 +5,5 @@ mod Examples
 pub mod Months
 pub mod Cycles
 pub mod Answered
+pub mod Holidays
+pub mod Business

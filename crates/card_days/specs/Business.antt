@@ -1,5 +1,5 @@
 -- Business days, and the day on which a payment is credited. Holidays are a list of days.
-use Rattle.std.specs.Prelude.{◌≡◌, ℕ, zero, suc, ◌+◌, ◌-◌, ◌%◌, ◌≤◌, Bool, true, false, not, ◌&&◌, ◌||◌, ◌==◌, nat_lt, if◌then◌else◌, List, [], ◌∷◌, Option, Some, None}
+use Rattle.std.specs.Prelude.{◌≡◌, ℕ, zero, suc, ◌+◌, ◌-◌, ◌%◌, ◌<◌, ◌≤◌, length, slice_index, Bool, true, false, not, ◌&&◌, ◌||◌, ◌==◌, nat_lt, if◌then◌else◌, List, [], ◌∷◌, Option, Some, None}
 use Rattle.card_days.specs.declared.anchor.Anchor.{Anchor}
 use Rattle.card_days.specs.declared.anchor.Channel.{Channel}
 use Rattle.card_days.specs.declared.anchor.Channel.TheVariants.{Mail, Online}
@@ -73,3 +73,18 @@ with_holiday day (x ∷ rest) =
 -- the same holidays up to a day
 abbrev pub AgreeUpTo : ℕ → List ℕ → List ℕ → Type 0
 AgreeUpTo last these those = (x : ℕ) → x ≤ last → is_holiday these x ≡ is_holiday those x
+
+-- holidays as a calendar keeps them: ascending, each once, from a day on, and none after 2099-12-31
+unfoldable pub AreHolidays : ℕ → List ℕ → Type 0
+AreHolidays low [] = Unit {0}
+AreHolidays low (x ∷ rest) = (low ≤ x) × (x ≤ 47481) × AreHolidays (x + 1) rest
+
+-- the day stands at this place
+abbrev pub IsPlaceOf : List ℕ → ℕ → ℕ → Type 0
+IsPlaceOf holidays day i = (i < length holidays) × (slice_index holidays i ≡ day)
+
+-- the day isn't there, and would stand at this place
+pub record IsGapFor (holidays : List ℕ) (day i : ℕ) : Type 0 where
+  pub inside : i ≤ length holidays
+  pub before : (k : ℕ) → k < i → slice_index holidays k < day
+  pub after : (k : ℕ) → i ≤ k → k < length holidays → day < slice_index holidays k

@@ -1,4 +1,4 @@
-ghost use Rattle.std.specs.Prelude.{◌≡◌, ◌↔◌, ◌≤◌, ℕ, pos, true, IsSome, IfSome, SomeIff, Some, OnSome};
+ghost use Rattle.std.specs.Prelude.{◌≡◌, ◌↔◌, ◌+◌, ◌<◌, ◌≤◌, ℕ, pos, true, IsSome, IfSome, SomeIff, Some, OnSome};
 ghost use Rattle.card_days.specs.Range.{IsDayNumber};
 ghost use Rattle.card_days.specs.Civil.{IsInCalendar, date_of, is_date, day_at, day_text};
 
@@ -72,6 +72,16 @@ impl Day {
     {
         let date = self.date();
         (date.year as u16, date.month, date.day)
+    }
+
+    // the day after
+    pub(crate) fn next(self) -> Day
+        requires { self < 48_576 }
+        ensures { result ≡ self + 1 }
+    {
+        Day {
+            number: self.number + 1,
+        }
     }
 
     fn date(self) -> civil::Date

@@ -3,8 +3,12 @@
 
 mod anchor;
 mod billing;
+mod calendar;
 mod day;
+mod memory;
 
 pub use anchor::{Anchor, Channel};
 pub use billing::{closing, cycle_of, due};
+pub use calendar::{Calendar, next_business};
 pub use day::Day;
+pub use memory::NoMemory;
