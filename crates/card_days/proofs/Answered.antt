@@ -5,8 +5,8 @@ use Rattle.std.proofs.lemmas.Bool.Decides.{nat_tests}
 use Rattle.card_days.specs.declared.anchor.Anchor.{Anchor}
 use Rattle.card_days.specs.Civil.{date_of}
 use Rattle.card_days.specs.Billing.{IsCloseDay, closing, due_day_of_month, due, cycle_of}
-use Rattle.card_days.specs.Months.{day_in_month, month_from, first_month}
-use Rattle.card_days.proofs.Cycles.{IsAnchor, first_month-bounds, day_in_month-range, closing_is, closing_late, due_is, due_late, due_shift, shift_small, due_day-bounds}
+use Rattle.card_days.specs.Months.{day_in_month, month_from, first_month, due_shift}
+use Rattle.card_days.proofs.Cycles.{IsAnchor, first_month-bounds, day_in_month-range, closing_is, closing_late, due_is, due_late, shift_small, due_day-bounds}
 
 -- an answer that comes where P holds comes where Q does
 pub restated : (r : Option ℕ) (P Q : Type 0) (x y : ℕ) → (P → Q) → (Q → P) → (P → x ≡ y) → SomeIff r P x → SomeIff r Q y
@@ -56,11 +56,3 @@ pub due_reply : (r : Option ℕ) (a : Anchor) → IsAnchor a → (k i e : ℕ) �
 due_reply r a h k i e low same day answer =
     let back : suc (k - 1) ≡ k = omega arith in
     subst (λ n. SomeIff r ((1 ≤ n) × (due a n ≤ 48_576)) (due a n)) back (due_answer r a h (k - 1) i e same day answer)
-
-pub early : (c : ℕ) → c ≤ 4 → (due_shift c ≡ 0) × (due_day_of_month c ≡ c + 24)
-unfolding due_shift
-early c low = let is : nat_le c 4 ≡ true = grind (arith, nat_tests) in rw is (refl, refl)
-
-pub late : (c : ℕ) → 4 < c → (due_shift c ≡ 1) × (due_day_of_month c ≡ c - 4)
-unfolding due_shift
-late c high = let is : nat_le c 4 ≡ false = grind (arith, nat_tests) in rw is (refl, refl)

@@ -5,7 +5,7 @@ use Rattle.std.proofs.lemmas.Bool.Decides.{nat_tests}
 use Rattle.card_days.specs.declared.anchor.Anchor.{Anchor}
 use Rattle.card_days.specs.Civil.{Civil, month_length, day_at, date_of, day_of_month, next_month, year_of_next_month, first_day, is_date}
 use Rattle.card_days.specs.Billing.{IsCloseDay, next_on, closing, due_day_of_month, due_after, due, closings_among, cycle_of}
-use Rattle.card_days.specs.Months.{month_number, day_in_month, month_from, first_month}
+use Rattle.card_days.specs.Months.{month_number, day_in_month, month_from, first_month, due_shift}
 use Rattle.card_days.proofs.Dates.{HasDate, date_of-has}
 use Rattle.card_days.proofs.DateFacts.{date_of-day_at, day_at-date_of, day_at-range, from_calendar, after_first, day_2103, date_of-in_calendar}
 use Rattle.card_days.proofs.Months.{first_day-from, first_day-below, IsCivil, next_on-here, next_on-over, next_number, month_civil, same_month-next, next_month-next, later_day, over, next_civil, dated, length_bounds}
@@ -123,10 +123,6 @@ closing_late a h (suc k) late = by (cases_lt (first_month a + k) 25_236) (closin
     by (inr m) before = omega (arith, before m, closing_grows a (suc k))
 
 -- ---- due dates
--- how many months after that of the closing
-unfoldable pub due_shift : ℕ → ℕ
-due_shift c = cond (nat_le c 4) 0 1
-
 due_day_by : (c : ℕ) (b : Bool) → nat_le c 4 ≡ b → 1 ≤ c → c ≤ 28 → (1 ≤ cond b (c + 24) (c - 4)) × (cond b (c + 24) (c - 4) ≤ 28)
 due_day_by c true e low high = let early : c ≤ 4 = grind (arith, nat_tests) in (omega arith, omega arith)
 due_day_by c false e low high = let late : 4 < c = grind (arith, nat_tests) in (omega arith, omega arith)

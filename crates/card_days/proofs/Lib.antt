@@ -7,3 +7,5 @@ pub mod Cycles
 pub mod Answered
 pub mod Holidays
 pub mod Business
+pub mod DueDays
+pub mod MailDays

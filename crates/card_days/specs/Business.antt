@@ -31,6 +31,11 @@ next_business holidays day = first_day (is_business holidays) (last_day - day) (
 unfoldable pub is_due : Anchor → ℕ → Bool
 is_due a day = (day_of_month day == due_day_of_month a.close_day) && nat_lt (closing a 1) day
 
+-- the greatest due date before a day, or none where there is none
+abbrev pub IsLastDue : Anchor → ℕ → Option ℕ → Type 0
+IsLastDue a day None = (x : ℕ) → x < day → is_due a x ≡ false
+IsLastDue a day (Some due) = (due < day) × (is_due a due ≡ true) × ((x : ℕ) → due < x → x < day → is_due a x ≡ false)
+
 -- going back so many days over days that aren't business days, the first due date met
 unfoldable pub due_before : Anchor → List ℕ → ℕ → ℕ → Option ℕ
 due_before a holidays zero day = None

@@ -1,5 +1,5 @@
 -- Months by number, as the code counts them: twelve a year.
-use Rattle.std.specs.Prelude.{ℕ, ◌+◌, ◌-◌, ◌*◌, ◌/◌, ◌%◌, nat_lt, if◌then◌else◌}
+use Rattle.std.specs.Prelude.{ℕ, ◌+◌, ◌-◌, ◌*◌, ◌/◌, ◌%◌, nat_lt, nat_le, if◌then◌else◌}
 use Rattle.card_days.specs.declared.anchor.Anchor.{Anchor}
 use Rattle.card_days.specs.Civil.{Civil, day_at, date_of}
 
@@ -18,3 +18,7 @@ month_from c date = month_number date + (if nat_lt c date.day then 1 else 0)
 -- the month of the first closing
 unfoldable pub first_month : Anchor → ℕ
 first_month a = month_from a.close_day (date_of a.opened)
+
+-- how many months after that of a closing its payment is due
+unfoldable pub due_shift : ℕ → ℕ
+due_shift close_day = if nat_le close_day 4 then 0 else 1

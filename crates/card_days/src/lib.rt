@@ -4,11 +4,13 @@
 mod anchor;
 mod billing;
 mod calendar;
+mod credit;
 mod day;
 mod memory;
 
 pub use anchor::{Anchor, Channel};
 pub use billing::{closing, cycle_of, due};
 pub use calendar::{Calendar, next_business};
+pub use credit::credit_day;
 pub use day::Day;
 pub use memory::NoMemory;
