@@ -9,3 +9,4 @@ pub mod Holidays
 pub mod Business
 pub mod DueDays
 pub mod MailDays
+pub mod LaterDays

@@ -6,6 +6,7 @@ mod billing;
 mod calendar;
 mod credit;
 mod day;
+mod later;
 mod memory;
 
 pub use anchor::{Anchor, Channel};
@@ -13,4 +14,5 @@ pub use billing::{closing, cycle_of, due};
 pub use calendar::{Calendar, next_business};
 pub use credit::credit_day;
 pub use day::Day;
+pub use later::{six_months_after, year_after};
 pub use memory::NoMemory;
