@@ -1,9 +1,9 @@
 -- The next business day.
-use Rattle.std.proofs.Common.{◌≡◌, ℕ, zero, suc, ◌+◌, ◌-◌, ◌%◌, ◌<◌, ◌≤◌, max, Bool, true, false, cond, not, ◌&&◌, eqb, nat_lt, nat_eq, List, [], ◌∷◌, refl, sym, ap, ◌∙◌, subst, arith, inl, inr, ◌⊎◌}
+use Rattle.std.proofs.Common.{◌≡◌, ℕ, zero, suc, ◌+◌, ◌-◌, ◌%◌, ◌<◌, ◌≤◌, max, Bool, true, false, cond, nat_lt, nat_eq, List, [], ◌∷◌, refl, sym, ap, ◌∙◌, arith, inl, inr, ◌⊎◌}
 use Rattle.std.proofs.lemmas.Bool.{cases_lt, false≢true}
 use Rattle.std.proofs.lemmas.Bool.Decides.{nat_tests}
 use Rattle.card_days.specs.Civil.{first_day}
-use Rattle.card_days.specs.Business.{is_holiday, is_weekday, is_business, next_business, AreHolidays}
+use Rattle.card_days.specs.Business.{is_holiday, is_business, next_business, AreHolidays}
 use Rattle.card_days.proofs.Months.{first_day-from, first_day-below}
 
 -- where some day passes, the first one isn't later

@@ -1,6 +1,5 @@
 -- Holidays in order: a place found, and one more put in.
-use Rattle.std.proofs.Common.{◌≡◌, ◌≢◌, ℕ, zero, suc, ◌+◌, ◌-◌, ◌<◌, ◌≤◌, Bool, true, false, cond, ◌||◌, nat_lt, nat_eq, List, [], ◌∷◌, ◌++◌, length, get_or, take, drop, refl, sym, ap, ◌∙◌, subst, arith, inl, inr, ◌⊎◌, Result, Ok, Err, is_ok, MatchResult}
-use Rattle.std.proofs.lemmas.Bool.{cases_lt}
+use Rattle.std.proofs.Common.{◌≡◌, ℕ, zero, suc, ◌+◌, ◌<◌, ◌≤◌, Bool, true, false, cond, ◌||◌, nat_lt, nat_eq, List, [], ◌∷◌, length, get_or, refl, sym, ap, ◌∙◌, arith, Result, Ok, Err, is_ok, MatchResult}
 use Rattle.std.proofs.lemmas.Bool.Decides.{nat_tests}
 use Rattle.std.specs.List.{insert}
 use Rattle.std.specs.List.Sorted.{IsBinarySearchResult}
@@ -90,11 +89,13 @@ with_holiday-is (y ∷ ys) day x = by (nat_lt day y) (nat_eq day y) refl (with_h
     swap true true c = refl
     swap true false c = refl
     swap false b c = refl
+
     once : (a b : Bool) → a ≡ b → (c : Bool) → (a || c) ≡ (b || (a || c))
     once true true e c = refl
     once false false e c = refl
     once true false e c = cc
     once false true e c = cc
+
     by : (a b : Bool) → nat_eq day y ≡ b → is_holiday (with_holiday day ys) x ≡ (nat_eq x day || is_holiday ys x) → is_holiday (cond a (day ∷ y ∷ ys) (cond b (y ∷ ys) (y ∷ with_holiday day ys))) x ≡ (nat_eq x day || (nat_eq x y || is_holiday ys x))
     by true b f rest = refl
     by false true f rest = let same : day ≡ y = grind (arith, nat_tests) in once (nat_eq x y) (nat_eq x day) (ap (λ d. nat_eq x d) (sym same)) (is_holiday ys x)

@@ -1,9 +1,9 @@
 -- A day clipped to its month, and the days half a year and a year after.
-use Rattle.std.proofs.Common.{◌≡◌, ℕ, ◌+◌, ◌-◌, ◌<◌, ◌≤◌, Bool, true, false, cond, ◌&&◌, min, nat_eq, nat_lt, refl, sym, ap, ◌∙◌, subst, arith, ℤ, pos, inl, inr, ◌⊎◌}
+use Rattle.std.proofs.Common.{◌≡◌, ℕ, ◌+◌, ◌-◌, ◌<◌, ◌≤◌, Bool, true, false, cond, ◌&&◌, min, nat_eq, nat_lt, refl, ◌∙◌, arith, ℤ, pos, inl, inr, ◌⊎◌}
 use Rattle.std.proofs.lemmas.Bool.{cases_lt}
 use Rattle.std.proofs.lemmas.Bool.Decides.{nat_tests}
-use Rattle.jiff_core.specs.Calendar.{days_in_month, days_from_civil, IsCivilDate}
-use Rattle.card_days.specs.Civil.{Civil, is_leap, month_length, days_before_year, days_of_months, day_at, date_of, is_date, IsInCalendar}
+use Rattle.jiff_core.specs.Calendar.{days_in_month, days_from_civil}
+use Rattle.card_days.specs.Civil.{Civil, is_leap, month_length, days_before_year, days_of_months, day_at, date_of, IsInCalendar}
 use Rattle.card_days.specs.Later.{clipped_day_at, six_months_on, year_on}
 use Rattle.card_days.proofs.Counts.{number_is}
 use Rattle.card_days.proofs.DateFacts.{day_at-range, from_calendar, date_of-in_calendar, day_at-date_of, after_first}
@@ -37,6 +37,7 @@ year_small n low high = by (cases_lt 2100 (date_of n).year)
   where
     h : IsInCalendar (date_of n).year (date_of n).month (date_of n).day
     h = date_of-in_calendar n low (omega arith)
+
     by : (2100 < (date_of n).year) ⊎ ((date_of n).year ≤ 2100) → (date_of n).year ≤ 2100
     by (inl late) = absurd (omega (arith, after_first (date_of n).year (date_of n).month (date_of n).day 2101 (omega arith) late h.low_day, day_2101, day_at-date_of n (omega arith)))
     by (inr l) = l
@@ -70,6 +71,7 @@ month_by y m d true e l other =
     february : (leap : Bool) → d ≤ cond leap 29 28 → d ≤ 29
     february true m = m
     february false m = omega arith
+
     by : (28 < d) ⊎ (d ≤ 28) → m ≡ 2 → d ≤ 29 → d ≤ month_length (y + 1) m
     by (inl long) two most = absurd (other two (omega arith))
     by (inr short) two most = omega (arith, length_bounds (y + 1) m)

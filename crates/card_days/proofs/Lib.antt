@@ -10,3 +10,6 @@ pub mod Business
 pub mod DueDays
 pub mod MailDays
 pub mod LaterDays
+pub mod DueLaws
+pub mod MailLaws
+pub mod Agree

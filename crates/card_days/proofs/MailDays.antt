@@ -1,5 +1,5 @@
 -- Going back from a day to a due date, and the day as of which mail is credited.
-use Rattle.std.proofs.Common.{◌≡◌, ℕ, zero, suc, ◌+◌, ◌-◌, ◌<◌, ◌≤◌, Bool, true, false, cond, not, ◌&&◌, eqb, nat_lt, nat_eq, List, Option, Some, None, SomeIff, IfSome, refl, sym, ap, ◌∙◌, subst, arith, inl, inr, ◌⊎◌}
+use Rattle.std.proofs.Common.{◌≡◌, ℕ, zero, suc, ◌+◌, ◌-◌, ◌<◌, ◌≤◌, Bool, true, false, cond, not, ◌&&◌, eqb, nat_lt, nat_eq, List, Option, Some, None, SomeIff, IfSome, refl, sym, ◌∙◌, subst, arith, inl, inr, ◌⊎◌}
 use Rattle.std.proofs.lemmas.Bool.{cases_lt, false≢true, and_parts}
 use Rattle.std.proofs.lemmas.Bool.Decides.{nat_tests}
 use Rattle.card_days.specs.declared.anchor.Anchor.{Anchor}
@@ -44,16 +44,17 @@ due_before-some a xs (suc more) day due h small low room is others = by (cases_l
   where
     next : is_business xs (next_business xs due) ≡ true
     next = next_business-is xs due h (omega arith)
+
     by : (due < day) ⊎ (day ≤ due) → (due ≤ day - 1 → day - 1 - due < more → due_before a xs more (day - 1) ≡ cond (not (is_business xs due) && nat_lt (day - 1) (next_business xs due)) (Some due) None) → cond (is_business xs day) None (cond (is_due a day) (Some day) (due_before a xs more (day - 1))) ≡ cond (not (is_business xs due) && nat_lt day (next_business xs due)) (Some due) None
     by (inr over) rest =
-      let same : day ≡ due = omega arith in
-      let later = next_business-later xs due in
-      let open_still : nat_lt due (next_business xs due) ≡ true = grind (arith, nat_tests) in
-      rw (same, is) (at_due (is_business xs due) (nat_lt due (next_business xs due)) due open_still)
+        let same : day ≡ due = omega arith in
+        let later = next_business-later xs due in
+        let open_still : nat_lt due (next_business xs due) ≡ true = grind (arith, nat_tests) in
+        rw (same, is) (at_due (is_business xs due) (nat_lt due (next_business xs due)) due open_still)
     by (inl after) rest =
-      let stop : is_business xs day ≡ true → nat_lt day (next_business xs due) ≡ false = λ e. (let most = next_business-at_most xs due day after e in grind (arith, nat_tests)) in
-      let same : is_business xs day ≡ false → nat_lt (day - 1) (next_business xs due) ≡ nat_lt day (next_business xs due) = λ e. (let other : ¬ (next_business xs due ≡ day) = λ q. false≢true (sym e ∙ (rw q at next)) in grind (arith, nat_tests)) in
-      rw (others day after (omega arith), rest (omega arith) (omega arith)) (past_due (is_business xs day) (not (is_business xs due)) (nat_lt (day - 1) (next_business xs due)) (nat_lt day (next_business xs due)) due stop same)
+        let stop : is_business xs day ≡ true → nat_lt day (next_business xs due) ≡ false = λ e. (let most = next_business-at_most xs due day after e in grind (arith, nat_tests)) in
+        let same : is_business xs day ≡ false → nat_lt (day - 1) (next_business xs due) ≡ nat_lt day (next_business xs due) = λ e. (let other : ¬ (next_business xs due ≡ day) = λ q. false≢true (sym e ∙ (rw q at next)) in grind (arith, nat_tests)) in
+        rw (others day after (omega arith), rest (omega arith) (omega arith)) (past_due (is_business xs day) (not (is_business xs due)) (nat_lt (day - 1) (next_business xs due)) (nat_lt day (next_business xs due)) due stop same)
 
 credited : Option ℕ → ℕ → ℕ
 credited met receipt = elim met [ Some day ↦ day | None ↦ receipt ]

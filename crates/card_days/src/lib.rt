@@ -7,6 +7,7 @@ mod calendar;
 mod credit;
 mod day;
 mod later;
+pub mod laws;
 mod memory;
 
 pub use anchor::{Anchor, Channel};

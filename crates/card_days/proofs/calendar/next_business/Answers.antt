@@ -1,4 +1,4 @@
-use Rattle.std.proofs.Common.{◌≡◌, ◌<◌, ◌≤◌, ◌+◌, ◌∙◌, arith, sym}
+use Rattle.std.proofs.Common.{◌≡◌, ◌∙◌, arith, sym}
 use Rattle.card_days.specs.Business.{next_business}
 use Rattle.card_days.proofs.Business.{starts, small, goes_on, stops, next_business-later, next_business-near}
 use Rattle.card_days.proofs.calendar.next_business.Goals as goal

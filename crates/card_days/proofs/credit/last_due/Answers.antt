@@ -1,8 +1,7 @@
-use Rattle.std.proofs.Common.{◌≡◌, ◌∙◌, ◌<◌, ◌≤◌, ◌+◌, ◌-◌, ℕ, Some, arith, ap, subst, sym, refl}
+use Rattle.std.proofs.Common.{◌∙◌, ◌-◌, Some, arith, ap, subst, sym}
 use Rattle.card_days.specs.Civil.{date_of}
-use Rattle.card_days.specs.Billing.{due_day_of_month}
 use Rattle.card_days.specs.Business.{IsLastDue}
-use Rattle.card_days.specs.Months.{month_from, day_in_month, first_month, due_shift}
+use Rattle.card_days.specs.Months.{month_from, day_in_month, first_month}
 use Rattle.card_days.proofs.Cycles.{IsAnchor}
 use Rattle.card_days.proofs.DueDays.{last_due-none, last_due-some}
 use Rattle.card_days.proofs.MailDays.{last_due-answer, answer-opened}

@@ -1,4 +1,4 @@
-use Rattle.std.proofs.Common.{◌≡◌, ◌∙◌, ◌≤◌, ℕ, Bool, cond, ap, arith, sym}
+use Rattle.std.proofs.Common.{◌∙◌, Bool, cond, ap, arith, sym}
 use Rattle.card_days.proofs.MailDays.{mail_day-some, mail_day-none}
 use Rattle.card_days.proofs.credit.mail_day.Goals as goal
 

@@ -1,4 +1,4 @@
-use Rattle.std.proofs.Common.{◌≡◌, ◌∙◌, ◌≤◌, ◌+◌, arith}
+use Rattle.std.proofs.Common.{◌∙◌, arith}
 use Rattle.card_days.specs.Civil.{date_of}
 use Rattle.card_days.proofs.LaterDays.{six_late, six_early, year_small}
 use Rattle.card_days.proofs.later.six_months_after.Goals as goal

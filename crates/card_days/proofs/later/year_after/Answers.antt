@@ -1,5 +1,5 @@
-use Rattle.std.proofs.Common.{◌≡◌, ◌∙◌, ◌≤◌, ◌+◌, arith, inl, inr, ◌⊎◌, ℕ, subst}
-use Rattle.card_days.specs.Civil.{date_of, IsInCalendar}
+use Rattle.std.proofs.Common.{◌≡◌, ◌∙◌, arith, inl, inr, ◌⊎◌, ℕ}
+use Rattle.card_days.specs.Civil.{date_of}
 use Rattle.card_days.proofs.LaterDays.{year_leap, year_plain, year_small}
 use Rattle.card_days.proofs.DateFacts.{date_of-in_calendar}
 use Rattle.card_days.proofs.later.year_after.Goals as goal

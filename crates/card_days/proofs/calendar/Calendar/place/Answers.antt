@@ -1,4 +1,4 @@
-use Rattle.std.proofs.Common.{◌≡◌, ℕ, List, subst, MatchResult}
+use Rattle.std.proofs.Common.{ℕ, List, subst, MatchResult}
 use Rattle.std.specs.List.Sorted.{IsBinarySearchResult}
 use Rattle.std.specs.Ordering.{nat_cmp}
 use Rattle.card_days.specs.Business.{IsPlaceOf, IsGapFor}

@@ -1,4 +1,4 @@
-use Rattle.std.proofs.Common.{rules, ◌≡◌, ◌≤◌, ◌∙◌, ℕ, ℤ, pos, ap, arith, w16, w32, to_z, of_z, FitsSigned, nat_abs, min}
+use Rattle.std.proofs.Common.{rules, ◌≡◌, ◌∙◌, ℤ, pos, ap, arith, w16, w32, to_z, of_z, FitsSigned, nat_abs, min}
 use Rattle.std.proofs.lemmas.Int.{to_z_pos, to_z-of_z}
 use Rattle.jiff_core.specs.Calendar.{days_in_month}
 use Rattle.card_days.specs.Later.{clipped_day_at}
