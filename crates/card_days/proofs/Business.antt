@@ -3,7 +3,8 @@ use Rattle.std.proofs.Common.{◌≡◌, ℕ, zero, suc, ◌+◌, ◌-◌, ◌%�
 use Rattle.std.proofs.lemmas.Bool.{cases_lt, false≢true}
 use Rattle.std.proofs.lemmas.Bool.Decides.{nat_tests}
 use Rattle.card_days.specs.Civil.{first_day}
-use Rattle.card_days.specs.Business.{is_holiday, is_business, next_business, AreHolidays}
+use Rattle.card_days.specs.Business.{is_holiday, is_business, next_business}
+use Rattle.card_days.specs.Kept.{AreHolidays}
 use Rattle.card_days.proofs.Months.{first_day-from, first_day-below}
 
 -- where some day passes, the first one isn't later

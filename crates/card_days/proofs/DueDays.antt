@@ -5,8 +5,8 @@ use Rattle.std.proofs.lemmas.Bool.Decides.{nat_tests}
 use Rattle.card_days.specs.declared.anchor.Anchor.{Anchor}
 use Rattle.card_days.specs.Civil.{date_of, day_of_month}
 use Rattle.card_days.specs.Billing.{closing, due_day_of_month, due_after, due}
-use Rattle.card_days.specs.Business.{is_due, IsLastDue}
-use Rattle.card_days.specs.Months.{day_in_month, month_from, first_month, due_shift}
+use Rattle.card_days.specs.Business.{is_due}
+use Rattle.card_days.specs.Months.{IsLastDue, day_in_month, month_from, first_month, due_shift}
 use Rattle.card_days.proofs.Months.{first_day-from, first_day-below, dated, month_civil, next_month-next}
 use Rattle.card_days.proofs.Cycles.{IsAnchor, first_month-bounds, month_from-bounds, next_on-number, closing_is, due_is, due_grows, due_day-bounds, shift_small}
 use Rattle.card_days.proofs.Business.{first_day-at_most}

@@ -5,7 +5,8 @@ use Rattle.std.specs.List.{insert}
 use Rattle.std.specs.List.Sorted.{IsBinarySearchResult}
 use Rattle.std.specs.Ordering.{nat_cmp}
 use Rattle.std.proofs.lemmas.List.Sorted.{searched}
-use Rattle.card_days.specs.Business.{is_holiday, with_holiday, AreHolidays, IsPlaceOf, IsGapFor}
+use Rattle.card_days.specs.Business.{is_holiday, with_holiday}
+use Rattle.card_days.specs.Kept.{AreHolidays, IsPlaceOf, IsGapFor}
 
 pub at_least : (low : ℕ) (xs : List ℕ) (i : ℕ) → AreHolidays low xs → i < length xs → (low ≤ get_or xs i 0) × (get_or xs i 0 ≤ 47_481)
 unfolding AreHolidays

@@ -3,7 +3,9 @@ use Rattle.std.proofs.Common.{◌≡◌, ℕ, zero, suc, ◌+◌, ◌-◌, ◌<�
 use Rattle.std.proofs.lemmas.Bool.{cases_lt, false≢true, and_parts}
 use Rattle.std.proofs.lemmas.Bool.Decides.{nat_tests}
 use Rattle.card_days.specs.declared.anchor.Anchor.{Anchor}
-use Rattle.card_days.specs.Business.{is_business, next_business, is_due, due_before, mail_day, IsLastDue, AreHolidays}
+use Rattle.card_days.specs.Business.{is_business, next_business, is_due, due_before, mail_day}
+use Rattle.card_days.specs.Months.{IsLastDue}
+use Rattle.card_days.specs.Kept.{AreHolidays}
 use Rattle.card_days.specs.Civil.{day_of_month}
 use Rattle.card_days.specs.Billing.{closing, due_day_of_month}
 use Rattle.card_days.proofs.Cycles.{closing_grows}

@@ -5,8 +5,9 @@ use Rattle.std.proofs.lemmas.Bool.Decides.{nat_tests}
 use Rattle.card_days.specs.declared.anchor.Anchor.{Anchor}
 use Rattle.card_days.specs.Civil.{date_of}
 use Rattle.card_days.specs.Billing.{due_day_of_month, due}
-use Rattle.card_days.specs.Business.{AreHolidays, is_business, next_business, is_due, mail_day, credit_day, IsLastDue, IsMet, IsGreatestMet}
-use Rattle.card_days.specs.Months.{month_from, first_month, due_shift}
+use Rattle.card_days.specs.Business.{is_business, next_business, is_due, mail_day, credit_day, IsMet, IsGreatestMet}
+use Rattle.card_days.specs.Kept.{AreHolidays}
+use Rattle.card_days.specs.Months.{IsLastDue, month_from, first_month, due_shift}
 use Rattle.card_days.proofs.Cycles.{IsAnchor}
 use Rattle.card_days.proofs.Business.{next_business-is, next_business-later}
 use Rattle.card_days.proofs.DueDays.{last_due-none, last_due-some}

@@ -1,5 +1,5 @@
 -- Business days, and the day on which a payment is credited. Holidays are a list of days.
-use Rattle.std.specs.Prelude.{◌≡◌, ℕ, zero, suc, ◌+◌, ◌-◌, ◌%◌, ◌<◌, ◌≤◌, length, slice_index, Bool, true, false, not, ◌&&◌, ◌||◌, ◌==◌, nat_lt, if◌then◌else◌, List, [], ◌∷◌, Option, Some, None}
+use Rattle.std.specs.Prelude.{◌≡◌, ℕ, zero, suc, ◌+◌, ◌-◌, ◌%◌, ◌≤◌, Bool, true, false, not, ◌&&◌, ◌||◌, ◌==◌, nat_lt, if◌then◌else◌, List, [], ◌∷◌, Option, Some, None}
 use Rattle.card_days.specs.declared.anchor.Anchor.{Anchor}
 use Rattle.card_days.specs.declared.anchor.Channel.{Channel}
 use Rattle.card_days.specs.declared.anchor.Channel.TheVariants.{Mail, Online}
@@ -30,11 +30,6 @@ next_business holidays day = first_day (is_business holidays) (last_day - day) (
 -- the due date of some cycle: the due day of a month, after the first closing
 unfoldable pub is_due : Anchor → ℕ → Bool
 is_due a day = (day_of_month day == due_day_of_month a.close_day) && nat_lt (closing a 1) day
-
--- the greatest due date before a day, or none where there is none
-abbrev pub IsLastDue : Anchor → ℕ → Option ℕ → Type 0
-IsLastDue a day None = (x : ℕ) → x < day → is_due a x ≡ false
-IsLastDue a day (Some due) = (due < day) × (is_due a due ≡ true) × ((x : ℕ) → due < x → x < day → is_due a x ≡ false)
 
 -- going back so many days over days that aren't business days, the first due date met
 unfoldable pub due_before : Anchor → List ℕ → ℕ → ℕ → Option ℕ
@@ -78,21 +73,6 @@ with_holiday day (x ∷ rest) =
 -- the same holidays up to a day
 abbrev pub AgreeUpTo : ℕ → List ℕ → List ℕ → Type 0
 AgreeUpTo last these those = (x : ℕ) → x ≤ last → is_holiday these x ≡ is_holiday those x
-
--- holidays as a calendar keeps them: ascending, each once, from a day on, and none after 2099-12-31
-unfoldable pub AreHolidays : ℕ → List ℕ → Type 0
-AreHolidays low [] = Unit {0}
-AreHolidays low (x ∷ rest) = (low ≤ x) × (x ≤ 47481) × AreHolidays (x + 1) rest
-
--- the day stands at this place
-abbrev pub IsPlaceOf : List ℕ → ℕ → ℕ → Type 0
-IsPlaceOf holidays day i = (i < length holidays) × (slice_index holidays i ≡ day)
-
--- the day isn't there, and would stand at this place
-pub record IsGapFor (holidays : List ℕ) (day i : ℕ) : Type 0 where
-  pub inside : i ≤ length holidays
-  pub before : (k : ℕ) → k < i → slice_index holidays k < day
-  pub after : (k : ℕ) → i ≤ k → k < length holidays → day < slice_index holidays k
 
 -- mail received on a day still meets a due date: that was no business day, and this is the first one after it
 pub record IsMet (holidays : List ℕ) (receipt due : ℕ) : Type 0 where

@@ -1,6 +1,7 @@
 ghost use Rattle.std.specs.Prelude.{◌≡◌, ◌+◌, ◌<◌, ◌≤◌, max, ℕ, List, [], ◌∷◌, true, length, IsOk, IfOk, OnOk, OnErr, MatchResult, slice_index};
 ghost use Rattle.std.specs.List.{insert};
-ghost use Rattle.card_days.specs.Business.{AreHolidays, IsPlaceOf, IsGapFor, is_business, is_holiday, is_weekday, with_holiday, next_business};
+ghost use Rattle.card_days.specs.Business.{is_business, is_holiday, is_weekday, with_holiday, next_business};
+ghost use Rattle.card_days.specs.Kept.{AreHolidays, IsPlaceOf, IsGapFor};
 
 use crate::{Day, NoMemory};
 use std::alloc::Global;
@@ -22,7 +23,7 @@ impl Model for Calendar {
 
 impl Calendar {
     /// A calendar without holidays. It takes no memory.
-    #[tactic(auto, unfolding(crate::specs::Business::AreHolidays))]
+    #[tactic(auto, unfolding(crate::specs::Kept::AreHolidays))]
     pub fn new(alloc: Global) -> Calendar
         ensures { result ≡ [] }
     {

@@ -1,6 +1,8 @@
 ghost use Rattle.std.specs.Prelude.{◌≡◌, ◌+◌, ◌<◌, ◌≤◌, ◌&&◌, ◌==◌, not, IfSome};
 ghost use Rattle.card_days.specs.Billing.{IsCloseDay};
-ghost use Rattle.card_days.specs.Business.{is_business, is_mail, next_business, mail_day, credit_day, AreHolidays, IsLastDue};
+ghost use Rattle.card_days.specs.Business.{is_business, is_mail, next_business, mail_day, credit_day};
+ghost use Rattle.card_days.specs.Kept.{AreHolidays};
+ghost use Rattle.card_days.specs.Months.{IsLastDue};
 
 use crate::billing::{day_in_month, due_place, month_from};
 use crate::calendar::next_business;

@@ -1,7 +1,6 @@
 use Rattle.std.proofs.Common.{◌∙◌, ◌-◌, Some, arith, ap, subst, sym}
 use Rattle.card_days.specs.Civil.{date_of}
-use Rattle.card_days.specs.Business.{IsLastDue}
-use Rattle.card_days.specs.Months.{month_from, day_in_month, first_month}
+use Rattle.card_days.specs.Months.{IsLastDue, month_from, day_in_month, first_month}
 use Rattle.card_days.proofs.Cycles.{IsAnchor}
 use Rattle.card_days.proofs.DueDays.{last_due-none, last_due-some}
 use Rattle.card_days.proofs.MailDays.{last_due-answer, answer-opened}

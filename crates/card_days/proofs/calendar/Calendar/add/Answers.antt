@@ -1,7 +1,7 @@
 use Rattle.std.proofs.Common.{◌∙◌, ℕ, List, arith, sym, ap, subst}
 use Rattle.std.specs.List.{insert}
 use Rattle.std.proofs.lemmas.Bool.{false≢true}
-use Rattle.card_days.specs.Business.{AreHolidays, IsGapFor}
+use Rattle.card_days.specs.Kept.{AreHolidays, IsGapFor}
 use Rattle.card_days.proofs.Holidays.{known, absent, inserted, keeps_order}
 use Rattle.card_days.proofs.calendar.Calendar.add.Goals as goal
 

@@ -1,7 +1,7 @@
 use Rattle.std.proofs.Common.{ℕ, List, subst, MatchResult}
 use Rattle.std.specs.List.Sorted.{IsBinarySearchResult}
 use Rattle.std.specs.Ordering.{nat_cmp}
-use Rattle.card_days.specs.Business.{IsPlaceOf, IsGapFor}
+use Rattle.card_days.specs.Kept.{IsPlaceOf, IsGapFor}
 use Rattle.card_days.proofs.Holidays.{placed}
 use Rattle.card_days.proofs.calendar.Calendar.place.Goals as goal
 
