@@ -15,10 +15,8 @@ pub fn closing(a: Anchor, k: u32) -> Option<Day>
     if k == 0 {
         return None;
     }
-    day_in_month(
-        month_from(a.close_day, a.opened) + (k as u64 - 1),
-        a.close_day,
-    )
+    let month = month_from(a.close_day, a.opened) + (k as u64 - 1);
+    day_in_month(month, a.close_day)
 }
 
 /// The day on which the payment of statement k is due: 24 days later in the month of its closing where the closing day is
@@ -32,10 +30,8 @@ pub fn due(a: Anchor, k: u32) -> Option<Day>
         return None;
     }
     let (later, due_day) = due_place(a.close_day);
-    day_in_month(
-        month_from(a.close_day, a.opened) + (k as u64 - 1) + later,
-        due_day,
-    )
+    let month = month_from(a.close_day, a.opened) + (k as u64 - 1);
+    day_in_month(month + later, due_day)
 }
 
 /// The number of the cycle that holds a day, from 1. The day doesn't lie before the opening day, and is at most
