@@ -9,7 +9,6 @@ use Rattle.std.specs.List.{cons_option}
 use Rattle.std.proofs.lemmas.List.Elements.{All-map}
 use Rattle.std.specs.Prelude.{min}
 use Rattle.std.specs.Option.{option_or}
-use Rattle.card_days.specs.Billing.{due}
 use Rattle.card_days.specs.Civil.{day_of_month}
 use Rattle.card_days.specs.declared.anchor.Anchor.{Anchor}
 use Rattle.card_events.specs.History.{CorrectedPost, anchor_of, corrected, folded, is_folded}
@@ -28,7 +27,7 @@ use Rattle.card_model.specs.Entries.{at_least_zero, balance, credit_balance, deb
 use Rattle.card_model.specs.Fees.{fee_cents}
 use Rattle.card_model.specs.Folds.{book, book_after, day_after}
 use Rattle.card_model.specs.Laws.{Signs, SignsHold}
-use Rattle.card_model.specs.Payments.{minimum_left, paid}
+use Rattle.card_model.specs.Payments.{minimum_left}
 use Rattle.card_model.specs.Segments.{SegmentTerms, id_of, is_plan, is_sort, last_that, newest, segment_at}
 use Rattle.card_model.specs.declared.entry.Entry.{Entry}
 use Rattle.card_model.specs.declared.entry.EntryKind.{EntryKind}
