@@ -4,7 +4,7 @@ use Rattle.std.specs.Prelude.{◌≢◌}
 use Rattle.std.specs.Option.{option_or, option_map}
 use Rattle.std.specs.List.{All, count_by, filter_map, cons_option, list_any}
 use Rattle.std.proofs.lemmas.Bool.{eqb-true, ne_eqb, eq-eqb}
-use Rattle.std.proofs.lemmas.List.{append-nil}
+use Rattle.std.proofs.lemmas.List.{append-nil, length-append}
 use Rattle.std.proofs.lemmas.List.Sums.{sum_by-append, sum_by-cons}
 use Rattle.std.proofs.lemmas.Bool.Decides.{nat_tests}
 use Rattle.std.proofs.lemmas.List.Elements.{All-nil, All-cons, All-head, All-tail, All-push, All-append, All-weaker}
@@ -23,7 +23,7 @@ use Rattle.card_model.specs.Deadlines.{resolves}
 use Rattle.card_model.specs.Folds.{cycle_at, row_of_cycle}
 use Rattle.card_model.specs.Interest.{row}
 use Rattle.card_model.specs.Machine.{Accepts, NamedAccount, Outcome, Refuses, Repeats, State, accepted, accounts_after, at_key, has_accounts, is_open, is_repeat_of, is_same_name, issues, judged, kept_as, lists_of, next_number, opened, outcome, outcome_in, run, run_from, shared_reason, start, step, with_key, with_lists, with_shared}
-use Rattle.card_model.specs.Refusals.{Lists, Present, bills, book_today, first_reason, is_no_amount, is_out_of_range, no_open_dispute, number_from, reason_against, reason_to_open, reasons, where_true, wrong_entry}
+use Rattle.card_model.specs.Refusals.{Lists, Present, account_full, bills, book_today, first_reason, is_no_amount, is_out_of_range, no_open_dispute, number_from, reason_against, reason_to_open, reasons, where_true, wrong_entry}
 use Rattle.card_events.specs.declared.reply.Refusal.TheVariants as refusal
 use Rattle.card_events.specs.declared.request.Request.TheVariants as request
 use Rattle.card_events.specs.declared.request.Shared.TheVariants as shared
@@ -61,12 +61,13 @@ pub record NoReason (now : Present) (p : Post) : Type 0 where
   pub range : is_out_of_range now p ≡ false
   pub wrong_entry : wrong_entry now p ≡ None
   pub no_open_dispute : no_open_dispute now p ≡ None
+  pub account_full : account_full now ≡ None
 
 no-reason : (now : Present) (p : Post) → reason_against now p ≡ None → NoReason now p
 unfolding reason_against
 no-reason now p h =
     let none = all-none (reasons now p) h in
-    record { range = where-false _ _ none.0; wrong_entry = none.1.1.1.1.1.1.1.1.0; no_open_dispute = none.1.1.1.1.1.1.1.1.1.1.1.1.1.1.1.1.0 }
+    record { range = where-false _ _ none.0; wrong_entry = none.1.1.1.1.1.1.1.1.0; no_open_dispute = none.1.1.1.1.1.1.1.1.1.1.1.1.1.1.1.1.0; account_full = none.1.1.1.1.1.1.1.1.1.1.1.1.1.1.1.1.1.1.1.1.0 }
 
 -- ---- cents
 not-above : (n m : ℕ) → ltb m n ≡ false → n ≤ m
@@ -233,6 +234,9 @@ issues-rows now n key (post.AskRefund d) h s b = no-rows _ _ _ s b
 issues-rows now n key (post.Refund c) h s b = no-rows _ _ _ s b
 issues-rows now n key (post.Amend t d c) h s b = no-rows _ _ _ s b
 
+one-more : (posts : List Kept) (k : Kept) → leb 10000 (length posts) ≡ false → length (posts ++ k ∷ []) ≤ 10000
+one-more posts k h = let more : length posts < 10000 = grind (arith, nat_tests) in rw (length-append posts (k ∷ [])) (omega arith)
+
 accepted-stands : (now : Present) (key : List ℕ) (p : Post) → reason_against now p ≡ None → Stands now.lists → Stands (accepted now key p)
 unfolding accepted
 accepted-stands now key p h l =
@@ -241,6 +245,7 @@ accepted-stands now key p h l =
     let rows = issues-rows now (next_number now) key p free.wrong_entry l.accepted.single l.billed in
     record {
       accepted = record {
+        count = one-more now.lists.posts k (where-false _ _ free.account_full);
         cents = All-push HasFewCents now.lists.posts k l.accepted.cents (few-cents now p free.range);
         resolved = still-once now k free.no_open_dispute l.accepted.resolved;
         single = rows.single;
@@ -251,6 +256,7 @@ accepted-stands now key p h l =
 opened-stands : (k : Kept) → is_open k.post ≡ true → Stands (record { posts = k ∷ []; issued = [] })
 opened-stands k e = record {
   accepted = record {
+    count = omega arith;
     cents = All-cons HasFewCents k [] (few k.post e) (All-nil HasFewCents);
     resolved = λ n. rw (resolvers-cons n k []) (at_most n (resolves n k.post));
     single = All-nil (λ r. row_for r.cycle [] ≡ Some r);

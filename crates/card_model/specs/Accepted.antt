@@ -1,5 +1,5 @@
 -- What holds of the lists of every account that the machine has accepted.
-use Rattle.std.specs.Prelude.{ℕ, ◌≡◌, ◌≢◌, ◌≤◌, List, Option, Some, None}
+use Rattle.std.specs.Prelude.{ℕ, ◌≡◌, ◌≢◌, ◌≤◌, length, List, Option, Some, None}
 use Rattle.std.specs.List.{All, count_by}
 use Rattle.card_events.specs.SharedRows.{FeeRow, shared_rows}
 use Rattle.card_events.specs.declared.kept.Kept.{Kept}
@@ -36,6 +36,7 @@ HasFewCents k = posted_cents k.post ≤ 1000000000
 
 -- the lists of an account
 pub record AreAccepted (lists : Lists) : Type 0 where
+  pub count : length lists.posts ≤ 10000
   pub cents : All HasFewCents lists.posts
   pub resolved : AreResolvedOnce lists.posts
   pub single : AreSingle lists.issued
