@@ -1,0 +1,7 @@
+pub mod Bounded
+pub mod Dated
+pub mod Owned
+pub mod Points
+pub mod Steps
+pub mod Totals
+pub mod Whole
