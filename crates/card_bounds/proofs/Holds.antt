@@ -49,7 +49,7 @@ abbrev pub resolve_target : Post → Option ℕ
 resolve_target (post.Resolve _ target _) = Some target
 resolve_target _ = None
 
-abbrev at_target : (ℕ → ℕ) → Option ℕ → ℕ
+abbrev pub at_target : (ℕ → ℕ) → Option ℕ → ℕ
 at_target g None = 0
 at_target g (Some n) = g n
 

@@ -1,5 +1,6 @@
 pub mod Bounded
 pub mod Dated
+pub mod Held
 pub mod Holds
 pub mod Owned
 pub mod Points

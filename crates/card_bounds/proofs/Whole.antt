@@ -91,7 +91,7 @@ folded-nil opened ss = record {
   clean = λ m h. record { paid = refl; held = refl };
 }
 
-limits-on : (a : Anchor) (shared : SharedRows) (history : List Kept) (issued : List IssuedRow) (d : ℕ) → All (λ (s : CorrectedPost). s.cents ≤ 1000000000) (folded a shared.holidays history) → All HasFewFees shared.fees
+pub limits-on : (a : Anchor) (shared : SharedRows) (history : List Kept) (issued : List IssuedRow) (d : ℕ) → All (λ (s : CorrectedPost). s.cents ≤ 1000000000) (folded a shared.holidays history) → All HasFewFees shared.fees
     → Limits (seen_on a shared history issued d)
 limits-on a shared history issued d c f = record {
   ids = rises-filter (λ s. leb s.day d) 5 (folded a shared.holidays history) (rises-filter (λ s. is_folded s.post) 5 (corrected a shared.holidays history) (slots-rise a shared.holidays history 1 5 history));
