@@ -271,7 +271,7 @@ numbers-above : (low : ℕ) (ss : List CorrectedPost) → Numbers low ss → All
 numbers-above low [] h = All-nil (λ (t : CorrectedPost). low ≤ t.number)
 numbers-above low (s ∷ ss) h = All-cons (λ (t : CorrectedPost). low ≤ t.number) s ss h.0 (All-weaker (λ (t : CorrectedPost). suc s.number ≤ t.number) (λ (t : CorrectedPost). low ≤ t.number) (λ t l. let m = h.0 in omega arith) ss (numbers-above (suc s.number) ss h.1))
 
-posts-claimed : (n low : ℕ) (ps : List CorrectedPost) (issued : Option IssuedRow) (a : Account) (seen : Seen) (ss : List CorrectedPost) (b : Book) → Limits seen → Ahead n low ps ss b.entries → Owned b.entries → Claimed n ps b.entries
+pub posts-claimed : (n low : ℕ) (ps : List CorrectedPost) (issued : Option IssuedRow) (a : Account) (seen : Seen) (ss : List CorrectedPost) (b : Book) → Limits seen → Ahead n low ps ss b.entries → Owned b.entries → Claimed n ps b.entries
     → Claimed n ps (after_posts issued a seen ss b).entries
 unfolding after_posts
 posts-claimed n low ps issued a seen [] b limits h owned c = c
@@ -293,7 +293,7 @@ posts-claimed n low ps issued a seen (s ∷ ss) b limits h owned c =
     posts-claimed n (suc s.number) ps issued a seen ss next limits ahead (owned-after s.number 2000100000 b.entries next.entries step clean owned)
     (effect-claimed n ps issued a seen s s.post b refl (All-head (λ (s : CorrectedPost). s.number < n) s ss h.below) (All-head (Contains ps) s ss h.among) clean limits.ids c)
 
-due-claimed : (n : ℕ) (ps : List CorrectedPost) (issued : Option IssuedRow) (a : Account) (seen : Seen) (b : Book) (o : Option Cycle) → Rises 5 seen.posts → Claimed n ps b.entries → Claimed n ps (on_due issued a seen b o).entries
+pub due-claimed : (n : ℕ) (ps : List CorrectedPost) (issued : Option IssuedRow) (a : Account) (seen : Seen) (b : Book) (o : Option Cycle) → Rises 5 seen.posts → Claimed n ps b.entries → Claimed n ps (on_due issued a seen b o).entries
 unfolding on_due
 due-claimed n ps issued a seen b None r c = c
 due-claimed n ps issued a seen b (Some d) r c = by (eqb seen.day (d.due + 1)) (fee-claimed n ps a seen 0 (late_fee issued seen b d) b r c)
@@ -310,6 +310,6 @@ interest-claimed n ps issued seen amount (g ∷ gs) p l c =
     interest-claimed n ps issued seen amount gs (post_one seen g (posted_for issued amount g p) p) (All-tail (λ (g : SegmentTerms). 2 ≤ g.id) g gs l)
     (off-claimed n ps p.book.entries _ (debit-off seen.day 0 g.id (posted_for issued amount g p) (credit_balance p.book.entries) kind.Interest (All-head (λ (g : SegmentTerms). 2 ≤ g.id) g gs l)) c)
 
-close-claimed : (n : ℕ) (ps : List CorrectedPost) (issued : Option IssuedRow) (a : Account) (seen : Seen) (b : Book) → Rises 5 seen.posts → Claimed n ps b.entries → Claimed n ps (close issued a seen b).entries
+pub close-claimed : (n : ℕ) (ps : List CorrectedPost) (issued : Option IssuedRow) (a : Account) (seen : Seen) (b : Book) → Rises 5 seen.posts → Claimed n ps b.entries → Claimed n ps (close issued a seen b).entries
 unfolding close closing_interest
 close-claimed n ps issued a seen b r c = interest-claimed n ps issued seen _ (all_segments a seen) _ (highs a seen r) (interest-claimed n ps issued seen _ (all_segments a seen) _ (highs a seen r) c)

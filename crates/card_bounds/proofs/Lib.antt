@@ -1,6 +1,7 @@
 pub mod Bounded
 pub mod Dated
 pub mod Held
+pub mod HeldDays
 pub mod Holds
 pub mod Owned
 pub mod Points

@@ -98,10 +98,10 @@ posts-run issued a seen low (s ∷ ss) b l c m clean owned =
     sums x y z n a b = omega arith
 
 -- ---- a day
-owned-same : (es new : List Entry) → ((n : ℕ) → Same n es new) → Owned es → Owned new
+pub owned-same : (es new : List Entry) → ((n : ℕ) → Same n es new) → Owned es → Owned new
 owned-same es new s o = record { paid = λ n. let e = (s n).paid in omega (arith, o.paid n); held = λ n. rw (s n).held (o.held n) }
 
-due-step : (issued : Option IssuedRow) (a : Account) (seen : Seen) (b : Book) (c : Option Cycle) → Limits seen → WithFee b.entries (on_due issued a seen b c).entries
+pub due-step : (issued : Option IssuedRow) (a : Account) (seen : Seen) (b : Book) (c : Option Cycle) → Limits seen → WithFee b.entries (on_due issued a seen b c).entries
 unfolding on_due
 due-step issued a seen b None l = record { moves = omega arith; same = λ n. record { paid = refl; held = refl } }
 due-step issued a seen b (Some c) l = by (eqb seen.day (c.due + 1)) (fee-step a seen 0 (late_fee issued seen b c) b (late-small issued seen b c l))
