@@ -8,7 +8,6 @@ use Rattle.std.proofs.lemmas.List.Sums.{sum_by-append}
 use Rattle.std.specs.Prelude.{nat_abs}
 use Rattle.std.specs.Prelude.{min}
 use Rattle.card_bounds.specs.Bounds.{AreBounded, BalancesBounded, moved, moves}
-use Rattle.card_days.specs.Billing.{due}
 use Rattle.card_days.specs.Civil.{day_of_month}
 use Rattle.card_events.specs.History.{CorrectedPost}
 use Rattle.card_events.specs.declared.post.Post.{Post}
@@ -21,7 +20,6 @@ use Rattle.card_model.specs.Effects.{after_posts, credit_parts, disputed_cents, 
 use Rattle.card_model.specs.Entries.{at_least_zero, balance, credit_balance, debit, entry_of, holds, is_kind, lowers, negated, owing, raises, releases}
 use Rattle.card_model.specs.Fees.{fee_cents}
 use Rattle.card_model.specs.Folds.{book, book_after, day_after}
-use Rattle.card_model.specs.Machine.{opened}
 use Rattle.card_model.specs.Segments.{SegmentTerms, newest}
 use Rattle.card_model.specs.declared.entry.Entry.{Entry}
 use Rattle.card_model.specs.declared.entry.EntryKind.{EntryKind}
@@ -30,7 +28,7 @@ use Rattle.card_events.specs.declared.post.Post.TheVariants as post
 use Rattle.card_model.specs.declared.entry.EntryKind.TheVariants as kind
 use Rattle.card_model.proofs.EntryFacts.{balance-append, balance-debit}
 use Rattle.card_model.proofs.PartsSum.{parts_sum}
-use Rattle.card_model.proofs.Posted.{sum_of-append, balance-entry_of}
+use Rattle.card_model.proofs.Posted.{balance-entry_of}
 
 pub moved-append : (xs ys : List Entry) → moved (xs ++ ys) ≡ moved xs + moved ys
 unfolding moved

@@ -5,13 +5,12 @@ use Rattle.std.proofs.lemmas.Int.{ints}
 use Rattle.std.proofs.lemmas.Bool.{ne_eqb, eq-eqb}
 use Rattle.std.proofs.lemmas.Bool.Decides.{nat_tests}
 use Rattle.std.proofs.lemmas.List.{append-nil}
-use Rattle.std.proofs.lemmas.List.Elements.{All-nil, All-cons, All-head, All-tail, All-weaker, All-append}
+use Rattle.std.proofs.lemmas.List.Elements.{All-nil, All-head, All-tail, All-weaker, All-append}
 use Rattle.std.specs.Prelude.{◌≤ℤ◌}
 use Rattle.std.proofs.lemmas.List.Sums.{sum_by-cons}
 use Rattle.std.proofs.Math.Nat.{mul-le-mul_right, mul-le-mul_left, suc-mul}
 use Rattle.std.specs.List.{range_with_len}
 use Rattle.card_bounds.specs.Bounds.{IsRateSum, RowsOfPastDays, RowsSmall, SumsSmall, most_moved, most_owing, moved, rate_sum}
-use Rattle.card_days.specs.Billing.{due}
 use Rattle.card_days.specs.Civil.{day_of_month}
 use Rattle.card_events.specs.History.{CorrectedPost, anchor_of}
 use Rattle.card_events.specs.declared.post.Post.{Post}
@@ -21,12 +20,10 @@ use Rattle.card_model.specs.Closing.{Posting, close, closing_interest, post_inte
 use Rattle.card_model.specs.Cycles.{Cycle, IssuedRow, Seen, last_cycle, post_at, posts_on, seen_on}
 use Rattle.card_model.specs.DueDates.{after_due_date, late_fee, on_due}
 use Rattle.card_model.specs.Effects.{after_posts, credit_parts, disputed_cents, disputed_charge, disputed_segment, effect, is_part_of, meant_for, moved_by, payment_at, payment_parts, put_back, returned, returned_fee, size}
-use Rattle.card_model.specs.Entries.{at_least_zero, balance, credit_balance, debit, is_kind, owing, posted, sum_of}
+use Rattle.card_model.specs.Entries.{at_least_zero, balance, credit_balance, debit, is_kind, owing, sum_of}
 use Rattle.card_model.specs.Fees.{fee_cents}
 use Rattle.card_model.specs.Folds.{book, book_after, day_after}
-use Rattle.card_model.specs.Interest.{accrual, row}
-use Rattle.card_model.specs.Laws.{total}
-use Rattle.card_model.specs.Machine.{opened}
+use Rattle.card_model.specs.Interest.{row}
 use Rattle.card_model.specs.Segments.{SegmentTerms, newest, segment_at}
 use Rattle.card_model.specs.declared.entry.Entry.{Entry}
 use Rattle.card_model.specs.declared.fee.Fee.{Fee}

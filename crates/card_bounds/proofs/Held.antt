@@ -1,13 +1,11 @@
 -- Held is never below 0 where no Dispute is resolved twice.
-use Rattle.std.proofs.Common.{◌≡◌, ℕ, zero, suc, ◌+◌, ◌-◌, ◌<◌, ◌≤◌, Bool, true, false, cond, ◌&&◌, List, [], ◌∷◌, ◌++◌, refl, sym, ap, ◌∙◌, subst, arith, ℤ, pos, negsuc, ◌+ℤ◌, Option, Some, None, eqb, leb, length, get_or}
-use Rattle.std.specs.Prelude.{◌≤ℤ◌, neg_ℤ}
-use Rattle.std.specs.List.{All, Contains, filter, count_by}
+use Rattle.std.proofs.Common.{◌≡◌, ℕ, zero, suc, ◌+◌, ◌-◌, ◌<◌, ◌≤◌, Bool, true, false, cond, ◌&&◌, List, [], ◌∷◌, ◌++◌, refl, ap, ◌∙◌, subst, arith, ℤ, pos, negsuc, ◌+ℤ◌, Option, Some, None, eqb, get_or}
+use Rattle.std.specs.Prelude.{neg_ℤ}
+use Rattle.std.specs.List.{All, Contains, filter}
 use Rattle.std.proofs.lemmas.Int.{ints}
 use Rattle.std.proofs.lemmas.Bool.{eqb-true, ne_eqb, eq-eqb}
-use Rattle.std.proofs.lemmas.List.Sums.{sum_by-cons}
-use Rattle.std.proofs.lemmas.List.Elements.{All-nil, All-cons, All-head, All-tail, All-append, All-weaker, All-filter, All-contains_itself, filter_passes}
+use Rattle.std.proofs.lemmas.List.Elements.{All-nil, All-cons, All-head, All-tail, All-append, All-weaker, All-filter, filter_passes}
 use Rattle.std.specs.Prelude.{min}
-use Rattle.card_days.specs.Billing.{due}
 use Rattle.card_events.specs.History.{CorrectedPost}
 use Rattle.card_events.specs.declared.post.Post.{Post}
 use Rattle.card_model.specs.Books.{Account, Book, all_segments, newest_purchase, with_fee}
@@ -17,9 +15,6 @@ use Rattle.card_model.specs.DueDates.{after_due_date, late_fee, on_due}
 use Rattle.card_model.specs.Effects.{after_posts, charge_at, credit_parts, disputed_cents, disputed_charge, disputed_segment, effect, is_part_of, meant_for, parts_entries, payment_at, payment_parts, put_back, returned, returned_fee, size}
 use Rattle.card_model.specs.Entries.{at_least_zero, credit_balance, debit, entry_of, holds, is_kind, lowers, negated, raises, releases}
 use Rattle.card_model.specs.Fees.{fee_cents}
-use Rattle.card_model.specs.Folds.{book}
-use Rattle.card_model.specs.Machine.{step}
-use Rattle.card_model.specs.Payments.{paid}
 use Rattle.card_model.specs.Rates.{own}
 use Rattle.card_model.specs.Segments.{SegmentTerms, newest, segment_at}
 use Rattle.card_model.specs.declared.entry.Entry.{Entry}
@@ -32,9 +27,8 @@ use Rattle.card_model.proofs.PartsSum.{Rises}
 use Rattle.card_model.proofs.Sound.{segment_at-high, charge-high, highs, newest-high, payment-good, credit-good}
 use Rattle.card_bounds.proofs.Owned.{held_by, held_by-append, Clean, holds-other, releases-other}
 use Rattle.card_bounds.proofs.Steps.{Limits, Owned, effect-step, owned-after}
-use Rattle.card_bounds.proofs.Totals.{Numbers, numbers-filter, slots-number, only-one, clean-still}
-use Rattle.card_bounds.proofs.Whole.{Folded, fold-folded, folded-few, limits-on}
-use Rattle.card_bounds.proofs.Holds.{Claimed, OnHeld, claims, released, moved_of, named_times, never-below, resolve_target, at_target}
+use Rattle.card_bounds.proofs.Totals.{Numbers, clean-still}
+use Rattle.card_bounds.proofs.Holds.{Claimed, OnHeld, claims, released, moved_of, resolve_target, at_target}
 
 -- ---- entries that leave Held alone
 abbrev IsOff : Entry → Type 0

@@ -1,14 +1,12 @@
 -- Held is never below 0 on the lists that a desk accepts: whole days, and the posts of a day.
-use Rattle.std.proofs.Common.{◌≡◌, ℕ, zero, suc, ◌+◌, ◌-◌, ◌<◌, ◌≤◌, Bool, true, false, cond, List, [], ◌∷◌, ◌++◌, refl, sym, ap, ◌∙◌, subst, arith, ℤ, pos, ◌+ℤ◌, Option, Some, None, eqb, leb, length, get_or}
+use Rattle.std.proofs.Common.{◌≡◌, ℕ, zero, suc, ◌+◌, ◌-◌, ◌<◌, ◌≤◌, Bool, true, false, cond, List, [], ◌∷◌, ◌++◌, refl, sym, ap, ◌∙◌, subst, arith, pos, Option, eqb, leb, length, get_or}
 use Rattle.std.specs.Prelude.{◌≤ℤ◌}
 use Rattle.std.specs.List.{All, Contains, filter, count_by}
-use Rattle.std.proofs.lemmas.Int.{ints}
 use Rattle.std.proofs.lemmas.Bool.{eqb-true}
 use Rattle.std.proofs.lemmas.List.{append-nil}
 use Rattle.std.proofs.lemmas.List.Sums.{sum_by-cons}
-use Rattle.std.proofs.lemmas.List.Elements.{All-nil, All-cons, All-head, All-tail, All-weaker, All-filter, All-contains_itself, filter_passes}
+use Rattle.std.proofs.lemmas.List.Elements.{All-nil, All-cons, All-head, All-tail, All-filter, All-contains_itself, filter_passes}
 use Rattle.card_bounds.specs.Bounds.{HeldIsNeverBelow, IsOrderly}
-use Rattle.card_days.specs.Billing.{due}
 use Rattle.card_days.specs.Civil.{day_of_month}
 use Rattle.card_days.specs.declared.anchor.Anchor.{Anchor}
 use Rattle.card_events.specs.History.{CorrectedPost, anchor_of, corrected, corrected_from, corrected_post, folded, is_folded, next_segment}
@@ -29,7 +27,6 @@ use Rattle.card_model.specs.Interest.{row}
 use Rattle.card_model.specs.Machine.{opened}
 use Rattle.card_model.specs.declared.entry.Entry.{Entry}
 use Rattle.card_bounds.proofs.Owned.{Clean, held_by}
-use Rattle.card_bounds.proofs.Steps.{Limits, Owned}
 use Rattle.card_bounds.proofs.Totals.{Numbers, numbers-filter, slots-number, only-one, due-step, clean-still, owned-same}
 use Rattle.card_bounds.proofs.Whole.{Folded, fold-folded, folded-few, limits-on}
 use Rattle.card_bounds.proofs.Holds.{Claimed, OnHeld, named_times, never-below}

@@ -1,14 +1,13 @@
 -- What stands on Held, by the posts that put it there.
-use Rattle.std.proofs.Common.{◌≡◌, ℕ, zero, suc, ◌+◌, ◌*◌, ◌<◌, ◌≤◌, Bool, true, false, cond, ◌&&◌, List, [], ◌∷◌, ◌++◌, refl, sym, ap, ◌∙◌, subst, arith, ℤ, pos, negsuc, ◌+ℤ◌, Option, Some, None, eqb, ◌⊎◌, inl, inr}
+use Rattle.std.proofs.Common.{◌≡◌, ℕ, zero, suc, ◌+◌, ◌*◌, ◌<◌, ◌≤◌, Bool, true, false, cond, ◌&&◌, List, [], ◌∷◌, refl, sym, ap, ◌∙◌, subst, arith, ℤ, pos, negsuc, ◌+ℤ◌, Option, Some, None, eqb}
 use Rattle.std.specs.Prelude.{◌≤ℤ◌, neg_ℤ}
-use Rattle.std.specs.List.{All, Contains}
+use Rattle.std.specs.List.{All}
 use Rattle.std.proofs.lemmas.Int.{ints}
-use Rattle.std.proofs.lemmas.Bool.{eqb-true, ne_eqb, eq-eqb, cases_eq}
-use Rattle.std.proofs.lemmas.List.Elements.{All-nil, All-cons, All-head, All-tail, All-append}
+use Rattle.std.proofs.lemmas.Bool.{eqb-true, ne_eqb, eq-eqb}
+use Rattle.std.proofs.lemmas.List.Elements.{All-head, All-tail}
 use Rattle.std.proofs.Math.Nat.{suc-mul}
 use Rattle.card_events.specs.History.{CorrectedPost}
 use Rattle.card_events.specs.declared.post.Post.{Post}
-use Rattle.card_model.specs.Allocation.{parts}
 use Rattle.card_model.specs.Deadlines.{resolves}
 use Rattle.card_model.specs.Effects.{is_held_by}
 use Rattle.card_model.specs.Entries.{at_least_zero, balance, is_kind, sum_of}

@@ -5,14 +5,12 @@ use Rattle.std.specs.List.{filter}
 use Rattle.std.proofs.lemmas.Int.{ints}
 use Rattle.std.proofs.lemmas.List.Elements.{filter-append}
 use Rattle.std.specs.Prelude.{min}
-use Rattle.card_bounds.specs.Bounds.{moved, moves}
+use Rattle.card_bounds.specs.Bounds.{moved}
 use Rattle.card_model.specs.Effects.{is_held_by, is_part_of, parts_entries, put_back, size}
 use Rattle.card_model.specs.Entries.{credit_balance, debit, entry_of, holds, lowers, negated, raises, releases, sum_of}
-use Rattle.card_model.specs.Payments.{paid}
 use Rattle.card_model.specs.Segments.{newest}
 use Rattle.card_model.specs.declared.entry.Entry.{Entry}
 use Rattle.card_model.specs.declared.entry.EntryKind.{EntryKind}
-use Rattle.card_model.specs.declared.fee.Fee.{Fee}
 use Rattle.card_model.specs.declared.entry.EntryKind.TheVariants as kind
 use Rattle.card_model.proofs.Posted.{sum_of-append}
 use Rattle.card_bounds.proofs.Bounded.{moved-append, piece-debit}

@@ -1,7 +1,6 @@
 -- Balances are small at every point of the fold.
-use Rattle.std.proofs.Common.{◌≡◌, ℕ, suc, ◌+◌, ◌≤◌, List, [], ◌∷◌, ◌++◌, refl, sym, ap, ◌∙◌, subst, arith, Option}
-use Rattle.card_bounds.specs.Bounds.{InterestKeepsRoom, PostsHaveRoom, RoomIsSmall, SmallAtEachStep, most_moved, moved, moves}
-use Rattle.card_days.specs.Billing.{due}
+use Rattle.std.proofs.Common.{◌≡◌, ℕ, suc, ◌+◌, ◌≤◌, List, [], ◌∷◌, ◌++◌, refl, ap, ◌∙◌, arith, Option}
+use Rattle.card_bounds.specs.Bounds.{InterestKeepsRoom, PostsHaveRoom, RoomIsSmall, SmallAtEachStep, most_moved, moved}
 use Rattle.card_events.specs.History.{CorrectedPost, anchor_of}
 use Rattle.card_model.specs.Allocation.{parts}
 use Rattle.card_model.specs.Books.{Account, Book, account_of, present_cycle}
@@ -9,10 +8,9 @@ use Rattle.card_model.specs.Caps.{row_for}
 use Rattle.card_model.specs.Cycles.{IssuedRow, Seen, last_cycle, posts_on, seen_on}
 use Rattle.card_model.specs.DueDates.{on_due}
 use Rattle.card_model.specs.Effects.{after_posts, effect}
-use Rattle.card_model.specs.Entries.{balance, posted}
+use Rattle.card_model.specs.Entries.{balance}
 use Rattle.card_model.specs.Folds.{book_after}
 use Rattle.card_model.specs.Interest.{row}
-use Rattle.card_model.specs.Machine.{opened}
 use Rattle.card_bounds.proofs.Bounded.{book-bounded, posts-bounded, due-bounded, moved-append, interest-bounded}
 use Rattle.card_bounds.proofs.Totals.{interest-step}
 use Rattle.card_bounds.proofs.Whole.{moved_of-small, small-high, small-low}

@@ -6,7 +6,7 @@ use Rattle.std.proofs.lemmas.Int.{ints}
 use Rattle.std.proofs.lemmas.Bool.{eqb-true}
 use Rattle.std.proofs.lemmas.List.Elements.{All-head, All-tail}
 use Rattle.std.specs.Prelude.{min}
-use Rattle.card_bounds.specs.Bounds.{moved, moves}
+use Rattle.card_bounds.specs.Bounds.{moved}
 use Rattle.card_events.specs.History.{CorrectedPost}
 use Rattle.card_events.specs.SharedRows.{FeeRow}
 use Rattle.card_events.specs.declared.post.Post.{Post}
@@ -17,9 +17,8 @@ use Rattle.card_model.specs.DueDates.{late_fee}
 use Rattle.card_model.specs.Effects.{charge_at, corrected_cents, credit_parts, disputed_cents, disputed_charge, disputed_segment, effect, is_charge, is_held_by, is_part_of, meant_for, moved_by, payment_at, payment_parts, returned, returned_fee}
 use Rattle.card_model.specs.Entries.{at_least_zero, credit_balance, debit, owing, sum_of}
 use Rattle.card_model.specs.Fees.{fee_cents, fee_for, is_repeat, later_row, row_in_force, tier_amount}
-use Rattle.card_model.specs.Interest.{charged}
 use Rattle.card_model.specs.Machine.{step}
-use Rattle.card_model.specs.Payments.{met, paid}
+use Rattle.card_model.specs.Payments.{met}
 use Rattle.card_model.specs.Segments.{newest}
 use Rattle.card_model.specs.declared.entry.Entry.{Entry}
 use Rattle.card_model.specs.declared.fee.Fee.{Fee}

@@ -3,8 +3,7 @@ use Rattle.std.proofs.Common.{◌≡◌, ℕ, zero, suc, ◌+◌, ◌*◌, ◌�
 use Rattle.std.specs.List.{filter, All, Contains}
 use Rattle.std.proofs.lemmas.Bool.{ne_eqb}
 use Rattle.std.proofs.lemmas.List.Elements.{All-nil, All-cons, All-head, All-tail, All-weaker, All-filter, All-contains}
-use Rattle.card_bounds.specs.Bounds.{moved, moves}
-use Rattle.card_days.specs.Billing.{due}
+use Rattle.card_bounds.specs.Bounds.{moved}
 use Rattle.card_days.specs.Civil.{day_of_month}
 use Rattle.card_days.specs.declared.anchor.Anchor.{Anchor}
 use Rattle.card_events.specs.History.{CorrectedPost, corrected_from, corrected_post, next_segment}
@@ -15,9 +14,7 @@ use Rattle.card_model.specs.Cycles.{Cycle, IssuedRow, Seen, last_cycle, posts_on
 use Rattle.card_model.specs.DueDates.{after_due_date, late_fee, on_due}
 use Rattle.card_model.specs.Effects.{after_posts, effect}
 use Rattle.card_model.specs.Entries.{credit_balance, debit, posted}
-use Rattle.card_model.specs.Folds.{book, day_after}
-use Rattle.card_model.specs.Machine.{run, step}
-use Rattle.card_model.specs.Payments.{paid}
+use Rattle.card_model.specs.Folds.{day_after}
 use Rattle.card_model.specs.Segments.{SegmentTerms}
 use Rattle.card_model.specs.declared.entry.Entry.{Entry}
 use Rattle.card_model.specs.declared.entry.EntryKind.TheVariants as kind

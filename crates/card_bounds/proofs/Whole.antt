@@ -7,7 +7,7 @@ use Rattle.std.proofs.lemmas.Bool.{eqb-true, ne_eqb, eq-eqb, cases_lt}
 use Rattle.std.proofs.lemmas.Bool.Decides.{nat_tests}
 use Rattle.std.proofs.lemmas.List.Elements.{All-nil, All-cons, All-head, All-tail, All-weaker, All-filter, All-contains, All-contains_itself, filter_passes}
 use Rattle.std.specs.Option.{option_or}
-use Rattle.card_bounds.specs.Bounds.{BalancesSmall, IsLimited, most_moved, moved, moves}
+use Rattle.card_bounds.specs.Bounds.{BalancesSmall, IsLimited, most_moved, moved}
 use Rattle.card_days.specs.declared.anchor.Anchor.{Anchor}
 use Rattle.card_events.specs.History.{CorrectedPost, amend_of, amended_cents, anchor_of, cents_of, confirmed, corrected, corrected_from, corrected_post, folded, is_folded, last_amend, next_segment}
 use Rattle.card_events.specs.SharedRows.{FeeRow, SharedRows}
@@ -19,8 +19,7 @@ use Rattle.card_model.specs.Caps.{row_for}
 use Rattle.card_model.specs.Cycles.{IssuedRow, posts_on, seen_on}
 use Rattle.card_model.specs.Entries.{balance}
 use Rattle.card_model.specs.Folds.{book, book_after, day_after}
-use Rattle.card_model.specs.Machine.{opened, run}
-use Rattle.card_model.specs.Payments.{paid}
+use Rattle.card_model.specs.Machine.{opened}
 use Rattle.card_model.specs.Rates.{own}
 use Rattle.card_model.specs.declared.entry.Entry.{Entry}
 use Rattle.card_events.specs.declared.post.Post.TheVariants as post

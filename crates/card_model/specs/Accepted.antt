@@ -1,5 +1,5 @@
 -- What holds of the lists of every account that the machine has accepted.
-use Rattle.std.specs.Prelude.{ℕ, ◌≡◌, ◌≢◌, ◌≤◌, length, List, Option, Some, None}
+use Rattle.std.specs.Prelude.{ℕ, ◌≡◌, ◌≤◌, length, List, Some}
 use Rattle.std.specs.List.{All, count_by}
 use Rattle.card_events.specs.SharedRows.{FeeRow, shared_rows}
 use Rattle.card_events.specs.declared.kept.Kept.{Kept}
