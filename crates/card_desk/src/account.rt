@@ -17,28 +17,29 @@ pub struct Account {
 
 impl Model for Account {
     ghost use Rattle.std.specs.Prelude.{◌≡◌, ◌≤◌, ◌*◌, length, pos};
-    ghost use Rattle.card_desk.specs.Ledger.{History, owed};
+    ghost use Rattle.card_desk.specs.Ledger.{History};
+    ghost use Rattle.card_desk.specs.Ledger as spec;
 
     ghost Value = { History };
 
     ghost view = { λ a. record { name = a.name; posts = a.posts.items } };
 
-    ghost invariant = { λ a. (length a.posts.items ≤ 10_000) × (a.owed ≡ pos (owed a.posts.items)) × (owed a.posts.items ≤ 999_999_999_999 * length a.posts.items) };
+    ghost invariant = { λ a. (length a.posts.items ≤ 10_000) × (a.owed ≡ pos (spec.owed a.posts.items)) × (spec.owed a.posts.items ≤ 999_999_999_999 * length a.posts.items) };
 }
 
 impl Account {
     ghost use Rattle.std.specs.Prelude.{◌≡◌, ◌<◌, ◌≤◌, ◌++◌, [], ◌∷◌, length, IfOk, OnErr, OnOk, pos};
     ghost use Rattle.std.specs.Str.{bytes_eq};
-    ghost use Rattle.card_desk.specs.Ledger.{owed};
 
     /// The account that this post begins.
-    pub fn open(alloc: Global, name: Name, post: Post) -> Result<Account, NoMemory>
+    pub fn open(alloc: Global, name: Name, post: &Post) -> Result<Account, NoMemory>
         ensures name { IfOk result (λ a. a.name ≡ name) }
-        ensures posts { IfOk result (λ a. a.posts ≡ post ∷ []) }
+        ensures posts { IfOk result (λ a. a.posts ≡ post.now ∷ []) }
     {
-        let owed = charged(&post);
         let mut posts = Vec::new(alloc);
-        posts.push(post)?;
+        posts.reserve(1)?;
+        let _ = posts.push(*post);
+        let owed = charged(post);
         Ok(Account { name, posts, owed })
     }
 
@@ -58,21 +59,21 @@ impl Account {
     }
 
     /// One more post. After want of memory the account is as it was.
-    pub fn add(&mut self, post: Post) -> Result<(), NoMemory>
+    pub fn add(&mut self, post: &Post) -> Result<(), NoMemory>
         requires { length self.old.posts < 10_000 }
         ensures name { self.new.name ≡ self.old.name }
-        ensures ok { OnOk result (self.new.posts ≡ self.old.posts ++ post ∷ []) }
+        ensures ok { OnOk result (self.new.posts ≡ self.old.posts ++ post.now ∷ []) }
         ensures err { OnErr result (self.new.posts ≡ self.old.posts) }
     {
-        let cents = charged(&post);
-        self.posts.push(post)?;
-        self.owed += cents;
+        self.posts.reserve(1)?;
+        let _ = self.posts.push(*post);
+        self.owed += charged(post);
         Ok(())
     }
 
     /// The sum of its charges, in cents.
     pub fn owed(&self) -> Cents
-        ensures { result ≡ pos (owed self.now.posts) }
+        ensures { result ≡ pos (spec.owed self.now.posts) }
     {
         self.owed
     }

@@ -62,8 +62,8 @@ impl Desk {
         self.today
     }
 
-    fn open(&mut self, alloc: Global, account: &Name, post: Post) -> Result<Reply, NoMemory>
-        ensures ok { IfOk result (λ reply. (self.new, reply) ≡ opened self.old account.now post (posts_of account.now self.old.accounts)) }
+    fn open(&mut self, alloc: Global, account: &Name, post: &Post) -> Result<Reply, NoMemory>
+        ensures ok { IfOk result (λ reply. (self.new, reply) ≡ opened self.old account.now post.now (posts_of account.now self.old.accounts)) }
         ensures err { OnErr result (self.new ≡ self.old) }
     {
         if let Some(_) = place_of(&self.accounts, account) {
@@ -75,8 +75,8 @@ impl Desk {
         Ok(Reply::Accepted(1))
     }
 
-    fn charge(&mut self, account: &Name, post: Post, cents: Num) -> Result<Reply, NoMemory>
-        ensures ok { IfOk result (λ reply. (self.new, reply) ≡ added self.old account.now post cents (posts_of account.now self.old.accounts)) }
+    fn charge(&mut self, account: &Name, post: &Post, cents: Num) -> Result<Reply, NoMemory>
+        ensures ok { IfOk result (λ reply. (self.new, reply) ≡ added self.old account.now post.now cents (posts_of account.now self.old.accounts)) }
         ensures err { OnErr result (self.new ≡ self.old) }
     {
         let Some(at) = place_of(&self.accounts, account) else {
@@ -108,8 +108,8 @@ impl Desk {
         ensures err { OnErr result (self.new ≡ self.old) }
     {
         match post {
-            Post::Open { .. } => self.open(alloc, account, *post),
-            Post::Charge { cents, .. } => self.charge(account, *post, *cents),
+            Post::Open { .. } => self.open(alloc, account, post),
+            Post::Charge { cents, .. } => self.charge(account, post, *cents),
             _ => Ok(Reply::Done),
         }
     }
@@ -156,7 +156,7 @@ impl Desk {
 fn first_day() -> Day
     ensures { result ≡ 14_975 }
 {
-    Day::FIRST
+    Day::from_number(14_975).unwrap()
 }
 
 fn is_no_amount(cents: Num) -> bool
