@@ -2,7 +2,7 @@
 ghost use Rattle.std.specs.Prelude.{◌≡◌, ◌≤◌, pos};
 ghost use Rattle.card_desk.specs.Ledger as spec;
 
-use card_events::{Name, Post};
+use card_events::{Name, Post, Posts};
 use card_units::{Cents, NoMemory};
 use std::alloc::Global;
 use std::marker::Model;
@@ -11,7 +11,7 @@ use std::marker::Model;
 #[derive(Drop)]
 pub struct Account {
     name: Name,
-    posts: Vec<Post>,
+    posts: Posts,
     owed: Cents,
 }
 
@@ -22,9 +22,9 @@ impl Model for Account {
 
     ghost Value = { History };
 
-    ghost view = { λ a. record { name = a.name; posts = a.posts.items } };
+    ghost view = { λ a. record { name = a.name; posts = a.posts } };
 
-    ghost invariant = { λ a. (length a.posts.items ≤ 10_000) × (a.owed ≡ pos (spec.owed a.posts.items)) × (spec.owed a.posts.items ≤ 999_999_999_999 * length a.posts.items) };
+    ghost invariant = { λ a. (a.owed ≡ pos (spec.owed a.posts)) × (spec.owed a.posts ≤ 999_999_999_999 * length a.posts) };
 }
 
 impl Account {
@@ -36,9 +36,7 @@ impl Account {
         ensures name { IfOk result (λ a. a.name ≡ name) }
         ensures posts { IfOk result (λ a. a.posts ≡ post.now ∷ []) }
     {
-        let mut posts = Vec::new(alloc);
-        posts.reserve(1)?;
-        let _ = posts.push(*post);
+        let posts = Posts::start(alloc, post)?;
         let owed = charged(post);
         Ok(Account { name, posts, owed })
     }
@@ -55,7 +53,7 @@ impl Account {
         ensures value { result ≡ length self.now.posts }
         ensures bound { result ≤ 10_000 }
     {
-        self.posts.len() as u32
+        self.posts.len()
     }
 
     /// One more post. After want of memory the account is as it was.
@@ -65,8 +63,7 @@ impl Account {
         ensures ok { OnOk result (self.new.posts ≡ self.old.posts ++ post.now ∷ []) }
         ensures err { OnErr result (self.new.posts ≡ self.old.posts) }
     {
-        self.posts.reserve(1)?;
-        let _ = self.posts.push(*post);
+        self.posts.push(post)?;
         self.owed += charged(post);
         Ok(())
     }

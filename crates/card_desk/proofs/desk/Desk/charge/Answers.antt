@@ -7,4 +7,4 @@ pub returns-then-is_no_amount-clause-ok : goal.returns-then-is_no_amount-clause-
 returns-then-is_no_amount-clause-ok c =
     let none : History = record { name = []; posts = [] } in
     let there = c.in-Some.ensures.there none in
-    sym (out_of_range c.args.self.now c.args.account.now c.args.post c.args.cents _ _ (ap (λ l. posts_of c.args.account.now l.accounts) (sym c.self.view_is) ∙ ap (posts_of c.args.account.now) (sym c.deref.ensures.value) ∙ there) (sym c.is_no_amount.ensures ∙ c.if-is_no_amount.true))
+    sym (out_of_range c.args.self.now c.args.account.now c.args.post.now c.args.cents _ _ (ap (λ l. posts_of c.args.account.now l.accounts) (sym c.self.view_is) ∙ ap (posts_of c.args.account.now) (sym c.deref.ensures.value) ∙ there) (sym c.is_no_amount.ensures ∙ c.if-is_no_amount.true))
