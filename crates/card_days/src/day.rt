@@ -1,5 +1,10 @@
-ghost use Rattle.std.specs.Prelude.{◌≡◌, ◌≤◌, ℕ, pos};
+ghost use Rattle.std.specs.Prelude.{◌≡◌, ◌↔◌, ◌≤◌, ℕ, pos, true, IsSome, IfSome, SomeIff, Some, OnSome};
+ghost use Rattle.card_days.specs.Range.{IsDayNumber};
+ghost use Rattle.card_days.specs.Civil.{IsInCalendar, date_of, is_date, day_at, day_text};
 
+use jiff::civil::date;
+use jiff_core::civil;
+use std::fmt;
 use std::marker::Model;
 
 /// A civil day from 2011-01-01 to 2102-12-31. Clauses see it as its number of days since 1970-01-01.
@@ -19,6 +24,34 @@ impl Model for Day {
 }
 
 impl Day {
+    /// The day with this year, month and day of the month. None comes exactly where the calendar has no such date, or
+    /// where it lies outside 2011-01-01 to 2102-12-31.
+    pub fn from_ymd(y: u16, m: u8, d: u8) -> Option<Day>
+        ensures { SomeIff result (is_date y m d ≡ true) (day_at y m d) }
+    {
+        if y < 2011 || y > 2102 || m > 12 || d > 31 {
+            return None;
+        }
+        match civil::Date::new(y as i16, m as i8, d as i8) {
+            Ok(date) => Some(Day {
+                number: date.to_unix_epoch_day() as u32,
+            }),
+            Err(_) => None,
+        }
+    }
+
+    /// The day with this number of days since 1970-01-01. None comes exactly where the number lies outside 14975
+    /// (2011-01-01) to 48576 (2102-12-31).
+    pub fn from_number(n: i32) -> Option<Day>
+        ensures some { IsSome result ↔ IsDayNumber n }
+        ensures value { IfSome result (λ d. pos d ≡ n) }
+    {
+        if n < 14_975 || n > 48_576 {
+            return None;
+        }
+        Some(Day { number: n as u32 })
+    }
+
     /// Days since 1970-01-01.
     pub fn number(self) -> i32
         ensures value { result ≡ pos self }
@@ -26,5 +59,38 @@ impl Day {
         ensures last { self ≤ 48_576 }
     {
         self.number as i32
+    }
+
+    /// Its year, month and day of the month.
+    pub fn ymd(self) -> (u16, u8, u8)
+        ensures year { result.0 ≡ (date_of self).year }
+        ensures month { result.1 ≡ (date_of self).month }
+        ensures day { result.2 ≡ (date_of self).day }
+    {
+        let date = self.date();
+        (date.year as u16, date.month, date.day)
+    }
+
+    fn date(self) -> civil::Date
+        ensures year { result.year ≡ pos (date_of self).year }
+        ensures month { result.month ≡ (date_of self).month }
+        ensures day { result.day ≡ (date_of self).day }
+        ensures in_calendar { IsInCalendar (date_of self).year (date_of self).month (date_of self).day }
+    {
+        match civil::Date::from_unix_epoch_day(self.number as i64) {
+            Ok(date) => date,
+            Err(_) => unreachable!(),
+        }
+    }
+}
+
+impl fmt::Display for Day {
+    ghost output = { λ d. Some (day_text d) };
+
+    #[tactic(auto, unfolding(crate::specs::Civil::date_text))]
+    fn fmt<W: fmt::Write>(&self, f: &mut fmt::Formatter<W>) -> fmt::Result {
+        let plain = self.date();
+        let date = date(plain.year, plain.month as i8, plain.day as i8);
+        write!(f, "{date}")
     }
 }
