@@ -1,3 +1,4 @@
+pub mod Built
 pub mod Dated
 pub mod Names
 pub mod Refusals

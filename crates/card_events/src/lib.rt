@@ -5,11 +5,13 @@ mod dated;
 mod name;
 mod number;
 mod post;
+mod posts;
 mod reply;
 mod request;
 
 pub use name::Name;
 pub use number::Num;
 pub use post::{Category, Finding, Place, PlanKind, Post, Terms};
+pub use posts::Posts;
 pub use reply::{Refusal, Reply};
 pub use request::{Request, Shared};
