@@ -1,3 +1,4 @@
 mod NumberLemmas
 mod FieldLemmas
 mod TextRules
+pub mod DatedLemmas

@@ -19,14 +19,15 @@ abbrev pub ◌>>=◌ : {A B : Type 0} → Result A ℕ → (A → Result B ℕ) 
 (Ok x) >>= f = f x
 (Err n) >>= f = Err n
 
--- the next field, which has this number, in this form; and the fields after it
+-- the value of a field and the fields after it, or the field's number
+abbrev pub formed : {A : Type 0} → ℕ → List (List ℕ) → Option A → Result (A × List (List ℕ)) ℕ
+formed n fs None = Err n
+formed n fs (Some x) = Ok (x, fs)
+
+-- the next field, which has this number, in this form
 abbrev pub field : {A : Type 0} → (List ℕ → Option A) → ℕ → List (List ℕ) → Result (A × List (List ℕ)) ℕ
 field form n [] = Err n
-field {A} form n (f ∷ fs) = formed (form f)
-  where
-    formed : Option A → Result (A × List (List ℕ)) ℕ
-    formed None = Err n
-    formed (Some x) = Ok (x, fs)
+field form n (f ∷ fs) = formed n fs (form f)
 
 -- no field is left; the next would have this number
 abbrev pub end_at : ℕ → List (List ℕ) → Result (Unit {0}) ℕ

@@ -99,8 +99,10 @@ reply_text (reply.Refused r) = refusal_text r
 unfoldable pub bad_text : ℕ → ℕ → List ℕ
 bad_text line field = codes "bad " ++ decimal line ++ 32 ∷ [] ++ decimal field ++ 10 ∷ []
 
+-- `owed CENTS credit CENTS held CENTS`
+unfoldable pub balances_text : ℤ → ℤ → ℤ → List ℕ
+balances_text owed credit held = codes "owed " ++ signed_decimal owed ++ codes " credit " ++ signed_decimal credit ++ codes " held " ++ signed_decimal held
+
 -- `show ACCOUNT DAY owed CENTS credit CENTS held CENTS`
 unfoldable pub show_text : List ℕ → ℕ → ℤ → ℤ → ℤ → List ℕ
-show_text account day owed credit held =
-    codes "show " ++ account ++ 32 ∷ [] ++ day_text day
-    ++ codes " owed " ++ signed_decimal owed ++ codes " credit " ++ signed_decimal credit ++ codes " held " ++ signed_decimal held ++ 10 ∷ []
+show_text account day owed credit held = codes "show " ++ account ++ 32 ∷ [] ++ day_text day ++ 32 ∷ [] ++ balances_text owed credit held ++ 10 ∷ []

@@ -15,9 +15,16 @@ use std::alloc::Global;
 
 /// What the line says, given without its line feed and without a carriage return before that. `Line::Bad` has the number of
 /// the first field that is missing, surplus or not of its form; a line of more than 512 bytes is bad at 0.
-#[tactic(auto, unfolding(crate::specs::Lines::line_of, crate::specs::Lines::line_of_fields))]
 pub fn read_line(alloc: Global, line: &[u8]) -> Result<Line, NoMemory>
     ensures line { IfOk result (λ l. l ≡ line_of line.now) }
+    ensures dated { IfOk result IsDatedLine }
+{
+    read_words(alloc, line)
+}
+
+#[tactic(auto, unfolding(crate::specs::Lines::line_of, crate::specs::Lines::line_of_fields))]
+fn read_words(alloc: Global, line: &[u8]) -> Result<Line, NoMemory>
+    ensures { IfOk result (λ l. l ≡ line_of line.now) }
 {
     if line.len() > 512 {
         return Ok(Line::Bad(0));

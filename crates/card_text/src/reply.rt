@@ -8,6 +8,7 @@ use card_days::Day;
 use card_events::{Name, Refusal, Reply};
 use card_units::{Cents, NoMemory};
 use std::alloc::Global;
+use std::fmt;
 
 /// The line of a reply, with its line feed: `ok`, `ok NUMBER`, or `no NUMBER NAME` and the refusal's value where it has one.
 #[tactic(auto, using(crate::proofs::TextRules::texts), unfolding(crate::specs::Replies::reply_text))]
@@ -43,8 +44,7 @@ pub fn bad_text(alloc: Global, line: u64, field: u8) -> Result<String, NoMemory>
 }
 
 /// The line that shows an account, with its line feed: on this day it owes these cents (negative for a credit balance), and
-/// of them these are held as credit, and in dispute.
-#[tactic(auto, using(crate::proofs::TextRules::texts), unfolding(crate::specs::Replies::show_text))]
+/// these are held as credit, and in dispute.
 pub fn show_text(
     alloc: Global,
     account: &Name,
@@ -55,10 +55,42 @@ pub fn show_text(
 ) -> Result<String, NoMemory>
     ensures { IfOk result (λ text. string_bytes text ≡ spec.show_text account.now day owed credit held) }
 {
+    let balances = Balances { owed, credit, held };
     match str::from_utf8(account.bytes()) {
-        Ok(account) => Ok(format!(in alloc;
-            "show {account} {day} owed {owed} credit {credit} held {held}\n"
-        )?),
+        Ok(name) => account_text(alloc, name, day, &balances),
         Err(_) => Err(NoMemory),
+    }
+}
+
+#[tactic(auto, using(crate::proofs::TextRules::texts), unfolding(crate::specs::Replies::show_text))]
+fn account_text(
+    alloc: Global,
+    account: &str,
+    day: Day,
+    balances: &Balances,
+) -> Result<String, NoMemory>
+    ensures { IfOk result (λ text. string_bytes text ≡ spec.show_text account.now day balances.now.owed balances.now.credit balances.now.held) }
+{
+    Ok(format!(in alloc; "show {account} {day} {balances}\n")?)
+}
+
+/// What an account owes, and what is held as credit and in dispute, in cents.
+#[derive(Debug, Drop)]
+struct Balances {
+    owed: Cents,
+    credit: Cents,
+    held: Cents,
+}
+
+impl fmt::Display for Balances {
+    ghost use Rattle.std.specs.Prelude.{Some};
+    ghost use Rattle.card_text.specs.Replies.{balances_text};
+
+    ghost output = { λ b. Some (balances_text b.owed b.credit b.held) };
+
+    #[tactic(auto, using(crate::proofs::TextRules::texts), unfolding(crate::specs::Replies::balances_text))]
+    fn fmt<W: fmt::Write>(&self, f: &mut fmt::Formatter<W>) -> fmt::Result {
+        let Balances { owed, credit, held } = self;
+        write!(f, "owed {owed} credit {credit} held {held}")
     }
 }
