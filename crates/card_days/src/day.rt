@@ -66,6 +66,9 @@ impl Day {
         ensures year { result.0 ≡ (date_of self).year }
         ensures month { result.1 ≡ (date_of self).month }
         ensures day { result.2 ≡ (date_of self).day }
+        ensures in_calendar { IsInCalendar result.0 result.1 result.2 }
+        ensures first { 14_975 ≤ self }
+        ensures last { self ≤ 48_576 }
     {
         let date = self.date();
         (date.year as u16, date.month, date.day)
@@ -76,6 +79,8 @@ impl Day {
         ensures month { result.month ≡ (date_of self).month }
         ensures day { result.day ≡ (date_of self).day }
         ensures in_calendar { IsInCalendar (date_of self).year (date_of self).month (date_of self).day }
+        ensures first { 14_975 ≤ self }
+        ensures last { self ≤ 48_576 }
     {
         match civil::Date::from_unix_epoch_day(self.number as i64) {
             Ok(date) => date,

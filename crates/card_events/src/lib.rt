@@ -2,6 +2,7 @@
 #![tactic(auto)]
 
 mod dated;
+mod kept;
 mod name;
 mod number;
 mod post;
@@ -9,6 +10,7 @@ mod posts;
 mod reply;
 mod request;
 
+pub use kept::{Kept, Slot};
 pub use name::Name;
 pub use number::Num;
 pub use post::{Category, Finding, Place, PlanKind, Post, Terms};

@@ -1,0 +1,40 @@
+//! Laws of the fold, for all lists of posts.
+ghost use Rattle.card_model.specs.Accepted.{RunsAreAccepted};
+ghost use Rattle.card_model.specs.Laws.{BalanceIdentity, CorrectionBack, IssuedCaps, IssuingChangesNoPastDay, PastIsEnough, Signs};
+
+/// The book of a day depends on the corrected posts and the fee rows up to that day alone.
+pub fn past_is_enough()
+    ensures { PastIsEnough }
+{}
+
+/// What is owed is the sum of all entries: charges, interest, fees, refunds and returned payments, less payments and
+/// credits. Holds sum to 0.
+pub fn balance_identity()
+    ensures { BalanceIdentity }
+{}
+
+/// In the book of every day, no cycle passes the interest, fees, minimum payment and grace amount that were issued.
+pub fn issued_caps()
+    ensures { IssuedCaps }
+{}
+
+/// A correction that the next post takes back leaves the book of every day as it was before both.
+pub fn correction_back()
+    ensures { CorrectionBack }
+{}
+
+/// A Bill with the row that it adds changes the book of no day up to the day on which it was accepted.
+pub fn issuing_changes_no_past_day()
+    ensures { IssuingChangesNoPastDay }
+{}
+
+/// Credit is never above 0, and no segment but Held ever below.
+pub fn signs()
+    ensures { Signs }
+{}
+
+/// After every list of requests, in every account: cents are within their range, no Dispute is resolved twice, and no
+/// cycle has two issued rows. Fees in the table are within their range.
+pub fn runs_are_accepted()
+    ensures { RunsAreAccepted }
+{}
