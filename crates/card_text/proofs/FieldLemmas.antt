@@ -1,9 +1,6 @@
 -- The first field of a line.
-use Rattle.std.proofs.Common.{◌≡◌, ℕ, zero, suc, ◌+◌, ◌<◌, ◌≤◌, Bool, true, false, not, cond, eqb, ltb, List, [], ◌∷◌, ◌++◌, length, take, drop, Option, None, Some, Err, refl, ap, sym, ◌∙◌, arith}
-use Rattle.std.specs.List.{slice_split, onto_first, position_or_len, position}
-use Rattle.std.proofs.lemmas.List.Sums.{prefix_len-le-length}
-use Rattle.std.proofs.lemmas.List.{take_all, drop_all}
-use Rattle.std.proofs.lemmas.Bool.{ltb-false, ltb-true}
+use Rattle.std.proofs.Common.{◌≡◌, ℕ, suc, ◌+◌, true, false, not, cond, eqb, List, [], ◌∷◌, take, drop, Err, refl, ap, arith}
+use Rattle.std.specs.List.{onto_first, position_or_len}
 use Rattle.card_text.specs.Fields.{end_at}
 use Rattle.card_text.specs.Fields.{fields_of, fields_left}
 

@@ -8,6 +8,8 @@ mod line_reading;
 mod post_reading;
 mod refusal;
 mod reply;
+#[cfg(test)]
+mod tests;
 mod word;
 
 pub use forms::{

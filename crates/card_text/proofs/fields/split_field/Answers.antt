@@ -1,5 +1,3 @@
-use Rattle.std.proofs.Common.{◌≡◌, ◌∷◌, take, drop, ◌∙◌}
-use Rattle.card_text.specs.Fields.{fields_left}
 use Rattle.card_text.proofs.FieldLemmas.{first_field}
 use Rattle.card_text.proofs.fields.split_field.Goals as goal
 

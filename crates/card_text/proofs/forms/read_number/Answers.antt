@@ -1,4 +1,4 @@
-use Rattle.std.proofs.Common.{◌≡◌, true, Some, ap, sym, ◌∙◌, length, arith}
+use Rattle.std.proofs.Common.{Some, ap, sym, ◌∙◌}
 use Rattle.card_text.proofs.NumberLemmas.{some_of, number_is, is_short, twelve}
 use Rattle.card_text.proofs.forms.read_number.Goals as goal
 

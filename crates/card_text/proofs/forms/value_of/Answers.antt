@@ -1,5 +1,4 @@
-use Rattle.std.proofs.Common.{◌≡◌, ◌+◌, ◌-◌, ◌*◌, ◌<◌, ◌^◌, drop, arith, sym, ◌∙◌, get_or}
-use Rattle.card_text.specs.Forms.{value_after}
+use Rattle.std.proofs.Common.{drop, arith, sym, ◌∙◌}
 use Rattle.card_text.proofs.NumberLemmas.{value_small, value_grows, value_step, digit_at}
 use Rattle.card_text.proofs.forms.value_of.Goals as goal
 
