@@ -6,7 +6,6 @@ mod kept;
 mod name;
 mod number;
 mod post;
-mod posts;
 mod reply;
 mod request;
 
@@ -14,6 +13,5 @@ pub use kept::{Kept, Slot};
 pub use name::Name;
 pub use number::Num;
 pub use post::{Category, Finding, Place, PlanKind, Post, Terms};
-pub use posts::Posts;
 pub use reply::{Refusal, Reply};
 pub use request::{Request, Shared};
