@@ -8,6 +8,8 @@ use Rattle.std.proofs.lemmas.List.Sums.{sum_by-append, sum_by-cons}
 use Rattle.std.proofs.lemmas.Bool.Decides.{nat_tests}
 use Rattle.std.proofs.lemmas.List.Elements.{All-nil, All-cons, All-head, All-tail, All-push, All-weaker}
 use Rattle.card_events.specs.History.{at_number}
+use Rattle.std.specs.Str.{bytes_eq}
+use Rattle.card_events.specs.Keys.{with_key}
 use Rattle.card_events.specs.SharedRows.{FeeRow, fee_row_of, shared_rows}
 use Rattle.card_events.specs.declared.kept.Kept.{Kept}
 use Rattle.card_events.specs.declared.post.Post.{Post}
@@ -19,7 +21,7 @@ use Rattle.card_model.specs.Caps.{row_for}
 use Rattle.card_model.specs.Cycles.{Cycle, IssuedRow}
 use Rattle.card_model.specs.Deadlines.{resolves}
 use Rattle.card_model.specs.Folds.{cycle_at, row_of_cycle}
-use Rattle.card_model.specs.Machine.{Accepts, NamedAccount, Outcome, Refuses, Repeats, State, accepted, accounts_after, at_key, has_accounts, is_open, is_repeat_of, is_same_name, issues, judged, kept_as, lists_of, next_number, opened, outcome, outcome_in, run, run_from, shared_reason, start, step, with_key, with_lists, with_shared}
+use Rattle.card_model.specs.Machine.{Accepts, NamedAccount, Outcome, Refuses, Repeats, State, accepted, accounts_after, at_key, has_accounts, is_open, is_repeat_of, issues, judged, kept_as, lists_of, next_number, opened, outcome, outcome_in, run, run_from, shared_reason, start, step, with_lists, with_shared}
 use Rattle.card_model.specs.Refusals.{Lists, Present, account_full, bills, book_today, first_reason, is_no_amount, is_out_of_range, no_open_dispute, number_from, reason_against, reason_to_open, reasons, where_true, wrong_entry}
 use Rattle.card_events.specs.declared.reply.Refusal.TheVariants as refusal
 use Rattle.card_events.specs.declared.request.Request.TheVariants as request
@@ -330,7 +332,7 @@ AllStand accounts = All (λ (x : NamedAccount). Stands x.lists) accounts
 lists-stand : (name : List ℕ) (accounts : List NamedAccount) → AllStand accounts → StandsThere (lists_of name accounts)
 unfolding lists_of StandsThere
 lists-stand name [] h = tt
-lists-stand name (x ∷ xs) h = by (is_same_name x.name name) (All-head (λ (x : NamedAccount). Stands x.lists) x xs h) (lists-stand name xs (All-tail (λ (x : NamedAccount). Stands x.lists) x xs h))
+lists-stand name (x ∷ xs) h = by (bytes_eq x.name name) (All-head (λ (x : NamedAccount). Stands x.lists) x xs h) (lists-stand name xs (All-tail (λ (x : NamedAccount). Stands x.lists) x xs h))
   where
     by : (t : Bool) → Stands x.lists → StandsThere (lists_of name xs) → StandsThere (cond t (Some x.lists) (lists_of name xs))
     by true h i = h
@@ -340,7 +342,7 @@ set-stands : (name : List ℕ) (l : Lists) (accounts : List NamedAccount) → St
 unfolding with_lists
 set-stands name l [] g h = All-cons (λ (x : NamedAccount). Stands x.lists) _ [] g (All-nil (λ (x : NamedAccount). Stands x.lists))
 set-stands name l (x ∷ xs) g h =
-    by (is_same_name x.name name) (All-head (λ (x : NamedAccount). Stands x.lists) x xs h) (All-tail (λ (x : NamedAccount). Stands x.lists) x xs h) (set-stands name l xs g (All-tail (λ (x : NamedAccount). Stands x.lists) x xs h))
+    by (bytes_eq x.name name) (All-head (λ (x : NamedAccount). Stands x.lists) x xs h) (All-tail (λ (x : NamedAccount). Stands x.lists) x xs h) (set-stands name l xs g (All-tail (λ (x : NamedAccount). Stands x.lists) x xs h))
   where
     by : (t : Bool) → Stands x.lists → AllStand xs → AllStand (with_lists name l xs) → AllStand (cond t (record { name = x.name; lists = l } ∷ xs) (x ∷ with_lists name l xs))
     by true h i j = All-cons (λ (x : NamedAccount). Stands x.lists) _ xs g i
