@@ -5,6 +5,7 @@ pub mod HeldDays
 pub mod Holds
 pub mod Owned
 pub mod Points
+pub mod RateBounds
 pub mod Steps
 pub mod Totals
 pub mod Whole
