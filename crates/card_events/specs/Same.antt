@@ -1,5 +1,5 @@
 -- Whether two posts have the same content.
-use Rattle.std.specs.Prelude.{ℕ, Bool, true, false, ◌&&◌, ◌==◌}
+use Rattle.std.specs.Prelude.{Bool, true, false, ◌&&◌, ◌==◌}
 use Rattle.card_days.specs.declared.anchor.Channel.{Channel}
 use Rattle.card_days.specs.declared.anchor.Channel.TheVariants as channel
 use Rattle.card_events.specs.declared.post.Category.{Category}

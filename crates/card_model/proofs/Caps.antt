@@ -4,7 +4,6 @@ use Rattle.std.specs.List.{All, cons_option}
 use Rattle.std.proofs.lemmas.List.Sums.{sum_by-append}
 use Rattle.std.proofs.lemmas.List.Elements.{All-nil, All-cons, All-push}
 use Rattle.std.proofs.lemmas.Bool.{eqb-true}
-use Rattle.card_days.specs.Billing.{due}
 use Rattle.card_days.specs.Civil.{day_of_month}
 use Rattle.card_events.specs.History.{CorrectedPost}
 use Rattle.card_events.specs.declared.post.Post.{Post}
@@ -14,7 +13,7 @@ use Rattle.card_model.specs.Closing.{Posting, by_segment, close, closed_cycle, c
 use Rattle.card_model.specs.Cycles.{Cycle, IssuedRow, Seen, amount_at, last_cycle, posts_on}
 use Rattle.card_model.specs.DueDates.{after_due_date, late_fee, on_due}
 use Rattle.card_model.specs.Effects.{after_posts, effect, meant_for, payment_at, returned, returned_fee}
-use Rattle.card_model.specs.Entries.{owing, posted}
+use Rattle.card_model.specs.Entries.{owing}
 use Rattle.card_model.specs.Fees.{fee_cents, fee_for}
 use Rattle.card_model.specs.Folds.{book, book_after, day_after}
 use Rattle.card_model.specs.Interest.{row}

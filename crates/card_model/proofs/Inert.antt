@@ -11,11 +11,10 @@ use Rattle.std.specs.Option.{option_or}
 use Rattle.std.specs.Prelude.{slice_get}
 use Rattle.card_days.specs.Business.{credit_day, is_mail}
 use Rattle.card_days.specs.declared.anchor.Anchor.{Anchor}
-use Rattle.card_events.specs.History.{CorrectedPost, amend_of, amended, amended_cents, amended_day, anchor_of, at_number, cents_of, charge_day, confirmed, confirms, corrected_from, corrected_post, dispute_day, dispute_names, disputes, effective_day, folded, is_folded, last_amend, next_segment, own_at, own_of, payment_day, standing, terms_of}
+use Rattle.card_events.specs.History.{CorrectedPost, amend_of, amended, amended_cents, amended_day, anchor_of, at_number, cents_of, charge_day, confirmed, confirms, corrected_from, corrected_post, dispute_day, dispute_names, effective_day, folded, is_folded, last_amend, next_segment, own_at, own_of, payment_day, standing, terms_of}
 use Rattle.card_events.specs.SharedRows.{SharedRows}
 use Rattle.card_events.specs.declared.kept.Kept.{Kept}
 use Rattle.card_events.specs.declared.post.Post.{Post}
-use Rattle.card_model.specs.Allocation.{parts}
 use Rattle.card_model.specs.Cycles.{IssuedRow}
 use Rattle.card_model.specs.Folds.{book}
 use Rattle.card_model.specs.Laws.{CorrectionBack, HistoriesAgree, amend_by, bill_of}

@@ -9,13 +9,11 @@ use Rattle.std.proofs.lemmas.Bool.Decides.{nat_tests}
 use Rattle.std.specs.Prelude.{min}
 use Rattle.std.specs.Option.{option_or}
 use Rattle.std.specs.Prelude.{slice_get}
-use Rattle.card_days.specs.Billing.{due}
 use Rattle.card_days.specs.Civil.{day_of_month}
 use Rattle.card_events.specs.History.{CorrectedPost, anchor_of}
 use Rattle.card_events.specs.SharedRows.{SharedRows}
 use Rattle.card_events.specs.declared.kept.Kept.{Kept}
 use Rattle.card_events.specs.declared.post.Post.{Post}
-use Rattle.card_model.specs.Allocation.{placed}
 use Rattle.card_model.specs.Books.{Account, Book, account_of, all_segments, penalty_fee, present_cycle, with_fee}
 use Rattle.card_model.specs.Caps.{at_cents, charged_fee, fee_above, issued_fee, row_for}
 use Rattle.card_model.specs.Closing.{Posting, by_segment, close, closed_cycle, closing_interest, first_day_of, grace_amount, minimum_payment, post_interest, post_one, posted_for, purchase_case_in}

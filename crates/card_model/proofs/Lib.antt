@@ -1,3 +1,4 @@
+pub mod Accepting
 pub mod Balance
 pub mod Caps
 pub mod EntryFacts

@@ -12,7 +12,7 @@ use Rattle.card_model.specs.Allocation.{Ascends, Paying, allocated, excess_rule,
 use Rattle.card_model.specs.Books.{Account, Book, all_segments}
 use Rattle.card_model.specs.Cycles.{Seen, last_cycle}
 use Rattle.card_model.specs.Effects.{credit_parts, holding, holdings, payment_parts}
-use Rattle.card_model.specs.Payments.{minimum_left, paid}
+use Rattle.card_model.specs.Payments.{minimum_left}
 use Rattle.card_model.specs.Segments.{SegmentTerms, segment_of, segments}
 use Rattle.card_model.specs.declared.holding.Holding.{Holding}
 use Rattle.card_events.specs.declared.post.Post.TheVariants as post

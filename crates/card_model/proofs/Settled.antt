@@ -1,11 +1,10 @@
 -- Closed cycles are numbered from 1 on, and have all fees that were charged in them.
 use Rattle.std.proofs.Common.{◌≡◌, ℕ, zero, suc, ◌+◌, ◌<◌, ◌≤◌, Bool, true, false, cond, List, [], ◌∷◌, ◌++◌, refl, sym, ap, ◌∙◌, subst, arith, Option, Some, None, eqb, length, append_assoc}
-use Rattle.std.specs.List.{All, filter}
+use Rattle.std.specs.List.{All}
 use Rattle.std.specs.Prelude.{slice_get}
 use Rattle.std.proofs.lemmas.List.{append-nil}
-use Rattle.std.proofs.lemmas.List.Elements.{All-nil, All-cons, All-head, All-tail, All-push, All-append, All-weaker, filter-append}
+use Rattle.std.proofs.lemmas.List.Elements.{All-nil, All-cons, All-head, All-tail, All-push, All-append, filter-append}
 use Rattle.std.proofs.lemmas.Bool.{ne_eqb}
-use Rattle.card_days.specs.Billing.{due}
 use Rattle.card_days.specs.Civil.{day_of_month}
 use Rattle.card_events.specs.History.{CorrectedPost}
 use Rattle.card_events.specs.declared.post.Post.{Post}
@@ -15,7 +14,6 @@ use Rattle.card_model.specs.Closing.{close, closed_cycle, closing_interest}
 use Rattle.card_model.specs.Cycles.{Cycle, IssuedRow, Seen, last_cycle, posts_on}
 use Rattle.card_model.specs.DueDates.{after_due_date, late_fee, on_due}
 use Rattle.card_model.specs.Effects.{after_posts, effect, meant_for, payment_at, returned, returned_fee}
-use Rattle.card_model.specs.Entries.{posted}
 use Rattle.card_model.specs.Fees.{fee_cents, fees_in}
 use Rattle.card_model.specs.Folds.{book_after, day_after}
 use Rattle.card_model.specs.Payments.{met}
@@ -24,7 +22,6 @@ use Rattle.card_model.specs.declared.fee.FeeKind.{FeeKind}
 use Rattle.card_events.specs.declared.post.Post.TheVariants as post
 use Rattle.card_model.specs.declared.fee.FeeKind.TheVariants as fee
 use Rattle.card_model.proofs.Caps.{above-is, fee_for-cycle, effect-cycles, posts-cycles, due-cycles}
-use Rattle.card_model.proofs.Grows.{Extends}
 
 -- ---- numbers of cycles
 abbrev pub AreNumbered : ℕ → List Cycle → Type 0

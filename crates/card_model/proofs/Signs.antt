@@ -6,8 +6,7 @@ use Rattle.std.proofs.lemmas.Bool.Decides.{nat_tests}
 use Rattle.std.proofs.lemmas.List.Elements.{All-nil, All-cons, All-head, All-tail, All-weaker, All-contains, All-contains_itself}
 use Rattle.std.specs.Option.{option_or}
 use Rattle.card_model.specs.Allocation.{Ascends, Paying, all_pass, best, choose, excess_rule, higher_rate, is_last_two, lower_rate, minimum_rule, never, paid_at, paid_on, part_of, pay, place_rule, sooner_end, takes}
-use Rattle.card_model.specs.Entries.{balance, owed}
-use Rattle.card_model.specs.Payments.{paid}
+use Rattle.card_model.specs.Entries.{owed}
 use Rattle.card_model.specs.declared.holding.Holding.{Holding}
 use Rattle.card_model.proofs.WholeParts.{paid_at-ascends, best-found, is_open}
 

@@ -4,8 +4,6 @@ use Rattle.std.proofs.lemmas.Bool.{ne_eqb}
 use Rattle.std.proofs.lemmas.Bool.Decides.{nat_tests}
 use Rattle.std.specs.Option.{option_or}
 use Rattle.card_model.specs.Allocation.{Ascends, Paying, all_pass, best, choose, excess_rule, higher_rate, is_last_two, lower_rate, minimum_rule, paid_at, paid_on, pay, rate_rule, sooner_end, takes}
-use Rattle.card_model.specs.Entries.{balance}
-use Rattle.card_model.specs.Payments.{paid}
 use Rattle.card_model.specs.Rates.{lasts}
 use Rattle.card_model.specs.declared.holding.Holding.{Holding}
 

@@ -1,6 +1,5 @@
 -- The book of an account: what its fold gives up to a day.
-use Rattle.std.specs.Prelude.{ℕ, ◌+◌, ◌++◌, length, map, List, [], ◌∷◌, Option, Some, None}
-use Rattle.std.specs.List.{filter_map}
+use Rattle.std.specs.Prelude.{ℕ, ◌+◌, ◌++◌, length, List, [], ◌∷◌, Option, Some, None}
 use Rattle.card_days.specs.declared.anchor.Anchor.{Anchor}
 use Rattle.card_events.specs.History.{anchor_of, terms_of}
 use Rattle.card_events.specs.declared.kept.Kept.{Kept}

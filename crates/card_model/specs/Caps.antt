@@ -2,7 +2,7 @@
 -- for each due date, the minimum payment and the grace amount.
 use Rattle.std.specs.Prelude.{ℕ, zero, suc, ◌-◌, ◌==◌, if◌then◌else◌, min, List, [], ◌∷◌, Option, Some, None, pos}
 use Rattle.std.specs.List.{sum_by}
-use Rattle.card_model.specs.Cycles.{Amounts, Cycle, IssuedRow, amount_at}
+use Rattle.card_model.specs.Cycles.{Amounts, IssuedRow, amount_at}
 use Rattle.card_model.specs.Fees.{fee_cents}
 use Rattle.card_model.specs.declared.fee.Fee.{Fee}
 

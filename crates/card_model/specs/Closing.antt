@@ -7,7 +7,7 @@ use Rattle.card_model.specs.Books.{Account, Book, all_segments, present_cycle, w
 use Rattle.card_model.specs.Caps.{capped_by, issued_grace, issued_interest, issued_minimum}
 use Rattle.card_model.specs.Cycles.{Amounts, Cycle, IssuedRow, Seen, amount_at, amounts_sum, last_cycle}
 use Rattle.card_model.specs.Effects.{closing_from}
-use Rattle.card_model.specs.Entries.{at_least_zero, credit_balance, debit, owed, owing}
+use Rattle.card_model.specs.Entries.{at_least_zero, balance, credit_balance, debit, owed, owing}
 use Rattle.card_model.specs.Fees.{fees_in, fees_sum}
 use Rattle.card_model.specs.Interest.{average_balance, cycle_interest, deferred_interest, purchase_case}
 use Rattle.card_model.specs.Payments.{past_due}
@@ -66,9 +66,9 @@ closing_interest issued a seen b =
     (record { amounts = []; book = b }))
 
 -- ---- the minimum payment and the grace amount. b is the book before interest, p what the closing posted
--- new balance less Held
+-- what is owed, less what is held
 abbrev pub net_balance : List Entry → ℤ
-net_balance entries = owed entries -ℤ pos (owing 1 entries)
+net_balance entries = owed entries -ℤ balance 1 entries
 
 abbrev pub minimum_of : ℤ → ℕ → ℕ → ℕ → ℕ → ℕ
 minimum_of (pos nb) floor pct charges past_due = min nb (max floor (portion nb pct + charges) + past_due)

@@ -1,7 +1,7 @@
 -- Closed cycles and issued statements (12 CFR 1026.5(b)(2), .7(b)). Days are day numbers, amounts cents.
 use Rattle.std.specs.Prelude.{ℕ, ℤ, ◌==◌, nat_le, nat_lt, List, Option}
 use Rattle.std.specs.List.{filter, find, last_or, sum_by}
-use Rattle.std.specs.Prelude.{None, if◌then◌else◌, ◌+◌}
+use Rattle.std.specs.Prelude.{None, if◌then◌else◌}
 use Rattle.card_days.specs.declared.anchor.Anchor.{Anchor}
 use Rattle.card_events.specs.History.{CorrectedPost, folded}
 use Rattle.card_events.specs.SharedRows.{FeeRow, SharedRows}

@@ -8,7 +8,6 @@ use Rattle.card_days.specs.Business.{next_business}
 use Rattle.card_days.specs.Later.{six_months_after}
 use Rattle.card_days.specs.declared.anchor.Anchor.{Anchor}
 use Rattle.card_events.specs.History.{CorrectedPost}
-use Rattle.card_events.specs.declared.post.Finding.{Finding}
 use Rattle.card_events.specs.declared.post.Finding.TheVariants as finding
 use Rattle.card_events.specs.declared.post.Post.{Post}
 use Rattle.card_events.specs.declared.post.Post.TheVariants as post

@@ -1,5 +1,5 @@
 -- The day after a due date: the late fee (12 CFR 1026.52(b)(1)(ii)), and the end of a penalty rate (12 CFR 1026.55(b)(4)(ii)).
-use Rattle.std.specs.Prelude.{ℕ, ◌+◌, Bool, ◌&&◌, not, ◌==◌, nat_lt, if◌then◌else◌, is_some, length, map, List, Option, Some, None}
+use Rattle.std.specs.Prelude.{ℕ, ◌+◌, ◌&&◌, not, ◌==◌, nat_lt, if◌then◌else◌, is_some, length, map, List, Option, Some, None}
 use Rattle.std.specs.List.{filter, list_all}
 use Rattle.card_model.specs.Books.{Account, Book, penalty_fee, with_fee, with_penalties}
 use Rattle.card_model.specs.Cycles.{Cycle, IssuedRow, Seen}

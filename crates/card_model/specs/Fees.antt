@@ -1,8 +1,8 @@
 -- Penalty fees (12 CFR 1026.52(b)). Amounts are cents.
-use Rattle.std.specs.Prelude.{ℕ, suc, ◌+◌, Bool, true, false, ◌&&◌, ◌||◌, not, ◌==◌, nat_le, nat_lt, if◌then◌else◌, min, List, [], ◌∷◌, Option, Some, None, pos}
+use Rattle.std.specs.Prelude.{ℕ, ◌+◌, Bool, true, false, ◌&&◌, ◌||◌, not, ◌==◌, nat_le, nat_lt, if◌then◌else◌, min, List, [], ◌∷◌, Option, Some, None, pos}
 use Rattle.std.specs.List.{filter, sum_by, list_any}
 use Rattle.card_events.specs.SharedRows.{FeeRow}
-use Rattle.card_model.specs.Cycles.{Cycle, IssuedRow, Seen}
+use Rattle.card_model.specs.Cycles.{Cycle, Seen}
 use Rattle.card_model.specs.Entries.{at_least_zero}
 use Rattle.card_model.specs.Payments.{asked}
 use Rattle.card_model.specs.Segments.{last_that}

@@ -1,5 +1,5 @@
 -- Laws of the fold, for all lists of posts.
-use Rattle.std.specs.Prelude.{ℕ, ◌+◌, ◌≡◌, ◌≤◌, ◌<◌, nat_le, List, [], ◌∷◌, ◌++◌, length, Bool, true, false, cond, Option, Some, ℤ, pos, ◌+ℤ◌, ◌≤ℤ◌, nat_abs}
+use Rattle.std.specs.Prelude.{ℕ, ◌+◌, ◌≡◌, ◌≤◌, nat_le, List, [], ◌∷◌, ◌++◌, cond, Some, pos, ◌+ℤ◌, ◌≤ℤ◌, nat_abs}
 use Rattle.std.specs.List.{filter, All, sum_by}
 use Rattle.card_events.specs.History.{CorrectedPost, anchor_of, folded, standing, terms_of}
 use Rattle.card_events.specs.SharedRows.{FeeRow, SharedRows}

@@ -313,15 +313,17 @@ abbrev pub account_full : Present → Option Refusal
 account_full now = where_true (nat_le 10000 (length now.lists.posts)) refusal.AccountFull
 
 -- ---- the first reason
--- against a post of an account that is there, under a new key
-unfoldable pub reason_against : Present → Post → Option Refusal
-reason_against now p =
-    first_reason (
+-- the reasons against a post of an account that is there, under a new key, in order
+abbrev pub reasons : Present → Post → List (Option Refusal)
+reasons now p =
     amount_range now p ∷ day_ahead now.today p ∷ day_before_open now p ∷ unknown_plan now p ∷ outside_plan now p
     ∷ plan_end_not_closing now p ∷ plan_too_short p ∷ segments_full now p ∷ wrong_entry now p ∷ already_returned now p
     ∷ notice_too_short p ∷ first_year now p ∷ notice_pending now p ∷ not_delinquent now p
     ∷ dispute_late now p ∷ dispute_known now p ∷ no_open_dispute now p ∷ not_closed now p
-    ∷ refund_too_large now p ∷ nothing_to_review now p ∷ account_full now ∷ [])
+    ∷ refund_too_large now p ∷ nothing_to_review now p ∷ account_full now ∷ []
+
+unfoldable pub reason_against : Present → Post → Option Refusal
+reason_against now p = first_reason (reasons now p)
 
 -- against an Open of a new account, where so many accounts exist
 unfoldable pub reason_to_open : ℕ → ℕ → Post → Option Refusal

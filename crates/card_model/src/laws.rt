@@ -1,4 +1,5 @@
 //! Laws of the fold, for all lists of posts.
+ghost use Rattle.card_model.specs.Accepted.{RunsAreAccepted};
 ghost use Rattle.card_model.specs.Laws.{BalanceIdentity, CorrectionBack, IssuedCaps, IssuingChangesNoPastDay, PastIsEnough, Signs};
 
 /// The book of a day depends on the corrected posts and the fee rows up to that day alone.
@@ -30,4 +31,10 @@ pub fn issuing_changes_no_past_day()
 /// Credit is never above 0, and no segment but Held ever below.
 pub fn signs()
     ensures { Signs }
+{}
+
+/// After every list of requests, in every account: at most 10,000 posts, whose terms, rates and cents are within their
+/// ranges; no Dispute is resolved twice, and no cycle has two issued rows. Fees in the table are within their range.
+pub fn runs_are_accepted()
+    ensures { RunsAreAccepted }
 {}

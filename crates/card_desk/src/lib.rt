@@ -1,0 +1,9 @@
+//! The machine of accounts: one request at a time, each with its reply.
+#![tactic(auto)]
+
+mod account;
+mod desk;
+mod view;
+
+pub use desk::Desk;
+pub use view::{Ask, View};

@@ -1,0 +1,9 @@
+//! Kept rows: the spelling of a request in bytes, and back.
+#![tactic(auto)]
+
+mod decoding;
+mod fault;
+mod fields;
+mod kinds;
+
+pub use decoding::read_row;

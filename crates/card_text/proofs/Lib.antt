@@ -1,0 +1,4 @@
+mod NumberLemmas
+mod FieldLemmas
+mod TextRules
+pub mod DatedLemmas
