@@ -19,9 +19,7 @@ use Rattle.card_model.specs.Folds.{book, cycle_at}
 use Rattle.card_model.specs.Books.{all_segments}
 use Rattle.card_model.specs.Machine.{State, lists_of, run}
 use Rattle.card_model.specs.Refusals.{Lists}
-use Rattle.card_model.specs.declared.entry.Entry.{Entry}
 use Rattle.card_model.specs.declared.fee.Fee.{Fee}
-use Rattle.card_model.specs.Segments.{SegmentTerms}
 use Rattle.card_events.specs.History.{anchor_of}
 
 -- ---- requests

@@ -56,7 +56,6 @@ pub record AllocationIsWorked : Type 0 where
   pub above : allocated 100 350 two_deferred ≡ (0, 50) ∷ (2, 100) ∷ (5, 100) ∷ (6, 100) ∷ []
   -- a merchant's credit goes to its place first, and then as a payment above the minimum does
   pub merchant : placed 150 of_cash ≡ (2, 50) ∷ (3, 100) ∷ []
-
   -- a payment of 10 dollars on the day after the issue brings the minimum payment of 2.50 to purchases, the rest to cash
   pub after_issue : parts_after (billed ++ pay_online 5 (day_at 2024 2 7) 1000 ∷ []) 5 ≡ (2, negated 250) ∷ (3, negated 750) ∷ []
   -- on the day of issue there is no minimum part

@@ -17,7 +17,7 @@ use Rattle.card_model.specs.Refusals.{Lists}
 use Rattle.card_model.specs.declared.task.Task.{Task}
 use Rattle.card_model.specs.declared.task.TaskKind.{TaskKind}
 use Rattle.card_model.specs.declared.task.TaskKind.TheVariants as task
-use Rattle.card_examples.specs.Accounts.{book_of, charge_jan10, fee_row, name, open_a, pay_online, roll, to_a}
+use Rattle.card_examples.specs.Accounts.{book_of, fee_row, name, open_a, pay_online, roll, to_a}
 
 abbrev pub tasks_with : State → Option Lists → Book → List Task
 tasks_with s None b = []
@@ -69,16 +69,14 @@ pub record DeadlinesAreWorked : Type 0 where
   pub disputes : tasks_after disputed ≡ task_of (day_at 2024 5 16) task.Ack 4 ∷ task_of (day_at 2024 7 15) task.Resolve 4 ∷ []
   pub acknowledged : tasks_after (disputed ++ to_a 5 (post.Ack (day_at 2024 4 17) 4) ∷ []) ≡ task_of (day_at 2024 7 15) task.Resolve 4 ∷ []
   pub resolved : tasks_after (disputed ++ to_a 5 (post.Resolve (day_at 2024 4 17) 4 0) ∷ []) ≡ []
-
   -- a refund that was asked for on a Wednesday is due on the seventh business day; a holiday moves it
   pub refund : refund_by [] (day_at 2024 1 10) ≡ day_at 2024 1 19
   pub refund_holiday : refund_by (day_at 2024 1 15 ∷ []) (day_at 2024 1 10) ≡ day_at 2024 1 22
   pub asked : tasks_after (overpaid 200 ++ to_a 3 (post.AskRefund (day_at 2024 1 10)) ∷ [])
-    ≡ task_of (day_at 2024 1 19) task.Refund 3 ∷ task_of (day_at 2024 7 10) task.Credit 0 ∷ []
+      ≡ task_of (day_at 2024 1 19) task.Refund 3 ∷ task_of (day_at 2024 7 10) task.Credit 0 ∷ []
   -- a credit balance above one dollar is refunded within six months
   pub dollar : tasks_after (overpaid 100) ≡ []
   pub above_dollar : tasks_after (overpaid 101) ≡ task_of (day_at 2024 7 10) task.Credit 0 ∷ []
-
   -- a rate increase is reviewed within six months of its effective day, and again six months after each review
   pub review : tasks_after noticed ≡ task_of (day_at 2025 10 15) task.Review 0 ∷ []
   -- a rate that a review found too high falls within 45 days

@@ -37,6 +37,6 @@ pub record DeferredIsWorked : Type 0 where
   pub dropped_owed : owed_after none_left ≡ pos 0
   -- no interest in the period, 209 days of 1000 dollars at its end, and after it that of any balance at the rate after it
   pub unpaid_interest : map (λ c. c.interest) (book_of unpaid).cycles
-    ≡ [] ∷ [] ∷ [] ∷ [] ∷ [] ∷ [] ∷ ((5, 14309) ∷ []) ∷ ((5, 2426) ∷ []) ∷ []
+      ≡ [] ∷ [] ∷ [] ∷ [] ∷ [] ∷ [] ∷ ((5, 14309) ∷ []) ∷ ((5, 2426) ∷ []) ∷ []
   -- the grace amount leaves it out, but for statements whose due date lies in the last cycle of its period or later
   pub unpaid_grace : map (λ c. c.grace_amount) (book_of unpaid).cycles ≡ 0 ∷ 0 ∷ 0 ∷ 0 ∷ 0 ∷ 100000 ∷ 114309 ∷ 116735 ∷ []

@@ -39,8 +39,7 @@ pub record DisputesAreWorked : Type 0 where
   pub claimed : parts_after (disputed 3000) 4 ≡ (2, negated 3000) ∷ (1, pos 3000) ∷ []
   -- neither the minimum payment nor the grace amount of a later statement asks for it
   pub apart : map figures (book_of in_dispute).cycles
-    ≡ (pos 5000, 0, 2500, 5000) ∷ (pos 5079, 0, 5000, 5079) ∷ (pos 5165, 0, 2500, 5165) ∷ (pos 5165, 3000, 2165, 2165) ∷ []
-
+      ≡ (pos 5000, 0, 2500, 5000) ∷ (pos 5079, 0, 5000, 5079) ∷ (pos 5165, 0, 2500, 5165) ∷ (pos 5165, 3000, 2165, 2165) ∷ []
   -- All of it was an error: the charge is gone from its own day on, and the interest on it with it
   pub all_confirmed : owed_after (confirmed 5000) ≡ pos 0
   -- 20 of the 50 dollars were: the other 30 were what the dispute moved, and come back

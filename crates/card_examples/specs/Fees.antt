@@ -7,7 +7,6 @@ use Rattle.card_events.specs.declared.post.Place.TheVariants as place
 use Rattle.card_events.specs.declared.post.Post.TheVariants as post
 use Rattle.card_events.specs.declared.request.Request.{Request}
 use Rattle.card_model.specs.Closing.{minimum_of}
-use Rattle.card_model.specs.Entries.{negated}
 use Rattle.card_model.specs.declared.fee.Fee.{Fee}
 use Rattle.card_model.specs.declared.fee.FeeKind.{FeeKind}
 use Rattle.card_model.specs.declared.fee.FeeKind.TheVariants.{Late, Returned}
@@ -63,7 +62,6 @@ pub record FeesAreWorked : Type 0 where
   pub at_balance : minimum_of (pos 1250) 2500 100 0 0 ≡ 1250
   -- 1% of 1040.87, interest of 15.87, a fee of 25 and 25 past due
   pub with_past_due : minimum_of (pos 104087) 2500 100 4087 2500 ≡ 7627
-
   -- a late fee isn't above the minimum payment of 25 dollars, though the table has 30
   pub late : fees_after (unpaid 2500) ≡ fee_of Late 1 false (day_at 2024 3 2) 2500 ∷ []
   pub late_owed : owed_after (unpaid 2500) ≡ pos 102500
@@ -73,7 +71,6 @@ pub record FeesAreWorked : Type 0 where
   pub repeat : fees_after seventh_missed ≡ fee_of Late 1 false (day_at 2024 3 2) 30 ∷ fee_of Late 7 true (day_at 2024 9 2) 41 ∷ []
   -- seven cycles after it, it's at the first amount again
   pub first_again : fees_after eighth_missed ≡ fee_of Late 1 false (day_at 2024 3 2) 30 ∷ fee_of Late 8 false (day_at 2024 10 2) 30 ∷ []
-
   -- Ten dollars are paid, below the minimum payment, and returned: the balance is put back, the late fee stays, and no
   -- second fee is charged for the due date
   pub put_back : parts_after (returned_later 1000) 5 ≡ (2, pos 1000) ∷ []
@@ -84,7 +81,6 @@ pub record FeesAreWorked : Type 0 where
   -- the minimum payment of 25 dollars is paid in time, and returned after the due date: a fee for the returned payment
   pub returned_fee : fees_after (returned_later 2500) ≡ fee_of Returned 1 false (day_at 2024 3 4) 2500 ∷ []
   pub returned_minimum : minimum_after (returned_later 2500) 2 ≡ Some 7613
-
   -- mail that comes on the Monday after a due date on a Sunday is credited as of it, and takes the late fee away
   pub mail : owed_after (paid_on_monday Mail) ≡ pos 47500
   pub online : owed_after (paid_on_monday Online) ≡ pos 50000

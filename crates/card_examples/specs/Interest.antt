@@ -1,6 +1,5 @@
 -- Worked values of interest (12 CFR 1026.14(b)).
-use Rattle.std.specs.Prelude.{ℕ, ◌+◌, ◌*◌, ◌≡◌, List, [], ◌∷◌, Some, pos}
-use Rattle.card_days.specs.Civil.{day_at}
+use Rattle.std.specs.Prelude.{◌*◌, ◌≡◌, List, [], ◌∷◌, Some, pos}
 use Rattle.card_events.specs.declared.post.Place.TheVariants as place
 use Rattle.card_events.specs.declared.request.Request.{Request}
 use Rattle.card_units.specs.Money.{daily, interest}

@@ -59,12 +59,10 @@ pub record MachineIsWorked : Type 0 where
   pub import_again : replies_from (run (opened ++ imported 1100)) (imported 1100) ≡ reply.Accepted 2 ∷ reply.Accepted 3 ∷ []
   pub import_changed : replies_from (run (opened ++ imported 1100)) (imported 1101) ≡ reply.Refused (refusal.KeyReused 2) ∷ reply.Accepted 3 ∷ []
   pub import_entries : entries_after (opened ++ imported 1100 ++ imported 1101) ≡ (2, pos 1100) ∷ (2, negated 500) ∷ []
-
   -- what is paid above all that is owed is a credit balance; charges use it up first, and a refund too
   pub credit : entries_after overpaid ≡ (2, pos 5000) ∷ (0, negated 2000) ∷ (2, negated 5000) ∷ []
   pub credit_used : owed_after charged_again ≡ negated 500
   pub credit_refunded : owed_after refunded ≡ pos 0
-
   -- a payment that comes in after 17:00 counts from the next day on
   pub after_17 : owed_after paid_after_17 ≡ pos 1000
   pub next_day : owed_after (paid_after_17 ++ roll 2024 1 11 ∷ []) ≡ pos 600

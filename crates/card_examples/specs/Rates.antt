@@ -1,5 +1,5 @@
 -- Worked values of rates (12 CFR 1026.9(c)(2), .9(g), .55(b)). Rates are in basis points.
-use Rattle.std.specs.Prelude.{ℕ, ◌≡◌, List, [], ◌∷◌, ◌++◌, None, Some, pos}
+use Rattle.std.specs.Prelude.{◌≡◌, List, [], ◌∷◌, ◌++◌, None, Some, pos}
 use Rattle.card_days.specs.Civil.{day_at}
 use Rattle.card_events.specs.declared.post.Category.TheVariants as category
 use Rattle.card_events.specs.declared.post.Place.TheVariants as place
@@ -65,12 +65,10 @@ pub record RatesAreWorked : Type 0 where
   -- a lowered rate holds from its day on, also of what bears the old rate until its own begins, and doesn't hold a rate that begins later
   pub lowered_old : rates_after lowered 2 (day_at 2025 3 15 ∷ day_at 2025 3 16 ∷ day_at 2025 4 15 ∷ []) ≡ 1999 ∷ 1599 ∷ 1599 ∷ []
   pub lowered_new : rates_after lowered 5 (day_at 2025 3 16 ∷ day_at 2025 4 14 ∷ day_at 2025 4 15 ∷ []) ≡ 1599 ∷ 1599 ∷ 2499 ∷ []
-
   -- a promotional plan bears its rate to its end, untouched by what lowers purchases, and then the rate after it
   pub plan : rates_after promo 5 (day_at 2024 1 9 ∷ day_at 2024 1 10 ∷ day_at 2024 8 5 ∷ day_at 2024 8 6 ∷ []) ≡ 0 ∷ 599 ∷ 599 ∷ 2499 ∷ []
   -- past its end it is lowered with purchases
   pub plan_lowered : rates_after promo 5 (day_at 2024 8 9 ∷ day_at 2024 8 10 ∷ []) ≡ 2499 ∷ 1799 ∷ []
-
   -- a penalty rate begins 45 days after its day
   pub penalty : rates_after penalized 2 (day_at 2024 6 14 ∷ day_at 2024 6 15 ∷ []) ≡ 1999 ∷ 2999 ∷ []
   -- an account that turns out not to have been sixty days late has none

@@ -148,11 +148,9 @@ pub record RefusalsAreWorked : Type 0 where
   pub amounts : AmountsAreRefused
   -- an amount out of range is told before a day
   pub amount_first : Refuses opened (to_a 2 (post.Charge (day_at 2024 1 11) place.Purchase 0)) refusal.AmountRange
-
   -- days
   pub day_ahead : Refuses opened (to_a 2 (post.Charge (day_at 2024 1 11) place.Purchase 1)) refusal.DayAhead
   pub day_before_open : Refuses opened (to_a 2 (post.Charge (day_at 2024 1 5) place.Purchase 1)) refusal.DayBeforeOpen
-
   -- plans
   pub unknown_plan : Refuses planned (charge_jan10 3 (place.Plan 9) 100) refusal.UnknownPlan
   pub outside_plan : Refuses planned (to_a 3 (post.Charge (day_at 2024 1 9) (place.Plan 2) 100)) refusal.OutsidePlan
@@ -161,24 +159,20 @@ pub record RefusalsAreWorked : Type 0 where
   pub plan_too_short : Refuses opened (plan_to 2 2024 7 5) refusal.PlanTooShort
   -- five segments stand from the opening on, and 59 plans are 64
   pub segments_full : reason_against (with_posts (map (kept a_plan) (range_with_len 2 59))) a_plan ≡ Some refusal.SegmentsFull
-
   -- targets: a return of a charge, a second statement of a cycle, a second return
   pub wrong_entry : Refuses charged (to_a 3 (post.Return (day_at 2024 1 10) 2)) (refusal.WrongEntry 2)
   pub billed_twice : Refuses billed (to_a 4 (post.Bill 1)) (refusal.WrongEntry 3)
   pub already_returned : Refuses returned (to_a 5 (post.Return (day_at 2024 1 10) 3)) (refusal.AlreadyReturned 4)
-
   -- notices: 45 days before the rate takes effect, not in the first year, and not while another is pending
   pub notice_too_short : Refuses second_year (notice 2 (day_at 2025 3 1) 2025 4 14) (refusal.NoticeTooShort (day_at 2025 4 15))
   pub first_year : Refuses opened (notice 2 (day_at 2024 1 10) 2024 3 1) (refusal.FirstYear (day_at 2025 1 6))
   pub notice_pending : Refuses noticed (notice 3 (day_at 2025 3 10) 2025 5 1) (refusal.NoticePending (day_at 2025 4 15))
   -- on the sixtieth day after a missed due date an account isn't sixty days late yet
   pub not_delinquent : Refuses sixty_days (to_a 4 post.Penalty) refusal.NotDelinquent
-
   -- disputes: within 60 days of the statement, once, and not after they were resolved
   pub dispute_late : Refuses (billed ++ roll 2024 4 7 ∷ []) (to_a 4 (post.Dispute (day_at 2024 4 7) 2 1000)) (refusal.DisputeLate (day_at 2024 4 6))
   pub dispute_known : Refuses disputed (to_a 5 (post.Dispute (day_at 2024 2 6) 2 1000)) (refusal.DisputeKnown 4)
   pub no_open_dispute : Refuses resolved (to_a 6 (post.Ack (day_at 2024 2 6) 4)) refusal.NoOpenDispute
-
   -- a statement isn't issued on its closing or before
   pub not_closed : Refuses charged (to_a 3 (post.Bill 1)) (refusal.NotClosed (day_at 2024 2 5))
   pub refund_too_large : Refuses overpaid (to_a 4 (post.Refund 501)) (refusal.RefundTooLarge (pos 500))
@@ -187,7 +181,6 @@ pub record RefusalsAreWorked : Type 0 where
   -- 10,000 posts an account, and 1,000,000 accounts
   pub account_full : reason_against (with_posts (map (kept a_charge) (range_with_len 2 9999))) a_charge ≡ Some refusal.AccountFull
   pub ledger_full : reason_to_open (day_at 2024 1 10) 1000000 (post.Open (day_at 2024 1 6) (terms_with 2500)) ≡ Some refusal.LedgerFull
-
   -- today goes forward, by at most 366 days where there is an account; rows are for days to come
   pub roll_back : Refuses opened (roll 2024 1 10) (refusal.RollBack (day_at 2024 1 10))
   pub roll_too_far : Refuses opened (roll 2025 1 11) refusal.RollTooFar

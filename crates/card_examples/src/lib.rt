@@ -1,6 +1,7 @@
 //! Worked values of the ledger's definitions, computed by the checker. Each function's contract is a record of equations
 //! between a definition and a value that was worked out apart from it; `docs/RULES.md` names them beside the rules.
 #![tactic(auto)]
+
 ghost use Rattle.card_examples.specs.Allocation.{AllocationIsWorked};
 ghost use Rattle.card_examples.specs.Caps.{CapsAreWorked};
 ghost use Rattle.card_examples.specs.Deadlines.{DeadlinesAreWorked};
