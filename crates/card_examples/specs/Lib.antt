@@ -10,3 +10,4 @@ pub mod Interest
 pub mod Machine
 pub mod Rates
 pub mod Refusals
+pub mod Statements

@@ -13,6 +13,7 @@ ghost use Rattle.card_examples.specs.Interest.{InterestIsWorked};
 ghost use Rattle.card_examples.specs.Machine.{MachineIsWorked};
 ghost use Rattle.card_examples.specs.Rates.{RatesAreWorked};
 ghost use Rattle.card_examples.specs.Refusals.{RefusalsAreWorked};
+ghost use Rattle.card_examples.specs.Statements.{StatementsAreWorked};
 
 /// Daily rates and interest (12 CFR 1026.14(b)).
 pub fn interest()
@@ -67,4 +68,9 @@ pub fn deadlines()
 /// The machine: replies, keys and repeats.
 pub fn machine()
     ensures { MachineIsWorked }
+{}
+
+/// Statements, the limit of interest, and break days (12 CFR 1026.5(b)(2)(ii), .7(b)).
+pub fn statements()
+    ensures { StatementsAreWorked }
 {}
