@@ -4,6 +4,7 @@ pub mod Caps
 pub mod EntryFacts
 pub mod Grows
 pub mod Inert
+pub mod Isolation
 pub mod Issue
 pub mod PartsSum
 pub mod Past
