@@ -5,5 +5,6 @@ mod decoding;
 mod fault;
 mod fields;
 mod kinds;
+mod writing;
 
 pub use decoding::read_row;
