@@ -1,6 +1,7 @@
 -- A request is read from its spelling, and from nothing else.
-use Rattle.std.proofs.Common.{◌≡◌, ℕ, ◌<◌, ◌≤◌, Bool, true, false, ◌&&◌, cond, ltb, nat_lt, List, [], ◌∷◌, ◌++◌, Option, None, Some, IfSome, IfNone, refl, ap, sym, ◌∙◌, subst, arith, append_assoc, append-nil}
+use Rattle.std.proofs.Common.{◌≡◌, ℕ, ◌<◌, ◌≤◌, Bool, true, false, ◌&&◌, cond, ltb, nat_lt, nat_le, List, [], ◌∷◌, ◌++◌, Option, None, Some, IfSome, IfNone, IfOk, Result, Ok, Err, ◌↔◌, refl, ap, sym, ◌∙◌, subst, arith, append_assoc, append-nil}
 use Rattle.std.proofs.lemmas.Bool.{le-ltb}
+use Rattle.card_events.specs.Dated.{is_request_day, is_dated_post, is_dated_shared, is_dated}
 use Rattle.card_events.specs.Names.{is_name}
 use Rattle.card_events.specs.declared.post.Post.{Post}
 use Rattle.card_events.specs.declared.post.Post.TheVariants as post
@@ -8,7 +9,7 @@ use Rattle.card_events.specs.declared.request.Request.{Request}
 use Rattle.card_events.specs.declared.request.Request.TheVariants as request
 use Rattle.card_events.specs.declared.request.Shared.{Shared}
 use Rattle.card_events.specs.declared.request.Shared.TheVariants as shared
-use Rattle.card_rows.specs.Held.{is_post, is_shared, is_request}
+use Rattle.card_rows.specs.Held.{is_day, is_number, is_place, are_terms, is_post, is_shared, is_request}
 use Rattle.card_rows.specs.Spelling.{name_bytes, post_code, post_bytes, shared_code, shared_bytes, spelling, IsSpelling}
 use Rattle.card_rows.specs.Reading.{◌>>=◌, read_byte, read_name, read_post, read_shared, read_for_all, read_posted, read_coded, read_format, read_request, whole, request_in}
 use Rattle.card_rows.proofs.ReadingLemmas.{Spells, IsCut, some_then, some_if, both, parts, joined, byte_sound, some_at}
@@ -140,6 +141,13 @@ request_in_none bs = none_of (request_in bs) bs refl
 
 -- ---- laws
 
+same_request : (r s : Request) → Some r ≡ Some s → r ≡ s
+same_request r s e = cc
+
+spelled_of : (o : Option Request) (bytes : List ℕ) (r : Request) → o ≡ Some r → IfSome o (IsSpelling bytes) → IsSpelling bytes r
+spelled_of None bytes r e is = absurd (cc)
+spelled_of (Some x) bytes r e is = subst (IsSpelling bytes) (same_request x r e) is
+
 same_some : (x y : Request × List ℕ) → Some x ≡ Some y → x ≡ y
 same_some x y e = cc
 
@@ -148,12 +156,67 @@ two_readings r s rest more same first second =
     let read = same_some (r, rest) (s, more) (sym (request_complete r rest first) ∙ ap read_request same ∙ request_complete s more second) in
     (ap (λ (x : Request × List ℕ). x.0) read, ap (λ (x : Request × List ℕ). x.1) read)
 
--- a spelling with more behind it is the spelling of no other request
-pub prefix_law : (r s : Request) (more : List ℕ) → is_request r ≡ true → is_request s ≡ true → spelling s ≡ spelling r ++ more → (s ≡ r) × (more ≡ [])
-prefix_law r s more first second same =
-    let both_ways = two_readings s r [] more (append-nil (spelling s) ∙ same) second first in
-    (both_ways.0, sym both_ways.1)
+pub prefix_law : (r s : Request) (front more : List ℕ) → IsSpelling front r → IsSpelling (front ++ more) s → (r ≡ s) × (more ≡ [])
+prefix_law r s front more one other = two_readings r s more [] (ap (λ l. l ++ more) (sym one.spelled) ∙ other.spelled ∙ sym (append-nil (spelling s))) one.held other.held
 
--- two requests with one spelling are one
-pub spelling_law : (r s : Request) → is_request r ≡ true → is_request s ≡ true → spelling r ≡ spelling s → r ≡ s
-spelling_law r s first second same = (two_readings r s [] [] (ap (λ l. l ++ []) same) first second).0
+pub one_request : (r s : Request) (bytes : List ℕ) → IsSpelling bytes r → IsSpelling bytes s → r ≡ s
+one_request r s bytes one other = same_request r s (sym (request_in_complete bytes r one) ∙ request_in_complete bytes s other)
+
+pub reading_law : (bytes : List ℕ) (r : Request) → (request_in bytes ≡ Some r) ↔ IsSpelling bytes r
+reading_law bytes r = ((λ e. spelled_of (request_in bytes) bytes r e (request_in_sound bytes)), (λ is. request_in_complete bytes r is))
+
+-- ---- what is read is dated
+
+day_dated : (d : ℕ) (b : Bool) → (is_day d && b) ≡ true → is_request_day d ≡ true
+day_dated d b held = (parts (nat_le 14_975 d) (is_request_day d) (parts (is_day d) b held).0).1
+
+only_day_dated : (d : ℕ) → is_day d ≡ true → is_request_day d ≡ true
+only_day_dated d held = (parts (nat_le 14_975 d) (is_request_day d) held).1
+
+post_dated : (p : Post) → is_post p ≡ true → is_dated_post p ≡ true
+unfolding is_post is_dated_post
+post_dated (post.Open day terms) held = day_dated day (are_terms terms) held
+post_dated (post.Charge day place cents) held = day_dated day (is_place place && is_number cents) held
+post_dated (post.Credit day place cents) held = day_dated day (is_place place && is_number cents) held
+post_dated (post.Payment day minute channel cents) held = day_dated day (is_number minute && is_number cents) held
+post_dated (post.Return day target) held = day_dated day (is_number target) held
+post_dated (post.Plan day kind rate end after) held = both (day_dated day (is_number rate && (is_day end && is_number after)) held) (day_dated end (is_number after) (parts (is_number rate) (is_day end && is_number after) (parts (is_day day) (is_number rate && (is_day end && is_number after)) held).1).1)
+post_dated (post.Notice day category rate effective) held = both (day_dated day (is_number rate && is_day effective) held) (only_day_dated effective (parts (is_number rate) (is_day effective) (parts (is_day day) (is_number rate && is_day effective) held).1).1)
+post_dated (post.Lower day category rate) held = day_dated day (is_number rate) held
+post_dated post.Penalty held = refl
+post_dated (post.Review day finding) held = only_day_dated day held
+post_dated (post.Dispute day target cents) held = day_dated day (is_number target && is_number cents) held
+post_dated (post.Ack day target) held = day_dated day (is_number target) held
+post_dated (post.Resolve day target cents) held = day_dated day (is_number target && is_number cents) held
+post_dated (post.AskRefund day) held = only_day_dated day held
+post_dated (post.Refund cents) held = refl
+post_dated (post.Amend target day cents) held = day_dated day (is_number cents) (parts (is_number target) (is_day day && is_number cents) held).1
+post_dated (post.Bill cycle) held = refl
+
+shared_dated : (s : Shared) → is_shared s ≡ true → is_dated_shared s ≡ true
+unfolding is_shared is_dated_shared
+shared_dated (shared.Roll day) held = only_day_dated day held
+shared_dated (shared.Holiday day) held = only_day_dated day held
+shared_dated (shared.FeeRow day first repeat) held = day_dated day (is_number first && is_number repeat) held
+
+request_dated : (r : Request) → is_request r ≡ true → is_dated r ≡ true
+unfolding is_request is_dated
+request_dated (request.Shared s) held = shared_dated s held
+request_dated (request.Post account key p) held = post_dated p (parts (is_name key) (is_post p) (parts (is_name account) (is_name key && is_post p) held).1).1
+
+some_dated : (bytes : List ℕ) → IfSome (request_in bytes) (λ r. is_dated r ≡ true)
+some_dated bytes = some_of_all (IsSpelling bytes) (λ r. is_dated r ≡ true) (request_in bytes) (λ r is. request_dated r is.held) (request_in_sound bytes)
+
+-- ---- what the code read
+
+pub read_some : {E : Type 0} (bytes : List ℕ) (found : Result (Option Request) E) → IfOk found (λ f. f ≡ request_in bytes) → IfOk found (λ f. IfSome f (IsSpelling bytes))
+read_some bytes (Ok f) is = subst (λ o. IfSome o (IsSpelling bytes)) (sym is) (request_in_sound bytes)
+read_some bytes (Err e) is = tt
+
+pub read_none : {E : Type 0} (bytes : List ℕ) (found : Result (Option Request) E) → IfOk found (λ f. f ≡ request_in bytes) → IfOk found (λ f. IfNone f ((r : Request) → IsSpelling bytes r → ⊥))
+read_none bytes (Ok f) is = subst (λ o. IfNone o ((r : Request) → IsSpelling bytes r → ⊥)) (sym is) (request_in_none bytes)
+read_none bytes (Err e) is = tt
+
+pub read_dated : {E : Type 0} (bytes : List ℕ) (found : Result (Option Request) E) → IfOk found (λ f. f ≡ request_in bytes) → IfOk found (λ f. IfSome f (λ r. is_dated r ≡ true))
+read_dated bytes (Ok f) is = subst (λ o. IfSome o (λ r. is_dated r ≡ true)) (sym is) (some_dated bytes)
+read_dated bytes (Err e) is = tt
