@@ -1,5 +1,5 @@
 -- Each form of field is read from its spelling, and from nothing else.
-use Rattle.std.proofs.Common.{◌≡◌, ℕ, ◌<◌, ◌≤◌, ◌^◌, Bool, true, false, ◌&&◌, cond, List, [], ◌∷◌, ◌++◌, length, Option, None, Some, IfSome, refl, ap, sym, ◌∙◌, arith, append_assoc}
+use Rattle.std.proofs.Common.{◌≡◌, ℕ, ◌<◌, ◌^◌, Bool, true, List, [], ◌∷◌, ◌++◌, length, Option, None, Some, IfSome, refl, ap, sym, ◌∙◌, arith}
 use Rattle.std.specs.Int.{w32, w64, from_be_bytes}
 use Rattle.std.specs.Str.{bytes_eq}
 use Rattle.std.proofs.lemmas.Nat.{from_be_bytes-to_be_bytes_4, from_be_bytes-to_be_bytes_8}
@@ -16,11 +16,10 @@ use Rattle.card_events.specs.declared.post.Place.{Place}
 use Rattle.card_events.specs.declared.post.Place.TheVariants as place
 use Rattle.card_events.specs.declared.post.PlanKind.{PlanKind}
 use Rattle.card_events.specs.declared.post.PlanKind.TheVariants as plan_kind
-use Rattle.card_events.specs.declared.post.Terms.{Terms}
-use Rattle.card_rows.specs.Held.{is_day, is_number, is_place, are_terms}
-use Rattle.card_rows.specs.Spelling.{day_bytes, number_bytes, name_bytes, category_bytes, place_bytes, channel_bytes, plan_kind_bytes, finding_bytes, terms_bytes}
-use Rattle.card_rows.specs.Reading.{◌>>=◌, before, read_byte, read_piece, day_in, number_in, name_in, category_in, place_in, channel_in, plan_kind_in, finding_in, read_day, read_number, read_name, read_category, read_plan_place, read_place, read_channel, read_plan_kind, read_finding, read_terms}
-use Rattle.card_rows.proofs.ReadingLemmas.{Spells, IsSpelled, IsCut, some_then, some_before, some_if_both, both, parts, joined, byte_sound, piece_sound, piece_complete, IsPiece, some_at, some_if}
+use Rattle.card_rows.specs.Held.{is_day, is_number, is_place}
+use Rattle.card_rows.specs.Spelling.{day_bytes, number_bytes, name_bytes, category_bytes, place_bytes, channel_bytes, plan_kind_bytes, finding_bytes}
+use Rattle.card_rows.specs.Reading.{◌>>=◌, before, read_byte, read_piece, day_in, number_in, name_in, category_in, place_in, channel_in, plan_kind_in, finding_in, read_day, read_number, read_name, read_category, read_plan_place, read_place, read_channel, read_plan_kind, read_finding}
+use Rattle.card_rows.proofs.ReadingLemmas.{Spells, IsSpelled, IsCut, some_then, some_before, some_if_both, byte_sound, piece_sound, piece_complete, IsPiece, some_at, some_if}
 
 -- ---- days
 

@@ -1,5 +1,5 @@
 -- Each kind of request is read from its spelling, and from nothing else.
-use Rattle.std.proofs.Common.{◌≡◌, ℕ, Bool, true, false, ◌&&◌, List, [], ◌∷◌, ◌++◌, Option, None, Some, IfSome, refl, sym, subst, append_assoc}
+use Rattle.std.proofs.Common.{◌≡◌, ℕ, true, ◌&&◌, List, ◌++◌, Option, Some, IfSome, refl, sym, subst, append_assoc}
 use Rattle.card_days.specs.declared.channel.Channel.{Channel}
 use Rattle.card_events.specs.declared.post.Category.{Category}
 use Rattle.card_events.specs.declared.post.Finding.{Finding}

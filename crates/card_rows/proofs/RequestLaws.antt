@@ -1,6 +1,5 @@
 -- A request is read from its spelling, and from nothing else.
-use Rattle.std.proofs.Common.{◌≡◌, ℕ, ◌<◌, ◌≤◌, Bool, true, false, ◌&&◌, cond, ltb, nat_lt, nat_le, List, [], ◌∷◌, ◌++◌, Option, None, Some, IfSome, IfNone, IfOk, Result, Ok, Err, ◌↔◌, refl, ap, sym, ◌∙◌, subst, arith, append_assoc, append-nil}
-use Rattle.std.proofs.lemmas.Bool.{le-ltb}
+use Rattle.std.proofs.Common.{◌≡◌, ℕ, Bool, true, false, ◌&&◌, ltb, nat_lt, nat_le, List, [], ◌∷◌, ◌++◌, Option, None, Some, IfSome, IfNone, IfOk, Result, Ok, Err, ◌↔◌, refl, ap, sym, ◌∙◌, subst, append_assoc, append-nil}
 use Rattle.card_events.specs.Dated.{is_request_day, is_dated_post, is_dated_shared, is_dated}
 use Rattle.card_events.specs.Names.{is_name}
 use Rattle.card_events.specs.declared.post.Post.{Post}
@@ -11,8 +10,8 @@ use Rattle.card_events.specs.declared.request.Shared.{Shared}
 use Rattle.card_events.specs.declared.request.Shared.TheVariants as shared
 use Rattle.card_rows.specs.Held.{is_day, is_number, is_place, are_terms, is_post, is_shared, is_request}
 use Rattle.card_rows.specs.Spelling.{name_bytes, post_code, post_bytes, shared_code, shared_bytes, spelling, IsSpelling}
-use Rattle.card_rows.specs.Reading.{◌>>=◌, read_byte, read_name, read_post, read_shared, read_for_all, read_posted, read_coded, read_format, read_request, whole, request_in}
-use Rattle.card_rows.proofs.ReadingLemmas.{Spells, IsCut, some_then, some_if, both, parts, joined, byte_sound, some_at}
+use Rattle.card_rows.specs.Reading.{read_name, read_post, read_shared, read_for_all, read_posted, read_coded, read_format, read_request, whole, request_in}
+use Rattle.card_rows.proofs.ReadingLemmas.{Spells, IsCut, some_then, some_if, both, parts, joined, some_at}
 use Rattle.card_rows.proofs.FieldLaws.{name_sound, name_complete}
 use Rattle.card_rows.proofs.KindLaws.{IsPostAt, IsSharedAt, post_sound, post_complete, shared_sound, shared_complete}
 

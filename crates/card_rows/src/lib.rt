@@ -9,6 +9,8 @@ mod fields;
 mod kinds;
 pub mod laws;
 mod row;
+#[cfg(test)]
+mod tests;
 mod writing;
 
 pub use body::Body;
