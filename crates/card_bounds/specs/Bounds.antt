@@ -1,12 +1,12 @@
 -- How large balances, rows and sums can be, from the limits on posts, cents, fees and days alone.
-use Rattle.std.specs.Prelude.{ℕ, ◌+◌, ◌*◌, ◌≡◌, ◌≤◌, ◌<◌, cond, length, List, [], ◌∷◌, ◌++◌, Option, ℤ, pos, ◌≤ℤ◌, neg_ℤ, nat_abs}
-use Rattle.std.specs.List.{All, range_with_len, sum_by}
+use Rattle.std.specs.Prelude.{ℕ, ◌+◌, ◌*◌, ◌≡◌, ◌≤◌, ◌<◌, cond, length, List, ◌++◌, Option, pos, ◌≤ℤ◌, neg_ℤ, nat_abs}
+use Rattle.std.specs.List.{All, Contains, range_with_len, sum_by}
 use Rattle.card_units.specs.Money.{daily}
 use Rattle.card_events.specs.History.{CorrectedPost, anchor_of}
 use Rattle.card_events.specs.SharedRows.{SharedRows}
 use Rattle.card_events.specs.declared.kept.Kept.{Kept}
-use Rattle.card_model.specs.Accepted.{HasFewCents, HasFewFees}
-use Rattle.card_model.specs.Books.{Book, account_of, present_cycle}
+use Rattle.card_model.specs.Accepted.{AreResolvedOnce, HasFewCents, HasFewFees, HasFewRates}
+use Rattle.card_model.specs.Books.{Book, account_of, all_segments, present_cycle, rate_in}
 use Rattle.card_model.specs.Caps.{row_for}
 use Rattle.card_model.specs.Closing.{Posting, post_interest}
 use Rattle.card_model.specs.Cycles.{IssuedRow, Seen, last_cycle, posts_on, seen_on}
@@ -127,3 +127,29 @@ pub record SumsSmall : Type 0 where
   pub cycle : (posts : ℕ) (amount rate : ℕ → ℕ) (first n : ℕ) → IsRateSum posts amount rate first n → posts ≤ 200000 → n ≤ 31 → rate_sum amount rate first n ≤ 35000000000000000000000
   pub accrual : (posts : ℕ) (amount rate : ℕ → ℕ) (first n : ℕ) → IsRateSum posts amount rate first n → posts ≤ 10000 → n ≤ 40000 → rate_sum amount rate first n < 10000000000000000000000000
   pub long_accrual : (posts : ℕ) (amount rate : ℕ → ℕ) (first n : ℕ) → IsRateSum posts amount rate first n → posts ≤ 200000 → n ≤ 40000 → rate_sum amount rate first n < 100000000000000000000000000
+
+-- ---- Held
+-- what a machine's run gives: cents and fees within their ranges, and no Dispute resolved twice
+pub record IsOrderly (history : List Kept) (shared : SharedRows) : Type 0 where
+  pub cents : All HasFewCents history
+  pub fees : All HasFewFees shared.fees
+  pub resolved : AreResolvedOnce history
+
+-- on the lists that a desk accepts Held is never below 0, at the end of a day and after each front of a day's posts
+pub record HeldIsNeverBelow : Type 0 where
+  pub days : (history : List Kept) (issued : List IssuedRow) (shared : SharedRows) (day : ℕ) → IsOrderly history shared → pos 0 ≤ℤ balance 1 (book history issued shared day).entries
+  pub posts :
+      (history : List Kept) (issued : List IssuedRow) (shared : SharedRows) (n : ℕ) → IsOrderly history shared
+      → (done rest : List CorrectedPost) → posts_on (seen_on (anchor_of history) shared history issued ((anchor_of history).opened + n)) ≡ done ++ rest
+      → pos 0 ≤ℤ balance 1 (book_amid history issued shared n done).entries
+
+-- ---- rates
+-- where all posts' rates are within their range, no segment's rate of a day is above 9,999 basis points, nor a plan's own
+pub record RatesSmall : Type 0 where
+  pub days :
+      (history : List Kept) (issued : List IssuedRow) (shared : SharedRows) (on day : ℕ) (b : Book) (g : SegmentTerms) → All HasFewRates history
+      → Contains (all_segments (account_of history) (seen_on (anchor_of history) shared history issued on)) g
+      → rate_in (account_of history) (seen_on (anchor_of history) shared history issued on) b day g ≤ 9999
+  pub plans :
+      (history : List Kept) (issued : List IssuedRow) (shared : SharedRows) (on : ℕ) → All HasFewRates history
+      → All (λ g. g.rate ≤ 9999) (all_segments (account_of history) (seen_on (anchor_of history) shared history issued on))

@@ -1,5 +1,5 @@
 //! Bounds from the limits on posts, cents, fees and days alone.
-ghost use Rattle.card_bounds.specs.Bounds.{BalancesBounded, BalancesSmall, RowsOfPastDays, RowsSmall, SmallAtEachStep, SumsSmall};
+ghost use Rattle.card_bounds.specs.Bounds.{BalancesBounded, BalancesSmall, HeldIsNeverBelow, RatesSmall, RowsOfPastDays, RowsSmall, SmallAtEachStep, SumsSmall};
 
 /// Every balance lies within what was moved, interest apart, and 10^13 cents.
 pub fn balances_bounded()
@@ -30,4 +30,14 @@ pub fn rows_small()
 /// 10,000 posts, and below 10^26 with 200,000.
 pub fn sums_small()
     ensures { SumsSmall }
+{}
+
+/// Held is never below 0 where no Dispute is resolved twice, at the end of a day and after each front of its posts.
+pub fn held_is_never_below()
+    ensures { HeldIsNeverBelow }
+{}
+
+/// No rate is above 9,999 basis points where no post's is.
+pub fn rates_small()
+    ensures { RatesSmall }
 {}

@@ -1,29 +1,32 @@
 -- What the refusals leave: the lists of every account that the machine has accepted.
-use Rattle.std.proofs.Common.{◌≡◌, ℕ, zero, suc, ◌+◌, ◌≤◌, ◌<◌, Bool, true, false, not, cond, ◌||◌, List, [], ◌∷◌, ◌++◌, length, refl, sym, ap, ◌∙◌, subst, arith, Option, Some, None, eqb, leb, ltb}
-use Rattle.std.specs.Prelude.{◌≢◌}
+use Rattle.std.proofs.Common.{◌≡◌, ℕ, zero, suc, ◌+◌, ◌≤◌, ◌<◌, Bool, true, false, cond, ◌||◌, List, [], ◌∷◌, ◌++◌, length, refl, sym, ap, ◌∙◌, subst, arith, Option, Some, None, eqb, leb, ltb}
 use Rattle.std.specs.Option.{option_or, option_map}
 use Rattle.std.specs.List.{All, count_by, filter_map, cons_option, list_any}
-use Rattle.std.proofs.lemmas.Bool.{eqb-true, ne_eqb, eq-eqb}
+use Rattle.std.proofs.lemmas.Bool.{eqb-true, eq-eqb}
 use Rattle.std.proofs.lemmas.List.{append-nil, length-append}
 use Rattle.std.proofs.lemmas.List.Sums.{sum_by-append, sum_by-cons}
 use Rattle.std.proofs.lemmas.Bool.Decides.{nat_tests}
-use Rattle.std.proofs.lemmas.List.Elements.{All-nil, All-cons, All-head, All-tail, All-push, All-append, All-weaker}
-use Rattle.card_events.specs.History.{at_number}
+use Rattle.std.proofs.lemmas.List.Elements.{All-nil, All-cons, All-head, All-tail, All-push, All-weaker}
+use Rattle.std.specs.Str.{bytes_eq}
+use Rattle.card_events.specs.History.{at_number, terms_in, terms_of}
+use Rattle.card_events.specs.Keys.{with_key}
 use Rattle.card_events.specs.SharedRows.{FeeRow, fee_row_of, shared_rows}
 use Rattle.card_events.specs.declared.kept.Kept.{Kept}
 use Rattle.card_events.specs.declared.post.Post.{Post}
+use Rattle.card_events.specs.declared.post.Terms.{Terms}
 use Rattle.card_events.specs.declared.reply.Refusal.{Refusal}
 use Rattle.card_events.specs.declared.request.Request.{Request}
 use Rattle.card_events.specs.declared.request.Shared.{Shared}
-use Rattle.card_model.specs.Accepted.{AreAccepted, AreResolvedOnce, AreSingle, HasFewCents, HasFewFees, RunsAreAccepted, posted_cents}
+use Rattle.card_model.specs.Accepted.{AreAccepted, AreInRange, AreResolvedOnce, AreSingle, HasFewCents, HasFewFees, HasFewRates, RunsAreAccepted, posted_cents, posted_rate}
 use Rattle.card_model.specs.Allocation.{parts}
 use Rattle.card_model.specs.Caps.{row_for}
+use Rattle.card_model.specs.Closing.{close}
 use Rattle.card_model.specs.Cycles.{Cycle, IssuedRow}
 use Rattle.card_model.specs.Deadlines.{resolves}
 use Rattle.card_model.specs.Folds.{cycle_at, row_of_cycle}
 use Rattle.card_model.specs.Interest.{row}
-use Rattle.card_model.specs.Machine.{Accepts, NamedAccount, Outcome, Refuses, Repeats, State, accepted, accounts_after, at_key, has_accounts, is_open, is_repeat_of, is_same_name, issues, judged, kept_as, lists_of, next_number, opened, outcome, outcome_in, run, run_from, shared_reason, start, step, with_key, with_lists, with_shared}
-use Rattle.card_model.specs.Refusals.{Lists, Present, account_full, bills, book_today, first_reason, is_no_amount, is_out_of_range, no_open_dispute, number_from, reason_against, reason_to_open, reasons, where_true, wrong_entry}
+use Rattle.card_model.specs.Machine.{Accepts, NamedAccount, Outcome, Refuses, Repeats, State, accepted, accounts_after, at_key, has_accounts, is_open, is_repeat_of, issues, judged, kept_as, lists_of, next_number, opened, outcome, outcome_in, run, run_from, shared_reason, start, step, with_lists, with_shared}
+use Rattle.card_model.specs.Refusals.{Lists, Present, account_full, bad_terms, bills, book_today, day_ahead, first_reason, is_no_amount, is_out_of_range, no_open_dispute, number_from, reason_against, reason_to_open, reasons, where_true, wrong_entry}
 use Rattle.card_events.specs.declared.reply.Refusal.TheVariants as refusal
 use Rattle.card_events.specs.declared.request.Request.TheVariants as request
 use Rattle.card_events.specs.declared.request.Shared.TheVariants as shared
@@ -95,6 +98,92 @@ few-cents now (post.Review d f) h = omega arith
 few-cents now (post.Ack d t) h = omega arith
 few-cents now (post.AskRefund d) h = omega arith
 few-cents now (post.Bill c) h = omega arith
+
+-- ---- rates and terms
+-- a post that is no Open
+few-rates : (now : Present) (p : Post) → is_open p ≡ false → is_out_of_range now p ≡ false → posted_rate p ≤ 9999
+unfolding is_out_of_range
+few-rates now (post.Plan d k r e f) o h =
+    let parts = or-false (ltb 9999 r) (ltb 9999 f) h in
+    let rate = not-above r 9999 parts.0 in
+    let after = not-above f 9999 parts.1 in
+    omega arith
+few-rates now (post.Notice d c r e) o h = not-above r 9999 h
+few-rates now (post.Lower d c r) o h = not-above r 9999 h
+few-rates now (post.Open d t) o h = cc
+few-rates now (post.Charge d q c) o h = omega arith
+few-rates now (post.Credit d q c) o h = omega arith
+few-rates now (post.Payment d m y c) o h = omega arith
+few-rates now (post.Return d t) o h = omega arith
+few-rates now post.Penalty o h = omega arith
+few-rates now (post.Review d f) o h = omega arith
+few-rates now (post.Dispute d t c) o h = omega arith
+few-rates now (post.Ack d t) o h = omega arith
+few-rates now (post.Resolve d t c) o h = omega arith
+few-rates now (post.AskRefund d) o h = omega arith
+few-rates now (post.Refund c) o h = omega arith
+few-rates now (post.Amend t d c) o h = omega arith
+few-rates now (post.Bill c) o h = omega arith
+
+pub record GoodOpening (p : Post) : Type 0 where
+  pub rate : posted_rate p ≤ 9999
+  pub terms : AreInRange (terms_in p)
+
+above-zero : (n : ℕ) → eqb n 0 ≡ false → 1 ≤ n
+above-zero zero h = cc
+above-zero (suc n) h = omega arith
+
+terms-reasons : Terms → List (Option Refusal)
+terms-reasons t =
+    where_true ((eqb t.close 0) || ltb 28 t.close) (refusal.BadTerms 1)
+    ∷ where_true (ltb 9999 t.purchase) (refusal.BadTerms 2)
+    ∷ where_true (ltb 9999 t.cash) (refusal.BadTerms 3)
+    ∷ where_true (ltb 9999 t.transfer) (refusal.BadTerms 4)
+    ∷ where_true (ltb 9999 t.penalty) (refusal.BadTerms 5)
+    ∷ where_true (ltb 1000000 t.floor) (refusal.BadTerms 6)
+    ∷ where_true (ltb 10000 t.pct) (refusal.BadTerms 7) ∷ []
+
+good-terms : (d : ℕ) (t : Terms) → bad_terms (post.Open d t) ≡ None → GoodOpening (post.Open d t)
+unfolding terms-reasons
+good-terms d t h =
+    let none = all-none (terms-reasons t) h in
+    let close = or-false (eqb t.close 0) (ltb 28 t.close) (where-false _ _ none.0) in
+    let purchase = not-above t.purchase 9999 (where-false _ _ none.1.0) in
+    let cash = not-above t.cash 9999 (where-false _ _ none.1.1.0) in
+    let transfer = not-above t.transfer 9999 (where-false _ _ none.1.1.1.0) in
+    let penalty = not-above t.penalty 9999 (where-false _ _ none.1.1.1.1.0) in
+    record {
+      rate = omega arith;
+      terms = record {
+        first_close_day = above-zero t.close close.0;
+        last_close_day = not-above t.close 28 close.1;
+        floor = not-above t.floor 1000000 (where-false _ _ none.1.1.1.1.1.0);
+        pct = not-above t.pct 10000 (where-false _ _ none.1.1.1.1.1.1.0);
+      };
+    }
+
+-- against an Open there is no other first reason
+good-opening : (today accounts : ℕ) (p : Post) → is_open p ≡ true → reason_to_open today accounts p ≡ None → GoodOpening p
+unfolding reason_to_open
+good-opening today accounts (post.Open d t) o h =
+    let first = first-none (bad_terms (post.Open d t)) (day_ahead today (post.Open d t) ∷ where_true (leb 1000000 accounts) refusal.LedgerFull ∷ []) h in
+    good-terms d t first.0
+good-opening today accounts (post.Charge d p c) o h = cc
+good-opening today accounts (post.Credit d p c) o h = cc
+good-opening today accounts (post.Payment d m y c) o h = cc
+good-opening today accounts (post.Return d t) o h = cc
+good-opening today accounts (post.Plan d g r f a) o h = cc
+good-opening today accounts (post.Notice d c r f) o h = cc
+good-opening today accounts (post.Lower d c r) o h = cc
+good-opening today accounts post.Penalty o h = cc
+good-opening today accounts (post.Review d f) o h = cc
+good-opening today accounts (post.Dispute d t c) o h = cc
+good-opening today accounts (post.Ack d t) o h = cc
+good-opening today accounts (post.Resolve d t c) o h = cc
+good-opening today accounts (post.AskRefund d) o h = cc
+good-opening today accounts (post.Refund c) o h = cc
+good-opening today accounts (post.Amend t d c) o h = cc
+good-opening today accounts (post.Bill c) o h = cc
 
 -- ---- Resolves
 abbrev resolvers : ℕ → List Kept → ℕ
@@ -189,6 +278,7 @@ single-push rows r e h =
 
 -- ---- the lists of an account
 pub record Stands (l : Lists) : Type 0 where
+  pub begun : 1 ≤ length l.posts
   pub accepted : AreAccepted l
   pub billed : All (IsBilled l.posts) l.issued
 
@@ -237,14 +327,21 @@ issues-rows now n key (post.Amend t d c) h s b = no-rows _ _ _ s b
 one-more : (posts : List Kept) (k : Kept) → leb 10000 (length posts) ≡ false → length (posts ++ k ∷ []) ≤ 10000
 one-more posts k h = let more : length posts < 10000 = grind (arith, nat_tests) in rw (length-append posts (k ∷ [])) (omega arith)
 
-accepted-stands : (now : Present) (key : List ℕ) (p : Post) → reason_against now p ≡ None → Stands now.lists → Stands (accepted now key p)
+same-terms : (posts : List Kept) (k : Kept) → 1 ≤ length posts → terms_of (posts ++ k ∷ []) ≡ terms_of posts
+same-terms [] k l = absurd (omega arith)
+same-terms (x ∷ posts) k l = refl
+
+accepted-stands : (now : Present) (key : List ℕ) (p : Post) → is_open p ≡ false → reason_against now p ≡ None → Stands now.lists → Stands (accepted now key p)
 unfolding accepted
-accepted-stands now key p h l =
+accepted-stands now key p o h l =
     let free = no-reason now p h in
     let k = kept_as (next_number now) key now.today p in
     let rows = issues-rows now (next_number now) key p free.wrong_entry l.accepted.single l.billed in
     record {
+      begun = rw (length-append now.lists.posts (k ∷ [])) (omega arith);
       accepted = record {
+        terms = subst AreInRange (sym (same-terms now.lists.posts k l.begun)) l.accepted.terms;
+        rates = All-push HasFewRates now.lists.posts k l.accepted.rates (few-rates now p o free.range);
         count = one-more now.lists.posts k (where-false _ _ free.account_full);
         cents = All-push HasFewCents now.lists.posts k l.accepted.cents (few-cents now p free.range);
         resolved = still-once now k free.no_open_dispute l.accepted.resolved;
@@ -253,9 +350,12 @@ accepted-stands now key p h l =
       billed = rows.billed;
     }
 
-opened-stands : (k : Kept) → is_open k.post ≡ true → Stands (record { posts = k ∷ []; issued = [] })
-opened-stands k e = record {
+opened-stands : (k : Kept) → is_open k.post ≡ true → GoodOpening k.post → Stands (record { posts = k ∷ []; issued = [] })
+opened-stands k e g = record {
+  begun = omega arith;
   accepted = record {
+    terms = g.terms;
+    rates = All-cons HasFewRates k [] g.rate (All-nil HasFewRates);
     count = omega arith;
     cents = All-cons HasFewCents k [] (few k.post e) (All-nil HasFewCents);
     resolved = λ n. rw (resolvers-cons n k []) (at_most n (resolves n k.post));
@@ -294,10 +394,10 @@ StandsIf (Accepts new) = Stands new
 StandsIf (Refuses r) = Unit {0}
 StandsIf (Repeats n) = Unit {0}
 
-judged-stands : (now : Present) (key : List ℕ) (p : Post) (r : Option Refusal) → reason_against now p ≡ r → Stands now.lists → StandsIf (judged now key p r)
+judged-stands : (now : Present) (key : List ℕ) (p : Post) (r : Option Refusal) → is_open p ≡ false → reason_against now p ≡ r → Stands now.lists → StandsIf (judged now key p r)
 unfolding StandsIf
-judged-stands now key p (Some r) e l = tt
-judged-stands now key p None e l = accepted-stands now key p e l
+judged-stands now key p (Some r) o e l = tt
+judged-stands now key p None o e l = accepted-stands now key p o e l
 
 either-stands : (t : Bool) (a b : Outcome) → StandsIf a → StandsIf b → StandsIf (cond t a b)
 either-stands true a b h g = h
@@ -306,12 +406,16 @@ either-stands false a b h g = g
 at_key-stands : (now : Present) (key : List ℕ) (p : Post) (o : Option ℕ) → Stands now.lists → StandsIf (at_key now key p o)
 unfolding StandsIf
 at_key-stands now key p (Some n) l = either-stands (is_repeat_of p (at_number n now.lists.posts)) _ _ tt tt
-at_key-stands now key p None l = either-stands (is_open p) (Refuses refusal.AccountExists) _ tt (judged-stands now key p (reason_against now p) refl l)
+at_key-stands now key p None l = by (is_open p) refl
+  where
+    by : (t : Bool) → is_open p ≡ t → StandsIf (cond t (Refuses refusal.AccountExists) (judged now key p (reason_against now p)))
+    by true o = tt
+    by false o = judged-stands now key p (reason_against now p) o refl l
 
-to_open-stands : (key : List ℕ) (today : ℕ) (p : Post) (r : Option Refusal) → is_open p ≡ true → StandsIf (opened key today p r)
+to_open-stands : (key : List ℕ) (today accounts : ℕ) (p : Post) (r : Option Refusal) → is_open p ≡ true → reason_to_open today accounts p ≡ r → StandsIf (opened key today p r)
 unfolding StandsIf
-to_open-stands key today p (Some r) e = tt
-to_open-stands key today p None e = opened-stands (kept_as 1 key today p) e
+to_open-stands key today accounts p (Some r) e h = tt
+to_open-stands key today accounts p None e h = opened-stands (kept_as 1 key today p) e (good-opening today accounts p e h)
 
 -- the lists of an account, where it is there
 StandsThere : Option Lists → Type 0
@@ -323,7 +427,7 @@ unfolding outcome StandsThere StandsIf
 outcome-stands today rows accounts key p None h = by (is_open p) refl
   where
     by : (t : Bool) → is_open p ≡ t → StandsIf (cond t (opened key today p (reason_to_open today accounts p)) (Refuses refusal.UnknownAccount))
-    by true e = to_open-stands key today p (reason_to_open today accounts p) e
+    by true e = to_open-stands key today accounts p (reason_to_open today accounts p) e refl
     by false e = tt
 outcome-stands today rows accounts key p (Some l) h = at_key-stands (record { today = today; shared = shared_rows rows; lists = l }) key p (with_key key l.posts) h
 
@@ -333,7 +437,7 @@ AllStand accounts = All (λ (x : NamedAccount). Stands x.lists) accounts
 lists-stand : (name : List ℕ) (accounts : List NamedAccount) → AllStand accounts → StandsThere (lists_of name accounts)
 unfolding lists_of StandsThere
 lists-stand name [] h = tt
-lists-stand name (x ∷ xs) h = by (is_same_name x.name name) (All-head (λ (x : NamedAccount). Stands x.lists) x xs h) (lists-stand name xs (All-tail (λ (x : NamedAccount). Stands x.lists) x xs h))
+lists-stand name (x ∷ xs) h = by (bytes_eq x.name name) (All-head (λ (x : NamedAccount). Stands x.lists) x xs h) (lists-stand name xs (All-tail (λ (x : NamedAccount). Stands x.lists) x xs h))
   where
     by : (t : Bool) → Stands x.lists → StandsThere (lists_of name xs) → StandsThere (cond t (Some x.lists) (lists_of name xs))
     by true h i = h
@@ -343,7 +447,7 @@ set-stands : (name : List ℕ) (l : Lists) (accounts : List NamedAccount) → St
 unfolding with_lists
 set-stands name l [] g h = All-cons (λ (x : NamedAccount). Stands x.lists) _ [] g (All-nil (λ (x : NamedAccount). Stands x.lists))
 set-stands name l (x ∷ xs) g h =
-    by (is_same_name x.name name) (All-head (λ (x : NamedAccount). Stands x.lists) x xs h) (All-tail (λ (x : NamedAccount). Stands x.lists) x xs h) (set-stands name l xs g (All-tail (λ (x : NamedAccount). Stands x.lists) x xs h))
+    by (bytes_eq x.name name) (All-head (λ (x : NamedAccount). Stands x.lists) x xs h) (All-tail (λ (x : NamedAccount). Stands x.lists) x xs h) (set-stands name l xs g (All-tail (λ (x : NamedAccount). Stands x.lists) x xs h))
   where
     by : (t : Bool) → Stands x.lists → AllStand xs → AllStand (with_lists name l xs) → AllStand (cond t (record { name = x.name; lists = l } ∷ xs) (x ∷ with_lists name l xs))
     by true h i j = All-cons (λ (x : NamedAccount). Stands x.lists) _ xs g i

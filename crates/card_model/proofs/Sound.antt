@@ -65,13 +65,13 @@ find-high p (g ∷ gs) h = by (p g) (All-head (λ (g : SegmentTerms). 2 ≤ g.id
     by true l m = l
     by false l m = m
 
-segment_at-high : (p : Place) (day : ℕ) (gs : List SegmentTerms) → All (λ (g : SegmentTerms). 2 ≤ g.id) gs → 2 ≤ segment_at p day gs
+pub segment_at-high : (p : Place) (day : ℕ) (gs : List SegmentTerms) → All (λ (g : SegmentTerms). 2 ≤ g.id) gs → 2 ≤ segment_at p day gs
 segment_at-high place.Purchase day gs h = last-high (λ g. is_sort sort.Purchase g.sort && leb g.begins day) gs h
 segment_at-high place.Cash day gs h = last-high (λ g. is_sort sort.Cash g.sort && leb g.begins day) gs h
 segment_at-high place.Transfer day gs h = last-high (λ g. is_sort sort.Transfer g.sort && leb g.begins day) gs h
 segment_at-high (place.Plan n) day gs h = find-high (λ g. eqb g.post n && is_plan g) gs h
 
-charge-high : (gs : List SegmentTerms) (o : Option CorrectedPost) → All (λ (g : SegmentTerms). 2 ≤ g.id) gs → 2 ≤ charge_segment gs o
+pub charge-high : (gs : List SegmentTerms) (o : Option CorrectedPost) → All (λ (g : SegmentTerms). 2 ≤ g.id) gs → 2 ≤ charge_segment gs o
 charge-high gs None h = omega arith
 charge-high gs (Some s) h = by (place_charged s.post)
   where
@@ -222,7 +222,7 @@ good-parts owed p a h = by (eqb p.credit 0)
 start-within : (a : Account) (seen : Seen) (b : Book) (p : Option Place) → All (λ (h : Holding). h.paid + h.balance ≤ owing h.id b.entries) (holdings a seen b p)
 start-within a seen b p = All-map (λ (h : Holding). h.paid + h.balance ≤ owing h.id b.entries) (holding a seen b p) (all_segments a seen) (λ k d l. omega arith)
 
-payment-good : (a : Account) (seen : Seen) (s : CorrectedPost) (b : Book) → Rises 5 seen.posts → GoodParts (λ id. owing id b.entries) (payment_parts a seen s b)
+pub payment-good : (a : Account) (seen : Seen) (s : CorrectedPost) (b : Book) → Rises 5 seen.posts → GoodParts (λ id. owing id b.entries) (payment_parts a seen s b)
 unfolding payment_parts
 payment-good a seen s b r =
     let owed = λ (id : ℕ). owing id b.entries in
@@ -233,7 +233,7 @@ payment-good a seen s b r =
     let two = pay-within owed excess_rule excess-chooses (s.cents - minimum) 2 (pay minimum_rule minimum (untouched hs)) one.1 one.0 in
     good-parts owed (pay excess_rule (s.cents - minimum) (pay minimum_rule minimum (untouched hs))) two.1 two.0
 
-credit-good : (a : Account) (seen : Seen) (s : CorrectedPost) (p : Place) (b : Book) → Rises 5 seen.posts → GoodParts (λ id. owing id b.entries) (credit_parts a seen s p b)
+pub credit-good : (a : Account) (seen : Seen) (s : CorrectedPost) (p : Place) (b : Book) → Rises 5 seen.posts → GoodParts (λ id. owing id b.entries) (credit_parts a seen s p b)
 unfolding credit_parts
 credit-good a seen s p b r =
     let owed = λ (id : ℕ). owing id b.entries in
@@ -262,10 +262,10 @@ sound-put_back day n newest target (p ∷ ps) es l a t h =
     by true e o = l
     by false e o = apart p.segment (λ q. false-true (sym e ∙ eq-eqb p.segment 0 q)) o
 
-highs : (a : Account) (seen : Seen) → Rises 5 seen.posts → All (λ (g : SegmentTerms). 2 ≤ g.id) (all_segments a seen)
+pub highs : (a : Account) (seen : Seen) → Rises 5 seen.posts → All (λ (g : SegmentTerms). 2 ≤ g.id) (all_segments a seen)
 highs a seen r = ids-high 2 (all_segments a seen) (omega arith) (segments-ascend a seen r)
 
-newest-high : (a : Account) (seen : Seen) → Rises 5 seen.posts → 2 ≤ newest sort.Purchase seen.day (all_segments a seen)
+pub newest-high : (a : Account) (seen : Seen) → Rises 5 seen.posts → 2 ≤ newest sort.Purchase seen.day (all_segments a seen)
 newest-high a seen r = last-high (λ g. is_sort sort.Purchase g.sort && leb g.begins seen.day) (all_segments a seen) (highs a seen r)
 
 sound-fee : (a : Account) (seen : Seen) (n : ℕ) (o : Option Fee) (b : Book) → Rises 5 seen.posts → Sound b.entries → Sound (with_fee a seen n o b).entries

@@ -1,6 +1,8 @@
 -- The machine of accounts: one step for each request, and whole runs.
-use Rattle.std.specs.Prelude.{ℕ, ◌+◌, Bool, true, false, ◌&&◌, ◌||◌, not, ◌==◌, nat_le, nat_lt, if◌then◌else◌, is_some, List, [], ◌∷◌, ◌++◌, length, Option, Some, None}
+use Rattle.std.specs.Prelude.{ℕ, ◌+◌, Bool, true, false, ◌&&◌, ◌||◌, not, nat_le, nat_lt, if◌then◌else◌, is_some, List, [], ◌∷◌, ◌++◌, length, Option, Some, None}
+use Rattle.std.specs.Str.{bytes_eq}
 use Rattle.card_events.specs.History.{at_number}
+use Rattle.card_events.specs.Keys.{with_key}
 use Rattle.card_events.specs.Same.{is_same_post}
 use Rattle.card_events.specs.SharedRows.{shared_rows}
 use Rattle.card_events.specs.declared.kept.Kept.{Kept}
@@ -17,13 +19,6 @@ use Rattle.card_events.specs.declared.request.Shared.TheVariants as shared
 use Rattle.card_model.specs.Cycles.{IssuedRow}
 use Rattle.card_model.specs.Folds.{rows_issued}
 use Rattle.card_model.specs.Refusals.{Lists, Present, book_today, first_reason, reason_against, reason_to_open, where_true}
-
--- the bytes of two names are the same
-unfoldable pub is_same_name : List ℕ → List ℕ → Bool
-is_same_name [] [] = true
-is_same_name [] (y ∷ ys) = false
-is_same_name (x ∷ xs) [] = false
-is_same_name (x ∷ xs) (y ∷ ys) = (x == y) && is_same_name xs ys
 
 -- an account by its name
 pub record NamedAccount : Type 0 where
@@ -43,22 +38,14 @@ start = record { today = 14975; shared = []; accounts = [] }
 -- the lists of an account
 unfoldable pub lists_of : List ℕ → List NamedAccount → Option Lists
 lists_of name [] = None
-lists_of name (x ∷ xs) = let later = lists_of name xs in if is_same_name x.name name then Some x.lists else later
+lists_of name (x ∷ xs) = let later = lists_of name xs in if bytes_eq x.name name then Some x.lists else later
 
 -- the accounts with these lists for one of them
 unfoldable pub with_lists : List ℕ → Lists → List NamedAccount → List NamedAccount
 with_lists name l [] = record { name = name; lists = l } ∷ []
 with_lists name l (x ∷ xs) =
     let later = x ∷ with_lists name l xs in
-    if is_same_name x.name name then record { name = x.name; lists = l } ∷ xs else later
-
--- the number of the post with a key
-unfoldable pub key_from : List ℕ → ℕ → List Kept → Option ℕ
-key_from key n [] = None
-key_from key n (k ∷ ks) = let later = key_from key (n + 1) ks in if is_same_name k.key key then Some n else later
-
-abbrev pub with_key : List ℕ → List Kept → Option ℕ
-with_key key posts = key_from key 1 posts
+    if bytes_eq x.name name then record { name = x.name; lists = l } ∷ xs else later
 
 -- ---- a post
 -- what a post comes to on one account

@@ -33,8 +33,8 @@ pub fn signs()
     ensures { Signs }
 {}
 
-/// After every list of requests, in every account: cents are within their range, no Dispute is resolved twice, and no
-/// cycle has two issued rows. Fees in the table are within their range.
+/// After every list of requests, in every account: at most 10,000 posts, whose terms, rates and cents are within their
+/// ranges; no Dispute is resolved twice, and no cycle has two issued rows. Fees in the table are within their range.
 pub fn runs_are_accepted()
     ensures { RunsAreAccepted }
 {}
