@@ -1,12 +1,10 @@
 -- Closings and due dates as the code answers them.
-use Rattle.std.proofs.Common.{◌≡◌, ℕ, zero, suc, ◌+◌, ◌-◌, ◌<◌, ◌≤◌, Option, Some, None, SomeIff, refl, sym, ap, ◌∙◌, subst, arith, inl, inr, ◌⊎◌, nat_le, cond, true, false, Bool}
+use Rattle.std.proofs.Common.{◌≡◌, ℕ, suc, ◌+◌, ◌-◌, ◌<◌, ◌≤◌, Option, Some, None, SomeIff, sym, ap, ◌∙◌, subst, arith, inl, inr, ◌⊎◌}
 use Rattle.std.proofs.lemmas.Bool.{cases_lt}
-use Rattle.std.proofs.lemmas.Bool.Decides.{nat_tests}
 use Rattle.card_days.specs.declared.anchor.Anchor.{Anchor}
-use Rattle.card_days.specs.Civil.{date_of}
-use Rattle.card_days.specs.Billing.{IsCloseDay, closing, due_day_of_month, due, cycle_of}
-use Rattle.card_days.specs.Months.{day_in_month, month_from, first_month}
-use Rattle.card_days.proofs.Cycles.{IsAnchor, first_month-bounds, day_in_month-range, closing_is, closing_late, due_is, due_late, due_shift, shift_small, due_day-bounds}
+use Rattle.card_days.specs.Billing.{closing, due_day_of_month, due}
+use Rattle.card_days.specs.Months.{day_in_month, first_month, due_shift}
+use Rattle.card_days.proofs.Cycles.{IsAnchor, first_month-bounds, day_in_month-range, closing_is, closing_late, due_is, due_late, due_day-bounds}
 
 -- an answer that comes where P holds comes where Q does
 pub restated : (r : Option ℕ) (P Q : Type 0) (x y : ℕ) → (P → Q) → (Q → P) → (P → x ≡ y) → SomeIff r P x → SomeIff r Q y
@@ -38,8 +36,10 @@ due_answer r a h k i e same day answer =
   where
     days : (1 ≤ due_day_of_month a.close_day) × (due_day_of_month a.close_day ≤ 28)
     days = due_day-bounds a.close_day h.low h.high
+
     value : day_in_month i e ≡ day_in_month (first_month a + k + due_shift a.close_day) (due_day_of_month a.close_day)
     value = ap (λ u. day_in_month u e) same ∙ ap (λ u. day_in_month (first_month a + k + due_shift a.close_day) u) day
+
     within : due a (suc k) ≤ 48_576 → i ≤ 25_235
     within small = by (cases_lt i 25_236)
       where
@@ -56,11 +56,3 @@ pub due_reply : (r : Option ℕ) (a : Anchor) → IsAnchor a → (k i e : ℕ) �
 due_reply r a h k i e low same day answer =
     let back : suc (k - 1) ≡ k = omega arith in
     subst (λ n. SomeIff r ((1 ≤ n) × (due a n ≤ 48_576)) (due a n)) back (due_answer r a h (k - 1) i e same day answer)
-
-pub early : (c : ℕ) → c ≤ 4 → (due_shift c ≡ 0) × (due_day_of_month c ≡ c + 24)
-unfolding due_shift
-early c low = let is : nat_le c 4 ≡ true = grind (arith, nat_tests) in rw is (refl, refl)
-
-pub late : (c : ℕ) → 4 < c → (due_shift c ≡ 1) × (due_day_of_month c ≡ c - 4)
-unfolding due_shift
-late c high = let is : nat_le c 4 ≡ false = grind (arith, nat_tests) in rw is (refl, refl)

@@ -1,12 +1,11 @@
 -- Closings, due dates and cycles by the number of their month.
-use Rattle.std.proofs.Common.{◌≡◌, ℕ, zero, suc, ◌+◌, ◌-◌, ◌*◌, ◌/◌, ◌%◌, ◌<◌, ◌≤◌, Bool, true, false, cond, eqb, nat_lt, nat_le, nat_eq, refl, sym, ap, ◌∙◌, subst, arith, inl, inr, ◌⊎◌, eq-eqb, pos}
-use Rattle.std.proofs.lemmas.Bool.{ne_eqb, cases_lt, false≢true}
+use Rattle.std.proofs.Common.{◌≡◌, ℕ, zero, suc, ◌+◌, ◌-◌, ◌*◌, ◌/◌, ◌%◌, ◌<◌, ◌≤◌, Bool, true, false, cond, eqb, nat_lt, nat_le, nat_eq, refl, sym, ap, ◌∙◌, subst, arith, inl, inr, ◌⊎◌, eq-eqb}
+use Rattle.std.proofs.lemmas.Bool.{cases_lt, false≢true}
 use Rattle.std.proofs.lemmas.Bool.Decides.{nat_tests}
 use Rattle.card_days.specs.declared.anchor.Anchor.{Anchor}
-use Rattle.card_days.specs.Civil.{Civil, month_length, day_at, date_of, day_of_month, next_month, year_of_next_month, first_day, is_date}
-use Rattle.card_days.specs.Billing.{IsCloseDay, next_on, closing, due_day_of_month, due_after, due, closings_among, cycle_of}
-use Rattle.card_days.specs.Months.{month_number, day_in_month, month_from, first_month}
-use Rattle.card_days.proofs.Dates.{HasDate, date_of-has}
+use Rattle.card_days.specs.Civil.{month_length, day_at, date_of, day_of_month, next_month, year_of_next_month, is_date}
+use Rattle.card_days.specs.Billing.{next_on, closing, due_day_of_month, due_after, due, closings_among, cycle_of}
+use Rattle.card_days.specs.Months.{month_number, day_in_month, month_from, first_month, due_shift}
 use Rattle.card_days.proofs.DateFacts.{date_of-day_at, day_at-date_of, day_at-range, from_calendar, after_first, day_2103, date_of-in_calendar}
 use Rattle.card_days.proofs.Months.{first_day-from, first_day-below, IsCivil, next_on-here, next_on-over, next_number, month_civil, same_month-next, next_month-next, later_day, over, next_civil, dated, length_bounds}
 
@@ -123,10 +122,6 @@ closing_late a h (suc k) late = by (cases_lt (first_month a + k) 25_236) (closin
     by (inr m) before = omega (arith, before m, closing_grows a (suc k))
 
 -- ---- due dates
--- how many months after that of the closing
-unfoldable pub due_shift : ℕ → ℕ
-due_shift c = cond (nat_le c 4) 0 1
-
 due_day_by : (c : ℕ) (b : Bool) → nat_le c 4 ≡ b → 1 ≤ c → c ≤ 28 → (1 ≤ cond b (c + 24) (c - 4)) × (cond b (c + 24) (c - 4) ≤ 28)
 due_day_by c true e low high = let early : c ≤ 4 = grind (arith, nat_tests) in (omega arith, omega arith)
 due_day_by c false e low high = let late : 4 < c = grind (arith, nat_tests) in (omega arith, omega arith)
@@ -189,15 +184,15 @@ step_in y m d c h far low high = by (cases_lt d (month_length y m))
   where
     by : (d < month_length y m) ⊎ (month_length y m ≤ d) → month_from c (date_of (day_at y m d + 1)) ≡ month_from c (record { year = y; month = m; day = d }) + cond (nat_eq d c) 1 0
     by (inl room) =
-      ap (λ x. month_from c (date_of x)) (later_day y m d 1 h.day_low)
-      ∙ ap (λ x. month_from c x) (date_of-day_at y m (d + 1) h.year_low (omega (arith, h.year_high)) h.month_low h.month_high (omega arith) (omega arith))
-      ∙ month_step-by c d (12 * y + (m - 1))
+        ap (λ x. month_from c (date_of x)) (later_day y m d 1 h.day_low)
+        ∙ ap (λ x. month_from c x) (date_of-day_at y m (d + 1) h.year_low (omega (arith, h.year_high)) h.month_low h.month_high (omega arith) (omega arith))
+        ∙ month_step-by c d (12 * y + (m - 1))
     by (inr last) =
-      let next = next_civil y m 1 h.year_low far h.month_high (omega arith) (omega arith) in
-      ap (λ x. month_from c (date_of x)) (over y m d 1 1 h (omega arith) (omega (arith, h.day_high)))
-      ∙ ap (λ x. month_from c x) (date_of-day_at _ _ 1 next.year_low (omega (arith, next.year_high)) next.month_low next.month_high (omega arith) next.day_high)
-      ∙ ap (λ x. x + cond (nat_lt c 1) 1 0) (number_next y m h.month_low h.month_high)
-      ∙ month_over-by c d (12 * y + (m - 1)) low high (omega (arith, length_bounds y m))
+        let next = next_civil y m 1 h.year_low far h.month_high (omega arith) (omega arith) in
+        ap (λ x. month_from c (date_of x)) (over y m d 1 1 h (omega arith) (omega (arith, h.day_high)))
+        ∙ ap (λ x. month_from c x) (date_of-day_at _ _ 1 next.year_low (omega (arith, next.year_high)) next.month_low next.month_high (omega arith) next.day_high)
+        ∙ ap (λ x. x + cond (nat_lt c 1) 1 0) (number_next y m h.month_low h.month_high)
+        ∙ month_over-by c d (12 * y + (m - 1)) low high (omega (arith, length_bounds y m))
 
 pub month_step : (n c : ℕ) → 14_975 ≤ n → n ≤ 48_576 → 1 ≤ c → c ≤ 28 → month_from c (date_of (n + 1)) ≡ month_from c (date_of n) + cond (nat_eq (day_of_month n) c) 1 0
 month_step n c low high c1 c2 =
@@ -246,14 +241,16 @@ after_closing a h day (suc r) low high e = by (cases_lt (closing a (suc r)) day)
   where
     later : closing a (suc (suc r)) ≡ next_on a.close_day day
     later = cycle_closing a h day (suc r) low high e
+
     count : cycle_of a day + first_month a ≡ month_from a.close_day (date_of day) + 1
     count = cycle_is a h day low high
+
     by : (closing a (suc r) < day) ⊎ (day ≤ closing a (suc r)) → closing a (suc r) < day
     by (inl l) = l
     by (inr over) =
-      let bounds = month_from-bounds day a.close_day (omega (arith, h.first)) high in
-      let none = first_day-below (λ d. eqb (day_of_month d) a.close_day) 31 day (closing a (suc r)) over (omega (arith, closing_grows a (suc r), later)) in
-      absurd (false≢true (sym none ∙ eq-eqb _ _ (closing-day a h r (omega (arith, count, e, bounds.1)))))
+        let bounds = month_from-bounds day a.close_day (omega (arith, h.first)) high in
+        let none = first_day-below (λ d. eqb (day_of_month d) a.close_day) 31 day (closing a (suc r)) over (omega (arith, closing_grows a (suc r), later)) in
+        absurd (false≢true (sym none ∙ eq-eqb _ _ (closing-day a h r (omega (arith, count, e, bounds.1)))))
 
 pub cycle_from_one : (a : Anchor) (day : ℕ) → 1 ≤ cycle_of a day
 unfolding cycle_of

@@ -1,13 +1,13 @@
 -- From a day to the next day with some day of the month.
-use Rattle.std.proofs.Common.{◌≡◌, ℕ, zero, suc, ◌+◌, ◌-◌, ◌*◌, ◌/◌, ◌%◌, ◌<◌, ◌≤◌, Bool, true, false, cond, eqb, nat_lt, nat_eq, refl, sym, ap, ◌∙◌, subst, arith, inl, inr, ◌⊎◌, eq-eqb, pos}
+use Rattle.std.proofs.Common.{◌≡◌, ℕ, zero, suc, ◌+◌, ◌-◌, ◌/◌, ◌%◌, ◌<◌, ◌≤◌, Bool, true, false, cond, eqb, nat_eq, refl, ap, ◌∙◌, arith, inl, inr, ◌⊎◌, eq-eqb, pos}
 use Rattle.std.proofs.lemmas.Bool.{ne_eqb, cases_lt}
 use Rattle.std.proofs.lemmas.Bool.Decides.{nat_tests}
 use Rattle.jiff_core.proofs.CalendarLemmas.{days_in_month_bounds}
-use Rattle.card_days.specs.Civil.{Civil, month_length, days_before_year, days_of_months, day_at, date_of, day_of_month, next_month, year_of_next_month, first_day}
+use Rattle.card_days.specs.Civil.{month_length, days_of_months, day_at, day_of_month, next_month, year_of_next_month, first_day}
 use Rattle.card_days.specs.Billing.{next_on}
 use Rattle.card_days.specs.Months.{day_in_month}
 use Rattle.card_days.proofs.Counts.{months_same}
-use Rattle.card_days.proofs.Dates.{HasDate, month_more, next_year}
+use Rattle.card_days.proofs.Dates.{month_more, next_year}
 use Rattle.card_days.proofs.DateFacts.{date_of-day_at}
 use Rattle.jiff_core.proofs.CalendarLemmas.{days_of_months_all}
 use Rattle.jiff_core.specs.Calendar.{days_in_year}
@@ -109,6 +109,7 @@ over y m d i e h low sum =
   where
     same : (n : ℕ) → 1 ≤ n → 1 + (n - 1) ≡ n
     same n l = omega arith
+
     at_same : (y m a b : ℕ) → a ≡ b → day_at y m a ≡ day_at y m b
     at_same y m a b e = ap (λ n. day_at y m n) e
 
@@ -118,14 +119,14 @@ pub next_on-here : (y m d e : ℕ) → IsCivil y m d → d ≤ e → e ≤ 28 �
 next_on-here y m d e h low high =
     let k = e - d in
     let at : (i : ℕ) → i ≤ k → day_of_month (day_at y m d + i) ≡ d + i = λ i l.
-      ap day_of_month (later_day y m d i h.day_low) ∙ dated y m (d + i) (record {
-        year_low = h.year_low;
-        year_high = h.year_high;
-        month_low = h.month_low;
-        month_high = h.month_high;
-        day_low = omega (arith, h.day_low);
-        day_high = omega (arith, length_bounds y m);
-      }) in
+    ap day_of_month (later_day y m d i h.day_low) ∙ dated y m (d + i) (record {
+      year_low = h.year_low;
+      year_high = h.year_high;
+      month_low = h.month_low;
+      month_high = h.month_high;
+      day_low = omega (arith, h.day_low);
+      day_high = omega (arith, length_bounds y m);
+    }) in
     let to : d + k ≡ e = omega arith in
     first_day_is (λ x. eqb (day_of_month x) e) k 31 (day_at y m d) (omega arith)
     (λ i l. ne_eqb _ _ (λ q. omega (arith, at i (omega arith), q)))
@@ -142,25 +143,26 @@ next_on-over y m d e h far low less high =
   where
     k : ℕ
     k = month_length y m - d + e
+
     between : (i : ℕ) → i < k → day_of_month (day_at y m d + i) ≡ e → ⊥
     between i l q = by (cases_lt (month_length y m) (d + i))
       where
         by : (month_length y m < d + i) ⊎ (d + i ≤ month_length y m) → ⊥
         by (inl out) =
-          let f = d + i - month_length y m in
-          let moved = over y m d i f h (omega arith) (omega arith) in
-          let there = ap day_of_month moved ∙ dated _ _ f (next_civil y m f h.year_low far h.month_high (omega arith) (omega (arith, h.day_high))) in
-          omega (arith, h.day_high, there, q)
+            let f = d + i - month_length y m in
+            let moved = over y m d i f h (omega arith) (omega arith) in
+            let there = ap day_of_month moved ∙ dated _ _ f (next_civil y m f h.year_low far h.month_high (omega arith) (omega (arith, h.day_high))) in
+            omega (arith, h.day_high, there, q)
         by (inr inside) =
-          let there = ap day_of_month (later_day y m d i h.day_low) ∙ dated y m (d + i) (record {
-            year_low = h.year_low;
-            year_high = h.year_high;
-            month_low = h.month_low;
-            month_high = h.month_high;
-            day_low = omega (arith, h.day_low);
-            day_high = inside;
-          }) in
-          omega (arith, there, q)
+            let there = ap day_of_month (later_day y m d i h.day_low) ∙ dated y m (d + i) (record {
+              year_low = h.year_low;
+              year_high = h.year_high;
+              month_low = h.month_low;
+              month_high = h.month_high;
+              day_low = omega (arith, h.day_low);
+              day_high = inside;
+            }) in
+            omega (arith, there, q)
 
 -- from the day after a day of the month up to the 28th: a later day of the same month
 pub after-here : (y m c e : ℕ) → IsCivil y m c → c < e → e ≤ 28 → next_on e (day_at y m c + 1) ≡ day_at y m e

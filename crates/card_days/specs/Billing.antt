@@ -1,5 +1,5 @@
 -- The cycles of an account: days on which they close, and on which their payments are due.
-use Rattle.std.specs.Prelude.{ℕ, zero, suc, ◌+◌, ◌-◌, ◌≤◌, ◌==◌, nat_le, if◌then◌else◌}
+use Rattle.std.specs.Prelude.{ℕ, zero, suc, ◌+◌, ◌-◌, ◌≤◌, Bool, ◌==◌, nat_le, if◌then◌else◌}
 use Rattle.card_days.specs.declared.anchor.Anchor.{Anchor}
 use Rattle.card_days.specs.Civil.{day_of_month, first_day}
 
@@ -36,3 +36,7 @@ closings_among c first (suc n) = closings_among c first n + (if day_of_month (fi
 -- the cycle that holds a day: one more than the closings before the day
 unfoldable pub cycle_of : Anchor → ℕ → ℕ
 cycle_of a day = closings_among a.close_day a.opened (day - a.opened) + 1
+
+-- a statement issued on this day is timely: its payment is due at least 21 days later
+abbrev pub is_timely : Anchor → ℕ → ℕ → Bool
+is_timely a k issued = nat_le (issued + 21) (due a k)

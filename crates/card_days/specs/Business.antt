@@ -4,7 +4,7 @@ use Rattle.card_days.specs.declared.anchor.Anchor.{Anchor}
 use Rattle.card_days.specs.declared.anchor.Channel.{Channel}
 use Rattle.card_days.specs.declared.anchor.Channel.TheVariants.{Mail, Online}
 use Rattle.card_days.specs.Civil.{day_of_month, first_day}
-use Rattle.card_days.specs.Billing.{closing, due_day_of_month}
+use Rattle.card_days.specs.Billing.{closing, due_day_of_month, due}
 
 -- the day is one of these
 unfoldable pub is_holiday : List ℕ → ℕ → Bool
@@ -73,3 +73,16 @@ with_holiday day (x ∷ rest) =
 -- the same holidays up to a day
 abbrev pub AgreeUpTo : ℕ → List ℕ → List ℕ → Type 0
 AgreeUpTo last these those = (x : ℕ) → x ≤ last → is_holiday these x ≡ is_holiday those x
+
+-- mail received on a day still meets a due date: that was no business day, and this is the first one after it
+pub record IsMet (holidays : List ℕ) (receipt due : ℕ) : Type 0 where
+  pub closed : is_business holidays due ≡ false
+  pub first : next_business holidays due ≡ receipt
+
+-- the day is the greatest due date of the account that mail received on a day still meets
+pub record IsGreatestMet (a : Anchor) (holidays : List ℕ) (receipt day : ℕ) : Type 0 where
+  pub cycle : ℕ
+  pub numbered : 1 ≤ cycle
+  pub is : due a cycle ≡ day
+  pub met : IsMet holidays receipt day
+  pub greatest : (k : ℕ) → 1 ≤ k → IsMet holidays receipt (due a k) → due a k ≤ day

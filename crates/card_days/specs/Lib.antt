@@ -4,3 +4,4 @@ pub mod Billing
 pub mod Business
 pub mod Later
 pub mod Months
+pub mod Kept

@@ -1,6 +1,7 @@
--- Months by number, as the code counts them: twelve a year.
-use Rattle.std.specs.Prelude.{ℕ, ◌+◌, ◌-◌, ◌*◌, ◌/◌, ◌%◌, nat_lt, if◌then◌else◌}
+-- What the code computes with: months by number, twelve a year, and the greatest due date before a day.
+use Rattle.std.specs.Prelude.{◌≡◌, ◌<◌, true, false, Option, Some, None, ℕ, ◌+◌, ◌-◌, ◌*◌, ◌/◌, ◌%◌, nat_lt, nat_le, if◌then◌else◌}
 use Rattle.card_days.specs.declared.anchor.Anchor.{Anchor}
+use Rattle.card_days.specs.Business.{is_due}
 use Rattle.card_days.specs.Civil.{Civil, day_at, date_of}
 
 -- the number of the month of a date
@@ -18,3 +19,12 @@ month_from c date = month_number date + (if nat_lt c date.day then 1 else 0)
 -- the month of the first closing
 unfoldable pub first_month : Anchor → ℕ
 first_month a = month_from a.close_day (date_of a.opened)
+
+-- how many months after that of a closing its payment is due
+unfoldable pub due_shift : ℕ → ℕ
+due_shift close_day = if nat_le close_day 4 then 0 else 1
+
+-- the greatest due date before a day, or none where there is none
+abbrev pub IsLastDue : Anchor → ℕ → Option ℕ → Type 0
+IsLastDue a day None = (x : ℕ) → x < day → is_due a x ≡ false
+IsLastDue a day (Some due) = (due < day) × (is_due a due ≡ true) × ((x : ℕ) → due < x → x < day → is_due a x ≡ false)

@@ -1,7 +1,7 @@
 ghost use Rattle.std.specs.Prelude.{◌≡◌, ◌<◌, ◌≤◌, ◌-◌, SomeIff, Some, OnSome, IfSome};
 ghost use Rattle.card_days.specs.Civil.{date_of};
 ghost use Rattle.card_days.specs.Billing.{IsCloseDay, closing, due_day_of_month, due, cycle_of};
-ghost use Rattle.card_days.specs.Months.{day_in_month, month_from};
+ghost use Rattle.card_days.specs.Months.{day_in_month, month_from, due_shift};
 
 use crate::{Anchor, Day};
 
@@ -15,7 +15,8 @@ pub fn closing(a: Anchor, k: u32) -> Option<Day>
     if k == 0 {
         return None;
     }
-    day_in_month(month_from(a.close_day, a.opened) + (k as u64 - 1), a.close_day)
+    let month = month_from(a.close_day, a.opened) + (k as u64 - 1);
+    day_in_month(month, a.close_day)
 }
 
 /// The day on which the payment of statement k is due: 24 days later in the month of its closing where the closing day is
@@ -28,12 +29,9 @@ pub fn due(a: Anchor, k: u32) -> Option<Day>
     if k == 0 {
         return None;
     }
+    let (later, due_day) = due_place(a.close_day);
     let month = month_from(a.close_day, a.opened) + (k as u64 - 1);
-    if a.close_day <= 4 {
-        day_in_month(month, a.close_day + 24)
-    } else {
-        day_in_month(month + 1, a.close_day - 4)
-    }
+    day_in_month(month + later, due_day)
 }
 
 /// The number of the cycle that holds a day, from 1. The day doesn't lie before the opening day, and is at most
@@ -48,6 +46,22 @@ pub fn cycle_of(a: Anchor, day: Day) -> u32
     ensures up_to_its_own { day ≤ closing a result }
 {
     (month_from(a.close_day, day) + 1 - month_from(a.close_day, a.opened)) as u32
+}
+
+// how many months after the closing its payment is due, and the day of the month
+#[tactic(auto, unfolding(crate::specs::Months::due_shift))]
+pub(crate) fn due_place(close_day: u8) -> (u64, u8)
+    requires { IsCloseDay close_day }
+    ensures later { result.0 ≡ due_shift close_day }
+    ensures day { result.1 ≡ due_day_of_month close_day }
+    ensures every_month { IsCloseDay result.1 }
+    ensures small { result.0 ≤ 1 }
+{
+    if close_day <= 4 {
+        (0, close_day + 24)
+    } else {
+        (1, close_day - 4)
+    }
 }
 
 // the number of the first month whose day with this number doesn't lie before the given day, twelve months a year

@@ -3,8 +3,20 @@
 
 mod anchor;
 mod billing;
+mod calendar;
+mod credit;
 mod day;
+mod later;
+pub mod laws;
+mod memory;
 
 pub use anchor::{Anchor, Channel};
 pub use billing::{closing, cycle_of, due};
+pub use calendar::{Calendar, next_business};
+pub use credit::credit_day;
 pub use day::Day;
+pub use later::{six_months_after, year_after};
+pub use memory::NoMemory;
+
+#[cfg(test)]
+mod tests;

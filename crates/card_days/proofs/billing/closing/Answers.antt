@@ -1,4 +1,4 @@
-use Rattle.std.proofs.Common.{◌≡◌, ◌≤◌, ◌+◌, ◌-◌, arith}
+use Rattle.std.proofs.Common.{◌+◌, ◌-◌, arith}
 use Rattle.card_days.specs.Months.{first_month}
 use Rattle.card_days.proofs.Cycles.{IsAnchor}
 use Rattle.card_days.proofs.Answered.{closing_reply}

@@ -1,4 +1,4 @@
-use Rattle.std.proofs.Common.{◌≡◌, ◌≤◌, ◌+◌, ◌-◌, arith, sym, ℕ}
+use Rattle.std.proofs.Common.{◌≡◌, ◌+◌, ◌-◌, arith, ℕ}
 use Rattle.card_days.specs.Billing.{cycle_of}
 use Rattle.card_days.specs.Months.{first_month}
 use Rattle.card_days.proofs.Cycles.{IsAnchor, cycle_is, cycle_around, cycle_from_one}

@@ -1,4 +1,4 @@
-use Rattle.std.proofs.Common.{◌≡◌, ◌≤◌, refl, arith}
+use Rattle.std.proofs.Common.{refl, arith}
 use Rattle.card_days.specs.Months.{day_in_month}
 use Rattle.card_days.proofs.Cycles.{month-is_date}
 use Rattle.card_days.proofs.Answered.{restated}
