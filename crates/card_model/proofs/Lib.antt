@@ -1,5 +1,6 @@
 pub mod Accepting
 pub mod Balance
+pub mod Calendar
 pub mod Caps
 pub mod EntryFacts
 pub mod Grows

@@ -1,5 +1,6 @@
 //! Laws of the fold, for all lists of posts.
 ghost use Rattle.card_model.specs.Accepted.{RunsAreAccepted};
+ghost use Rattle.card_model.specs.CycleDays.{CyclesAreOfTheCalendar};
 ghost use Rattle.card_model.specs.Isolated.{Isolation};
 ghost use Rattle.card_model.specs.Laws.{BalanceIdentity, CorrectionBack, IssuedCaps, IssuingChangesNoPastDay, PastIsEnough, Signs};
 
@@ -44,4 +45,10 @@ pub fn runs_are_accepted()
 /// the replies to these, and on nothing else.
 pub fn isolation()
     ensures { Isolation }
+{}
+
+/// The cycles closed by the end of a day are as many as the calendar has closed, and each has the calendar's number,
+/// first day, closing and due date.
+pub fn cycles_are_of_the_calendar()
+    ensures { CyclesAreOfTheCalendar }
 {}
