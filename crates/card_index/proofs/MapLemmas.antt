@@ -12,13 +12,13 @@ use Rattle.std.proofs.lemmas.Bool.{false≢true}
 use Rattle.std.proofs.lemmas.Map.Text.{is_eq-slice_cmp}
 use Rattle.card_index.specs.Places.{place_of, named, Places}
 
-same_bytes : (xs ys : List ℕ) → bytes_eq xs ys ≡ true → xs ≡ ys
+pub same_bytes : (xs ys : List ℕ) → bytes_eq xs ys ≡ true → xs ≡ ys
 same_bytes xs ys e = (bytes_decides xs ys).0 e
 
-own_bytes : (xs : List ℕ) → bytes_eq xs xs ≡ true
+pub own_bytes : (xs : List ℕ) → bytes_eq xs xs ≡ true
 own_bytes xs = (bytes_decides xs xs).1 refl
 
-by_test : (b : Bool) → (b ≡ true) ⊎ (b ≡ false)
+pub by_test : (b : Bool) → (b ≡ true) ⊎ (b ≡ false)
 by_test true = inl refl
 by_test false = inr refl
 
@@ -38,7 +38,7 @@ cond_again : {X : Type 0} (b : Bool) (x y r : X) → cond b x r ≡ cond b x (co
 cond_again true x y r = refl
 cond_again false x y r = refl
 
-cond_swap : {X : Type 0} (a b : Bool) (x y r : X) → (a ≡ true → b ≡ true → ⊥) → cond a x (cond b y r) ≡ cond b y (cond a x r)
+pub cond_swap : {X : Type 0} (a b : Bool) (x y r : X) → (a ≡ true → b ≡ true → ⊥) → cond a x (cond b y r) ≡ cond b y (cond a x r)
 cond_swap true true x y r apart = absurd (apart refl refl)
 cond_swap true false x y r apart = refl
 cond_swap false true x y r apart = refl

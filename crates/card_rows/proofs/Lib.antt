@@ -1,1 +1,5 @@
 mod PieceLemmas
+mod ReadingLemmas
+mod FieldLaws
+mod KindLaws
+pub mod RequestLaws

@@ -1,6 +1,5 @@
 -- What a request may hold.
 use Rattle.std.specs.Prelude.{ℕ, Bool, true, ◌&&◌, nat_le}
-use Rattle.card_days.specs.declared.channel.Channel.{Channel}
 use Rattle.card_events.specs.Dated.{is_request_day}
 use Rattle.card_events.specs.Names.{is_name}
 use Rattle.card_events.specs.declared.post.Place.{Place}

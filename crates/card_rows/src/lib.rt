@@ -1,9 +1,17 @@
 //! Kept rows: the spelling of a request in bytes, and back.
 #![tactic(auto)]
 
+mod body;
 mod decoding;
+mod encoding;
 mod fault;
 mod fields;
 mod kinds;
+pub mod laws;
+mod row;
+#[cfg(test)]
+mod tests;
+mod writing;
 
-pub use decoding::read_row;
+pub use body::Body;
+pub use row::{decode, encode};
