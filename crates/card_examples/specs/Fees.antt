@@ -6,7 +6,9 @@ use Rattle.card_days.specs.declared.anchor.Channel.TheVariants.{Mail, Online}
 use Rattle.card_events.specs.declared.post.Place.TheVariants as place
 use Rattle.card_events.specs.declared.post.Post.TheVariants as post
 use Rattle.card_events.specs.declared.request.Request.{Request}
+use Rattle.card_events.specs.SharedRows.{FeeRow}
 use Rattle.card_model.specs.Closing.{minimum_of}
+use Rattle.card_model.specs.Fees.{is_repeat, row_in_force, tier_amount}
 use Rattle.card_model.specs.declared.fee.Fee.{Fee}
 use Rattle.card_model.specs.declared.fee.FeeKind.{FeeKind}
 use Rattle.card_model.specs.declared.fee.FeeKind.TheVariants.{Late, Returned}
@@ -55,6 +57,32 @@ paid_on_monday by =
     ∷ to_a 2 (post.Charge (day_at 2024 10 5) place.Purchase 50000) ∷ roll 2024 10 29 ∷ to_a 3 (post.Bill 1) ∷ roll 2024 11 25
     ∷ to_a 4 (post.Payment (day_at 2024 11 25) 600 by 2500) ∷ []
 
+-- fees of 30 and 41 dollars from 2011 on, and two rows for 2024-02-01, of which the later one was meant
+abbrev pub row_of : ℕ → ℕ → ℕ → FeeRow
+row_of day first repeat = record { day = day; first = first; repeat = repeat }
+
+abbrev pub table : List FeeRow
+table = row_of (day_at 2011 1 2) 3000 4100 ∷ row_of (day_at 2024 2 1) 3200 4300 ∷ row_of (day_at 2024 2 1) 3100 4200 ∷ []
+
+-- a late fee in cycle 2
+abbrev pub in_cycle2 : Bool → List Fee
+in_cycle2 repeat = fee_of Late 1 repeat (day_at 2024 3 2) 3000 ∷ []
+
+pub record TiersAreWorked : Type 0 where
+  -- the first amount, and the repeat amount
+  pub first : tier_amount (row_in_force (row_of (day_at 2011 1 2) 3000 4100 ∷ [])) false ≡ 3000
+  pub repeat : tier_amount (row_in_force (row_of (day_at 2011 1 2) 3000 4100 ∷ [])) true ≡ 4100
+  -- the row with the latest day counts, and of two for one day the later one; without a row there is no fee
+  pub later_row : tier_amount (row_in_force table) false ≡ 3100
+  pub no_row : tier_amount (row_in_force []) true ≡ 0
+  -- a fee at the first amount in cycle 2 makes one of its kind in cycle 8 a repeated one, and not one in cycle 9
+  pub sixth : is_repeat Late 8 (in_cycle2 false) ≡ true
+  pub seventh : is_repeat Late 9 (in_cycle2 false) ≡ false
+  pub same_cycle : is_repeat Late 2 (in_cycle2 false) ≡ true
+  -- nor one of another kind, and a repeated fee makes none
+  pub other_kind : is_repeat Returned 8 (in_cycle2 false) ≡ false
+  pub after_repeat : is_repeat Late 8 (in_cycle2 true) ≡ false
+
 pub record FeesAreWorked : Type 0 where
   -- a minimum payment of 1% of 805.55 with 5.55 of interest is below the floor of 25 dollars
   pub at_floor : minimum_of (pos 80555) 2500 100 555 0 ≡ 2500
@@ -67,6 +95,7 @@ pub record FeesAreWorked : Type 0 where
   pub late_owed : owed_after (unpaid 2500) ≡ pos 102500
   -- with a minimum payment of 50 dollars it is the first amount of the table
   pub first : fees_after (unpaid 5000) ≡ fee_of Late 1 false (day_at 2024 3 2) 3000 ∷ []
+  pub tiers : TiersAreWorked
   -- six cycles after a fee at the first amount, the next is at the repeat amount
   pub repeat : fees_after seventh_missed ≡ fee_of Late 1 false (day_at 2024 3 2) 30 ∷ fee_of Late 7 true (day_at 2024 9 2) 41 ∷ []
   -- seven cycles after it, it's at the first amount again

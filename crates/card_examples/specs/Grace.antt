@@ -31,7 +31,7 @@ pub record GraceIsWorked : Type 0 where
   pub first_cycle : interest_after (billed 10000 250) 1 ≡ Some []
   -- paid in full by the due date: no interest
   pub kept : owed_after (paid_with 10000) ≡ pos 0
-  -- paid but for one cent: interest on that cent alone, also for the days before the payment
+  -- paid but for one cent: interest on that cent alone, which is less than half a cent
   pub one_cent : owed_after (paid_with 9999) ≡ pos 1
   -- half is paid: 29 days of the other half at 19.99%, 79.4 cents, and none on the half that was paid
   pub half : interest_after (paid_with 5000) 2 ≡ Some ((2, 79) ∷ [])

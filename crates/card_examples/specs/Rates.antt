@@ -40,7 +40,7 @@ found_paid = penalized ++ pay_online 5 (day_at 2024 4 25) 2500 ∷ []
 abbrev pub penalty_lowered : List Request
 penalty_lowered = penalized ++ roll 2024 6 20 ∷ to_a 5 (post.Lower (day_at 2024 6 20) category.Purchase 1599) ∷ []
 
--- A fiftieth of it: penalized, and four due dates after the penalty's beginning were met
+-- At a fiftieth of the amounts: penalized, and four due dates after the penalty's beginning were met
 abbrev pub four_met : List Request
 four_met =
     (fee_row 30 41 ∷ roll 2024 1 10 ∷ open_a 50 ∷ charge_jan10 2 place.Purchase 2000 ∷ roll 2024 2 6 ∷ to_a 3 (post.Bill 1) ∷ roll 2024 5 1

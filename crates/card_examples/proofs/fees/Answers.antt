@@ -12,6 +12,17 @@ returns c =
       late = refl;
       late_owed = refl;
       first = refl;
+      tiers = record {
+        first = refl;
+        repeat = refl;
+        later_row = refl;
+        no_row = refl;
+        sixth = refl;
+        seventh = refl;
+        same_cycle = refl;
+        other_kind = refl;
+        after_repeat = refl;
+      };
       repeat = refl;
       first_again = refl;
       put_back = refl;
