@@ -62,6 +62,7 @@ issued_and_paid n k month cents =
     roll 2024 month 6 ∷ to_a n (post.Bill k) ∷ roll 2024 month 10 ∷ pay_online (n + 1) (day_at 2024 month 10) cents ∷ []
 
 -- ---- what they come to
+-- the book of an account at the end of today, of its lists
 abbrev pub book_with : State → Option Lists → Book
 book_with s None = empty_book
 book_with s (Some l) = book l.posts l.issued (shared_rows s.shared) s.today
@@ -86,9 +87,11 @@ cycle_after requests k = cycle_at k (book_of requests).cycles
 abbrev pub interest_after : List Request → ℕ → Option Amounts
 interest_after requests k = option_map (λ c. c.interest) (cycle_after requests k)
 
+-- the minimum payment of a cycle
 abbrev pub minimum_after : List Request → ℕ → Option ℕ
 minimum_after requests k = option_map (λ c. c.minimum) (cycle_after requests k)
 
+-- the grace amount of a cycle
 abbrev pub grace_amount_after : List Request → ℕ → Option ℕ
 grace_amount_after requests k = option_map (λ c. c.grace_amount) (cycle_after requests k)
 
@@ -104,6 +107,7 @@ entries_after requests = map (λ e. (e.segment, e.cents)) (book_of requests).ent
 abbrev pub parts_after : List Request → ℕ → List (ℕ × ℤ)
 parts_after requests n = map (λ e. (e.segment, e.cents)) (filter (λ e. e.post == n) (book_of requests).entries)
 
+-- the rates of a segment on these days, of an account's lists and book
 abbrev pub rates_with : State → Option Lists → Book → ℕ → List ℕ → List ℕ
 rates_with s None b id days = []
 rates_with s (Some l) b id days =

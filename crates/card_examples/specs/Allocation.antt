@@ -43,6 +43,7 @@ with_plan =
     fee_row 300 410 ∷ roll 2024 1 10 ∷ open_a 250 ∷ to_a 2 (post.Plan (day_at 2024 1 10) Deferred 2499 (day_at 2024 8 5) 2499)
     ∷ charge_jan10 3 (place.Plan 2) 10000 ∷ charge_jan10 4 place.Cash 5000 ∷ roll 2024 6 6 ∷ []
 
+-- parts of payments and of a merchant's credit
 pub record AllocationIsWorked : Type 0 where
   -- of a payment of 40 dollars the 3.50 of the minimum payment go to the least rate, the rest to the greatest rates
   pub payment : allocated 350 4000 three ≡ (2, 650) ∷ (3, 3000) ∷ (5, 350) ∷ []

@@ -34,6 +34,7 @@ never_paid =
     fee_row 3000 4100 ∷ roll 2024 1 10 ∷ open_a 2500 ∷ charge_jan10 2 place.Purchase 100000 ∷ roll 2024 2 6 ∷ to_a 3 (post.Bill 1)
     ∷ roll 2024 2 20 ∷ pay_online 4 (day_at 2024 2 20) 2500 ∷ roll 2024 3 6 ∷ to_a 5 (post.Bill 2) ∷ to_a 6 (post.Amend 4 (day_at 2024 2 20) 0) ∷ []
 
+-- what stays as issued, and what a correction lowers
 pub record CapsAreWorked : Type 0 where
   -- as issued: 27 days of 1000 dollars at 24.99%
   pub at_issue : interest_after issued 1 ≡ Some ((3, 1849) ∷ [])

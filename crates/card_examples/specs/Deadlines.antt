@@ -19,6 +19,7 @@ use Rattle.card_model.specs.declared.task.TaskKind.{TaskKind}
 use Rattle.card_model.specs.declared.task.TaskKind.TheVariants as task
 use Rattle.card_examples.specs.Accounts.{book_of, charge_jan10, fee_row, name, open_a, pay_online, roll, to_a}
 
+-- the open tasks of an account's lists and book
 abbrev pub tasks_with : State → Option Lists → Book → List Task
 tasks_with s None b = []
 tasks_with s (Some l) b =
@@ -56,6 +57,7 @@ charged_late =
 abbrev pub moved : List Request
 moved = charged_late ++ to_a 6 (post.Amend 2 (day_at 2024 2 10) 100) ∷ []
 
+-- the last day for a dispute of a charge, of an account's lists
 abbrev pub notice_end_with : State → Option Lists → ℕ → Option ℕ
 notice_end_with s None charge = None
 notice_end_with s (Some l) charge =
@@ -86,6 +88,7 @@ penalized =
     fee_row 3000 4100 ∷ roll 2024 1 10 ∷ open_a 2500 ∷ charge_jan10 2 place.Purchase 100000 ∷ roll 2024 2 6 ∷ to_a 3 (post.Bill 1)
     ∷ roll 2024 5 1 ∷ to_a 4 post.Penalty ∷ roll 2024 6 15 ∷ []
 
+-- last days, and the tasks that are open
 pub record DeadlinesAreWorked : Type 0 where
   -- a charge may be disputed for 60 days from the issue of the first statement that shows it
   pub dispute : notice_end_after charged_late 2 ≡ Some (day_at 2024 4 6)

@@ -26,6 +26,7 @@ none_left = one_cent_left ++ to_a 5 (post.Amend 4 (day_at 2024 7 20) 10000) ∷ 
 abbrev pub unpaid : List Request
 unpaid = charged 100000 ++ roll 2024 9 6 ∷ []
 
+-- interest of a period, charged or dropped at its end
 pub record DeferredIsWorked : Type 0 where
   -- 192 days of 1000 dollars and 17 days of one cent, at 24.99%: 13145.4 cents
   pub accrued : interest ((192 * 100000 + 17 * 1) * daily 2499) ≡ 13145

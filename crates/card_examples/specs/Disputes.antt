@@ -31,6 +31,7 @@ in_dispute = disputed 3000 ++ roll 2024 5 16 ∷ []
 abbrev pub figures : Cycle → ℤ × ℕ × ℕ × ℕ
 figures c = (c.new_balance, c.held, c.minimum, c.grace_amount)
 
+-- what is held, and what comes back
 pub record DisputesAreWorked : Type 0 where
   -- what is disputed is held apart from its segment, and stays owed
   pub held : parts_after (disputed 5000) 4 ≡ (2, negated 5000) ∷ (1, pos 5000) ∷ []

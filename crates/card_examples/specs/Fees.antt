@@ -57,10 +57,11 @@ paid_on_monday by =
     ∷ to_a 2 (post.Charge (day_at 2024 10 5) place.Purchase 50000) ∷ roll 2024 10 29 ∷ to_a 3 (post.Bill 1) ∷ roll 2024 11 25
     ∷ to_a 4 (post.Payment (day_at 2024 11 25) 600 by 2500) ∷ []
 
--- fees of 30 and 41 dollars from 2011 on, and two rows for 2024-02-01, of which the later one was meant
+-- a row of the fee table
 abbrev pub row_of : ℕ → ℕ → ℕ → FeeRow
 row_of day first repeat = record { day = day; first = first; repeat = repeat }
 
+-- fees of 30 and 41 dollars from 2011 on, and two rows for 2024-02-01, of which the later one was meant
 abbrev pub table : List FeeRow
 table = row_of (day_at 2011 1 2) 3000 4100 ∷ row_of (day_at 2024 2 1) 3200 4300 ∷ row_of (day_at 2024 2 1) 3100 4200 ∷ []
 
@@ -68,6 +69,7 @@ table = row_of (day_at 2011 1 2) 3000 4100 ∷ row_of (day_at 2024 2 1) 3200 430
 abbrev pub in_cycle2 : Bool → List Fee
 in_cycle2 repeat = fee_of Late 1 repeat (day_at 2024 3 2) 3000 ∷ []
 
+-- the amounts of the table, and which of them a fee takes
 pub record TiersAreWorked : Type 0 where
   -- the first amount, and the repeat amount
   pub first : tier_amount (row_in_force (row_of (day_at 2011 1 2) 3000 4100 ∷ [])) false ≡ 3000
@@ -83,6 +85,7 @@ pub record TiersAreWorked : Type 0 where
   pub other_kind : is_repeat Returned 8 (in_cycle2 false) ≡ false
   pub after_repeat : is_repeat Late 8 (in_cycle2 true) ≡ false
 
+-- minimum payments, late fees and returned-payment fees
 pub record FeesAreWorked : Type 0 where
   -- a minimum payment of 1% of 805.55 with 5.55 of interest is below the floor of 25 dollars
   pub at_floor : minimum_of (pos 80555) 2500 100 555 0 ≡ 2500

@@ -24,6 +24,7 @@ paid_late =
     ∷ to_a 6 (post.Charge (day_at 2024 3 7) place.Purchase 500) ∷ roll 2024 4 6 ∷ to_a 7 (post.Bill 3) ∷ roll 2024 4 7
     ∷ pay_online 8 (day_at 2024 4 7) 509 ∷ roll 2024 5 6 ∷ []
 
+-- interest on purchases with a grace period, without it, and with it again
 pub record GraceIsWorked : Type 0 where
   -- to keep the grace period, the whole balance has to be paid
   pub amount : grace_amount_after (billed 10000 250) 1 ≡ Some 10000

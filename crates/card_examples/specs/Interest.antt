@@ -9,6 +9,7 @@ use Rattle.card_examples.specs.Accounts.{roll, fee_row, open_a, charge_jan10, ow
 abbrev pub cash_advance : List Request
 cash_advance = fee_row 3000 4100 ∷ roll 2024 1 10 ∷ open_a 2500 ∷ charge_jan10 2 place.Cash 100000 ∷ roll 2024 2 6 ∷ []
 
+-- daily rates, and interest in whole cents
 pub record InterestIsWorked : Type 0 where
   -- 19.99% a year are 547671 billionths a day, and 24.99% are 684657
   pub purchase_rate : daily 1999 ≡ 547671

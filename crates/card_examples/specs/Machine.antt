@@ -16,27 +16,31 @@ abbrev pub first_day : List Request
 first_day =
     roll 2024 3 1 ∷ to_a 1 (post.Open (day_at 2024 3 1) (terms_with 2500)) ∷ to_a 2 (post.Charge (day_at 2024 3 1) place.Purchase 1250) ∷ []
 
--- the same charge again, and another under its key
+-- the same charge again
 abbrev pub again : Request
 again = to_a 2 (post.Charge (day_at 2024 3 1) place.Purchase 1250)
 
+-- another charge under its key
 abbrev pub other : Request
 other = to_a 2 (post.Charge (day_at 2024 3 1) place.Purchase 1251)
 
--- a charge and a payment of earlier days, and the same with the charge changed
+-- an account that was opened on 2024-01-06; today is 2024-01-10
 abbrev pub opened : List Request
 opened = fee_row 3000 4100 ∷ roll 2024 1 10 ∷ open_a 2500 ∷ []
 
+-- a charge of these cents and a payment, of earlier days
 abbrev pub imported : ℕ → List Request
 imported cents = to_a 2 (post.Charge (day_at 2024 1 8) place.Purchase cents) ∷ pay_online 3 (day_at 2024 1 9) 500 ∷ []
 
--- 50 dollars charged and 70 paid; then 15 charged; then 5 refunded
+-- 50 dollars charged and 70 paid
 abbrev pub overpaid : List Request
 overpaid = opened ++ charge_jan10 2 place.Purchase 5000 ∷ pay_online 3 (day_at 2024 1 10) 7000 ∷ []
 
+-- then 15 dollars charged
 abbrev pub charged_again : List Request
 charged_again = overpaid ++ charge_jan10 4 place.Purchase 1500 ∷ []
 
+-- then 5 refunded
 abbrev pub refunded : List Request
 refunded = charged_again ++ to_a 5 (post.Refund 500) ∷ []
 
@@ -44,6 +48,7 @@ refunded = charged_again ++ to_a 5 (post.Refund 500) ∷ []
 abbrev pub paid_after_17 : List Request
 paid_after_17 = opened ++ charge_jan10 2 place.Purchase 1000 ∷ to_a 3 (post.Payment (day_at 2024 1 10) 1021 Online 400) ∷ []
 
+-- replies, and what they leave
 pub record MachineIsWorked : Type 0 where
   -- posts are numbered in the order in which they are accepted
   pub replies_of_first : replies first_day ≡ reply.Done ∷ reply.Accepted 1 ∷ reply.Accepted 2 ∷ []

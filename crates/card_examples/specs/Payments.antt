@@ -37,14 +37,16 @@ earlier_found = billed ++ pay_online 5 (day_at 2024 2 7) 200 ∷ roll 2024 2 10 
 abbrev pub overpaid : List Request
 overpaid = fee_row 300 410 ∷ roll 2024 1 10 ∷ open_a 250 ∷ charge_jan10 2 place.Purchase 500 ∷ pay_online 3 (day_at 2024 1 10) 700 ∷ []
 
--- returned at once, and after 1.50 of cash
+-- returned at once
 abbrev pub overpaid_returned : List Request
 overpaid_returned = overpaid ++ to_a 4 (post.Return (day_at 2024 1 10) 3) ∷ []
 
+-- returned after 1.50 of cash
 abbrev pub used_and_returned : List Request
 used_and_returned = overpaid ++ charge_jan10 4 place.Cash 150 ∷ to_a 5 (post.Return (day_at 2024 1 10) 3) ∷ []
 
--- ---- one statement of 10 dollars, due on 2024-03-01
+-- ---- after a statement
+-- one statement of 10 dollars, due on 2024-03-01
 abbrev pub due_march : List Request
 due_march =
     fee_row 300 410 ∷ roll 2024 1 10 ∷ open_a 250 ∷ charge_jan10 2 place.Purchase 1000 ∷ roll 2024 2 6 ∷ to_a 3 (post.Bill 1)
@@ -92,6 +94,7 @@ vintages =
     ∷ to_a 2 (post.Notice (day_at 2025 3 1) category.Purchase 2499 (day_at 2025 4 15))
     ∷ to_a 3 (post.Charge (day_at 2025 3 16) place.Purchase 200) ∷ to_a 4 (post.Charge (day_at 2025 3 15) place.Purchase 100) ∷ []
 
+-- the entries, fees and interest of payments, credits and returns
 pub record PaymentsAreWorked : Type 0 where
   -- the second payment of a day finds what the first left of the minimum payment, 50 cents
   pub second : parts_after two_payments 6 ≡ (2, negated 50) ∷ (3, negated 150) ∷ []

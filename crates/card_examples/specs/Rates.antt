@@ -65,6 +65,7 @@ six_met = four_met ++ issued_and_paid 13 9 10 69 ++ issued_and_paid 15 10 11 70 
 abbrev pub fifth_missed : List Request
 fifth_missed = four_met ++ roll 2024 10 6 ∷ to_a 13 (post.Bill 9) ∷ issued_and_paid 14 10 11 172 ++ roll 2024 12 2 ∷ []
 
+-- rates on each side of a notice, of a lowered rate, of a plan's end, of a penalty and of its end
 pub record RatesAreWorked : Type 0 where
   -- up to the 14th day after a notice a charge goes to the old balance, from the 15th on to a new one, segment 5
   pub day14 : parts_after noticed 3 ≡ (2, pos 100) ∷ []

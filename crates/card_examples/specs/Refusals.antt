@@ -39,6 +39,7 @@ charged = opened ++ charge_jan10 2 place.Purchase 1000 ∷ []
 abbrev pub plan_to : ℕ → ℕ → ℕ → ℕ → Request
 plan_to n y m d = to_a n (post.Plan (day_at 2024 1 10) Deferred 2499 (day_at y m d) 2499)
 
+-- opened, with a plan
 abbrev pub planned : List Request
 planned = opened ++ plan_to 2 2024 8 5 ∷ []
 
@@ -46,13 +47,15 @@ planned = opened ++ plan_to 2 2024 8 5 ∷ []
 abbrev pub returned : List Request
 returned = charged ++ pay_online 3 (day_at 2024 1 10) 100 ∷ to_a 4 (post.Return (day_at 2024 1 10) 3) ∷ []
 
--- in the second year of the account, with a notice of 2025-03-01
+-- in the second year of the account
 abbrev pub second_year : List Request
 second_year = opened ++ roll 2025 1 10 ∷ roll 2025 3 16 ∷ []
 
+-- post n, a notice of this day that purchases bear 24.99% from a date on
 abbrev pub notice : ℕ → ℕ → ℕ → ℕ → ℕ → Request
 notice n day y m d = to_a n (post.Notice day category.Purchase 2499 (day_at y m d))
 
+-- with a notice of 2025-03-01 that waits
 abbrev pub noticed : List Request
 noticed = second_year ++ notice 2 (day_at 2025 3 1) 2025 4 15 ∷ []
 
@@ -60,10 +63,11 @@ noticed = second_year ++ notice 2 (day_at 2025 3 1) 2025 4 15 ∷ []
 abbrev pub billed : List Request
 billed = charged ++ roll 2024 2 6 ∷ to_a 3 (post.Bill 1) ∷ []
 
--- it is disputed, and the dispute is resolved
+-- it is disputed
 abbrev pub disputed : List Request
 disputed = billed ++ to_a 4 (post.Dispute (day_at 2024 2 6) 2 1000) ∷ []
 
+-- and the dispute is resolved
 abbrev pub resolved : List Request
 resolved = disputed ++ to_a 5 (post.Resolve (day_at 2024 2 6) 4 1000) ∷ []
 
@@ -76,33 +80,41 @@ sixty_days =
 abbrev pub overpaid : List Request
 overpaid = charged ++ pay_online 3 (day_at 2024 1 10) 1500 ∷ []
 
--- an account of the opening and these posts
+-- the opening of an account
 abbrev pub opening : Kept
 opening = record { number = 1; key = 1 ∷ []; accepted = day_at 2024 1 10; post = post.Open (day_at 2024 1 6) (terms_with 2500) }
 
+-- an account of the opening and these posts
 abbrev pub with_posts : List Kept → Present
 with_posts posts = record { today = day_at 2024 1 10; shared = shared_rows []; lists = record { posts = opening ∷ posts; issued = [] } }
 
+-- a post as it was accepted under a number
 abbrev pub kept : Post → ℕ → Kept
 kept p n = record { number = n; key = n ∷ []; accepted = day_at 2024 1 10; post = p }
 
+-- a plan that could be accepted
 abbrev pub a_plan : Post
 a_plan = post.Plan (day_at 2024 1 10) Deferred 2499 (day_at 2024 8 5) 2499
 
+-- a charge that could be accepted
 abbrev pub a_charge : Post
 a_charge = post.Charge (day_at 2024 1 10) place.Purchase 100
 
 -- ---- terms out of range
+-- an opening with these terms
 abbrev pub opens_with : Terms → Request
 opens_with t = to_a 1 (post.Open (day_at 2024 1 6) t)
 
+-- before any account exists; today is 2024-01-10
 abbrev pub unopened : List Request
 unopened = fee_row 3000 4100 ∷ roll 2024 1 10 ∷ []
 
+-- terms by their numbers, in order
 abbrev pub terms_of : ℕ → ℕ → ℕ → ℕ → ℕ → ℕ → ℕ → Terms
 terms_of close purchase cash transfer penalty floor pct =
     record { close = close; purchase = purchase; cash = cash; transfer = transfer; penalty = penalty; floor = floor; pct = pct }
 
+-- the first term that is out of its range
 pub record TermsAreRefused : Type 0 where
   -- cycles close on a day that every month has
   pub close29 : Refuses unopened (opens_with (terms_of 29 1999 2499 2199 2999 2500 100)) (refusal.BadTerms 1)
@@ -118,6 +130,7 @@ pub record TermsAreRefused : Type 0 where
   -- the first that is out of its range is named
   pub first : Refuses unopened (opens_with (terms_of 5 1999 10000 2199 2999 2500 10001)) (refusal.BadTerms 3)
 
+-- amounts, rates, minutes and cycles that are out of their ranges
 pub record AmountsAreRefused : Type 0 where
   -- amounts are from one cent to ten million dollars
   pub nothing : Refuses opened (charge_jan10 2 place.Purchase 0) refusal.AmountRange
@@ -139,6 +152,7 @@ pub record AmountsAreRefused : Type 0 where
   pub fee : Refuses opened (request.Shared (shared.FeeRow (day_at 2024 2 1) 3000 100001)) refusal.AmountRange
   pub fees_order : Refuses opened (request.Shared (shared.FeeRow (day_at 2024 2 1) 3000 2999)) refusal.AmountRange
 
+-- each reason, on an account against which it stands
 pub record RefusalsAreWorked : Type 0 where
   -- the account and the key
   pub unknown_account : Refuses unopened (charge_jan10 1 place.Purchase 1) refusal.UnknownAccount

@@ -55,6 +55,7 @@ second =
 abbrev pub without_charge : List Request
 without_charge = fee_row 3000 4100 ∷ roll 2024 1 10 ∷ open_a 2500 ∷ roll 2024 3 10 ∷ []
 
+-- the break days of an account's lists and book up to today
 abbrev pub breaks_with : State → Option Lists → Book → List ℕ
 breaks_with s None b = []
 breaks_with s (Some l) b =
@@ -66,6 +67,7 @@ breaks_with s (Some l) b =
 abbrev pub breaks_after : List Request → List ℕ
 breaks_after requests = breaks_with (run requests) (lists_of name (run requests).accounts) (book_of requests)
 
+-- statements that ask for a payment or for none, their numbers, and break days
 pub record StatementsAreWorked : Type 0 where
   -- issued 21 days before the due date, a statement asks for its minimum payment: a late fee, and interest
   pub in_time : fees_after (issued_on 9) ≡ fee_of Late 1 false (day_at 2024 3 2) 2500 ∷ []
