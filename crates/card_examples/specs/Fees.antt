@@ -91,6 +91,8 @@ pub record FeesAreWorked : Type 0 where
   pub at_floor : minimum_of (pos 80555) 2500 100 555 0 ≡ 2500
   -- it isn't above the balance
   pub at_balance : minimum_of (pos 1250) 2500 100 0 0 ≡ 1250
+  -- what is past due comes on top of the floor
+  pub above_floor : minimum_of (pos 80555) 2500 100 555 2500 ≡ 5000
   -- 1% of 1040.87, interest of 15.87, a fee of 25 and 25 past due
   pub with_past_due : minimum_of (pos 104087) 2500 100 4087 2500 ≡ 7627
   -- a late fee isn't above the minimum payment of 25 dollars, though the table has 30

@@ -1,6 +1,6 @@
 -- Worked values of what a payment, a merchant's credit and a return do (12 CFR 1026.10, .52(b), .53, .54). Amounts are
 -- scaled down.
-use Rattle.std.specs.Prelude.{ℕ, ◌≡◌, List, [], ◌∷◌, ◌++◌, Some, pos, false}
+use Rattle.std.specs.Prelude.{ℕ, ◌≡◌, List, [], ◌∷◌, ◌++◌, Some, pos, false, map}
 use Rattle.card_days.specs.Civil.{day_at}
 use Rattle.card_days.specs.declared.anchor.Channel.TheVariants.{Online}
 use Rattle.card_events.specs.declared.post.Category.TheVariants as category
@@ -86,6 +86,13 @@ abbrev pub second_unissued : List Request
 second_unissued =
     due_march ++ pay_online 4 (day_at 2024 2 20) 250 ∷ roll 2024 4 4 ∷ to_a 5 (post.Return (day_at 2024 4 4) 4) ∷ []
 
+-- 500 dollars more are charged, of which the second statement asks for 9.34, and nothing is paid; then the payment for the
+-- first due date is returned
+abbrev pub second_greater : List Request
+second_greater =
+    due_march ++ pay_online 4 (day_at 2024 2 20) 250 ∷ to_a 5 (post.Charge (day_at 2024 2 20) place.Purchase 50000) ∷ roll 2024 3 6
+    ∷ to_a 6 (post.Bill 2) ∷ roll 2024 4 4 ∷ to_a 7 (post.Return (day_at 2024 4 4) 4) ∷ []
+
 -- ---- two vintages
 -- a charge of 2 dollars on the 15th day after a notice, and one of a dollar on the 14th; to the effective day both bear 19.99%
 abbrev pub vintages : List Request
@@ -122,6 +129,8 @@ pub record PaymentsAreWorked : Type 0 where
   pub void_has_none : fees_after void_returned ≡ []
   -- a fee isn't above the minimum payment of the last due date, which is 0 without a statement
   pub second_due_date : fees_after second_unissued ≡ []
+  -- nor above that of its own due date: a late fee of 3 dollars for the second, and one of 2.50 for the first
+  pub own_due_date : map (λ f. f.cents) (fees_after second_greater) ≡ pos 300 ∷ pos 250 ∷ []
   -- a payment that was returned by the closing is no repayment: 13 cents on 14 days of 10 dollars, 13 of 5 and 2 of 12.50
   pub no_repayment : interest_after half_returned 2 ≡ Some ((2, 13) ∷ [])
   -- of two vintages at one rate the older is paid first, by a merchant's credit too

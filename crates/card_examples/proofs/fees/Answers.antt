@@ -8,6 +8,7 @@ returns c =
     record {
       at_floor = refl;
       at_balance = refl;
+      above_floor = refl;
       with_past_due = refl;
       late = refl;
       late_owed = refl;

@@ -20,6 +20,7 @@ returns c =
       returned_fee = refl;
       void_has_none = refl;
       second_due_date = refl;
+      own_due_date = refl;
       no_repayment = refl;
       older = refl;
       older_credit = refl;
