@@ -3,7 +3,7 @@ use Rattle.std.proofs.Common.{◌≡◌, ℕ, zero, suc, ◌+◌, ◌-◌, ◌�
 use Rattle.std.specs.Prelude.{slice_get}
 use Rattle.std.specs.List.{last_or}
 use Rattle.std.proofs.lemmas.List.{length-append}
-use Rattle.card_days.specs.Billing.{closing, closings_among, cycle_of, due, due_after}
+use Rattle.card_days.specs.Billing.{closing, closings_among, cycle_of, due_after}
 use Rattle.card_days.specs.Civil.{day_of_month}
 use Rattle.card_days.specs.declared.anchor.Anchor.{Anchor}
 use Rattle.card_events.specs.History.{anchor_of}

@@ -1,16 +1,15 @@
 -- A day that is no break leaves the book as it was.
-use Rattle.std.proofs.Common.{◌≡◌, ℕ, zero, suc, ◌+◌, ◌-◌, ◌≤◌, ◌<◌, Bool, true, false, cond, ◌&&◌, ◌||◌, List, [], ◌∷◌, refl, sym, ap, ◌∙◌, subst, arith, Option, Some, None, eqb, leb, ◌⊎◌, inl, inr}
+use Rattle.std.proofs.Common.{◌≡◌, ℕ, suc, ◌+◌, ◌-◌, ◌≤◌, ◌<◌, Bool, true, false, cond, ◌&&◌, ◌||◌, List, [], ◌∷◌, refl, sym, ◌∙◌, subst, arith, Option, Some, None, eqb, leb, ◌⊎◌, inl, inr}
 use Rattle.std.specs.List.{filter, last_or, list_any}
 use Rattle.std.proofs.lemmas.Bool.{eqb-true, cases_lt}
 use Rattle.std.proofs.lemmas.Bool.Decides.{nat_tests}
-use Rattle.card_days.specs.Billing.{closing, due}
+use Rattle.card_days.specs.Billing.{due}
 use Rattle.card_days.specs.Business.{is_due}
 use Rattle.card_days.specs.Civil.{day_of_month}
 use Rattle.card_days.specs.declared.anchor.Anchor.{Anchor}
 use Rattle.card_events.specs.History.{CorrectedPost, anchor_of, corrected, folded, is_folded}
 use Rattle.card_events.specs.SharedRows.{SharedRows}
 use Rattle.card_events.specs.declared.kept.Kept.{Kept}
-use Rattle.card_model.specs.Allocation.{never}
 use Rattle.card_model.specs.Books.{Account, Book, account_of, present_cycle}
 use Rattle.card_model.specs.Breaks.{breaks_penalty, breaks_segment, is_break}
 use Rattle.card_model.specs.Caps.{row_for}
@@ -20,7 +19,6 @@ use Rattle.card_model.specs.DueDates.{after_due_date, on_due}
 use Rattle.card_model.specs.Effects.{after_posts}
 use Rattle.card_model.specs.Folds.{book, book_after, day_after}
 use Rattle.card_model.specs.Interest.{row}
-use Rattle.card_model.specs.Machine.{opened}
 use Rattle.card_model.specs.QuietDays.{QuietDaysChangeNothing}
 use Rattle.card_model.specs.Segments.{segments}
 use Rattle.card_model.specs.declared.segment.Interval.{Interval}
