@@ -9,7 +9,7 @@ use Rattle.card_days.specs.Business.{is_business, next_business, is_due, IsMet}
 use Rattle.card_days.specs.Months.{day_in_month, first_month, due_shift}
 use Rattle.card_days.proofs.DateFacts.{date_of-day_at}
 use Rattle.card_days.proofs.Months.{first_day-below, later_day, over, month_civil, length_bounds, next_number, next_month-next}
-use Rattle.card_days.proofs.Cycles.{IsAnchor, first_month-bounds, closing_is, closing_late, closing_grows, due_is, due_late, due_grows, due_day-bounds, shift_small, cycle_around, cycle_from_one}
+use Rattle.card_days.proofs.Cycles.{IsAnchor, closing-day, first_month-bounds, closing_is, closing_late, closing_grows, due_is, due_late, due_grows, due_day-bounds, shift_small, cycle_around, cycle_from_one}
 use Rattle.card_days.proofs.Business.{first_day-at_most}
 use Rattle.card_days.proofs.DueDays.{month_day}
 use Rattle.card_days.proofs.MailDays.{due_parts, due-opened}
@@ -206,11 +206,74 @@ unmet_by false c n receipt last = inl refl
 pub met_by : (b c t : Bool) (last receipt : ℕ) → b ≡ true → c ≡ false → t ≡ true → cond (b && (not c && t)) last receipt ≡ last
 met_by b c t last receipt p q r = rw (p, q, r) refl
 
+-- ---- how far from the closings
+due_early : (a : Anchor) → IsAnchor a → (k : ℕ) → due a (suc k) ≤ 48_576 → a.close_day ≤ 4 → due a (suc k) ≡ closing a (suc k) + 24
+unfolding due_shift
+due_early a h k small low =
+    let l : first_month a + k < 25_236 = omega (arith, month_small a h k small) in
+    let test : nat_le a.close_day 4 ≡ true = grind (arith, nat_tests) in
+    let none : first_month a + k + 0 ≡ first_month a + k = omega arith in
+    due_is a h k (omega arith)
+    ∙ rw (test, none) (sym (later_here (first_month a + k) a.close_day 24 h.low))
+    ∙ ap (λ n. n + 24) (sym (closing_is a h k (omega arith)))
+
+due_late_in_month : (a : Anchor) → IsAnchor a → (k : ℕ) → due a (suc k) ≤ 48_576 → 4 < a.close_day → due a (suc k) + 4 ≡ closing a (suc (suc k))
+unfolding due_shift
+due_late_in_month a h k small high =
+    let l : first_month a + k < 25_236 = omega (arith, month_small a h k small) in
+    let test : nat_le a.close_day 4 ≡ false = grind (arith, nat_tests) in
+    let four : a.close_day - (a.close_day - 4) ≡ 4 = omega arith in
+    let on : first_month a + k + 1 ≡ first_month a + suc k = omega arith in
+    let back = earlier_next (first_month a + k) a.close_day (a.close_day - 4) (omega (arith, first_month-bounds a h)) (omega arith) (omega arith) (omega arith) h.high in
+    ap (λ n. n + 4) (due_is a h k (omega arith) ∙ rw test refl)
+    ∙ rw four at back
+    ∙ ap (λ u. day_in_month u a.close_day) on ∙ sym (closing_is a h (suc k) (omega arith))
+
+-- ---- the closings
+pub record ClosingLaw (a : Anchor) (k : ℕ) : Type 0 where
+  pub on_its_day : day_of_month (closing a (suc k)) ≡ a.close_day
+  pub none_between : (x : ℕ) → closing a k < x → x < closing a (suc k) → day_of_month x ≡ a.close_day → ⊥
+
+closing_within : (a : Anchor) → IsAnchor a → (k : ℕ) → closing a (suc k) ≤ 48_576 → first_month a + k < 25_236
+closing_within a h k small = by (cases_lt (first_month a + k) 25_236)
+  where
+    by : (first_month a + k < 25_236) ⊎ (25_236 ≤ first_month a + k) → first_month a + k < 25_236
+    by (inl l) = l
+    by (inr late) = absurd (omega (arith, closing_late a h k late))
+
+pub closing_law : (a : Anchor) → IsAnchor a → (k : ℕ) → closing a (suc k) ≤ 48_576 → ClosingLaw a k
+unfolding closing
+closing_law a h k small = record {
+  on_its_day = closing-day a h k (omega (arith, closing_within a h k small));
+  none_between = λ x after before is. false≢true (sym (first_day-below (λ d. eqb (day_of_month d) a.close_day) 31 (closing a k + 1) x (omega arith) before) ∙ eq-eqb _ _ is);
+}
+
+-- the same for closing k, from 1 on
+pub record ClosingLaws (a : Anchor) (k : ℕ) : Type 0 where
+  pub first : closing a 0 + 1 ≡ a.opened
+  pub on_its_day : day_of_month (closing a k) ≡ a.close_day
+  pub later : closing a (k - 1) < closing a k
+  pub none_between : (x : ℕ) → closing a (k - 1) < x → x < closing a k → day_of_month x ≡ a.close_day → ⊥
+
+pub closing_laws : (a : Anchor) → IsAnchor a → (k : ℕ) → 1 ≤ k → closing a k ≤ 48_576 → ClosingLaws a k
+closing_laws a h zero low small = absurd (omega arith)
+closing_laws a h (suc k) low small =
+    let back : suc k - 1 ≡ k = omega arith in
+    let law = closing_law a h k small in
+    record {
+      first = unfold closing in omega (arith, h.first);
+      on_its_day = law.on_its_day;
+      later = rw back (omega (arith, closing_grows a k));
+      none_between = rw back law.none_between;
+    }
+
 -- ---- for a cycle by its number
 pub record DueLaw (a : Anchor) (k : ℕ) : Type 0 where
   pub same_day : day_of_month (due a k) ≡ due_day_of_month a.close_day
   pub year : (date_of (due a (k + 1))).year ≡ year_of_next_month (date_of (due a k)).year (date_of (due a k)).month
   pub month : (date_of (due a (k + 1))).month ≡ next_month (date_of (due a k)).month
+  pub early : a.close_day ≤ 4 → due a k ≡ closing a k + 24
+  pub late : 4 < a.close_day → due a k + 4 ≡ closing a (k + 1)
   pub at_least : closing a k + 24 ≤ due a k
   pub at_most : due a k ≤ closing a k + 27
   pub before_next : due a k < closing a (k + 1)
@@ -224,6 +287,8 @@ due_law a h (suc k) low small =
       same_day = due_same_day a h k small;
       year = rw (← on) each.0;
       month = rw (← on) each.1;
+      early = due_early a h k small;
+      late = λ l. rw (← on) (due_late_in_month a h k small l);
       at_least = (due_distance a h k small).0;
       at_most = (due_distance a h k small).1;
       before_next = rw (← on) (due_before_next a h k small);

@@ -35,27 +35,22 @@ fn days_by_date(rt: HostRuntime) -> Result<(), Fail> {
     Ok(())
 }
 
-#[test]
-fn due_in_the_next_month(rt: HostRuntime) {
-    let opened = date(&rt, 2023, 1, 29);
-    let a = Anchor {
-        opened,
-        close_day: 28,
-    };
-    assert_eq!(rt; closing(a, 1), Some(date(&rt, 2023, 2, 28)));
-    assert_eq!(rt; due(a, 1), Some(date(&rt, 2023, 3, 24)));
+fn first_cycle(rt: &impl Abort, opened: Day, close_day: u8) -> (Day, Day) {
+    assert!(rt; 1 <= close_day && close_day <= 28);
+    let a = Anchor { opened, close_day };
+    let closes = closing(a, 1).expect(rt, "a closing");
+    let falls_due = due(a, 1).expect(rt, "a due date");
+    (closes, falls_due)
 }
 
 #[test]
-fn due_after_a_leap_day(rt: HostRuntime) {
-    let opened = date(&rt, 2024, 1, 10);
-    let a = Anchor {
-        opened,
-        close_day: 5,
-    };
-    assert_eq!(rt; closing(a, 0), None);
-    assert_eq!(rt; closing(a, 1), Some(date(&rt, 2024, 2, 5)));
-    assert_eq!(rt; due(a, 1), Some(date(&rt, 2024, 3, 1)));
+fn first_cycles(rt: HostRuntime) {
+    let (closes, falls_due) = first_cycle(&rt, date(&rt, 2023, 1, 29), 28);
+    assert_eq!(rt; closes, date(&rt, 2023, 2, 28));
+    assert_eq!(rt; falls_due, date(&rt, 2023, 3, 24));
+    let (closes, falls_due) = first_cycle(&rt, date(&rt, 2024, 1, 10), 5);
+    assert_eq!(rt; closes, date(&rt, 2024, 2, 5));
+    assert_eq!(rt; falls_due, date(&rt, 2024, 3, 1));
 }
 
 #[test]

@@ -324,17 +324,17 @@ read_posted code bs = do
 unfoldable pub read_coded : ℕ → List ℕ → Option (Request × List ℕ)
 read_coded code bs = if nat_lt code 4 then read_for_all code bs else read_posted code bs
 
--- a request in a format
-unfoldable pub read_format : ℕ → List ℕ → Option (Request × List ℕ)
-read_format format bs = do
-  code ← read_byte bs
-  if format == 1 then read_coded code.0 code.1 else None
+-- the code behind the format, which is 1
+unfoldable pub read_format : List ℕ → Option (ℕ × List ℕ)
+read_format bs = do
+  format ← read_byte bs
+  if format.0 == 1 then read_byte format.1 else None
 
 -- a request, and the bytes behind it
 unfoldable pub read_request : List ℕ → Option (Request × List ℕ)
 read_request bs = do
-  format ← read_byte bs
-  read_format format.0 format.1
+  code ← read_format bs
+  read_coded code.0 code.1
 
 -- nothing stands behind it
 abbrev pub whole : {A : Type 0} → A × List ℕ → Option A
@@ -354,3 +354,8 @@ Fails fault.NoSpelling read = read ≡ None
 abbrev pub Gives : {X : Type 0} → Result X RowFault → List ℕ → Option (X × List ℕ) → Type 0
 Gives (Ok x) rest read = read ≡ Some (x, rest)
 Gives (Err e) rest read = Fails e read
+
+-- the same where no memory is taken
+abbrev pub GivesSome : {X : Type 0} → Option X → List ℕ → Option (X × List ℕ) → Type 0
+GivesSome None rest read = read ≡ None
+GivesSome (Some x) rest read = read ≡ Some (x, rest)

@@ -13,6 +13,12 @@ returns-clause-next_month c = (law c).month
 pub returns-clause-its_year : goal.returns-clause-its_year
 returns-clause-its_year c = (law c).year
 
+pub returns-clause-early : goal.returns-clause-early
+returns-clause-early c = (law c).early
+
+pub returns-clause-late : goal.returns-clause-late
+returns-clause-late c = (law c).late
+
 pub returns-clause-at_least : goal.returns-clause-at_least
 returns-clause-at_least c = (law c).at_least
 
