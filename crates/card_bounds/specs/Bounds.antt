@@ -1,6 +1,6 @@
 -- How large balances, rows and sums can be, from the limits on posts, cents, fees and days alone.
-use Rattle.std.specs.Prelude.{ℕ, ◌+◌, ◌*◌, ◌≡◌, ◌≤◌, ◌<◌, cond, length, List, ◌++◌, Option, pos, ◌≤ℤ◌, neg_ℤ, nat_abs}
-use Rattle.std.specs.List.{All, Contains, range_with_len, sum_by}
+use Rattle.std.specs.Prelude.{ℕ, ◌+◌, ◌*◌, ◌==◌, ◌≡◌, ◌≤◌, ◌<◌, cond, length, List, ◌++◌, Option, pos, ◌≤ℤ◌, neg_ℤ, nat_abs}
+use Rattle.std.specs.List.{All, Contains, filter, range_with_len, sum_by}
 use Rattle.card_units.specs.Money.{daily}
 use Rattle.card_events.specs.History.{CorrectedPost, anchor_of}
 use Rattle.card_events.specs.SharedRows.{SharedRows}
@@ -9,12 +9,13 @@ use Rattle.card_model.specs.Accepted.{AreResolvedOnce, HasFewCents, HasFewFees, 
 use Rattle.card_model.specs.Books.{Book, account_of, all_segments, present_cycle, rate_in}
 use Rattle.card_model.specs.Caps.{row_for}
 use Rattle.card_model.specs.Closing.{Posting, post_interest}
-use Rattle.card_model.specs.Cycles.{IssuedRow, Seen, last_cycle, posts_on, seen_on}
+use Rattle.card_model.specs.Cycles.{IssuedRow, Seen, amounts_sum, last_cycle, posts_on, seen_on}
 use Rattle.card_model.specs.DueDates.{on_due}
 use Rattle.card_model.specs.Effects.{after_posts}
 use Rattle.card_model.specs.Entries.{balance, is_kind, owing}
 use Rattle.card_model.specs.Folds.{book, book_after}
 use Rattle.card_model.specs.Interest.{row}
+use Rattle.card_model.specs.Laws.{total}
 use Rattle.card_model.specs.Segments.{SegmentTerms}
 use Rattle.card_model.specs.declared.entry.Entry.{Entry}
 use Rattle.card_model.specs.declared.entry.EntryKind.TheVariants as kind
@@ -160,3 +161,14 @@ pub record RatesSmall : Type 0 where
   pub plans :
       (history : List Kept) (issued : List IssuedRow) (shared : SharedRows) (on : ℕ) → All HasFewRates history
       → All (λ g. g.rate ≤ 9999) (all_segments (account_of history) (seen_on (anchor_of history) shared history issued on))
+
+-- ---- the interest of a cycle
+-- the sum of the interest entries of a day
+abbrev pub interest_on : ℕ → List Entry → ℕ
+interest_on day entries = total kind.Interest (filter (λ e. e.day == day) entries)
+
+-- a closed cycle's interest is the sum of the interest entries of its closing
+abbrev pub CyclesHaveTheirInterest : Type 0
+CyclesHaveTheirInterest =
+    (history : List Kept) (issued : List IssuedRow) (shared : SharedRows) (day : ℕ)
+    → All (λ c. amounts_sum c.interest ≡ interest_on c.closing (book history issued shared day).entries) (book history issued shared day).cycles
