@@ -1,12 +1,11 @@
 -- A closed cycle's interest is the sum of the interest entries of its closing.
 use Rattle.std.proofs.Common.{◌≡◌, ℕ, zero, suc, ◌+◌, ◌-◌, ◌≤◌, ◌<◌, Bool, true, false, cond, List, [], ◌∷◌, ◌++◌, refl, sym, ap, ◌∙◌, subst, arith, Option, Some, None, eqb, leb}
-use Rattle.std.specs.List.{All, filter, cons_option, sum_by}
+use Rattle.std.specs.List.{All, filter, cons_option}
 use Rattle.std.proofs.lemmas.Bool.{eqb-true, ne_eqb, eq-eqb}
 use Rattle.std.proofs.lemmas.List.Sums.{sum_by-append, sum_by-cons}
 use Rattle.std.proofs.lemmas.List.Elements.{All-nil, All-cons, All-head, All-tail, All-push, All-weaker, filter-append}
 use Rattle.std.specs.Prelude.{min}
 use Rattle.card_bounds.specs.Bounds.{CyclesHaveTheirInterest, interest_on}
-use Rattle.card_days.specs.Billing.{closing}
 use Rattle.card_days.specs.Civil.{day_of_month}
 use Rattle.card_days.specs.declared.anchor.Anchor.{Anchor}
 use Rattle.card_events.specs.History.{anchor_of, corrected, folded, is_folded}
@@ -21,7 +20,6 @@ use Rattle.card_model.specs.Entries.{credit_balance, debit, is_kind, posted, rai
 use Rattle.card_model.specs.Folds.{book, book_after, day_after}
 use Rattle.card_model.specs.Interest.{cycle_interest, deferred_interest}
 use Rattle.card_model.specs.Laws.{size_of, total}
-use Rattle.card_model.specs.Machine.{opened, start}
 use Rattle.card_model.specs.Segments.{SegmentTerms}
 use Rattle.card_model.specs.declared.entry.Entry.{Entry}
 use Rattle.card_model.specs.declared.entry.EntryKind.TheVariants as kind
