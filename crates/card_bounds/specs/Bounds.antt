@@ -40,6 +40,7 @@ most_owing posts = 10000000000000 + most_moved posts
 abbrev pub moves : Entry → ℕ
 moves e = cond (is_kind kind.Interest e.kind) 0 (nat_abs e.cents)
 
+-- what entries move together, interest apart
 unfoldable pub moved : List Entry → ℕ
 moved entries = sum_by moves entries
 
@@ -48,9 +49,11 @@ pub record IsBounded (entries : List Entry) (s : ℕ) : Type 0 where
   pub high : balance s entries ≤ℤ pos (10000000000000 + moved entries)
   pub low : neg_ℤ (pos (moved entries)) ≤ℤ balance s entries
 
+-- so does the balance of every segment
 abbrev pub AreBounded : List Entry → Type 0
 AreBounded entries = (s : ℕ) → IsBounded entries s
 
+-- in the book of every day
 abbrev pub BalancesBounded : Type 0
 BalancesBounded = (history : List Kept) (issued : List IssuedRow) (shared : SharedRows) (day : ℕ) → AreBounded (book history issued shared day).entries
 
@@ -59,6 +62,7 @@ BalancesBounded = (history : List Kept) (issued : List IssuedRow) (shared : Shar
 abbrev pub AreSmall : List Entry → Type 0
 AreSmall entries = (s : ℕ) → (neg_ℤ (pos 999999999999999) ≤ℤ balance s entries) × (balance s entries ≤ℤ pos 999999999999999)
 
+-- within the limits, in the book of every day
 abbrev pub BalancesSmall : Type 0
 BalancesSmall =
     (posts : ℕ) (history : List Kept) (issued : List IssuedRow) (shared : SharedRows) (day : ℕ) → IsLimited posts history shared day → posts ≤ 200000
@@ -91,9 +95,11 @@ InterestKeepsRoom =
     (row : Option IssuedRow) (seen : Seen) (amount : Book → SegmentTerms → ℕ) (gs : List SegmentTerms) (p : Posting) (posts left : ℕ)
     → HasRoom posts left p.book.entries → HasRoom posts left (post_interest row seen amount gs p).book.entries
 
+-- with room left, every balance is small
 abbrev pub RoomIsSmall : Type 0
 RoomIsSmall = (posts left : ℕ) (entries : List Entry) → posts ≤ 200000 → HasRoom posts left entries → AreSmall entries
 
+-- at every point of a day, posts and segments of a closing
 pub record SmallAtEachStep : Type 0 where
   pub posts : PostsHaveRoom
   pub interest : InterestKeepsRoom
@@ -107,6 +113,7 @@ RowsOfPastDays =
     → row (book history issued shared day).entries s ((anchor_of history).opened + n)
     ≡ owing s (book_amid history issued shared n (posts_on (seen_on (anchor_of history) shared history issued ((anchor_of history).opened + n)))).entries
 
+-- within the limits no row is above the greatest balance
 abbrev pub RowsSmall : Type 0
 RowsSmall =
     (posts : ℕ) (history : List Kept) (issued : List IssuedRow) (shared : SharedRows) (day n j : ℕ) → IsLimited posts history shared day → (anchor_of history).opened + n + j ≡ day
