@@ -134,8 +134,8 @@ front_of_two (x ∷ xs) ys (b ∷ bs) front =
     let same : x ≡ b = cc in
     let rest : xs ++ ys ≡ bs ++ front.0 = cc in
     elim (front_of_two xs ys bs (front.0, rest)) [
-    | inl within ↦ inl (within.0, ap (λ l. x ∷ l) within.1 ∙ ap (λ (c : ℕ). c ∷ (bs ++ within.0)) same)
-    | inr further ↦ inr (further.0, ap (λ l. b ∷ l) further.1 ∙ ap (λ (c : ℕ). c ∷ (xs ++ further.0)) (sym same), further.2)
+      | inl within ↦ inl (within.0, ap (λ l. x ∷ l) within.1 ∙ ap (λ (c : ℕ). c ∷ (bs ++ within.0)) same)
+      | inr further ↦ inr (further.0, ap (λ l. b ∷ l) further.1 ∙ ap (λ (c : ℕ). c ∷ (xs ++ further.0)) (sym same), further.2)
     ]
 
 -- so many lines: the replies to all of them but the last stand whole
@@ -165,6 +165,7 @@ reached_later s k l ls bs cs is more = at more.handled refl
   where
     first : List ℕ
     first = answer_text s k l
+
     at : (n : ℕ) → more.handled ≡ n → Reached s k (l ∷ ls) bs
     at zero none =
         let front : IsFront cs [] = subst (λ (n : ℕ). IsFront cs (text_from (next s l) (suc k) (take n ls))) none more.front in

@@ -4,7 +4,8 @@ use std::alloc::{AllocError, Global};
 use std::process::Abort;
 use std::test::Fail;
 
-const FIRST_DAY: &str = "roll 2024-03-01\nopen a o 2024-03-01 5 1999 2499 2199 2999 2500 100\ncharge a c1 2024-03-01 purchase 1250\nshow a\n";
+const FIRST_DAY: &str =
+    "roll 2024-03-01\nopen a o 2024-03-01 5 1999 2499 2199 2999 2500 100\ncharge a c1 2024-03-01 purchase 1250\nshow a\n";
 
 const REPLIES: &str = "ok\nok 1\nok 2\nshow a 2024-03-01 owed 1250 credit 0 held 0\n";
 
@@ -68,18 +69,54 @@ fn the_first_day_with_and_without_the_last_line_feed(rt: HostRuntime) -> Result<
 fn refusals_and_bad_lines_harm_no_other_line(rt: HostRuntime) -> Result<(), Fail> {
     let alloc = rt.alloc();
     let cases: [(&[u8], &str, u8); 12] = [
-        (b"charge z c1 2024-03-01 purchase 5\ncharge a c2 2024-03-01 purchase 0\nopen a p 2024-03-01 5 1999 2499 2199 2999 2500 100\nhello\n", "no 1 UnknownAccount\nno 5 AmountRange\nno 2 AccountExists\nbad 8 1\n", 1),
-        (b"charge a c2 2024-03-01 purchase 1000000001\nshow a\n", "no 5 AmountRange\nshow a 2024-03-01 owed 1250 credit 0 held 0\n", 1),
-        (b"charge a c2 2024-03-01 purchase 1000000000\nshow a\n", "ok 3\nshow a 2024-03-01 owed 1000001250 credit 0 held 0\n", 0),
-        (b"charge a c2 2024-03-01 purchase 1000000000000\nshow a\n", "bad 5 6\nshow a 2024-03-01 owed 1250 credit 0 held 0\n", 1),
-        (b"roll 2024-03-02\r\nshow a\r\n", "ok\nshow a 2024-03-02 owed 1250 credit 0 held 0\n", 0),
-        (b"\n\nshow a", "bad 5 1\nbad 6 1\nshow a 2024-03-01 owed 1250 credit 0 held 0\n", 1),
+        (
+            b"charge z c1 2024-03-01 purchase 5\ncharge a c2 2024-03-01 purchase 0\nopen a p 2024-03-01 5 1999 2499 2199 2999 2500 100\nhello\n",
+            "no 1 UnknownAccount\nno 5 AmountRange\nno 2 AccountExists\nbad 8 1\n",
+            1,
+        ),
+        (
+            b"charge a c2 2024-03-01 purchase 1000000001\nshow a\n",
+            "no 5 AmountRange\nshow a 2024-03-01 owed 1250 credit 0 held 0\n",
+            1,
+        ),
+        (
+            b"charge a c2 2024-03-01 purchase 1000000000\nshow a\n",
+            "ok 3\nshow a 2024-03-01 owed 1000001250 credit 0 held 0\n",
+            0,
+        ),
+        (
+            b"charge a c2 2024-03-01 purchase 1000000000000\nshow a\n",
+            "bad 5 6\nshow a 2024-03-01 owed 1250 credit 0 held 0\n",
+            1,
+        ),
+        (
+            b"roll 2024-03-02\r\nshow a\r\n",
+            "ok\nshow a 2024-03-02 owed 1250 credit 0 held 0\n",
+            0,
+        ),
+        (
+            b"\n\nshow a",
+            "bad 5 1\nbad 6 1\nshow a 2024-03-01 owed 1250 credit 0 held 0\n",
+            1,
+        ),
         (b"roll 2023-02-29\nroll 2024-02-29\n", "bad 5 2\nok\n", 1),
-        (b"show \xff\xfe\nshow a \nshow  a\n", "bad 5 2\nbad 6 3\nbad 7 2\n", 1),
-        (b"charge a c2 2024-03-01 cash 5\nholiday 2024-03-05\npenalty a q\n", "bad 5 1\nbad 6 1\nbad 7 1\n", 1),
+        (
+            b"show \xff\xfe\nshow a \nshow  a\n",
+            "bad 5 2\nbad 6 3\nbad 7 2\n",
+            1,
+        ),
+        (
+            b"charge a c2 2024-03-01 cash 5\nholiday 2024-03-05\npenalty a q\n",
+            "bad 5 1\nbad 6 1\nbad 7 1\n",
+            1,
+        ),
         (b"show z\n", "no 1 UnknownAccount\n", 1),
         (b"show a\rshow a\n", "bad 5 2\n", 1),
-        (b"charge a c2 2024-03-01 purchase 01\ncharge a c2 2024-03-01 purchase 1 1", "bad 5 6\nbad 6 7\n", 1),
+        (
+            b"charge a c2 2024-03-01 purchase 01\ncharge a c2 2024-03-01 purchase 1 1",
+            "bad 5 6\nbad 6 7\n",
+            1,
+        ),
     ];
     for (lines, replies, status) in cases {
         expect_after(&rt, alloc, lines, replies, status)?;
@@ -151,7 +188,8 @@ fn a_sink_that_cannot_grow_is_want_of_memory(rt: HostRuntime) -> Result<(), Fail
 #[test]
 fn other_words_get_the_usage_line(rt: HostRuntime) -> Result<(), Fail> {
     let alloc = rt.alloc();
-    let usage = "usage: apply | import | statement ACCOUNT CYCLE | restate ACCOUNT CYCLE | export ACCOUNT | work | demo START ACCOUNTS CYCLES | serve PORT COUNT\n";
+    let usage =
+        "usage: apply | import | statement ACCOUNT CYCLE | restate ACCOUNT CYCLE | export ACCOUNT | work | demo START ACCOUNTS CYCLES | serve PORT COUNT\n";
     let cases: [&[&str]; 4] = [&[], &["apply", "now"], &["Apply"], &["--help"]];
     for list in cases {
         let text = Vec::from_slice(alloc, FIRST_DAY.as_bytes())?;

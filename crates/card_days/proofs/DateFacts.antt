@@ -14,7 +14,7 @@ day_2011 : day_at 2011 1 1 ≡ 14_975
 unfolding day_at days_before_year days_of_months
 day_2011 = refl
 
-day_2103 : day_at 2103 1 1 ≡ 48_577
+pub day_2103 : day_at 2103 1 1 ≡ 48_577
 unfolding day_at days_before_year days_of_months
 day_2103 = refl
 

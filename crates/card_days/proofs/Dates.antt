@@ -63,7 +63,7 @@ inside a b e = grind (arith, nat_tests)
 beyond : (a b : ℕ) → nat_lt a b ≡ false → b ≤ a
 beyond a b e = grind (arith, nat_tests)
 
-month_more : (y m : ℕ) → 1 ≤ m → days_of_months y m ≡ days_of_months y (m - 1) + month_length y m
+pub month_more : (y m : ℕ) → 1 ≤ m → days_of_months y m ≡ days_of_months y (m - 1) + month_length y m
 unfolding days_of_months
 month_more y zero low = absurd (omega arith)
 month_more y (suc m) low = let same : suc m - 1 ≡ m = omega arith in rw same refl

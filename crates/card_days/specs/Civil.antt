@@ -75,3 +75,19 @@ date_text c = two_digits (c.year / 100) ++ two_digits (c.year % 100) ++ 45 ∷ [
 -- a day, written as its date
 abbrev pub day_text : ℕ → List ℕ
 day_text n = date_text (date_of n)
+
+-- the day of the month
+abbrev pub day_of_month : ℕ → ℕ
+day_of_month n = (date_of n).day
+
+-- the month after a month, and the year in which that lies
+abbrev pub next_month : ℕ → ℕ
+next_month m = if m == 12 then 1 else m + 1
+
+abbrev pub year_of_next_month : ℕ → ℕ → ℕ
+year_of_next_month y m = if m == 12 then y + 1 else y
+
+-- the first day from this one on that passes, among so many; the day behind them where none does
+unfoldable pub first_day : (ℕ → Bool) → ℕ → ℕ → ℕ
+first_day p zero day = day
+first_day p (suc more) day = let later = first_day p more (day + 1) in if p day then day else later

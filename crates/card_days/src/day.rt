@@ -1,5 +1,6 @@
-ghost use Rattle.std.specs.Prelude.{◌≡◌, ◌↔◌, ◌≤◌, ℕ, pos, true, IsSome, IfSome, SomeIff, Some, OnSome};
+ghost use Rattle.std.specs.Prelude.{◌≡◌, ◌↔◌, ◌+◌, ◌<◌, ◌≤◌, ℕ, pos, true, IsSome, IfSome, SomeIff, Some, OnSome};
 ghost use Rattle.card_days.specs.Range.{IsDayNumber};
+ghost use Rattle.card_days.specs.Later.{clipped_day_at};
 ghost use Rattle.card_days.specs.Civil.{IsInCalendar, date_of, is_date, day_at, day_text};
 
 use jiff::civil::date;
@@ -66,9 +67,37 @@ impl Day {
         ensures year { result.0 ≡ (date_of self).year }
         ensures month { result.1 ≡ (date_of self).month }
         ensures day { result.2 ≡ (date_of self).day }
+        ensures in_calendar { IsInCalendar result.0 result.1 result.2 }
+        ensures first { 14_975 ≤ self }
+        ensures last { self ≤ 48_576 }
     {
         let date = self.date();
         (date.year as u16, date.month, date.day)
+    }
+
+    // the day with this date, or the last one of its month where that has no such day
+    pub(crate) fn clipped(y: u16, m: u8, d: u8) -> Day
+        requires year_low { 2011 ≤ y }
+        requires year_high { y ≤ 2102 }
+        requires month_low { 1 ≤ m }
+        requires month_high { m ≤ 12 }
+        requires day_low { 1 ≤ d }
+        ensures { result ≡ clipped_day_at y m d }
+    {
+        let date = civil::Date::constrain(y as i16, m, d);
+        Day {
+            number: date.to_unix_epoch_day() as u32,
+        }
+    }
+
+    // the day after
+    pub(crate) fn next(self) -> Day
+        requires { self < 48_576 }
+        ensures { result ≡ self + 1 }
+    {
+        Day {
+            number: self.number + 1,
+        }
     }
 
     fn date(self) -> civil::Date
@@ -76,6 +105,8 @@ impl Day {
         ensures month { result.month ≡ (date_of self).month }
         ensures day { result.day ≡ (date_of self).day }
         ensures in_calendar { IsInCalendar (date_of self).year (date_of self).month (date_of self).day }
+        ensures first { 14_975 ≤ self }
+        ensures last { self ≤ 48_576 }
     {
         match civil::Date::from_unix_epoch_day(self.number as i64) {
             Ok(date) => date,

@@ -1,8 +1,22 @@
 //! Civil days, billing dates, business days and the day on which a payment is credited (12 CFR 1026.5(b)(2)(ii), .7(b)(11), .10).
 #![tactic(auto)]
 
-mod channel;
+mod anchor;
+mod billing;
+mod calendar;
+mod credit;
 mod day;
+mod later;
+pub mod laws;
+mod memory;
 
-pub use channel::Channel;
+pub use anchor::{Anchor, Channel};
+pub use billing::{closing, cycle_of, due};
+pub use calendar::{Calendar, next_business};
+pub use credit::credit_day;
 pub use day::Day;
+pub use later::{six_months_after, year_after};
+pub use memory::NoMemory;
+
+#[cfg(test)]
+mod tests;

@@ -1,4 +1,8 @@
 pub mod Built
 pub mod Dated
+pub mod History
+pub mod Keys
 pub mod Names
 pub mod Refusals
+pub mod Same
+pub mod SharedRows

@@ -2,16 +2,16 @@
 #![tactic(auto)]
 
 mod dated;
+mod kept;
 mod name;
 mod number;
 mod post;
-mod posts;
 mod reply;
 mod request;
 
+pub use kept::{Kept, Slot};
 pub use name::Name;
 pub use number::Num;
 pub use post::{Category, Finding, Place, PlanKind, Post, Terms};
-pub use posts::Posts;
 pub use reply::{Refusal, Reply};
 pub use request::{Request, Shared};

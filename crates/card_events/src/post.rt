@@ -166,6 +166,7 @@ impl Post {
     ghost use Rattle.std.specs.Prelude.{◌≡◌};
     ghost use Rattle.card_events.specs.Built.{is_built_post};
     ghost use Rattle.card_events.specs.Dated.{is_dated_post};
+    ghost use Rattle.card_events.specs.Same.{is_same_post};
 
     /// Whether the ledger takes posts of this kind so far: an Open, or a Charge on purchase.
     pub fn is_built(&self) -> bool
@@ -176,6 +177,14 @@ impl Post {
             Post::Charge { place, .. } => place.is_purchase(),
             _ => false,
         }
+    }
+
+    /// Whether the other post is of the same kind with the same content.
+    #[tactic(auto, unfolding(crate::specs::Same::is_same_post))]
+    pub fn is_same_as(&self, other: &Post) -> bool
+        ensures { result ≡ is_same_post self.now other.now }
+    {
+        *self == *other
     }
 
     /// Whether every day in it is a day of requests, at most 2099-12-31.

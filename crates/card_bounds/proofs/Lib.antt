@@ -1,0 +1,11 @@
+pub mod Bounded
+pub mod Dated
+pub mod Held
+pub mod HeldDays
+pub mod Holds
+pub mod Owned
+pub mod Points
+pub mod RateBounds
+pub mod Steps
+pub mod Totals
+pub mod Whole

@@ -1,0 +1,43 @@
+//! Bounds from the limits on posts, cents, fees and days alone.
+ghost use Rattle.card_bounds.specs.Bounds.{BalancesBounded, BalancesSmall, HeldIsNeverBelow, RatesSmall, RowsOfPastDays, RowsSmall, SmallAtEachStep, SumsSmall};
+
+/// Every balance lies within what was moved, interest apart, and 10^13 cents.
+pub fn balances_bounded()
+    ensures { BalancesBounded }
+{}
+
+/// Every balance stays below 10^15 cents in size.
+pub fn balances_small()
+    ensures { BalancesSmall }
+{}
+
+/// Balances are small after each front of a day's posts, and after each front of a closing's segments.
+pub fn small_at_each_step()
+    ensures { SmallAtEachStep }
+{}
+
+/// The row of a day is the balance after that day's posts, whatever came later.
+pub fn rows_of_past_days()
+    ensures { RowsOfPastDays }
+{}
+
+/// No row of a day is above the greatest balance.
+pub fn rows_small()
+    ensures { RowsSmall }
+{}
+
+/// A sum of balance times daily rate over 31 days is at most 3.5 * 10^22; over 40,000 days it is below 10^25 with
+/// 10,000 posts, and below 10^26 with 200,000.
+pub fn sums_small()
+    ensures { SumsSmall }
+{}
+
+/// Held is never below 0 where no Dispute is resolved twice, at the end of a day and after each front of its posts.
+pub fn held_is_never_below()
+    ensures { HeldIsNeverBelow }
+{}
+
+/// No rate is above 9,999 basis points where no post's is.
+pub fn rates_small()
+    ensures { RatesSmall }
+{}

@@ -1,0 +1,24 @@
+use Rattle.std.proofs.Common.{refl}
+use Rattle.card_model.specs.Everything.{everything}
+use Rattle.card_examples.proofs.deadlines.Goals as goal
+
+pub returns : goal.returns
+unfolding everything
+returns c =
+    record {
+      ack = refl;
+      two_cycles = refl;
+      days90 = refl;
+      disputes = refl;
+      acknowledged = refl;
+      resolved = refl;
+      refund = refl;
+      refund_holiday = refl;
+      asked = refl;
+      dollar = refl;
+      above_dollar = refl;
+      review = refl;
+      lower = refl;
+      reduce = refl;
+      reduced = refl;
+    }

@@ -1,0 +1,85 @@
+-- Worked values of deadlines and open tasks (12 CFR 1026.11(a), .13(b)(1), (c), .59).
+use Rattle.std.specs.Prelude.{ℕ, ◌≡◌, List, [], ◌∷◌, ◌++◌, None, Option, Some}
+use Rattle.card_days.specs.Civil.{day_at}
+use Rattle.card_days.specs.declared.anchor.Anchor.{Anchor}
+use Rattle.card_events.specs.History.{anchor_of, corrected}
+use Rattle.card_events.specs.SharedRows.{shared_rows}
+use Rattle.card_events.specs.declared.post.Category.TheVariants as category
+use Rattle.card_events.specs.declared.post.Finding.TheVariants.{Reduce}
+use Rattle.card_events.specs.declared.post.Place.TheVariants as place
+use Rattle.card_events.specs.declared.post.Post.TheVariants as post
+use Rattle.card_events.specs.declared.request.Request.{Request}
+use Rattle.card_model.specs.Books.{Book}
+use Rattle.card_model.specs.Deadlines.{ack_by, credit_since, lower_by, open_tasks, refund_by, resolve_by}
+use Rattle.card_model.specs.Entries.{credit_balance}
+use Rattle.card_model.specs.Machine.{State, lists_of, run}
+use Rattle.card_model.specs.Refusals.{Lists}
+use Rattle.card_model.specs.declared.task.Task.{Task}
+use Rattle.card_model.specs.declared.task.TaskKind.{TaskKind}
+use Rattle.card_model.specs.declared.task.TaskKind.TheVariants as task
+use Rattle.card_examples.specs.Accounts.{book_of, fee_row, name, open_a, pay_online, roll, to_a}
+
+abbrev pub tasks_with : State → Option Lists → Book → List Task
+tasks_with s None b = []
+tasks_with s (Some l) b =
+    let a = anchor_of l.posts in
+    let holidays = (shared_rows s.shared).holidays in
+    open_tasks name a holidays (corrected a holidays l.posts) (credit_balance b.entries) (credit_since b.entries a.opened s.today) s.today
+
+-- the account's open tasks today
+abbrev pub tasks_after : List Request → List Task
+tasks_after requests = tasks_with (run requests) (lists_of name (run requests).accounts) (book_of requests)
+
+-- a task of the account
+abbrev pub task_of : ℕ → TaskKind → ℕ → Task
+task_of by kind post = record { by = by; account = name; kind = kind; post = post }
+
+-- an account whose cycles close on each 15th, from 2024-01-16 on
+abbrev pub of_15th : Anchor
+of_15th = record { opened = day_at 2024 1 16; close_day = 15 }
+
+-- a charge, its statement issued on 2024-02-16, and a dispute of 2024-04-16
+abbrev pub disputed : List Request
+disputed =
+    roll 2024 2 16
+    ∷ to_a 1 (post.Open (day_at 2024 1 16) (record { close = 15; purchase = 1999; cash = 2499; transfer = 2199; penalty = 2999; floor = 2500; pct = 100 }))
+    ∷ to_a 2 (post.Charge (day_at 2024 2 1) place.Purchase 5000) ∷ to_a 3 (post.Bill 1) ∷ roll 2024 4 17
+    ∷ to_a 4 (post.Dispute (day_at 2024 4 16) 2 5000) ∷ []
+
+-- these cents are paid on 2024-01-10, to an account without a balance
+abbrev pub overpaid : ℕ → List Request
+overpaid cents = fee_row 3000 4100 ∷ roll 2024 1 10 ∷ open_a 2500 ∷ pay_online 2 (day_at 2024 1 10) cents ∷ []
+
+-- a notice of 2025-03-01 of a rate from 2025-04-15 on; today is that day
+abbrev pub noticed : List Request
+noticed =
+    fee_row 3000 4100 ∷ roll 2024 1 10 ∷ open_a 2500 ∷ roll 2025 1 10 ∷ roll 2025 3 16
+    ∷ to_a 2 (post.Notice (day_at 2025 3 1) category.Purchase 2499 (day_at 2025 4 15)) ∷ roll 2025 4 15 ∷ []
+
+-- a review of 2025-04-15 finds that the rate has to fall
+abbrev pub reviewed : List Request
+reviewed = noticed ++ to_a 3 (post.Review (day_at 2025 4 15) Reduce) ∷ []
+
+pub record DeadlinesAreWorked : Type 0 where
+  -- a dispute is acknowledged within 30 days
+  pub ack : ack_by (day_at 2024 3 20) ≡ day_at 2024 4 19
+  -- and resolved within two complete billing cycles, or 90 days where that is sooner
+  pub two_cycles : resolve_by of_15th (day_at 2024 3 20) ≡ day_at 2024 6 15
+  pub days90 : resolve_by of_15th (day_at 2024 3 16) ≡ day_at 2024 6 14
+  pub disputes : tasks_after disputed ≡ task_of (day_at 2024 5 16) task.Ack 4 ∷ task_of (day_at 2024 7 15) task.Resolve 4 ∷ []
+  pub acknowledged : tasks_after (disputed ++ to_a 5 (post.Ack (day_at 2024 4 17) 4) ∷ []) ≡ task_of (day_at 2024 7 15) task.Resolve 4 ∷ []
+  pub resolved : tasks_after (disputed ++ to_a 5 (post.Resolve (day_at 2024 4 17) 4 0) ∷ []) ≡ []
+  -- a refund that was asked for on a Wednesday is due on the seventh business day; a holiday moves it
+  pub refund : refund_by [] (day_at 2024 1 10) ≡ day_at 2024 1 19
+  pub refund_holiday : refund_by (day_at 2024 1 15 ∷ []) (day_at 2024 1 10) ≡ day_at 2024 1 22
+  pub asked : tasks_after (overpaid 200 ++ to_a 3 (post.AskRefund (day_at 2024 1 10)) ∷ [])
+      ≡ task_of (day_at 2024 1 19) task.Refund 3 ∷ task_of (day_at 2024 7 10) task.Credit 0 ∷ []
+  -- a credit balance above one dollar is refunded within six months
+  pub dollar : tasks_after (overpaid 100) ≡ []
+  pub above_dollar : tasks_after (overpaid 101) ≡ task_of (day_at 2024 7 10) task.Credit 0 ∷ []
+  -- a rate increase is reviewed within six months of its effective day, and again six months after each review
+  pub review : tasks_after noticed ≡ task_of (day_at 2025 10 15) task.Review 0 ∷ []
+  -- a rate that a review found too high falls within 45 days
+  pub lower : lower_by (day_at 2025 4 15) ≡ day_at 2025 5 30
+  pub reduce : tasks_after reviewed ≡ task_of (day_at 2025 5 30) task.Lower 3 ∷ task_of (day_at 2025 10 15) task.Review 0 ∷ []
+  pub reduced : tasks_after (reviewed ++ to_a 4 (post.Lower (day_at 2025 4 15) category.Purchase 1999) ∷ []) ≡ task_of (day_at 2025 10 15) task.Review 0 ∷ []

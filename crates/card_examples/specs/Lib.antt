@@ -1,0 +1,13 @@
+pub mod Accounts
+pub mod Allocation
+pub mod Caps
+pub mod Deadlines
+pub mod Deferred
+pub mod Disputes
+pub mod Fees
+pub mod Grace
+pub mod Interest
+pub mod Machine
+pub mod Rates
+pub mod Refusals
+pub mod Statements

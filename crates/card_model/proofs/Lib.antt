@@ -1,0 +1,17 @@
+pub mod Accepting
+pub mod Balance
+pub mod Calendar
+pub mod Caps
+pub mod EntryFacts
+pub mod Grows
+pub mod Inert
+pub mod Isolation
+pub mod Issue
+pub mod PartsSum
+pub mod Past
+pub mod Posted
+pub mod Quiet
+pub mod Settled
+pub mod Signs
+pub mod Sound
+pub mod WholeParts

@@ -1,0 +1,86 @@
+-- The book of an account: what its fold gives up to a day.
+use Rattle.std.specs.Prelude.{ℕ, ◌+◌, ◌++◌, length, List, [], ◌∷◌, Option, Some, None}
+use Rattle.card_days.specs.declared.anchor.Anchor.{Anchor}
+use Rattle.card_events.specs.History.{anchor_of, terms_of}
+use Rattle.card_events.specs.declared.kept.Kept.{Kept}
+use Rattle.card_events.specs.declared.post.Terms.{Terms}
+use Rattle.card_model.specs.Caps.{charged_fee}
+use Rattle.card_model.specs.Cycles.{Cycle, IssuedRow, Seen}
+use Rattle.card_model.specs.Entries.{debit, credit_balance}
+use Rattle.card_model.specs.Fees.{fee_cents, fee_for}
+use Rattle.card_model.specs.Rates.{rate_on, lowerings, starts}
+use Rattle.card_model.specs.Segments.{SegmentTerms, segments, newest}
+use Rattle.card_model.specs.declared.entry.Entry.{Entry}
+use Rattle.card_model.specs.declared.entry.EntryKind.{EntryKind}
+use Rattle.card_model.specs.declared.entry.EntryKind.TheVariants as kind
+use Rattle.card_model.specs.declared.entry.Note.{Note}
+use Rattle.card_model.specs.declared.fee.Fee.{Fee}
+use Rattle.card_model.specs.declared.fee.FeeKind.{FeeKind}
+use Rattle.card_model.specs.declared.segment.Interval.{Interval}
+use Rattle.card_model.specs.declared.segment.Sort.TheVariants as sort
+
+-- the entries, the closed cycles, the penalty fees charged and the penalties begun, each in order
+pub record Book : Type 0 where
+  pub entries : List Entry
+  pub cycles : List Cycle
+  pub fees : List Fee
+  pub penalties : List Interval
+
+abbrev pub empty_book : Book
+empty_book = record { entries = []; cycles = []; fees = []; penalties = [] }
+
+-- what stays the same from day to day
+pub record Account : Type 0 where
+  pub anchor : Anchor
+  pub terms : Terms
+
+abbrev pub account_of : List Kept → Account
+account_of history = record { anchor = anchor_of history; terms = terms_of history }
+
+-- the cycle that the day being folded lies in
+abbrev pub present_cycle : Book → ℕ
+present_cycle b = length b.cycles + 1
+
+-- ---- a book with more in it
+abbrev pub with_entries : List Entry → Book → Book
+with_entries es b = record { entries = b.entries ++ es; cycles = b.cycles; fees = b.fees; penalties = b.penalties }
+
+abbrev pub with_all_entries : List Entry → Book → Book
+with_all_entries es b = record { entries = es; cycles = b.cycles; fees = b.fees; penalties = b.penalties }
+
+abbrev pub with_cycle : Cycle → Book → Book
+with_cycle c b = record { entries = b.entries; cycles = b.cycles ++ c ∷ []; fees = b.fees; penalties = b.penalties }
+
+abbrev pub with_penalties : List Interval → Book → Book
+with_penalties ps b = record { entries = b.entries; cycles = b.cycles; fees = b.fees; penalties = ps }
+
+-- ---- the segments and rates of the day
+abbrev pub all_segments : Account → Seen → List SegmentTerms
+all_segments a seen = segments a.anchor a.terms seen.posts
+
+-- the rate of a segment on a day, with the penalties that the book has
+abbrev pub rate_in : Account → Seen → Book → ℕ → SegmentTerms → ℕ
+rate_in a seen b day g = rate_on (lowerings seen.posts) a.terms.penalty (starts day b.penalties) (all_segments a seen) day g
+
+-- the newest Purchase vintage that has begun
+abbrev pub newest_purchase : Account → Seen → ℕ
+newest_purchase a seen = newest sort.Purchase seen.day (all_segments a seen)
+
+abbrev pub note_of : Seen → EntryKind → ℕ → Note
+note_of seen k n = record { day = seen.day; kind = k; post = n }
+
+-- ---- a penalty fee (12 CFR 1026.52(b))
+-- the fee for the due date of a cycle, charged today
+abbrev pub penalty_fee : Option IssuedRow → Seen → Book → FeeKind → Cycle → Option Fee
+penalty_fee issued seen b k c = charged_fee issued (fee_for seen b.cycles b.fees (present_cycle b) k c)
+
+-- it is debited to the newest Purchase vintage
+abbrev pub with_fee : Account → Seen → ℕ → Option Fee → Book → Book
+with_fee a seen n None b = b
+with_fee a seen n (Some f) b =
+    record {
+      entries = b.entries ++ debit (note_of seen kind.Fee n) (newest_purchase a seen) (fee_cents f) (credit_balance b.entries);
+      cycles = b.cycles;
+      fees = b.fees ++ f ∷ [];
+      penalties = b.penalties;
+    }

@@ -1,0 +1,73 @@
+-- Penalty fees (12 CFR 1026.52(b)). Amounts are cents.
+use Rattle.std.specs.Prelude.{ℕ, ◌+◌, Bool, true, false, ◌&&◌, ◌||◌, not, ◌==◌, nat_le, nat_lt, if◌then◌else◌, min, List, [], ◌∷◌, Option, Some, None, pos}
+use Rattle.std.specs.List.{filter, sum_by, list_any}
+use Rattle.card_events.specs.SharedRows.{FeeRow}
+use Rattle.card_model.specs.Cycles.{Cycle, Seen}
+use Rattle.card_model.specs.Entries.{at_least_zero}
+use Rattle.card_model.specs.Payments.{asked}
+use Rattle.card_model.specs.Segments.{last_that}
+use Rattle.card_model.specs.declared.fee.Fee.{Fee}
+use Rattle.card_model.specs.declared.fee.FeeKind.{FeeKind}
+use Rattle.card_model.specs.declared.fee.FeeKind.TheVariants as fee
+
+abbrev pub is_fee_kind : FeeKind → FeeKind → Bool
+is_fee_kind fee.Late fee.Late = true
+is_fee_kind fee.Returned fee.Returned = true
+is_fee_kind _ _ = false
+
+-- ---- the table of amounts
+abbrev pub later_row : FeeRow → Option FeeRow → FeeRow
+later_row r None = r
+later_row r (Some t) = if nat_lt t.day r.day then r else t
+
+-- of the fee rows up to a day, the one with the latest day, and of two for one day the later one
+abbrev pub row_in_force : List FeeRow → Option FeeRow
+row_in_force [] = None
+row_in_force (r ∷ rs) = Some (later_row r (row_in_force rs))
+
+abbrev pub tier_amount : Option FeeRow → Bool → ℕ
+tier_amount None repeat = 0
+tier_amount (Some r) repeat = if repeat then r.repeat else r.first
+
+-- ---- the tier (12 CFR 1026.52(b)(1)(ii)(B))
+-- a fee of this kind at the first amount, in this cycle or one of the six before
+abbrev pub was_first : FeeKind → ℕ → Fee → Bool
+was_first k cycle f = is_fee_kind k f.kind && not f.repeat && nat_le cycle (f.cycle + 6) && nat_le f.cycle cycle
+
+abbrev pub is_repeat : FeeKind → ℕ → List Fee → Bool
+is_repeat k cycle fees = list_any (was_first k cycle) fees
+
+-- ---- the fee
+-- the cents of a fee
+abbrev pub fee_cents : Fee → ℕ
+fee_cents f = at_least_zero f.cents
+
+-- the sum of fees
+abbrev pub fees_sum : List Fee → ℕ
+fees_sum fees = sum_by fee_cents fees
+
+-- the fees charged in a cycle
+abbrev pub fees_in : ℕ → List Fee → List Fee
+fees_in cycle fees = filter (λ f. f.cycle == cycle) fees
+
+-- the fee for a due date that was charged before (12 CFR 1026.52(b)(2)(ii))
+abbrev pub is_charged_for : ℕ → List Fee → Bool
+is_charged_for due_cycle fees = list_any (λ f. f.due_cycle == due_cycle) fees
+
+-- the cycle of the last due date before a day
+abbrev pub last_due : ℕ → List Cycle → Option Cycle
+last_due day cycles = last_that (λ c. nat_lt c.due day) cycles
+
+-- the least of the table amount, the minimum payment of the due date, and that of the last due date before today
+-- (12 CFR 1026.52(b)(2)(i))
+abbrev pub fee_amount : Seen → List Cycle → Bool → Cycle → ℕ
+fee_amount seen cycles repeat c =
+    min (tier_amount (row_in_force seen.fees) repeat) (min c.minimum (asked seen.issued (last_due seen.day cycles)))
+
+-- the fee for a due date, charged today, in a cycle: none for 0 cents, and no second one
+unfoldable pub fee_for : Seen → List Cycle → List Fee → ℕ → FeeKind → Cycle → Option Fee
+fee_for seen cycles fees cycle k c =
+    let repeat = is_repeat k cycle fees in
+    let cents = fee_amount seen cycles repeat c in
+    if is_charged_for c.number fees || (cents == 0) then None
+    else Some (record { due_cycle = c.number; kind = k; repeat = repeat; cycle = cycle; day = seen.day; cents = pos cents })

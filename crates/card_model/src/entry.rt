@@ -1,0 +1,33 @@
+use card_days::Day;
+use card_units::Cents;
+
+/// Why an entry stands.
+#[derive(Clone, Copy, Debug, PartialEq, Eq)]
+pub enum EntryKind {
+    Charge,
+    Credit,
+    Payment,
+    Return,
+    Refund,
+    Fee,
+    Interest,
+    Hold,
+}
+
+/// A movement on a segment. A plus raises what is owed; the post is 0 for interest and late fees.
+#[derive(Clone, Copy, Debug, PartialEq, Eq)]
+pub struct Entry {
+    pub day: Day,
+    pub segment: u8,
+    pub kind: EntryKind,
+    pub post: u32,
+    pub cents: Cents,
+}
+
+/// The day, kind and post of entries that are made together.
+#[derive(Clone, Copy, Debug, PartialEq, Eq)]
+pub struct Note {
+    pub day: Day,
+    pub kind: EntryKind,
+    pub post: u32,
+}

@@ -1,0 +1,60 @@
+//! Laws of the fold, for all lists of posts.
+ghost use Rattle.card_model.specs.Accepted.{RunsAreAccepted};
+ghost use Rattle.card_model.specs.CycleDays.{CyclesAreOfTheCalendar};
+ghost use Rattle.card_model.specs.Isolated.{Isolation};
+ghost use Rattle.card_model.specs.Laws.{BalanceIdentity, CorrectionBack, IssuedCaps, IssuingChangesNoPastDay, PastIsEnough, Signs};
+ghost use Rattle.card_model.specs.QuietDays.{QuietDaysChangeNothing};
+
+/// The book of a day depends on the corrected posts and the fee rows up to that day alone.
+pub fn past_is_enough()
+    ensures { PastIsEnough }
+{}
+
+/// What is owed is the sum of all entries: charges, interest, fees, refunds and returned payments, less payments and
+/// credits. Holds sum to 0.
+pub fn balance_identity()
+    ensures { BalanceIdentity }
+{}
+
+/// In the book of every day, no cycle passes the interest, fees, minimum payment and grace amount that were issued.
+pub fn issued_caps()
+    ensures { IssuedCaps }
+{}
+
+/// A correction that the next post takes back leaves the book of every day as it was before both.
+pub fn correction_back()
+    ensures { CorrectionBack }
+{}
+
+/// A Bill with the row that it adds changes the book of no day up to the day on which it was accepted.
+pub fn issuing_changes_no_past_day()
+    ensures { IssuingChangesNoPastDay }
+{}
+
+/// Credit is never above 0, and no segment but Held ever below.
+pub fn signs()
+    ensures { Signs }
+{}
+
+/// After every list of requests, in every account: at most 10,000 posts, whose terms, rates and cents are within their
+/// ranges; no Dispute is resolved twice, and no cycle has two issued rows. Fees in the table are within their range.
+pub fn runs_are_accepted()
+    ensures { RunsAreAccepted }
+{}
+
+/// Replies on an account, and the lists that a run leaves it with, depend on its own requests and the shared ones, with
+/// the replies to these, and on nothing else.
+pub fn isolation()
+    ensures { Isolation }
+{}
+
+/// The cycles closed by the end of a day are as many as the calendar has closed, and each has the calendar's number,
+/// first day, closing and due date.
+pub fn cycles_are_of_the_calendar()
+    ensures { CyclesAreOfTheCalendar }
+{}
+
+/// A day that is no break day leaves the book of the day before as it was.
+pub fn quiet_days_change_nothing()
+    ensures { QuietDaysChangeNothing }
+{}

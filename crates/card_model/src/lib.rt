@@ -1,0 +1,17 @@
+//! The ledger's types, and the definitions of its fold: what each post, day and closing does to an account.
+#![tactic(auto)]
+
+mod entry;
+mod fee;
+mod grace;
+mod holding;
+pub mod laws;
+mod segment;
+mod task;
+
+pub use entry::{Entry, EntryKind, Note};
+pub use fee::{Fee, FeeKind};
+pub use grace::GraceCase;
+pub use holding::Holding;
+pub use segment::{Interval, Segment, Sort};
+pub use task::{Task, TaskKind};

@@ -1,0 +1,6 @@
+//! The accepted posts of an account.
+#![tactic(auto)]
+
+mod posts;
+
+pub use posts::{Posts, Pushed};
