@@ -5,19 +5,19 @@ use Rattle.card_days.specs.declared.anchor.Anchor.{Anchor}
 use Rattle.card_events.specs.History.{anchor_of, corrected}
 use Rattle.card_events.specs.SharedRows.{shared_rows}
 use Rattle.card_events.specs.declared.post.Category.TheVariants as category
-use Rattle.card_events.specs.declared.post.Finding.TheVariants.{Reduce}
+use Rattle.card_events.specs.declared.post.Finding.TheVariants.{Keep, Reduce}
 use Rattle.card_events.specs.declared.post.Place.TheVariants as place
 use Rattle.card_events.specs.declared.post.Post.TheVariants as post
 use Rattle.card_events.specs.declared.request.Request.{Request}
 use Rattle.card_model.specs.Books.{Book}
-use Rattle.card_model.specs.Deadlines.{ack_by, credit_since, lower_by, open_tasks, refund_by, resolve_by}
+use Rattle.card_model.specs.Deadlines.{ack_by, credit_since, last_notice_day, lower_by, open_tasks, refund_by, resolve_by}
 use Rattle.card_model.specs.Entries.{credit_balance}
 use Rattle.card_model.specs.Machine.{State, lists_of, run}
 use Rattle.card_model.specs.Refusals.{Lists}
 use Rattle.card_model.specs.declared.task.Task.{Task}
 use Rattle.card_model.specs.declared.task.TaskKind.{TaskKind}
 use Rattle.card_model.specs.declared.task.TaskKind.TheVariants as task
-use Rattle.card_examples.specs.Accounts.{book_of, fee_row, name, open_a, pay_online, roll, to_a}
+use Rattle.card_examples.specs.Accounts.{book_of, charge_jan10, fee_row, name, open_a, pay_online, roll, to_a}
 
 abbrev pub tasks_with : State → Option Lists → Book → List Task
 tasks_with s None b = []
@@ -46,6 +46,26 @@ disputed =
     ∷ to_a 2 (post.Charge (day_at 2024 2 1) place.Purchase 5000) ∷ to_a 3 (post.Bill 1) ∷ roll 2024 4 17
     ∷ to_a 4 (post.Dispute (day_at 2024 4 16) 2 5000) ∷ []
 
+-- a charge that the statement of 2024-02-06 shows, and one of the same cycle that came in after it was issued
+abbrev pub charged_late : List Request
+charged_late =
+    fee_row 3000 4100 ∷ roll 2024 1 10 ∷ open_a 2500 ∷ charge_jan10 2 place.Purchase 100 ∷ roll 2024 2 6 ∷ to_a 3 (post.Bill 1)
+    ∷ to_a 4 (post.Charge (day_at 2024 1 20) place.Purchase 200) ∷ roll 2024 3 6 ∷ to_a 5 (post.Bill 2) ∷ []
+
+-- the first of them is moved into the second cycle
+abbrev pub moved : List Request
+moved = charged_late ++ to_a 6 (post.Amend 2 (day_at 2024 2 10) 100) ∷ []
+
+abbrev pub notice_end_with : State → Option Lists → ℕ → Option ℕ
+notice_end_with s None charge = None
+notice_end_with s (Some l) charge =
+    let a = anchor_of l.posts in
+    last_notice_day a (corrected a (shared_rows s.shared).holidays l.posts) charge
+
+-- the last day for a dispute of a charge
+abbrev pub notice_end_after : List Request → ℕ → Option ℕ
+notice_end_after requests charge = notice_end_with (run requests) (lists_of name (run requests).accounts) charge
+
 -- these cents are paid on 2024-01-10, to an account without a balance
 abbrev pub overpaid : ℕ → List Request
 overpaid cents = fee_row 3000 4100 ∷ roll 2024 1 10 ∷ open_a 2500 ∷ pay_online 2 (day_at 2024 1 10) cents ∷ []
@@ -60,7 +80,21 @@ noticed =
 abbrev pub reviewed : List Request
 reviewed = noticed ++ to_a 3 (post.Review (day_at 2025 4 15) Reduce) ∷ []
 
+-- a missed due date of 2024-03-01 and a penalty of 2024-05-01, 45 days ago
+abbrev pub penalized : List Request
+penalized =
+    fee_row 3000 4100 ∷ roll 2024 1 10 ∷ open_a 2500 ∷ charge_jan10 2 place.Purchase 100000 ∷ roll 2024 2 6 ∷ to_a 3 (post.Bill 1)
+    ∷ roll 2024 5 1 ∷ to_a 4 post.Penalty ∷ roll 2024 6 15 ∷ []
+
 pub record DeadlinesAreWorked : Type 0 where
+  -- a charge may be disputed for 60 days from the issue of the first statement that shows it
+  pub dispute : notice_end_after charged_late 2 ≡ Some (day_at 2024 4 6)
+  -- a statement that was issued before the charge came in doesn't show it
+  pub dispute_later : notice_end_after charged_late 4 ≡ Some (day_at 2024 5 5)
+  -- nor does that of an earlier cycle than the charge's corrected day
+  pub dispute_moved : notice_end_after moved 2 ≡ Some (day_at 2024 5 5)
+  -- and without one there is no last day
+  pub dispute_unbilled : notice_end_after (fee_row 3000 4100 ∷ roll 2024 1 10 ∷ open_a 2500 ∷ charge_jan10 2 place.Purchase 100 ∷ []) 2 ≡ None
   -- a dispute is acknowledged within 30 days
   pub ack : ack_by (day_at 2024 3 20) ≡ day_at 2024 4 19
   -- and resolved within two complete billing cycles, or 90 days where that is sooner
@@ -79,6 +113,10 @@ pub record DeadlinesAreWorked : Type 0 where
   pub above_dollar : tasks_after (overpaid 101) ≡ task_of (day_at 2024 7 10) task.Credit 0 ∷ []
   -- a rate increase is reviewed within six months of its effective day, and again six months after each review
   pub review : tasks_after noticed ≡ task_of (day_at 2025 10 15) task.Review 0 ∷ []
+  pub reviewed_again : tasks_after (noticed ++ roll 2025 5 31 ∷ to_a 3 (post.Review (day_at 2025 5 31) Keep) ∷ [])
+      ≡ task_of (day_at 2025 11 30) task.Review 0 ∷ []
+  -- a penalty takes effect 45 days after it was accepted
+  pub penalty_review : tasks_after penalized ≡ task_of (day_at 2024 12 15) task.Review 0 ∷ []
   -- a rate that a review found too high falls within 45 days
   pub lower : lower_by (day_at 2025 4 15) ≡ day_at 2025 5 30
   pub reduce : tasks_after reviewed ≡ task_of (day_at 2025 5 30) task.Lower 3 ∷ task_of (day_at 2025 10 15) task.Review 0 ∷ []

@@ -8,6 +8,7 @@ pub mod Fees
 pub mod Grace
 pub mod Interest
 pub mod Machine
+pub mod Payments
 pub mod Rates
 pub mod Refusals
 pub mod Statements

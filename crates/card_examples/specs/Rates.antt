@@ -40,6 +40,16 @@ found_paid = penalized ++ pay_online 5 (day_at 2024 4 25) 2500 ∷ []
 abbrev pub penalty_lowered : List Request
 penalty_lowered = penalized ++ roll 2024 6 20 ∷ to_a 5 (post.Lower (day_at 2024 6 20) category.Purchase 1599) ∷ []
 
+-- and a second penalty of that day, which begins on 2024-08-04
+abbrev pub penalized_again : List Request
+penalized_again = penalty_lowered ++ to_a 6 post.Penalty ∷ []
+
+-- 1000 dollars on a promotional plan to 2024-08-05, and a penalty of 2024-05-01
+abbrev pub promo_penalized : List Request
+promo_penalized =
+    fee_row 3000 4100 ∷ roll 2024 1 10 ∷ open_a 2500 ∷ to_a 2 (post.Plan (day_at 2024 1 10) Promo 599 (day_at 2024 8 5) 2499)
+    ∷ charge_jan10 3 (place.Plan 2) 100000 ∷ roll 2024 2 6 ∷ to_a 4 (post.Bill 1) ∷ roll 2024 5 1 ∷ to_a 5 post.Penalty ∷ []
+
 -- At a fiftieth of the amounts: penalized, and four due dates after the penalty's beginning were met
 abbrev pub four_met : List Request
 four_met =
@@ -75,6 +85,11 @@ pub record RatesAreWorked : Type 0 where
   pub undone : rates_after found_paid 2 (day_at 2024 6 14 ∷ day_at 2024 6 15 ∷ day_at 2024 7 1 ∷ []) ≡ 1999 ∷ 1999 ∷ 1999 ∷ []
   -- it is lowered like any rate that has begun
   pub penalty_capped : rates_after penalty_lowered 2 (day_at 2024 6 19 ∷ day_at 2024 6 20 ∷ []) ≡ 2999 ∷ 1599 ∷ []
+  -- of several penalties the greatest rate counts: the second one begins after the rate was lowered
+  pub second_penalty : rates_after penalized_again 2 (day_at 2024 8 3 ∷ day_at 2024 8 4 ∷ []) ≡ 1599 ∷ 2999 ∷ []
+  -- a penalty rate reaches a plan when its period is over, and cash at once
+  pub plan_penalty : rates_after promo_penalized 5 (day_at 2024 6 15 ∷ day_at 2024 8 5 ∷ day_at 2024 8 6 ∷ []) ≡ 599 ∷ 599 ∷ 2999 ∷ []
+  pub cash_penalty : rates_after promo_penalized 3 (day_at 2024 6 14 ∷ day_at 2024 6 15 ∷ []) ≡ 2499 ∷ 2999 ∷ []
   -- where the first six due dates after its beginning were met, it ends with the sixth, 2024-12-01
   pub cured : rates_after six_met 2 (day_at 2024 6 15 ∷ day_at 2024 12 1 ∷ day_at 2024 12 2 ∷ []) ≡ 2999 ∷ 2999 ∷ 1999 ∷ []
   pub interval : (book_of six_met).penalties ≡ (record { begins = day_at 2024 6 15; last = Some (day_at 2024 12 1) }) ∷ []

@@ -11,6 +11,7 @@ ghost use Rattle.card_examples.specs.Fees.{FeesAreWorked};
 ghost use Rattle.card_examples.specs.Grace.{GraceIsWorked};
 ghost use Rattle.card_examples.specs.Interest.{InterestIsWorked};
 ghost use Rattle.card_examples.specs.Machine.{MachineIsWorked};
+ghost use Rattle.card_examples.specs.Payments.{PaymentsAreWorked};
 ghost use Rattle.card_examples.specs.Rates.{RatesAreWorked};
 ghost use Rattle.card_examples.specs.Refusals.{RefusalsAreWorked};
 ghost use Rattle.card_examples.specs.Statements.{StatementsAreWorked};
@@ -23,6 +24,11 @@ pub fn interest()
 /// The allocation of payments (12 CFR 1026.53).
 pub fn allocation()
     ensures { AllocationIsWorked }
+{}
+
+/// What payments, merchants' credits and returns do (12 CFR 1026.10, .52(b), .53, .54).
+pub fn payments()
+    ensures { PaymentsAreWorked }
 {}
 
 /// The grace period (12 CFR 1026.54).

@@ -6,6 +6,10 @@ pub returns : goal.returns
 unfolding everything
 returns c =
     record {
+      dispute = refl;
+      dispute_later = refl;
+      dispute_moved = refl;
+      dispute_unbilled = refl;
       ack = refl;
       two_cycles = refl;
       days90 = refl;
@@ -18,6 +22,8 @@ returns c =
       dollar = refl;
       above_dollar = refl;
       review = refl;
+      reviewed_again = refl;
+      penalty_review = refl;
       lower = refl;
       reduce = refl;
       reduced = refl;
