@@ -123,7 +123,7 @@ interest-added issued seen amount (g ∷ gs) p =
     let next = post_one seen g x p in
     added-then (IsInterest seen.day) p.book.entries next.book.entries _ (added-list (IsInterest seen.day) p.book.entries _ (all-debit (IsInterest seen.day) seen.day 0 g.id x (credit_balance p.book.entries) kind.Interest (λ s z. (refl, refl)))) (interest-added issued seen amount gs next)
 
-close-added : (issued : Option IssuedRow) (a : Account) (seen : Seen) (b : Book) → Added (IsInterest seen.day) b.entries (close issued a seen b).entries
+pub close-added : (issued : Option IssuedRow) (a : Account) (seen : Seen) (b : Book) → Added (IsInterest seen.day) b.entries (close issued a seen b).entries
 unfolding close closing_interest
 close-added issued a seen b =
     added-then (IsInterest seen.day) b.entries _ _ (interest-added issued seen _ _ (record { amounts = []; book = b })) (interest-added issued seen _ _ _)

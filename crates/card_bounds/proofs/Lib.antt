@@ -1,4 +1,5 @@
 pub mod Bounded
+pub mod CycleInterest
 pub mod Dated
 pub mod Held
 pub mod HeldDays

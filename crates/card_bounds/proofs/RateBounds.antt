@@ -1,6 +1,6 @@
 -- No rate is above 9,999 basis points where no post's is.
-use Rattle.std.proofs.Common.{◌≡◌, ℕ, zero, suc, ◌+◌, ◌≤◌, Bool, true, false, cond, not, ◌&&◌, List, [], ◌∷◌, ◌++◌, refl, subst, arith, Option, Some, None, leb, ltb}
-use Rattle.std.specs.List.{All, Contains, filter, filter_map, fold, cons_option}
+use Rattle.std.proofs.Common.{ℕ, suc, ◌≤◌, Bool, true, false, cond, not, ◌&&◌, List, [], ◌∷◌, ◌++◌, arith, Option, Some, None, leb, ltb}
+use Rattle.std.specs.List.{All, filter_map, fold, cons_option}
 use Rattle.std.proofs.lemmas.List.Elements.{All-nil, All-cons, All-head, All-tail, All-weaker, All-filter, All-contains}
 use Rattle.std.specs.Prelude.{min}
 use Rattle.std.specs.Prelude.{max}

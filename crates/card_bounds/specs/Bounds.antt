@@ -1,6 +1,6 @@
 -- How large balances, rows and sums can be, from the limits on posts, cents, fees and days alone.
-use Rattle.std.specs.Prelude.{ℕ, ◌+◌, ◌*◌, ◌≡◌, ◌≤◌, ◌<◌, cond, length, List, ◌++◌, Option, pos, ◌≤ℤ◌, neg_ℤ, nat_abs}
-use Rattle.std.specs.List.{All, Contains, range_with_len, sum_by}
+use Rattle.std.specs.Prelude.{ℕ, ◌+◌, ◌*◌, ◌==◌, ◌≡◌, ◌≤◌, ◌<◌, cond, length, List, ◌++◌, Option, pos, ◌≤ℤ◌, neg_ℤ, nat_abs}
+use Rattle.std.specs.List.{All, Contains, filter, range_with_len, sum_by}
 use Rattle.card_units.specs.Money.{daily}
 use Rattle.card_events.specs.History.{CorrectedPost, anchor_of}
 use Rattle.card_events.specs.SharedRows.{SharedRows}
@@ -9,12 +9,13 @@ use Rattle.card_model.specs.Accepted.{AreResolvedOnce, HasFewCents, HasFewFees, 
 use Rattle.card_model.specs.Books.{Book, account_of, all_segments, present_cycle, rate_in}
 use Rattle.card_model.specs.Caps.{row_for}
 use Rattle.card_model.specs.Closing.{Posting, post_interest}
-use Rattle.card_model.specs.Cycles.{IssuedRow, Seen, last_cycle, posts_on, seen_on}
+use Rattle.card_model.specs.Cycles.{IssuedRow, Seen, amounts_sum, last_cycle, posts_on, seen_on}
 use Rattle.card_model.specs.DueDates.{on_due}
 use Rattle.card_model.specs.Effects.{after_posts}
 use Rattle.card_model.specs.Entries.{balance, is_kind, owing}
 use Rattle.card_model.specs.Folds.{book, book_after}
 use Rattle.card_model.specs.Interest.{row}
+use Rattle.card_model.specs.Laws.{total}
 use Rattle.card_model.specs.Segments.{SegmentTerms}
 use Rattle.card_model.specs.declared.entry.Entry.{Entry}
 use Rattle.card_model.specs.declared.entry.EntryKind.TheVariants as kind
@@ -40,6 +41,7 @@ most_owing posts = 10000000000000 + most_moved posts
 abbrev pub moves : Entry → ℕ
 moves e = cond (is_kind kind.Interest e.kind) 0 (nat_abs e.cents)
 
+-- what entries move together, interest apart
 unfoldable pub moved : List Entry → ℕ
 moved entries = sum_by moves entries
 
@@ -48,9 +50,11 @@ pub record IsBounded (entries : List Entry) (s : ℕ) : Type 0 where
   pub high : balance s entries ≤ℤ pos (10000000000000 + moved entries)
   pub low : neg_ℤ (pos (moved entries)) ≤ℤ balance s entries
 
+-- so does the balance of every segment
 abbrev pub AreBounded : List Entry → Type 0
 AreBounded entries = (s : ℕ) → IsBounded entries s
 
+-- in the book of every day
 abbrev pub BalancesBounded : Type 0
 BalancesBounded = (history : List Kept) (issued : List IssuedRow) (shared : SharedRows) (day : ℕ) → AreBounded (book history issued shared day).entries
 
@@ -59,6 +63,7 @@ BalancesBounded = (history : List Kept) (issued : List IssuedRow) (shared : Shar
 abbrev pub AreSmall : List Entry → Type 0
 AreSmall entries = (s : ℕ) → (neg_ℤ (pos 999999999999999) ≤ℤ balance s entries) × (balance s entries ≤ℤ pos 999999999999999)
 
+-- within the limits, in the book of every day
 abbrev pub BalancesSmall : Type 0
 BalancesSmall =
     (posts : ℕ) (history : List Kept) (issued : List IssuedRow) (shared : SharedRows) (day : ℕ) → IsLimited posts history shared day → posts ≤ 200000
@@ -91,9 +96,11 @@ InterestKeepsRoom =
     (row : Option IssuedRow) (seen : Seen) (amount : Book → SegmentTerms → ℕ) (gs : List SegmentTerms) (p : Posting) (posts left : ℕ)
     → HasRoom posts left p.book.entries → HasRoom posts left (post_interest row seen amount gs p).book.entries
 
+-- with room left, every balance is small
 abbrev pub RoomIsSmall : Type 0
 RoomIsSmall = (posts left : ℕ) (entries : List Entry) → posts ≤ 200000 → HasRoom posts left entries → AreSmall entries
 
+-- at every point of a day, posts and segments of a closing
 pub record SmallAtEachStep : Type 0 where
   pub posts : PostsHaveRoom
   pub interest : InterestKeepsRoom
@@ -107,6 +114,7 @@ RowsOfPastDays =
     → row (book history issued shared day).entries s ((anchor_of history).opened + n)
     ≡ owing s (book_amid history issued shared n (posts_on (seen_on (anchor_of history) shared history issued ((anchor_of history).opened + n)))).entries
 
+-- within the limits no row is above the greatest balance
 abbrev pub RowsSmall : Type 0
 RowsSmall =
     (posts : ℕ) (history : List Kept) (issued : List IssuedRow) (shared : SharedRows) (day n j : ℕ) → IsLimited posts history shared day → (anchor_of history).opened + n + j ≡ day
@@ -153,3 +161,14 @@ pub record RatesSmall : Type 0 where
   pub plans :
       (history : List Kept) (issued : List IssuedRow) (shared : SharedRows) (on : ℕ) → All HasFewRates history
       → All (λ g. g.rate ≤ 9999) (all_segments (account_of history) (seen_on (anchor_of history) shared history issued on))
+
+-- ---- the interest of a cycle
+-- the sum of the interest entries of a day
+abbrev pub interest_on : ℕ → List Entry → ℕ
+interest_on day entries = total kind.Interest (filter (λ e. e.day == day) entries)
+
+-- a closed cycle's interest is the sum of the interest entries of its closing
+abbrev pub CyclesHaveTheirInterest : Type 0
+CyclesHaveTheirInterest =
+    (history : List Kept) (issued : List IssuedRow) (shared : SharedRows) (day : ℕ)
+    → All (λ c. amounts_sum c.interest ≡ interest_on c.closing (book history issued shared day).entries) (book history issued shared day).cycles

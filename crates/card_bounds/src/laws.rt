@@ -1,5 +1,5 @@
 //! Bounds from the limits on posts, cents, fees and days alone.
-ghost use Rattle.card_bounds.specs.Bounds.{BalancesBounded, BalancesSmall, HeldIsNeverBelow, RatesSmall, RowsOfPastDays, RowsSmall, SmallAtEachStep, SumsSmall};
+ghost use Rattle.card_bounds.specs.Bounds.{BalancesBounded, BalancesSmall, CyclesHaveTheirInterest, HeldIsNeverBelow, RatesSmall, RowsOfPastDays, RowsSmall, SmallAtEachStep, SumsSmall};
 
 /// Every balance lies within what was moved, interest apart, and 10^13 cents.
 pub fn balances_bounded()
@@ -40,4 +40,9 @@ pub fn held_is_never_below()
 /// No rate is above 9,999 basis points where no post's is.
 pub fn rates_small()
     ensures { RatesSmall }
+{}
+
+/// A closed cycle's interest is the sum of the interest entries of its closing.
+pub fn cycles_have_their_interest()
+    ensures { CyclesHaveTheirInterest }
 {}

@@ -2,7 +2,8 @@
 ghost use Rattle.std.specs.Prelude.{◌≡◌, ◌≤◌, pos};
 ghost use Rattle.card_desk.specs.Ledger as spec;
 
-use card_events::{Name, Post, Posts};
+use crate::posts::Posts;
+use card_events::{Name, Post};
 use card_units::{Cents, NoMemory};
 use std::alloc::Global;
 use std::marker::Model;

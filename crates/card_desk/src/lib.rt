@@ -3,6 +3,7 @@
 
 mod account;
 mod desk;
+mod posts;
 mod view;
 
 pub use desk::Desk;

@@ -41,6 +41,7 @@ abbrev pub disputes : ℕ → Post → Bool
 disputes n (post.Dispute _ target _) = target == n
 disputes n _ = false
 
+-- the post there is a Dispute of charge n
 abbrev pub dispute_names : ℕ → Option Kept → Bool
 dispute_names n None = false
 dispute_names n (Some k) = disputes n k.post
@@ -62,10 +63,12 @@ own_of (post.Credit day _ cents) = Some (day, cents)
 own_of (post.Payment day _ _ cents) = Some (day, cents)
 own_of _ = None
 
+-- the own day and cents of the post there
 abbrev pub own_at : Option Kept → Option (ℕ × ℕ)
 own_at None = None
 own_at (Some k) = own_of k.post
 
+-- those of an Amend, where the post is one that an Amend may name
 abbrev pub amended : Option (ℕ × ℕ) → Option (ℕ × ℕ) → Option (ℕ × ℕ)
 amended amend None = None
 amended amend (Some own) = Some (unwrap_or amend own)
@@ -74,10 +77,12 @@ amended amend (Some own) = Some (unwrap_or amend own)
 abbrev pub standing : ℕ → List Kept → Option (ℕ × ℕ)
 standing n history = amended (last_amend n history) (own_at (at_number n history))
 
+-- the day of an Amend, else the own one
 abbrev pub amended_day : Option (ℕ × ℕ) → ℕ → ℕ
 amended_day None own = own
 amended_day (Some a) own = a.0
 
+-- the cents of an Amend, else the own ones
 abbrev pub amended_cents : Option (ℕ × ℕ) → ℕ → ℕ
 amended_cents None own = own
 amended_cents (Some a) own = a.1
@@ -143,11 +148,13 @@ effective_day a holidays history n accepted (post.Amend _ day _) = day
 effective_day a holidays history n accepted (post.Bill _) = accepted
 
 -- ---- the corrected list
+-- a Plan or a Notice
 abbrev pub adds_segment : Post → Bool
 adds_segment (post.Plan _ _ _ _ _) = true
 adds_segment (post.Notice _ _ _ _) = true
 adds_segment _ = false
 
+-- the segment that the next Plan or Notice after a post adds
 abbrev pub next_segment : ℕ → Post → ℕ
 next_segment segment p = if adds_segment p then segment + 1 else segment
 
@@ -192,13 +199,16 @@ abbrev pub folded : Anchor → List ℕ → List Kept → List CorrectedPost
 folded a holidays history = filter (λ p. is_folded p.post) (corrected a holidays history)
 
 -- ---- the opening, which is the first post
+-- the terms of a list that no Open begins
 abbrev pub no_terms : Terms
 no_terms = record { close = 0; purchase = 0; cash = 0; transfer = 0; penalty = 0; floor = 0; pct = 0 }
 
+-- the terms that a post opens with
 abbrev pub terms_in : Post → Terms
 terms_in (post.Open _ terms) = terms
 terms_in _ = no_terms
 
+-- the day on which a post opens the account
 abbrev pub opening_in : Post → ℕ
 opening_in (post.Open day _) = day
 opening_in _ = 0

@@ -14,12 +14,14 @@ use Rattle.card_events.specs.declared.post.Post.{Post}
 use Rattle.card_events.specs.declared.post.Post.TheVariants as post
 use Rattle.card_events.specs.declared.post.Terms.{Terms}
 
+-- one category
 abbrev pub is_same_category : Category → Category → Bool
 is_same_category category.Purchase category.Purchase = true
 is_same_category category.Cash category.Cash = true
 is_same_category category.Transfer category.Transfer = true
 is_same_category _ _ = false
 
+-- one place: a category, or the plan of one number
 abbrev pub is_same_place : Place → Place → Bool
 is_same_place place.Purchase place.Purchase = true
 is_same_place place.Cash place.Cash = true
@@ -27,21 +29,25 @@ is_same_place place.Transfer place.Transfer = true
 is_same_place (place.Plan n) (place.Plan m) = n == m
 is_same_place _ _ = false
 
+-- one kind of plan
 abbrev pub is_same_plan : PlanKind → PlanKind → Bool
 is_same_plan plan.Promo plan.Promo = true
 is_same_plan plan.Deferred plan.Deferred = true
 is_same_plan _ _ = false
 
+-- one finding
 abbrev pub is_same_finding : Finding → Finding → Bool
 is_same_finding finding.Keep finding.Keep = true
 is_same_finding finding.Reduce finding.Reduce = true
 is_same_finding _ _ = false
 
+-- one channel
 abbrev pub is_same_channel : Channel → Channel → Bool
 is_same_channel channel.Mail channel.Mail = true
 is_same_channel channel.Online channel.Online = true
 is_same_channel _ _ = false
 
+-- all terms equal
 abbrev pub are_same_terms : Terms → Terms → Bool
 are_same_terms t u =
     (t.close == u.close) && (t.purchase == u.purchase) && (t.cash == u.cash) && (t.transfer == u.transfer)

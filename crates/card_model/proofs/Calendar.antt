@@ -3,7 +3,7 @@ use Rattle.std.proofs.Common.{◌≡◌, ℕ, zero, suc, ◌+◌, ◌-◌, ◌�
 use Rattle.std.specs.Prelude.{slice_get}
 use Rattle.std.specs.List.{last_or}
 use Rattle.std.proofs.lemmas.List.{length-append}
-use Rattle.card_days.specs.Billing.{closing, closings_among, cycle_of, due, due_after}
+use Rattle.card_days.specs.Billing.{closing, closings_among, cycle_of, due_after}
 use Rattle.card_days.specs.Civil.{day_of_month}
 use Rattle.card_days.specs.declared.anchor.Anchor.{Anchor}
 use Rattle.card_events.specs.History.{anchor_of}
@@ -23,7 +23,7 @@ use Rattle.card_days.proofs.Cycles.{IsAnchor, cycle_around}
 use Rattle.card_model.proofs.Caps.{posts-cycles, due-cycles}
 
 -- ---- the days of cycles in a list
-abbrev HaveTheirDays : Anchor → ℕ → List Cycle → Type 0
+abbrev pub HaveTheirDays : Anchor → ℕ → List Cycle → Type 0
 HaveTheirDays a k [] = Unit {0}
 HaveTheirDays a k (c ∷ cs) = HasItsDays a (suc k) c × HaveTheirDays a (suc k) cs
 
@@ -55,7 +55,7 @@ first-follows acc k None l e = rw e (back acc.anchor.opened l)
 first-follows acc k (Some c) l e = ap (λ d. d + 1) e
 
 -- ---- a day on which a cycle closes
-is-anchor : (a : Anchor) → IsOpening a → IsAnchor a
+pub is-anchor : (a : Anchor) → IsOpening a → IsAnchor a
 is-anchor a h = record { first = h.first; last = h.last; low = h.close_day.0; high = h.close_day.1 }
 
 between : (x y : ℕ) → x ≤ y → y ≤ x → x ≡ y
@@ -137,7 +137,7 @@ present rows acc seen n day =
     next : (x y : ℕ) → x ≡ y → suc x ≡ y + 1
     next x y e = omega arith
 
-fold-days : (rows : List IssuedRow) (acc : Account) (seen : ℕ → Seen) (n : ℕ) → ((d : ℕ) → (seen d).day ≡ d) → IsOpening acc.anchor → acc.anchor.opened + n ≤ 48577 → HaveTheirDays acc.anchor 0 (book_after rows acc seen n).cycles
+pub fold-days : (rows : List IssuedRow) (acc : Account) (seen : ℕ → Seen) (n : ℕ) → ((d : ℕ) → (seen d).day ≡ d) → IsOpening acc.anchor → acc.anchor.opened + n ≤ 48577 → HaveTheirDays acc.anchor 0 (book_after rows acc seen n).cycles
 unfolding book_after
 fold-days rows acc seen zero day open' l = tt
 fold-days rows acc seen (suc n) day open' l =

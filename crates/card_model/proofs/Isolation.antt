@@ -1,7 +1,6 @@
 -- An account's replies and lists are those of its own run.
-use Rattle.std.proofs.Common.{◌≡◌, ℕ, Bool, true, false, cond, ◌&&◌, List, [], ◌∷◌, ◌++◌, length, refl, sym, ap, ◌∙◌, subst, eqb, ltb, leb, Option, Some, None, eq-eqb}
+use Rattle.std.proofs.Common.{◌≡◌, ℕ, Bool, true, false, cond, ◌&&◌, List, [], ◌∷◌, ◌++◌, length, refl, sym, ap, ◌∙◌, eqb, leb, Option, Some, None, eq-eqb}
 use Rattle.std.specs.Prelude.{◌≢◌}
-use Rattle.std.specs.Option.{option_map_or}
 use Rattle.std.specs.Str.{bytes_eq}
 use Rattle.std.proofs.lemmas.Bool.{eqb-true}
 use Rattle.std.specs.List.{filter}
@@ -12,8 +11,7 @@ use Rattle.card_events.specs.declared.request.Request.{Request}
 use Rattle.card_events.specs.declared.request.Shared.{Shared}
 use Rattle.card_events.specs.declared.reply.Reply.TheVariants as reply
 use Rattle.card_model.specs.Isolated.{Isolation, NeverFull, Own, concerns, is_shared, own_of, replies_where, is_on}
-use Rattle.card_model.specs.Machine.{Accepts, NamedAccount, Outcome, Refuses, Repeats, State, has_accounts, is_open, lists_of, opened, outcome, outcome_in, replies, reply_to, rolled, run_from, shared_reason, step, with_lists, with_outcome, with_shared}
-use Rattle.card_model.specs.Rates.{own}
+use Rattle.card_model.specs.Machine.{Accepts, NamedAccount, Outcome, Refuses, Repeats, State, has_accounts, is_open, lists_of, opened, outcome, outcome_in, reply_to, rolled, run_from, shared_reason, step, with_lists, with_outcome, with_shared}
 use Rattle.card_model.specs.Refusals.{Lists, bad_terms, day_ahead, first_reason, reason_to_open, where_true}
 use Rattle.card_events.specs.declared.reply.Refusal.TheVariants as refusal
 use Rattle.card_events.specs.declared.request.Request.TheVariants as request

@@ -10,6 +10,7 @@ pub mod Issue
 pub mod PartsSum
 pub mod Past
 pub mod Posted
+pub mod Quiet
 pub mod Settled
 pub mod Signs
 pub mod Sound

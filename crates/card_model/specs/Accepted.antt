@@ -48,9 +48,11 @@ AreResolvedOnce posts = (n : ℕ) → count_by (λ k. resolves n k.post) posts �
 abbrev pub AreSingle : List IssuedRow → Type 0
 AreSingle issued = All (λ r. row_for r.cycle issued ≡ Some r) issued
 
+-- at most 10^9 cents
 abbrev pub HasFewCents : Kept → Type 0
 HasFewCents k = posted_cents k.post ≤ 1000000000
 
+-- no rate above 9,999 basis points
 abbrev pub HasFewRates : Kept → Type 0
 HasFewRates k = posted_rate k.post ≤ 9999
 
@@ -63,6 +65,7 @@ pub record AreAccepted (lists : Lists) : Type 0 where
   pub resolved : AreResolvedOnce lists.posts
   pub single : AreSingle lists.issued
 
+-- fees of at most 100,000 cents
 abbrev pub HasFewFees : FeeRow → Type 0
 HasFewFees r = (r.first ≤ 100000) × (r.repeat ≤ 100000)
 
@@ -71,5 +74,6 @@ pub record IsAccepted (s : State) : Type 0 where
   pub accounts : All (λ (x : NamedAccount). AreAccepted x.lists) s.accounts
   pub fees : All HasFewFees (shared_rows s.shared).fees
 
+-- every run leaves such a state
 abbrev pub RunsAreAccepted : Type 0
 RunsAreAccepted = (requests : List Request) → IsAccepted (run requests)

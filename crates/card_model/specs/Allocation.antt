@@ -9,6 +9,7 @@ pub record Paying : Type 0 where
   pub left : List Holding
   pub credit : ℕ
 
+-- the later holding where it is before this one, else this one
 abbrev pub choose : (Holding → Holding → Bool) → Holding → Option Holding → Holding
 choose before h None = h
 choose before h (Some g) = if before g h then g else h
@@ -21,21 +22,27 @@ best p before (h ∷ hs) =
     let later = best p before hs in
     if nat_lt 0 h.balance && p h then Some (choose before h later) else later
 
+-- every holding
 abbrev pub all_pass : Holding → Bool
 all_pass h = true
 
+-- of a lower rate than the other
 abbrev pub lower_rate : Holding → Holding → Bool
 lower_rate g h = nat_lt g.rate h.rate
 
+-- of a higher rate than the other
 abbrev pub higher_rate : Holding → Holding → Bool
 higher_rate g h = nat_lt h.rate g.rate
 
+-- a Deferred in the last two cycles of its period
 abbrev pub is_last_two : Holding → Bool
 is_last_two h = is_some h.last_two
 
+-- of a period that ends sooner than the other's
 abbrev pub sooner_end : Holding → Holding → Bool
 sooner_end g h = nat_lt (unwrap_or g.last_two 0) (unwrap_or h.last_two 0)
 
+-- before no other
 abbrev pub never : Holding → Holding → Bool
 never g h = false
 
@@ -61,6 +68,7 @@ place_rule hs = option_or (best (λ h. h.of_place) never hs) (excess_rule hs)
 abbrev pub paid_on : ℕ → Holding → Holding
 paid_on n h = record { id = h.id; balance = h.balance - n; rate = h.rate; last_two = h.last_two; of_place = h.of_place; paid = h.paid + n }
 
+-- n cents paid on the holding of a number
 unfoldable pub paid_at : ℕ → ℕ → List Holding → List Holding
 paid_at id n [] = []
 paid_at id n (h ∷ hs) = (if h.id == id then paid_on n h else h) ∷ paid_at id n hs
@@ -70,13 +78,16 @@ abbrev pub takes : ℕ → Paying → Option Holding → Paying
 takes n s None = record { left = s.left; credit = s.credit + n }
 takes n s (Some h) = record { left = paid_at h.id n s.left; credit = s.credit }
 
+-- an amount paid by a rule, cent by cent
 unfoldable pub pay : (List Holding → Option Holding) → ℕ → Paying → Paying
 pay rule zero s = s
 pay rule (suc n) s = pay rule n (takes 1 s (rule s.left))
 
+-- before the first cent
 abbrev pub untouched : List Holding → Paying
 untouched hs = record { left = hs; credit = 0 }
 
+-- what a holding was paid, none where that is 0
 abbrev pub part_of : Holding → Option (ℕ × ℕ)
 part_of h = if h.paid == 0 then None else Some (h.id, h.paid)
 

@@ -1,4 +1,4 @@
--- The book of an account: what its fold gives up to a day.
+-- The book of an account: what its fold gives up to a day. Penalty fees by 12 CFR 1026.52(b); the rest is the ledger's own.
 use Rattle.std.specs.Prelude.{ℕ, ◌+◌, ◌++◌, length, List, [], ◌∷◌, Option, Some, None}
 use Rattle.card_days.specs.declared.anchor.Anchor.{Anchor}
 use Rattle.card_events.specs.History.{anchor_of, terms_of}
@@ -26,6 +26,7 @@ pub record Book : Type 0 where
   pub fees : List Fee
   pub penalties : List Interval
 
+-- the book before the opening day
 abbrev pub empty_book : Book
 empty_book = record { entries = []; cycles = []; fees = []; penalties = [] }
 
@@ -34,6 +35,7 @@ pub record Account : Type 0 where
   pub anchor : Anchor
   pub terms : Terms
 
+-- the account that a history opens
 abbrev pub account_of : List Kept → Account
 account_of history = record { anchor = anchor_of history; terms = terms_of history }
 
@@ -42,19 +44,24 @@ abbrev pub present_cycle : Book → ℕ
 present_cycle b = length b.cycles + 1
 
 -- ---- a book with more in it
+-- a book with these entries added
 abbrev pub with_entries : List Entry → Book → Book
 with_entries es b = record { entries = b.entries ++ es; cycles = b.cycles; fees = b.fees; penalties = b.penalties }
 
+-- a book with these for its entries
 abbrev pub with_all_entries : List Entry → Book → Book
 with_all_entries es b = record { entries = es; cycles = b.cycles; fees = b.fees; penalties = b.penalties }
 
+-- a book with a closed cycle more
 abbrev pub with_cycle : Cycle → Book → Book
 with_cycle c b = record { entries = b.entries; cycles = b.cycles ++ c ∷ []; fees = b.fees; penalties = b.penalties }
 
+-- a book with these penalties
 abbrev pub with_penalties : List Interval → Book → Book
 with_penalties ps b = record { entries = b.entries; cycles = b.cycles; fees = b.fees; penalties = ps }
 
 -- ---- the segments and rates of the day
+-- the segments that the posts up to today have added, and the opening vintages
 abbrev pub all_segments : Account → Seen → List SegmentTerms
 all_segments a seen = segments a.anchor a.terms seen.posts
 
@@ -66,6 +73,7 @@ rate_in a seen b day g = rate_on (lowerings seen.posts) a.terms.penalty (starts 
 abbrev pub newest_purchase : Account → Seen → ℕ
 newest_purchase a seen = newest sort.Purchase seen.day (all_segments a seen)
 
+-- the note of entries of today
 abbrev pub note_of : Seen → EntryKind → ℕ → Note
 note_of seen k n = record { day = seen.day; kind = k; post = n }
 

@@ -1,4 +1,5 @@
--- Break days: the days on which something may happen on an account, or a rate begin.
+-- Break days, a notion of the ledger's own: the days on which something may happen on an account, or a rate begin.
+-- `posts` is the whole corrected list, with posts of all kinds, and with those of later days.
 use Rattle.std.specs.Prelude.{ℕ, ◌+◌, ◌-◌, Bool, false, ◌&&◌, ◌||◌, ◌==◌, nat_le, List, Option, Some, None}
 use Rattle.std.specs.List.{count_by, list_any, range_with_len}
 use Rattle.card_days.specs.Business.{is_due}
@@ -9,6 +10,7 @@ use Rattle.card_model.specs.Cycles.{IssuedRow}
 use Rattle.card_model.specs.Segments.{SegmentTerms, segments}
 use Rattle.card_model.specs.declared.segment.Interval.{Interval}
 
+-- that very day
 abbrev pub is_on : ℕ → Option ℕ → Bool
 is_on day None = false
 is_on day (Some other) = other == day
@@ -17,6 +19,7 @@ is_on day (Some other) = other == day
 abbrev pub breaks_segment : ℕ → SegmentTerms → Bool
 breaks_segment day g = is_on day g.ends || (g.begins == day) || (g.effective == day)
 
+-- the day after that one
 abbrev pub is_day_after : ℕ → Option ℕ → Bool
 is_day_after day None = false
 is_day_after day (Some last) = last + 1 == day

@@ -1,3 +1,4 @@
+-- A rule of the ledger's own, so that no correction charges more than a statement said (12 CFR 1026.5(b)(2), .7(b)).
 -- What was issued bounds what is recomputed: of a cycle with an issued statement, the interest of each segment, the fee
 -- for each due date, the minimum payment and the grace amount.
 use Rattle.std.specs.Prelude.{ℕ, zero, suc, ◌-◌, ◌==◌, if◌then◌else◌, min, List, [], ◌∷◌, Option, Some, None, pos}
@@ -16,9 +17,11 @@ abbrev pub capped_by : (IssuedRow → ℕ) → Option IssuedRow → ℕ → ℕ
 capped_by f None n = n
 capped_by f (Some row) n = min n (f row)
 
+-- the minimum payment of an issued row
 abbrev pub issued_minimum : IssuedRow → ℕ
 issued_minimum r = r.statement.minimum
 
+-- the grace amount of an issued row
 abbrev pub issued_grace : IssuedRow → ℕ
 issued_grace r = r.statement.grace_amount
 
@@ -31,9 +34,11 @@ abbrev pub issued_interest : ℕ → Amounts → IssuedRow → ℕ
 issued_interest s done r = amount_at s r.statement.interest - amount_at s done
 
 -- ---- fees
+-- a fee at other cents
 abbrev pub at_cents : ℕ → Fee → Fee
 at_cents cents f = record { due_cycle = f.due_cycle; kind = f.kind; repeat = f.repeat; cycle = f.cycle; day = f.day; cents = pos cents }
 
+-- a fee at these cents, none for 0
 abbrev pub fee_above : ℕ → Fee → Option Fee
 fee_above zero f = None
 fee_above (suc n) f = Some (at_cents (suc n) f)

@@ -24,6 +24,7 @@ pub record Posting : Type 0 where
   pub amounts : Amounts
   pub book : Book
 
+-- the note of today's interest, which is no post's
 abbrev pub interest_note : Seen → Note
 interest_note seen = record { day = seen.day; kind = kind.Interest; post = 0 }
 
@@ -35,6 +36,7 @@ within_limit balance cents = min cents (10000000000000 - balance)
 abbrev pub posted_for : Option IssuedRow → (Book → SegmentTerms → ℕ) → SegmentTerms → Posting → ℕ
 posted_for issued amount g p = capped_by (issued_interest g.id p.amounts) issued (within_limit (owing g.id p.book.entries) (amount p.book g))
 
+-- cents of interest debited to their segment, whatever of them a credit balance bears
 abbrev pub post_one : Seen → SegmentTerms → ℕ → Posting → Posting
 post_one seen g cents p =
     record {
@@ -52,9 +54,11 @@ abbrev pub first_of : Account → Option Cycle → ℕ
 first_of a None = a.anchor.opened
 first_of a (Some c) = c.closing + 1
 
+-- the first day of the cycle that the book is in
 abbrev pub first_day_of : Account → Book → ℕ
 first_day_of a b = first_of a (last_cycle b.cycles)
 
+-- how purchases bear interest in that cycle
 abbrev pub purchase_case_in : Seen → Book → GraceCase
 purchase_case_in seen b = purchase_case seen b.cycles (last_cycle b.cycles)
 
@@ -70,6 +74,7 @@ closing_interest issued a seen b =
 abbrev pub net_balance : List Entry → ℤ
 net_balance entries = owed entries -ℤ balance 1 entries
 
+-- of a balance above 0: the floor, or portion and charges where that is more, and what is past due, at most the balance
 abbrev pub minimum_of : ℤ → ℕ → ℕ → ℕ → ℕ → ℕ
 minimum_of (pos nb) floor pct charges past_due = min nb (max floor (portion nb pct + charges) + past_due)
 minimum_of _ floor pct charges past_due = 0
@@ -82,6 +87,7 @@ minimum_payment a seen b p =
     (amounts_sum p.amounts + fees_sum (fees_in (present_cycle b) b.fees))
     (past_due seen seen.day (last_cycle b.cycles))
 
+-- a plan's end that lies after a day
 abbrev pub ends_after : ℕ → Option ℕ → Bool
 ends_after day None = false
 ends_after day (Some end) = nat_lt day end
@@ -96,6 +102,7 @@ unfoldable pub grace_amount : Account → Seen → Posting → ℕ
 grace_amount a seen p = at_least_zero (net_balance p.book.entries -ℤ pos (deferred_later a seen p.book))
 
 -- ---- the closed cycle
+-- the amount of a segment, none for 0
 abbrev pub nonzero : (SegmentTerms → ℕ) → SegmentTerms → Option (ℕ × ℕ)
 nonzero amount g = if amount g == 0 then None else Some (g.id, amount g)
 
@@ -103,10 +110,12 @@ nonzero amount g = if amount g == 0 then None else Some (g.id, amount g)
 abbrev pub by_segment : (SegmentTerms → ℕ) → List SegmentTerms → Amounts
 by_segment amount gs = filter_map (nonzero amount) gs
 
+-- what was owed at the closing before, 0 for the first cycle
 abbrev pub previous_of : Option Cycle → ℤ
 previous_of None = pos 0
 previous_of (Some c) = c.new_balance
 
+-- the record of the cycle that closes today. What is held is never below 0 on the lists that a desk accepts
 abbrev pub closed_cycle : Option IssuedRow → Account → Seen → Book → Posting → Cycle
 closed_cycle issued a seen b p =
     record {
@@ -125,6 +134,7 @@ closed_cycle issued a seen b p =
       entries = length p.book.entries;
     }
 
+-- a closing: interest is posted, then the cycle is recorded
 unfoldable pub close : Option IssuedRow → Account → Seen → Book → Book
 close issued a seen b =
     let p = closing_interest issued a seen b in

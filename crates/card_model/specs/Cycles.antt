@@ -56,6 +56,7 @@ pub record Seen : Type 0 where
   pub fees : List FeeRow
   pub issued : List IssuedRow
 
+-- what the fold of a day may look at, of a history, the fee rows and the issued rows
 abbrev pub seen_on : Anchor → SharedRows → List Kept → List IssuedRow → ℕ → Seen
 seen_on a shared history issued day =
     record {

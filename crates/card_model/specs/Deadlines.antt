@@ -28,9 +28,11 @@ bills_from cycle _ = false
 abbrev pub reflects : ℕ → ℕ → CorrectedPost → Bool
 reflects charge cycle p = nat_lt charge p.number && bills_from cycle p.post
 
+-- 60 days after a Bill
 abbrev pub notice_end : CorrectedPost → ℕ
 notice_end bill = bill.accepted + 60
 
+-- that of the first Bill that reflects a charge
 abbrev pub notice_end_of : Anchor → List CorrectedPost → Option CorrectedPost → Option ℕ
 notice_end_of a posts None = None
 notice_end_of a posts (Some p) = option_map notice_end (find (reflects p.number (cycle_of a p.day)) posts)
@@ -86,6 +88,7 @@ increase_of accepted _ = None
 unfoldable pub increases : List CorrectedPost → ℕ → List ℕ
 increases posts day = filter (λ d. nat_le d day) (filter_map (λ p. increase_of p.accepted p.post) posts)
 
+-- the day of a Review
 abbrev pub review_of : Post → Option ℕ
 review_of (post.Review day _) = Some day
 review_of _ = None
@@ -104,18 +107,22 @@ abbrev pub lower_by : ℕ → ℕ
 lower_by day = day + 45
 
 -- ---- open tasks
+-- an Ack of Dispute n
 abbrev pub acknowledges : ℕ → Post → Bool
 acknowledges n (post.Ack _ target) = target == n
 acknowledges n _ = false
 
+-- a Resolve of Dispute n
 abbrev pub resolves : ℕ → Post → Bool
 resolves n (post.Resolve _ target _) = target == n
 resolves n _ = false
 
+-- a Refund
 abbrev pub is_refund : Post → Bool
 is_refund (post.Refund _) = true
 is_refund _ = false
 
+-- a Lower
 abbrev pub is_lower : Post → Bool
 is_lower (post.Lower _ _ _) = true
 is_lower _ = false
@@ -128,9 +135,11 @@ has p posts = list_any (λ q. p q.post) posts
 abbrev pub has_later : (Post → Bool) → ℕ → List CorrectedPost → Bool
 has_later p n posts = list_any (λ q. nat_lt n q.number && p q.post) posts
 
+-- a task of an account
 abbrev pub task_of : List ℕ → TaskKind → ℕ → ℕ → Task
 task_of account k n by = record { by = by; account = account; kind = k; post = n }
 
+-- the last day of what is still to be done
 abbrev pub is_done : Bool → ℕ → Option ℕ
 is_done done by = if done then None else Some by
 
@@ -162,6 +171,7 @@ credit_due credit since = if nat_lt 100 credit then option_map six_months_after 
 abbrev pub tasks_of : List ℕ → TaskKind → (ℕ → Post → Option ℕ) → List CorrectedPost → List Task
 tasks_of account k due posts = filter_map (λ p. option_map (task_of account k p.number) (due p.number p.post)) posts
 
+-- a task that is no post's, where there is one
 abbrev pub task_without_post : List ℕ → TaskKind → Option ℕ → List Task
 task_without_post account k by = option_to_list (option_map (task_of account k 0) by)
 

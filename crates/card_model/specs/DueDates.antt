@@ -26,6 +26,7 @@ late_fee issued seen b c =
     let charged = penalty_fee issued seen b fee.Late c in
     if met seen c then None else charged
 
+-- the late fee is charged, and penalties end
 abbrev pub after_due_date : Option IssuedRow → Account → Seen → Book → Cycle → Book
 after_due_date issued a seen b c =
     with_penalties (map (cured_by seen b.cycles c) b.penalties) (with_fee a seen 0 (late_fee issued seen b c) b)

@@ -33,6 +33,7 @@ abbrev pub last_two_of : Account → Seen → SegmentTerms → Option ℕ
 last_two_of a seen g =
     if is_deferred_on seen.day g && nat_le (unwrap_or g.ends 0) (second_closing a seen.day) then g.ends else None
 
+-- a segment of the place, where one is named
 abbrev pub is_in_place : Option Place → SegmentTerms → Bool
 is_in_place None g = false
 is_in_place (Some p) g = is_of_place p g
@@ -49,6 +50,7 @@ holding a seen b place g =
       paid = 0;
     }
 
+-- all segments with their balances and rates of the day
 abbrev pub holdings : Account → Seen → Book → Option Place → List Holding
 holdings a seen b place = map (holding a seen b place) (all_segments a seen)
 
@@ -57,9 +59,11 @@ holdings a seen b place = map (holding a seen b place) (all_segments a seen)
 unfoldable pub payment_parts : Account → Seen → CorrectedPost → Book → List (ℕ × ℕ)
 payment_parts a seen p b = allocated (min p.cents (minimum_left seen p (last_cycle b.cycles))) p.cents (holdings a seen b None)
 
+-- the parts of a merchant's credit to a place
 unfoldable pub credit_parts : Account → Seen → CorrectedPost → Place → Book → List (ℕ × ℕ)
 credit_parts a seen p place b = placed p.cents (holdings a seen b (Some place))
 
+-- an entry below 0 for each part
 abbrev pub parts_entries : Note → List (ℕ × ℕ) → List Entry
 parts_entries note [] = []
 parts_entries note (x ∷ xs) = lowers note x.0 x.1 ++ parts_entries note xs
@@ -80,10 +84,12 @@ put_back note newest (e ∷ es) entries =
     put_back note newest es
     (entries ++ debit note (if e.segment == 0 then newest else e.segment) (size e.cents) (credit_balance entries))
 
+-- the book with the parts of a payment put back
 abbrev pub returned : Account → Seen → ℕ → ℕ → Book → Book
 returned a seen n target b =
     with_all_entries (put_back (note_of seen kind.Return n) (newest_purchase a seen) (filter (is_part_of target) b.entries) b.entries) b
 
+-- the payment with a number
 abbrev pub payment_at : ℕ → List CorrectedPost → Option CorrectedPost
 payment_at n posts = find (λ p. (p.number == n) && is_payment p.post) posts
 
@@ -92,22 +98,27 @@ abbrev pub meant_for : List Cycle → Option CorrectedPost → Option Cycle
 meant_for cycles None = None
 meant_for cycles (Some p) = if p.cents == 0 then None else last_that (λ c. nat_lt c.closing p.day) cycles
 
+-- the fee for a returned payment, where it was meant for a due date
 abbrev pub returned_fee : Option IssuedRow → Seen → Book → Option Cycle → Option Fee
 returned_fee issued seen b None = None
 returned_fee issued seen b (Some c) = penalty_fee issued seen b fee.Returned c
 
 -- ---- Dispute and Resolve (12 CFR 1026.13)
+-- the place of a charge
 abbrev pub place_charged : Post → Option Place
 place_charged (post.Charge _ place _) = Some place
 place_charged _ = None
 
+-- a charge
 abbrev pub is_charge : Post → Bool
 is_charge (post.Charge _ _ _) = true
 is_charge _ = false
 
+-- the charge with a number
 abbrev pub charge_at : ℕ → List CorrectedPost → Option CorrectedPost
 charge_at n posts = find (λ p. (p.number == n) && is_charge p.post) posts
 
+-- the segment of a place on a day
 abbrev pub place_segment : ℕ → List SegmentTerms → Option Place → ℕ
 place_segment day all None = 2
 place_segment day all (Some place) = segment_at place day all
@@ -117,10 +128,12 @@ abbrev pub charge_segment : List SegmentTerms → Option CorrectedPost → ℕ
 charge_segment all None = 2
 charge_segment all (Some p) = place_segment p.day all (place_charged p.post)
 
+-- the corrected cents of a charge, 0 where there is none
 abbrev pub corrected_cents : Option CorrectedPost → ℕ
 corrected_cents None = 0
 corrected_cents (Some p) = p.cents
 
+-- the segment of the charge with a number
 abbrev pub disputed_segment : Account → Seen → ℕ → ℕ
 disputed_segment a seen charge = charge_segment (all_segments a seen) (charge_at charge seen.posts)
 
@@ -129,6 +142,7 @@ abbrev pub disputed_cents : Account → Seen → ℕ → ℕ → Book → ℕ
 disputed_cents a seen charge claim b =
     min claim (min (corrected_cents (charge_at charge seen.posts)) (owing (disputed_segment a seen charge) b.entries))
 
+-- an entry on Held of post n
 abbrev pub is_held_by : ℕ → Entry → Bool
 is_held_by n e = (e.post == n) && (e.segment == 1) && is_kind kind.Hold e.kind
 
@@ -136,6 +150,7 @@ is_held_by n e = (e.post == n) && (e.segment == 1) && is_kind kind.Hold e.kind
 abbrev pub moved_by : ℕ → List Entry → ℕ
 moved_by n entries = at_least_zero (sum_of (is_held_by n) entries)
 
+-- the charge that a Dispute names, 0 for other posts
 abbrev pub charge_disputed : Post → ℕ
 charge_disputed (post.Dispute _ target _) = target
 charge_disputed _ = 0
@@ -153,6 +168,7 @@ penalized seen b =
     with_penalties (if sixty_days_late seen b.cycles then begun else b.penalties) b
 
 -- ---- each post
+-- what a post does to the book. Posts of the kinds that aren't named do nothing
 unfoldable pub effect : Option IssuedRow → Account → Seen → CorrectedPost → Post → Book → Book
 effect issued a seen p (post.Charge _ place _) b =
     with_entries (debit (note_of seen kind.Charge p.number) (segment_at place seen.day (all_segments a seen)) p.cents (credit_balance b.entries)) b

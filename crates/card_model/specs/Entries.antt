@@ -1,4 +1,5 @@
--- Entries, balances and debits. Cents; a plus raises what is owed.
+-- Entries, balances and debits: the ledger's own, with the credit balance of 12 CFR 1026.11(a). Cents; a plus raises what
+-- is owed.
 use Rattle.std.specs.Prelude.{ℕ, zero, suc, ◌-◌, Bool, true, false, ◌==◌, cond, min, List, [], ◌∷◌, ◌++◌, ℤ, pos, negsuc, ◌+ℤ◌, neg_ℤ, slice_set, slice_index_or, length, ◌≡◌, ◌<◌}
 use Rattle.std.specs.List.{All}
 use Rattle.card_model.specs.declared.entry.Entry.{Entry}
@@ -43,9 +44,11 @@ entry_of note s (pos zero) = []
 entry_of note s (pos (suc n)) = record { day = note.day; segment = s; kind = note.kind; post = note.post; cents = pos (suc n) } ∷ []
 entry_of note s (negsuc n) = record { day = note.day; segment = s; kind = note.kind; post = note.post; cents = negsuc n } ∷ []
 
+-- an entry that raises what is owed on a segment
 abbrev pub raises : Note → ℕ → ℕ → List Entry
 raises note s n = entry_of note s (pos n)
 
+-- an entry that lowers it
 abbrev pub lowers : Note → ℕ → ℕ → List Entry
 lowers note s n = entry_of note s (negated n)
 

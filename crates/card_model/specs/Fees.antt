@@ -10,12 +10,14 @@ use Rattle.card_model.specs.declared.fee.Fee.{Fee}
 use Rattle.card_model.specs.declared.fee.FeeKind.{FeeKind}
 use Rattle.card_model.specs.declared.fee.FeeKind.TheVariants as fee
 
+-- the kinds of two fees are the same
 abbrev pub is_fee_kind : FeeKind → FeeKind → Bool
 is_fee_kind fee.Late fee.Late = true
 is_fee_kind fee.Returned fee.Returned = true
 is_fee_kind _ _ = false
 
 -- ---- the table of amounts
+-- of two rows the one with the later day, else the later one
 abbrev pub later_row : FeeRow → Option FeeRow → FeeRow
 later_row r None = r
 later_row r (Some t) = if nat_lt t.day r.day then r else t
@@ -25,6 +27,7 @@ abbrev pub row_in_force : List FeeRow → Option FeeRow
 row_in_force [] = None
 row_in_force (r ∷ rs) = Some (later_row r (row_in_force rs))
 
+-- the amount of a tier, 0 without a row
 abbrev pub tier_amount : Option FeeRow → Bool → ℕ
 tier_amount None repeat = 0
 tier_amount (Some r) repeat = if repeat then r.repeat else r.first
@@ -34,6 +37,7 @@ tier_amount (Some r) repeat = if repeat then r.repeat else r.first
 abbrev pub was_first : FeeKind → ℕ → Fee → Bool
 was_first k cycle f = is_fee_kind k f.kind && not f.repeat && nat_le cycle (f.cycle + 6) && nat_le f.cycle cycle
 
+-- some fee was such a one, so the next is at the repeat amount
 abbrev pub is_repeat : FeeKind → ℕ → List Fee → Bool
 is_repeat k cycle fees = list_any (was_first k cycle) fees
 

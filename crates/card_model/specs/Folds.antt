@@ -1,4 +1,4 @@
--- The fold of an account, day by day.
+-- The fold of an account, day by day: the ledger's own order of what 12 CFR 1026 asks for.
 use Rattle.std.specs.Prelude.{ℕ, zero, suc, ◌+◌, ◌-◌, ◌==◌, if◌then◌else◌, slice_get, List, [], ◌∷◌, Option, Some, None}
 use Rattle.card_days.specs.Civil.{day_of_month}
 use Rattle.card_events.specs.History.{anchor_of}
@@ -36,6 +36,7 @@ abbrev pub cycle_at : ℕ → List Cycle → Option Cycle
 cycle_at zero cycles = None
 cycle_at (suc n) cycles = slice_get cycles n
 
+-- the row of a closed cycle
 abbrev pub row_of_cycle : ℕ → ℕ → ℕ → Option Cycle → List IssuedRow
 row_of_cycle cycle bill today None = []
 row_of_cycle cycle bill today (Some c) = record { cycle = cycle; bill = bill; day = today; statement = c } ∷ []

@@ -34,6 +34,7 @@ repaid_after seen entries s day due =
     size (sum_of (λ e. (e.segment == s) && is_repayment seen e && nat_lt day e.day && nat_le e.day due) entries)
 
 -- ---- what bears interest (12 CFR 1026.54(a)(1))
+-- the cycle whose number is one less
 abbrev pub cycle_before : List Cycle → Cycle → Option Cycle
 cycle_before cycles c = last_that (λ d. d.number + 1 == c.number) cycles
 
@@ -60,6 +61,7 @@ charged case.Plain seen entries s day = row entries s day
 abbrev pub days_from : Seen → ℕ → List ℕ
 days_from seen first = range_with_len first (seen.day + 1 - first)
 
+-- the balance of a segment that bears interest on a day
 abbrev pub charged_on : Seen → Book → GraceCase → SegmentTerms → ℕ → ℕ
 charged_on seen b purchase g day = charged (case_of purchase day g) seen b.entries g.id day
 

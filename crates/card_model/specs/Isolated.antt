@@ -17,13 +17,16 @@ pub record Own : Type 0 where
   pub shared : List Shared
   pub lists : Option Lists
 
+-- that of the account with a name
 abbrev pub own_of : List ℕ → State → Own
 own_of name s = record { today = s.today; shared = s.shared; lists = lists_of name s.accounts }
 
+-- a request that all accounts share
 abbrev pub is_shared : Request → Bool
 is_shared (request.Shared r) = true
 is_shared _ = false
 
+-- a request on the account with a name
 abbrev pub is_on : List ℕ → Request → Bool
 is_on name (request.Shared r) = false
 is_on name (request.Post other key p) = bytes_eq other name

@@ -21,6 +21,7 @@ use Rattle.card_model.specs.declared.fee.Fee.{Fee}
 abbrev pub posts_up_to : ℕ → SharedRows → List Kept → List CorrectedPost
 posts_up_to day shared history = filter (λ p. nat_le p.day day) (folded (anchor_of history) shared.holidays history)
 
+-- the fee rows up to a day
 abbrev pub fees_up_to : ℕ → SharedRows → List FeeRow
 fees_up_to day shared = filter (λ r. nat_le r.day day) shared.fees
 
@@ -44,6 +45,7 @@ pub record IsCycleWithin (row : IssuedRow) (c : Cycle) : Type 0 where
   pub minimum : c.minimum ≤ row.statement.minimum
   pub grace_amount : c.grace_amount ≤ row.statement.grace_amount
 
+-- a fee is at most the issued one for its due date
 abbrev pub IsFeeWithin : IssuedRow → Fee → Type 0
 IsFeeWithin row f = fee_cents f ≤ issued_fee f.due_cycle row
 
@@ -59,6 +61,7 @@ IssuedCaps =
     → IsWithin row (book history issued shared day)
 
 -- ---- issuing
+-- an accepted Bill
 abbrev pub bill_of : ℕ → List ℕ → ℕ → ℕ → Kept
 bill_of n key today cycle = record { number = n; key = key; accepted = today; post = post.Bill cycle }
 
@@ -70,6 +73,7 @@ IssuingChangesNoPastDay =
     ≡ book history issued shared x
 
 -- ---- corrections
+-- an accepted Amend
 abbrev pub amend_by : ℕ → List ℕ → ℕ → ℕ → ℕ × ℕ → Kept
 amend_by n key accepted target to = record { number = n; key = key; accepted = accepted; post = post.Amend target to.0 to.1 }
 
@@ -85,6 +89,7 @@ CorrectionBack =
 abbrev pub size_of : EntryKind → Entry → ℕ
 size_of k e = cond (is_kind k e.kind) (nat_abs e.cents) 0
 
+-- the sum of the entries of a kind, in size
 unfoldable pub total : EntryKind → List Entry → ℕ
 total k entries = sum_by (size_of k) entries
 
@@ -95,6 +100,7 @@ pub record IsBalanced (entries : List Entry) : Type 0 where
       ≡ pos (total kind.Charge entries + total kind.Interest entries + total kind.Fee entries + total kind.Refund entries + total kind.Return entries)
   pub holds : sum_of (λ e. is_kind kind.Hold e.kind) entries ≡ pos 0
 
+-- in the book of every day
 abbrev pub BalanceIdentity : Type 0
 BalanceIdentity = (history : List Kept) (issued : List IssuedRow) (shared : SharedRows) (day : ℕ) → IsBalanced (book history issued shared day).entries
 
@@ -104,5 +110,6 @@ pub record SignsHold (entries : List Entry) : Type 0 where
   pub credit : balance 0 entries ≤ℤ pos 0
   pub owing : (s : ℕ) → 2 ≤ s → pos 0 ≤ℤ balance s entries
 
+-- in the book of every day
 abbrev pub Signs : Type 0
 Signs = (history : List Kept) (issued : List IssuedRow) (shared : SharedRows) (day : ℕ) → SignsHold (book history issued shared day).entries

@@ -1,4 +1,4 @@
--- The machine of accounts: one step for each request, and whole runs.
+-- The machine of accounts, the ledger's own: one step for each request, and whole runs.
 use Rattle.std.specs.Prelude.{ℕ, ◌+◌, Bool, true, false, ◌&&◌, ◌||◌, not, nat_le, nat_lt, if◌then◌else◌, is_some, List, [], ◌∷◌, ◌++◌, length, Option, Some, None}
 use Rattle.std.specs.Str.{bytes_eq}
 use Rattle.card_events.specs.History.{at_number}
@@ -58,6 +58,7 @@ pub data Outcome : Type 0 where
 abbrev pub kept_as : ℕ → List ℕ → ℕ → Post → Kept
 kept_as n key today p = record { number = n; key = key; accepted = today; post = p }
 
+-- the number of the next post
 abbrev pub next_number : Present → ℕ
 next_number now = length now.lists.posts + 1
 
@@ -74,14 +75,17 @@ accepted now key p =
       issued = now.lists.issued ++ issues now p;
     }
 
+-- a post that has a reason against it is refused, else it is accepted
 abbrev pub judged : Present → List ℕ → Post → Option Refusal → Outcome
 judged now key p (Some r) = Refuses r
 judged now key p None = Accepts (accepted now key p)
 
+-- an Open
 abbrev pub is_open : Post → Bool
 is_open (post.Open _ _) = true
 is_open _ = false
 
+-- a post with the content of the one that is there
 abbrev pub is_repeat_of : Post → Option Kept → Bool
 is_repeat_of p None = false
 is_repeat_of p (Some k) = is_same_post p k.post
@@ -93,6 +97,7 @@ at_key now key p None =
     let new = judged now key p (reason_against now p) in
     if is_open p then Refuses refusal.AccountExists else new
 
+-- an Open begins an account where nothing is against it
 abbrev pub opened : List ℕ → ℕ → Post → Option Refusal → Outcome
 opened key today p (Some r) = Refuses r
 opened key today p None = Accepts (record { posts = kept_as 1 key today p ∷ []; issued = [] })
@@ -105,11 +110,13 @@ outcome today rows accounts key p None =
 outcome today rows accounts key p (Some lists) =
     at_key (record { today = today; shared = shared_rows rows; lists = lists }) key p (with_key key lists.posts)
 
+-- the reply to an outcome
 abbrev pub reply_to : Outcome → Reply
 reply_to (Refuses r) = reply.Refused r
 reply_to (Repeats n) = reply.Accepted n
 reply_to (Accepts new) = reply.Accepted (length new.posts)
 
+-- the accounts after an outcome on one of them
 abbrev pub accounts_after : List ℕ → Outcome → List NamedAccount → List NamedAccount
 accounts_after name (Accepts new) accounts = with_lists name new accounts
 accounts_after name _ accounts = accounts
@@ -125,21 +132,26 @@ shared_reason today any (shared.FeeRow day first repeat) =
     where_true (nat_lt 100000 first || nat_lt 100000 repeat || nat_lt repeat first) refusal.AmountRange
     ∷ where_true (nat_le day today) (refusal.PastRow today) ∷ [])
 
+-- today after a shared request
 abbrev pub rolled : ℕ → Shared → ℕ
 rolled today (shared.Roll day) = day
 rolled today _ = today
 
+-- a shared request is refused, or kept in order
 abbrev pub with_shared : State → Shared → Option Refusal → State × Reply
 with_shared s r (Some e) = (s, reply.Refused e)
 with_shared s r None = (record { today = rolled s.today r; shared = s.shared ++ r ∷ []; accounts = s.accounts }, reply.Done)
 
+-- some account exists
 abbrev pub has_accounts : State → Bool
 has_accounts s = nat_lt 0 (length s.accounts)
 
 -- ---- steps and runs
+-- the outcome of a post in a state
 abbrev pub outcome_in : State → List ℕ → List ℕ → Post → Outcome
 outcome_in s name key p = outcome s.today s.shared (length s.accounts) key p (lists_of name s.accounts)
 
+-- the state after an outcome, and the reply to it
 abbrev pub with_outcome : State → List ℕ → Outcome → State × Reply
 with_outcome s name o = (record { today = s.today; shared = s.shared; accounts = accounts_after name o s.accounts }, reply_to o)
 
@@ -153,16 +165,20 @@ unfoldable pub run_from : State → List Request → State
 run_from s [] = s
 run_from s (r ∷ rs) = run_from (step s r).0 rs
 
+-- the replies to requests, each in the state that those before it left
 unfoldable pub replies_from : State → List Request → List Reply
 replies_from s [] = []
 replies_from s (r ∷ rs) = (step s r).1 ∷ replies_from (step s r).0 rs
 
+-- the state after all requests
 abbrev pub run : List Request → State
 run rs = run_from start rs
 
+-- the replies to all requests
 abbrev pub replies : List Request → List Reply
 replies rs = replies_from start rs
 
+-- an outcome that is neither a refusal nor a repeat
 abbrev pub accepts : Outcome → Bool
 accepts (Accepts new) = true
 accepts _ = false

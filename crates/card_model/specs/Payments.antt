@@ -7,10 +7,12 @@ use Rattle.card_events.specs.declared.post.Post.{Post}
 use Rattle.card_events.specs.declared.post.Post.TheVariants as post
 use Rattle.card_model.specs.Cycles.{Cycle, IssuedRow, Seen}
 
+-- a payment
 abbrev pub is_payment : Post → Bool
 is_payment (post.Payment _ _ _ _) = true
 is_payment _ = false
 
+-- a merchant's credit
 abbrev pub is_credit : Post → Bool
 is_credit (post.Credit _ _ _) = true
 is_credit _ = false
@@ -77,6 +79,7 @@ abbrev pub owes_sixty_days : Seen → Cycle → Bool
 owes_sixty_days seen c =
     nat_lt (c.due + 60) seen.day && has_due_payment seen.issued c && nat_lt (counted seen.posts (c.closing + 1) seen.day) c.minimum
 
+-- some statement is sixty days late today
 unfoldable pub sixty_days_late : Seen → List Cycle → Bool
 sixty_days_late seen cycles = list_any (owes_sixty_days seen) cycles
 

@@ -20,10 +20,12 @@ pub record Lowering : Type 0 where
   pub day : ℕ
   pub rate : ℕ
 
+-- what a Lower caps
 abbrev pub lowering_of : Post → Option Lowering
 lowering_of (post.Lower day c rate) = Some (record { sort = sort_of_category c; day = day; rate = rate })
 lowering_of _ = None
 
+-- all Lowers
 unfoldable pub lowerings : List CorrectedPost → List Lowering
 lowerings posts = filter_map (λ p. lowering_of p.post) posts
 
@@ -40,10 +42,12 @@ capped lowers s day b = fold (lowered_by s b.from day) b.rate lowers
 abbrev pub bears_in : ℕ → Sort → ℕ → SegmentTerms → Bool
 bears_in day s id v = is_sort s v.sort && nat_le v.id id && nat_le v.begins day && nat_le v.effective day
 
+-- the rate of a vintage, begun on its effective day
 abbrev pub begun_of : Option SegmentTerms → Begun
 begun_of None = record { rate = 0; from = 0 }
 begun_of (Some v) = record { rate = v.rate; from = v.effective }
 
+-- the day after a plan's end
 abbrev pub after_end : Option ℕ → ℕ
 after_end None = 0
 after_end (Some end) = end + 1
@@ -57,13 +61,16 @@ abbrev pub bears_as : SegmentTerms → Sort
 bears_as g = if is_plan g then sort.Purchase else g.sort
 
 -- ---- penalties
+-- a penalty without an end, or with a last day from this one on
 abbrev pub lasts : ℕ → Option ℕ → Bool
 lasts day None = true
 lasts day (Some last) = nat_le day last
 
+-- a penalty that has begun and lasts
 abbrev pub in_force : ℕ → Interval → Bool
 in_force day i = nat_le i.begins day && lasts day i.last
 
+-- the first day of a penalty in force
 abbrev pub start_of : ℕ → Interval → Option ℕ
 start_of day i = if in_force day i then Some i.begins else None
 

@@ -1,4 +1,5 @@
--- Why a post isn't accepted: the first reason in order, with its value.
+-- Why a post isn't accepted: the first reason in order, with its value. Those from 12 CFR 1026.9, .13 and .55 name their
+-- sections; the rest are the ledger's own.
 use Rattle.std.specs.Prelude.{ℕ, suc, ◌+◌, Bool, true, false, ◌&&◌, ◌||◌, not, ◌==◌, nat_le, nat_lt, if◌then◌else◌, max, List, [], ◌∷◌, length, Option, Some, None, pos}
 use Rattle.std.specs.List.{count_by, filter, filter_map, list_any, reduce}
 use Rattle.std.specs.Option.{option_map, option_map_or, option_or}
@@ -35,6 +36,7 @@ pub record Present : Type 0 where
   pub shared : SharedRows
   pub lists : Lists
 
+-- the account's opening day and closing day
 abbrev pub anchor_now : Present → Anchor
 anchor_now now = anchor_of now.lists.posts
 
@@ -50,17 +52,21 @@ corrected_now now = corrected (anchor_now now) now.shared.holidays now.lists.pos
 abbrev pub seen_today : Present → Seen
 seen_today now = seen_on (anchor_now now) now.shared now.lists.posts now.lists.issued now.today
 
+-- the book at the end of today, interest of a closing included
 unfoldable pub book_today : Present → Book
 book_today now = book now.lists.posts now.lists.issued now.shared now.today
 
 -- ---- reasons in order
+-- the first of these that stands
 abbrev pub first_reason : List (Option Refusal) → Option Refusal
 first_reason [] = None
 first_reason (r ∷ rs) = option_or r (first_reason rs)
 
+-- a reason where a condition holds
 abbrev pub where_true : Bool → Refusal → Option Refusal
 where_true b r = if b then Some r else None
 
+-- there is one, and it passes
 abbrev pub holds_of : {A : Type 0} → (A → Bool) → Option A → Bool
 holds_of p o = option_map_or p o false
 
@@ -69,10 +75,12 @@ unfoldable pub number_from : (Post → Bool) → ℕ → List Kept → Option �
 number_from p n [] = None
 number_from p n (k ∷ ks) = let later = number_from p (suc n) ks in if p k.post then Some n else later
 
+-- the number of the first post of the account that passes
 abbrev pub number_that : (Post → Bool) → Present → Option ℕ
 number_that p now = number_from p 1 now.lists.posts
 
 -- ---- BadTerms: the first term that is out of its range
+-- the terms of an Open in their order, from the closing day on
 abbrev pub bad_terms : Post → Option Refusal
 bad_terms (post.Open _ t) =
     first_reason (
@@ -86,6 +94,7 @@ bad_terms (post.Open _ t) =
 bad_terms _ = None
 
 -- ---- AmountRange
+-- 0 cents, or above 10^9
 abbrev pub is_no_amount : ℕ → Bool
 is_no_amount cents = (cents == 0) || nat_lt 1000000000 cents
 
@@ -97,6 +106,7 @@ is_above_claim cents k = at k.post
     at (post.Dispute _ _ claim) = nat_lt claim cents
     at _ = false
 
+-- an amount, a rate, a minute or a cycle that is out of its range
 unfoldable pub is_out_of_range : Present → Post → Bool
 is_out_of_range now (post.Charge _ _ cents) = is_no_amount cents
 is_out_of_range now (post.Credit _ _ cents) = is_no_amount cents
@@ -111,6 +121,7 @@ is_out_of_range now (post.Lower _ _ rate) = nat_lt 9999 rate
 is_out_of_range now (post.Bill cycle) = (cycle == 0) || nat_lt 47481 (closing (anchor_now now) cycle)
 is_out_of_range now _ = false
 
+-- an amount, a rate, a minute or a cycle is out of its range
 abbrev pub amount_range : Present → Post → Option Refusal
 amount_range now p = where_true (is_out_of_range now p) refusal.AmountRange
 
@@ -135,13 +146,16 @@ own_day (post.Refund _) = None
 own_day (post.Amend _ day _) = Some day
 own_day (post.Bill _) = None
 
+-- the post's own day is after today
 abbrev pub day_ahead : ℕ → Post → Option Refusal
 day_ahead today p = where_true (holds_of (λ d. nat_lt today d) (own_day p)) refusal.DayAhead
 
+-- the post's own day is before the opening day
 abbrev pub day_before_open : Present → Post → Option Refusal
 day_before_open now p = where_true (holds_of (λ d. nat_lt d (anchor_now now).opened) (own_day p)) refusal.DayBeforeOpen
 
 -- ---- UnknownPlan, OutsidePlan
+-- the first and the last day of a Plan
 abbrev pub plan_days : Post → Option (ℕ × ℕ)
 plan_days (post.Plan day _ _ end _) = Some (day, end)
 plan_days _ = None
@@ -154,22 +168,27 @@ plan_at now n = at (named now n)
     at None = None
     at (Some k) = plan_days k.post
 
+-- no Plan is there
 abbrev pub is_no_plan : Option (ℕ × ℕ) → Bool
 is_no_plan None = true
 is_no_plan (Some days) = false
 
+-- a day outside a plan, where one is there
 abbrev pub is_outside : ℕ → Option (ℕ × ℕ) → Bool
 is_outside day None = false
 is_outside day (Some days) = nat_lt day days.0 || nat_lt days.1 day
 
+-- a place that names a number which is no Plan's
 abbrev pub names_no_plan : Present → Place → Bool
 names_no_plan now (place.Plan n) = is_no_plan (plan_at now n)
 names_no_plan now _ = false
 
+-- a day outside the plan that a place names
 abbrev pub is_outside_place : Present → ℕ → Place → Bool
 is_outside_place now day (place.Plan n) = is_outside day (plan_at now n)
 is_outside_place now day _ = false
 
+-- a charge or a credit on a number that is no Plan's
 unfoldable pub unknown_plan : Present → Post → Option Refusal
 unknown_plan now (post.Charge _ p _) = where_true (names_no_plan now p) refusal.UnknownPlan
 unknown_plan now (post.Credit _ p _) = where_true (names_no_plan now p) refusal.UnknownPlan
@@ -180,6 +199,7 @@ abbrev pub place_of : Option Kept → Option Place
 place_of None = None
 place_of (Some k) = place_charged k.post
 
+-- a charge on a plan, or an Amend of one, on a day outside it
 unfoldable pub outside_plan : Present → Post → Option Refusal
 outside_plan now (post.Charge day p _) = where_true (is_outside_place now day p) refusal.OutsidePlan
 outside_plan now (post.Amend target day _) = where_true (holds_of (is_outside_place now day) (place_of (named now target))) refusal.OutsidePlan
@@ -190,11 +210,12 @@ outside_plan now _ = None
 abbrev pub closing_on : Present → ℕ → ℕ
 closing_on now day = next_on (anchor_now now).close_day (max day (anchor_now now).opened)
 
+-- a plan's end that is no closing
 unfoldable pub plan_end_not_closing : Present → Post → Option Refusal
 plan_end_not_closing now (post.Plan _ _ _ end _) = where_true (not (closing_on now end == end)) (refusal.PlanEndNotClosing (closing_on now end))
 plan_end_not_closing now _ = None
 
--- (12 CFR 1026.55(b)(1))
+-- a plan that ends before six months are over (12 CFR 1026.55(b)(1))
 unfoldable pub plan_too_short : Post → Option Refusal
 plan_too_short (post.Plan day _ _ end _) = where_true (nat_lt end (six_months_after day)) refusal.PlanTooShort
 plan_too_short _ = None
@@ -216,9 +237,11 @@ fits_target (post.Amend _ _ _) (post.Credit _ _ _) = true
 fits_target (post.Amend _ _ _) (post.Payment _ _ _ _) = true
 fits_target _ _ = false
 
+-- a target that is no post of the kind wanted
 abbrev pub wrong_target : Present → Post → ℕ → Option Refusal
 wrong_target now p target = where_true (not (holds_of (λ k. fits_target p k.post) (named now target))) (refusal.WrongEntry target)
 
+-- a Bill of a cycle
 abbrev pub bills : ℕ → Post → Bool
 bills cycle (post.Bill c) = c == cycle
 bills cycle _ = false
@@ -234,17 +257,18 @@ wrong_entry now (post.Bill cycle) = option_map (λ n. refusal.WrongEntry n) (num
 wrong_entry now _ = None
 
 -- ---- AlreadyReturned
+-- an earlier Return names the payment
 unfoldable pub already_returned : Present → Post → Option Refusal
 already_returned now (post.Return _ target) = option_map (λ n. refusal.AlreadyReturned n) (number_that (returns target) now)
 already_returned now _ = None
 
 -- ---- NoticeTooShort, FirstYear, NoticePending
--- (12 CFR 1026.9(c)(2)(i))
+-- a Notice that takes effect in less than 45 days (12 CFR 1026.9(c)(2)(i))
 abbrev pub notice_too_short : Post → Option Refusal
 notice_too_short (post.Notice day _ _ effective) = where_true (nat_lt effective (day + 45)) (refusal.NoticeTooShort (day + 45))
 notice_too_short _ = None
 
--- (12 CFR 1026.55(b)(3)(iii))
+-- a Notice that takes effect in the account's first year (12 CFR 1026.55(b)(3)(iii))
 unfoldable pub first_year : Present → Post → Option Refusal
 first_year now (post.Notice _ _ _ effective) =
     where_true (nat_lt effective (year_after (anchor_now now).opened)) (refusal.FirstYear (year_after (anchor_now now).opened))
@@ -259,16 +283,19 @@ effective_of c _ = None
 abbrev pub pending_day : Present → Category → ℕ → Option ℕ
 pending_day now c day = reduce max (filter (λ d. nat_lt day d) (filter_map (λ k. effective_of c k.post) now.lists.posts))
 
+-- a Notice of the category takes effect after this one's day
 unfoldable pub notice_pending : Present → Post → Option Refusal
 notice_pending now (post.Notice day c _ _) = option_map (λ d. refusal.NoticePending d) (pending_day now c day)
 notice_pending now _ = None
 
 -- ---- NotDelinquent (12 CFR 1026.55(b)(4))
+-- a Penalty where the account isn't sixty days late today
 unfoldable pub not_delinquent : Present → Post → Option Refusal
 not_delinquent now post.Penalty = where_true (not (sixty_days_late (seen_today now) (book_today now).cycles)) refusal.NotDelinquent
 not_delinquent now _ = None
 
 -- ---- DisputeLate (12 CFR 1026.13(b)(1)), DisputeKnown, NoOpenDispute
+-- a Dispute after the last day for one
 unfoldable pub dispute_late : Present → Post → Option Refusal
 dispute_late now (post.Dispute day target _) = at (last_notice_day (anchor_now now) (corrected_now now) target)
   where
@@ -277,30 +304,36 @@ dispute_late now (post.Dispute day target _) = at (last_notice_day (anchor_now n
     at (Some last) = where_true (nat_lt last day) (refusal.DisputeLate last)
 dispute_late now _ = None
 
+-- an earlier Dispute names the charge
 unfoldable pub dispute_known : Present → Post → Option Refusal
 dispute_known now (post.Dispute _ target _) = option_map (λ n. refusal.DisputeKnown n) (number_that (disputes target) now)
 dispute_known now _ = None
 
+-- a Resolve names the Dispute
 abbrev pub is_resolved : Present → ℕ → Bool
 is_resolved now n = list_any (λ k. resolves n k.post) now.lists.posts
 
+-- an Ack or a Resolve of a resolved Dispute
 unfoldable pub no_open_dispute : Present → Post → Option Refusal
 no_open_dispute now (post.Ack _ target) = where_true (is_resolved now target) refusal.NoOpenDispute
 no_open_dispute now (post.Resolve _ target _) = where_true (is_resolved now target) refusal.NoOpenDispute
 no_open_dispute now _ = None
 
 -- ---- NotClosed, RefundTooLarge, NothingToReview, AccountFull
+-- a Bill of a cycle that isn't closed before today
 unfoldable pub not_closed : Present → Post → Option Refusal
 not_closed now (post.Bill cycle) =
     where_true (nat_le now.today (closing (anchor_now now) cycle)) (refusal.NotClosed (closing (anchor_now now) cycle))
 not_closed now _ = None
 
+-- a Refund above the credit balance of today
 unfoldable pub refund_too_large : Present → Post → Option Refusal
 refund_too_large now (post.Refund cents) =
     let credit = credit_balance (book_today now).entries in
     where_true (nat_lt credit cents) (refusal.RefundTooLarge (pos credit))
 refund_too_large now _ = None
 
+-- no days
 abbrev pub is_empty : List ℕ → Bool
 is_empty days = length days == 0
 
@@ -309,6 +342,7 @@ unfoldable pub nothing_to_review : Present → Post → Option Refusal
 nothing_to_review now (post.Review day _) = where_true (is_empty (increases (corrected_now now) day)) refusal.NothingToReview
 nothing_to_review now _ = None
 
+-- the account has 10,000 posts
 abbrev pub account_full : Present → Option Refusal
 account_full now = where_true (nat_le 10000 (length now.lists.posts)) refusal.AccountFull
 
@@ -322,6 +356,7 @@ reasons now p =
     ∷ dispute_late now p ∷ dispute_known now p ∷ no_open_dispute now p ∷ not_closed now p
     ∷ refund_too_large now p ∷ nothing_to_review now p ∷ account_full now ∷ []
 
+-- the first reason against it, none where it is accepted
 unfoldable pub reason_against : Present → Post → Option Refusal
 reason_against now p = first_reason (reasons now p)
 

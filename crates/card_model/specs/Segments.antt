@@ -40,14 +40,17 @@ is_sort sort.Promo sort.Promo = true
 is_sort sort.Deferred sort.Deferred = true
 is_sort _ _ = false
 
+-- a plan, of either kind
 abbrev pub is_plan : SegmentTerms → Bool
 is_plan g = is_sort sort.Promo g.sort || is_sort sort.Deferred g.sort
 
+-- the sort of a category's vintages
 abbrev pub sort_of_category : Category → Sort
 sort_of_category category.Purchase = sort.Purchase
 sort_of_category category.Cash = sort.Cash
 sort_of_category category.Transfer = sort.Transfer
 
+-- the sort of a plan's segment
 abbrev pub sort_of_plan : PlanKind → Sort
 sort_of_plan plan.Promo = sort.Promo
 sort_of_plan plan.Deferred = sort.Deferred
@@ -57,6 +60,7 @@ abbrev pub opening_vintage : ℕ → Sort → ℕ → ℕ → SegmentTerms
 opening_vintage id s opened rate =
     record { id = id; sort = s; post = 1; begins = opened; ends = None; rate = rate; effective = opened; after = 0 }
 
+-- segments 2, 3 and 4, at the rates of the terms
 abbrev pub opening_vintages : ℕ → Terms → List SegmentTerms
 opening_vintages opened terms =
     opening_vintage 2 sort.Purchase opened terms.purchase ∷ opening_vintage 3 sort.Cash opened terms.cash

@@ -3,6 +3,7 @@ ghost use Rattle.card_model.specs.Accepted.{RunsAreAccepted};
 ghost use Rattle.card_model.specs.CycleDays.{CyclesAreOfTheCalendar};
 ghost use Rattle.card_model.specs.Isolated.{Isolation};
 ghost use Rattle.card_model.specs.Laws.{BalanceIdentity, CorrectionBack, IssuedCaps, IssuingChangesNoPastDay, PastIsEnough, Signs};
+ghost use Rattle.card_model.specs.QuietDays.{QuietDaysChangeNothing};
 
 /// The book of a day depends on the corrected posts and the fee rows up to that day alone.
 pub fn past_is_enough()
@@ -51,4 +52,9 @@ pub fn isolation()
 /// first day, closing and due date.
 pub fn cycles_are_of_the_calendar()
     ensures { CyclesAreOfTheCalendar }
+{}
+
+/// A day that is no break day leaves the book of the day before as it was.
+pub fn quiet_days_change_nothing()
+    ensures { QuietDaysChangeNothing }
 {}

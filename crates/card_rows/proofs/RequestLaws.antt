@@ -10,7 +10,7 @@ use Rattle.card_events.specs.declared.request.Shared.{Shared}
 use Rattle.card_events.specs.declared.request.Shared.TheVariants as shared
 use Rattle.card_rows.specs.Held.{is_day, is_number, is_place, are_terms, is_post, is_shared, is_request}
 use Rattle.card_rows.specs.Spelling.{name_bytes, post_code, post_bytes, shared_code, shared_bytes, spelling, IsSpelling}
-use Rattle.card_rows.specs.Reading.{read_name, read_post, read_shared, read_for_all, read_posted, read_coded, read_format, read_request, whole, request_in}
+use Rattle.card_rows.specs.Reading.{read_byte, read_name, read_post, read_shared, read_for_all, read_posted, read_coded, read_format, read_request, whole, request_in}
 use Rattle.card_rows.proofs.ReadingLemmas.{Spells, IsCut, some_then, some_if, both, parts, joined, some_at}
 use Rattle.card_rows.proofs.FieldLaws.{name_sound, name_complete}
 use Rattle.card_rows.proofs.KindLaws.{IsPostAt, IsSharedAt, post_sound, post_complete, shared_sound, shared_complete}
@@ -51,24 +51,31 @@ coded_sound code bs = some_if (IsRequestAt code bs) (nat_lt code 4) _ _ (λ _. f
 abbrev IsRequestOf : List ℕ → Request × List ℕ → Type 0
 IsRequestOf bs x = IsCut bs (spelling x.0) x.1 × (is_request x.0 ≡ true)
 
-request_of_at : (format code : ℕ) (bs : List ℕ) (x : Request × List ℕ) → format ≡ 1 → IsRequestAt code bs x → IsRequestOf (format ∷ code ∷ bs) x
-request_of_at format code bs x one is = (record { parts = ap (λ n. n ∷ code ∷ bs) one ∙ is.0.parts }, is.1)
-
 some_of_all : {A : Type 0} (P Q : A → Type 0) (o : Option A) → ((x : A) → P x → Q x) → IfSome o P → IfSome o Q
 some_of_all P Q None h is = tt
 some_of_all P Q (Some x) h is = h x is
 
-format_sound : (format : ℕ) (bs : List ℕ) → IfSome (read_format format bs) (IsRequestOf (format ∷ bs))
+-- the format and the code, and then the rest
+abbrev IsCodeOf : List ℕ → ℕ × List ℕ → Type 0
+IsCodeOf bs x = bs ≡ 1 ∷ x.0 ∷ x.1
+
+code_sound : (format : ℕ) (bs : List ℕ) → format ≡ 1 → IfSome (read_byte bs) (IsCodeOf (format ∷ bs))
+code_sound format [] one = tt
+code_sound format (code ∷ bs) one = ap (λ n. n ∷ code ∷ bs) one
+
+format_sound : (bs : List ℕ) → IfSome (read_format bs) (IsCodeOf bs)
 unfolding read_format
-format_sound format [] = tt
-format_sound format (code ∷ bs) =
-    some_at (IsRequestOf (format ∷ code ∷ bs)) format 1 (read_coded code bs) None (λ one.
-    some_of_all (IsRequestAt code bs) (IsRequestOf (format ∷ code ∷ bs)) (read_coded code bs) (λ x is. request_of_at format code bs x one is) (coded_sound code bs)) tt
+format_sound [] = tt
+format_sound (format ∷ bs) = some_at (IsCodeOf (format ∷ bs)) format 1 (read_byte bs) None (λ one. code_sound format bs one) tt
+
+request_cut : (bs : List ℕ) (code : ℕ × List ℕ) (x : Request × List ℕ) → IsCodeOf bs code → IsRequestAt code.0 code.1 x → IsRequestOf bs x
+request_cut bs code x front is = (record { parts = front ∙ is.0.parts }, is.1)
 
 pub request_sound : (bs : List ℕ) → IfSome (read_request bs) (IsRequestOf bs)
 unfolding read_request
-request_sound [] = tt
-request_sound (format ∷ bs) = format_sound format bs
+request_sound bs =
+    some_then (IsCodeOf bs) (IsRequestOf bs) (read_format bs) _ (format_sound bs) (λ code front.
+    some_of_all (IsRequestAt code.0 code.1) (IsRequestOf bs) (read_coded code.0 code.1) (λ x is. request_cut bs code x front is) (coded_sound code.0 code.1))
 
 -- ---- a spelling is read
 

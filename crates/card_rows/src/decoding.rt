@@ -1,6 +1,6 @@
 // Reading a kept row.
 ghost use Rattle.std.specs.Prelude.{◌≡◌, IfOk};
-ghost use Rattle.card_rows.specs.Reading.{Gives, request_in};
+ghost use Rattle.card_rows.specs.Reading.{Gives, GivesSome, request_in};
 ghost use Rattle.card_rows.specs.Reading as spec;
 
 use crate::fault::RowFault;
@@ -32,35 +32,46 @@ fn whole(request: Request, rest: &[u8]) -> Option<Request>
     }
 }
 
-#[tactic(auto, unfolding(crate::specs::Reading::read_request, crate::specs::Reading::read_format))]
+#[tactic(auto, unfolding(crate::specs::Reading::read_request))]
 fn read_request(alloc: Global, rest: &mut &[u8]) -> Result<Request, RowFault>
     ensures { Gives result rest.new.now (spec.read_request rest.old.now) }
 {
-    let format = read_byte(rest)?;
-    let code = read_byte(rest)?;
-    if format != 1 {
-        return Err(RowFault::NoSpelling);
+    match read_format(rest) {
+        None => Err(RowFault::NoSpelling),
+        Some(code) => read_coded(alloc, code, rest),
     }
-    read_coded(alloc, code, rest)
+}
+
+#[tactic(auto, unfolding(crate::specs::Reading::read_format))]
+fn read_format(rest: &mut &[u8]) -> Option<u8>
+    ensures { GivesSome result rest.new.now (spec.read_format rest.old.now) }
+{
+    let format = read_byte(rest)?;
+    if format != 1 {
+        return None;
+    }
+    read_byte(rest)
 }
 
 #[tactic(auto, unfolding(crate::specs::Reading::read_coded))]
 fn read_coded(alloc: Global, code: u8, rest: &mut &[u8]) -> Result<Request, RowFault>
     ensures { Gives result rest.new.now (spec.read_coded code rest.old.now) }
 {
-    if code < 4 {
-        read_for_all(code, rest)
-    } else {
-        read_posted(alloc, code, rest)
+    if code >= 4 {
+        return read_posted(alloc, code, rest);
+    }
+    match read_for_all(code, rest) {
+        None => Err(RowFault::NoSpelling),
+        Some(request) => Ok(request),
     }
 }
 
 #[tactic(auto, unfolding(crate::specs::Reading::read_for_all))]
-fn read_for_all(code: u8, rest: &mut &[u8]) -> Result<Request, RowFault>
-    ensures { Gives result rest.new.now (spec.read_for_all code rest.old.now) }
+fn read_for_all(code: u8, rest: &mut &[u8]) -> Option<Request>
+    ensures { GivesSome result rest.new.now (spec.read_for_all code rest.old.now) }
 {
     let shared = read_shared(code, rest)?;
-    Ok(Request::Shared(shared))
+    Some(Request::Shared(shared))
 }
 
 #[tactic(auto, unfolding(crate::specs::Reading::read_posted))]
@@ -69,6 +80,8 @@ fn read_posted(alloc: Global, code: u8, rest: &mut &[u8]) -> Result<Request, Row
 {
     let account = read_name(alloc, rest)?;
     let key = read_name(alloc, rest)?;
-    let post = read_post(code, rest)?;
-    Ok(Request::Post { account, key, post })
+    match read_post(code, rest) {
+        None => Err(RowFault::NoSpelling),
+        Some(post) => Ok(Request::Post { account, key, post }),
+    }
 }

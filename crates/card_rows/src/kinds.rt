@@ -1,8 +1,7 @@
 // The fields of each kind of request, read from a row.
-ghost use Rattle.card_rows.specs.Reading.{Gives};
+ghost use Rattle.card_rows.specs.Reading.{GivesSome};
 ghost use Rattle.card_rows.specs.Reading as spec;
 
-use crate::fault::RowFault;
 use crate::fields::{
     read_category, read_channel, read_day, read_finding, read_number, read_place, read_plan_kind,
 };
@@ -10,8 +9,8 @@ use card_events::{Post, Shared, Terms};
 
 /// The post with this code.
 #[tactic(auto, unfolding(crate::specs::Reading::read_post))]
-pub fn read_post(code: u8, rest: &mut &[u8]) -> Result<Post, RowFault>
-    ensures { Gives result rest.new.now (spec.read_post code rest.old.now) }
+pub fn read_post(code: u8, rest: &mut &[u8]) -> Option<Post>
+    ensures { GivesSome result rest.new.now (spec.read_post code rest.old.now) }
 {
     match code {
         4 => read_open(rest),
@@ -31,26 +30,26 @@ pub fn read_post(code: u8, rest: &mut &[u8]) -> Result<Post, RowFault>
         18 => read_refund(rest),
         19 => read_amend(rest),
         20 => read_bill(rest),
-        _ => Err(RowFault::NoSpelling),
+        _ => None,
     }
 }
 
 /// The shared request with this code.
 #[tactic(auto, unfolding(crate::specs::Reading::read_shared))]
-pub fn read_shared(code: u8, rest: &mut &[u8]) -> Result<Shared, RowFault>
-    ensures { Gives result rest.new.now (spec.read_shared code rest.old.now) }
+pub fn read_shared(code: u8, rest: &mut &[u8]) -> Option<Shared>
+    ensures { GivesSome result rest.new.now (spec.read_shared code rest.old.now) }
 {
     match code {
         1 => read_roll(rest),
         2 => read_holiday(rest),
         3 => read_fee_row(rest),
-        _ => Err(RowFault::NoSpelling),
+        _ => None,
     }
 }
 
 #[tactic(auto, unfolding(crate::specs::Reading::read_terms))]
-fn read_terms(rest: &mut &[u8]) -> Result<Terms, RowFault>
-    ensures { Gives result rest.new.now (spec.read_terms rest.old.now) }
+fn read_terms(rest: &mut &[u8]) -> Option<Terms>
+    ensures { GivesSome result rest.new.now (spec.read_terms rest.old.now) }
 {
     let close = read_number(rest)?;
     let purchase = read_number(rest)?;
@@ -68,47 +67,47 @@ fn read_terms(rest: &mut &[u8]) -> Result<Terms, RowFault>
         floor,
         pct,
     };
-    Ok(terms)
+    Some(terms)
 }
 
 #[tactic(auto, unfolding(crate::specs::Reading::read_open))]
-fn read_open(rest: &mut &[u8]) -> Result<Post, RowFault>
-    ensures { Gives result rest.new.now (spec.read_open rest.old.now) }
+fn read_open(rest: &mut &[u8]) -> Option<Post>
+    ensures { GivesSome result rest.new.now (spec.read_open rest.old.now) }
 {
     let day = read_day(rest)?;
     let terms = read_terms(rest)?;
-    Ok(Post::Open { day, terms })
+    Some(Post::Open { day, terms })
 }
 
 #[tactic(auto, unfolding(crate::specs::Reading::read_charge))]
-fn read_charge(rest: &mut &[u8]) -> Result<Post, RowFault>
-    ensures { Gives result rest.new.now (spec.read_charge rest.old.now) }
+fn read_charge(rest: &mut &[u8]) -> Option<Post>
+    ensures { GivesSome result rest.new.now (spec.read_charge rest.old.now) }
 {
     let day = read_day(rest)?;
     let place = read_place(rest)?;
     let cents = read_number(rest)?;
-    Ok(Post::Charge { day, place, cents })
+    Some(Post::Charge { day, place, cents })
 }
 
 #[tactic(auto, unfolding(crate::specs::Reading::read_credit))]
-fn read_credit(rest: &mut &[u8]) -> Result<Post, RowFault>
-    ensures { Gives result rest.new.now (spec.read_credit rest.old.now) }
+fn read_credit(rest: &mut &[u8]) -> Option<Post>
+    ensures { GivesSome result rest.new.now (spec.read_credit rest.old.now) }
 {
     let day = read_day(rest)?;
     let place = read_place(rest)?;
     let cents = read_number(rest)?;
-    Ok(Post::Credit { day, place, cents })
+    Some(Post::Credit { day, place, cents })
 }
 
 #[tactic(auto, unfolding(crate::specs::Reading::read_payment))]
-fn read_payment(rest: &mut &[u8]) -> Result<Post, RowFault>
-    ensures { Gives result rest.new.now (spec.read_payment rest.old.now) }
+fn read_payment(rest: &mut &[u8]) -> Option<Post>
+    ensures { GivesSome result rest.new.now (spec.read_payment rest.old.now) }
 {
     let day = read_day(rest)?;
     let minute = read_number(rest)?;
     let channel = read_channel(rest)?;
     let cents = read_number(rest)?;
-    Ok(Post::Payment {
+    Some(Post::Payment {
         day,
         minute,
         channel,
@@ -117,24 +116,24 @@ fn read_payment(rest: &mut &[u8]) -> Result<Post, RowFault>
 }
 
 #[tactic(auto, unfolding(crate::specs::Reading::read_return))]
-fn read_return(rest: &mut &[u8]) -> Result<Post, RowFault>
-    ensures { Gives result rest.new.now (spec.read_return rest.old.now) }
+fn read_return(rest: &mut &[u8]) -> Option<Post>
+    ensures { GivesSome result rest.new.now (spec.read_return rest.old.now) }
 {
     let day = read_day(rest)?;
     let target = read_number(rest)?;
-    Ok(Post::Return { day, target })
+    Some(Post::Return { day, target })
 }
 
 #[tactic(auto, unfolding(crate::specs::Reading::read_plan))]
-fn read_plan(rest: &mut &[u8]) -> Result<Post, RowFault>
-    ensures { Gives result rest.new.now (spec.read_plan rest.old.now) }
+fn read_plan(rest: &mut &[u8]) -> Option<Post>
+    ensures { GivesSome result rest.new.now (spec.read_plan rest.old.now) }
 {
     let day = read_day(rest)?;
     let kind = read_plan_kind(rest)?;
     let rate = read_number(rest)?;
     let end = read_day(rest)?;
     let after = read_number(rest)?;
-    Ok(Post::Plan {
+    Some(Post::Plan {
         day,
         kind,
         rate,
@@ -144,14 +143,14 @@ fn read_plan(rest: &mut &[u8]) -> Result<Post, RowFault>
 }
 
 #[tactic(auto, unfolding(crate::specs::Reading::read_notice))]
-fn read_notice(rest: &mut &[u8]) -> Result<Post, RowFault>
-    ensures { Gives result rest.new.now (spec.read_notice rest.old.now) }
+fn read_notice(rest: &mut &[u8]) -> Option<Post>
+    ensures { GivesSome result rest.new.now (spec.read_notice rest.old.now) }
 {
     let day = read_day(rest)?;
     let category = read_category(rest)?;
     let rate = read_number(rest)?;
     let effective = read_day(rest)?;
-    Ok(Post::Notice {
+    Some(Post::Notice {
         day,
         category,
         rate,
@@ -160,13 +159,13 @@ fn read_notice(rest: &mut &[u8]) -> Result<Post, RowFault>
 }
 
 #[tactic(auto, unfolding(crate::specs::Reading::read_lower))]
-fn read_lower(rest: &mut &[u8]) -> Result<Post, RowFault>
-    ensures { Gives result rest.new.now (spec.read_lower rest.old.now) }
+fn read_lower(rest: &mut &[u8]) -> Option<Post>
+    ensures { GivesSome result rest.new.now (spec.read_lower rest.old.now) }
 {
     let day = read_day(rest)?;
     let category = read_category(rest)?;
     let rate = read_number(rest)?;
-    Ok(Post::Lower {
+    Some(Post::Lower {
         day,
         category,
         rate,
@@ -174,106 +173,106 @@ fn read_lower(rest: &mut &[u8]) -> Result<Post, RowFault>
 }
 
 #[tactic(auto, unfolding(crate::specs::Reading::read_penalty))]
-fn read_penalty(rest: &mut &[u8]) -> Result<Post, RowFault>
-    ensures { Gives result rest.new.now (spec.read_penalty rest.old.now) }
+fn read_penalty(rest: &mut &[u8]) -> Option<Post>
+    ensures { GivesSome result rest.new.now (spec.read_penalty rest.old.now) }
 {
-    Ok(Post::Penalty)
+    Some(Post::Penalty)
 }
 
 #[tactic(auto, unfolding(crate::specs::Reading::read_review))]
-fn read_review(rest: &mut &[u8]) -> Result<Post, RowFault>
-    ensures { Gives result rest.new.now (spec.read_review rest.old.now) }
+fn read_review(rest: &mut &[u8]) -> Option<Post>
+    ensures { GivesSome result rest.new.now (spec.read_review rest.old.now) }
 {
     let day = read_day(rest)?;
     let finding = read_finding(rest)?;
-    Ok(Post::Review { day, finding })
+    Some(Post::Review { day, finding })
 }
 
 #[tactic(auto, unfolding(crate::specs::Reading::read_dispute))]
-fn read_dispute(rest: &mut &[u8]) -> Result<Post, RowFault>
-    ensures { Gives result rest.new.now (spec.read_dispute rest.old.now) }
+fn read_dispute(rest: &mut &[u8]) -> Option<Post>
+    ensures { GivesSome result rest.new.now (spec.read_dispute rest.old.now) }
 {
     let day = read_day(rest)?;
     let target = read_number(rest)?;
     let cents = read_number(rest)?;
-    Ok(Post::Dispute { day, target, cents })
+    Some(Post::Dispute { day, target, cents })
 }
 
 #[tactic(auto, unfolding(crate::specs::Reading::read_ack))]
-fn read_ack(rest: &mut &[u8]) -> Result<Post, RowFault>
-    ensures { Gives result rest.new.now (spec.read_ack rest.old.now) }
+fn read_ack(rest: &mut &[u8]) -> Option<Post>
+    ensures { GivesSome result rest.new.now (spec.read_ack rest.old.now) }
 {
     let day = read_day(rest)?;
     let target = read_number(rest)?;
-    Ok(Post::Ack { day, target })
+    Some(Post::Ack { day, target })
 }
 
 #[tactic(auto, unfolding(crate::specs::Reading::read_resolve))]
-fn read_resolve(rest: &mut &[u8]) -> Result<Post, RowFault>
-    ensures { Gives result rest.new.now (spec.read_resolve rest.old.now) }
+fn read_resolve(rest: &mut &[u8]) -> Option<Post>
+    ensures { GivesSome result rest.new.now (spec.read_resolve rest.old.now) }
 {
     let day = read_day(rest)?;
     let target = read_number(rest)?;
     let cents = read_number(rest)?;
-    Ok(Post::Resolve { day, target, cents })
+    Some(Post::Resolve { day, target, cents })
 }
 
 #[tactic(auto, unfolding(crate::specs::Reading::read_ask_refund))]
-fn read_ask_refund(rest: &mut &[u8]) -> Result<Post, RowFault>
-    ensures { Gives result rest.new.now (spec.read_ask_refund rest.old.now) }
+fn read_ask_refund(rest: &mut &[u8]) -> Option<Post>
+    ensures { GivesSome result rest.new.now (spec.read_ask_refund rest.old.now) }
 {
     let day = read_day(rest)?;
-    Ok(Post::AskRefund { day })
+    Some(Post::AskRefund { day })
 }
 
 #[tactic(auto, unfolding(crate::specs::Reading::read_refund))]
-fn read_refund(rest: &mut &[u8]) -> Result<Post, RowFault>
-    ensures { Gives result rest.new.now (spec.read_refund rest.old.now) }
+fn read_refund(rest: &mut &[u8]) -> Option<Post>
+    ensures { GivesSome result rest.new.now (spec.read_refund rest.old.now) }
 {
     let cents = read_number(rest)?;
-    Ok(Post::Refund { cents })
+    Some(Post::Refund { cents })
 }
 
 #[tactic(auto, unfolding(crate::specs::Reading::read_amend))]
-fn read_amend(rest: &mut &[u8]) -> Result<Post, RowFault>
-    ensures { Gives result rest.new.now (spec.read_amend rest.old.now) }
+fn read_amend(rest: &mut &[u8]) -> Option<Post>
+    ensures { GivesSome result rest.new.now (spec.read_amend rest.old.now) }
 {
     let target = read_number(rest)?;
     let day = read_day(rest)?;
     let cents = read_number(rest)?;
-    Ok(Post::Amend { target, day, cents })
+    Some(Post::Amend { target, day, cents })
 }
 
 #[tactic(auto, unfolding(crate::specs::Reading::read_bill))]
-fn read_bill(rest: &mut &[u8]) -> Result<Post, RowFault>
-    ensures { Gives result rest.new.now (spec.read_bill rest.old.now) }
+fn read_bill(rest: &mut &[u8]) -> Option<Post>
+    ensures { GivesSome result rest.new.now (spec.read_bill rest.old.now) }
 {
     let cycle = read_number(rest)?;
-    Ok(Post::Bill { cycle })
+    Some(Post::Bill { cycle })
 }
 
 #[tactic(auto, unfolding(crate::specs::Reading::read_roll))]
-fn read_roll(rest: &mut &[u8]) -> Result<Shared, RowFault>
-    ensures { Gives result rest.new.now (spec.read_roll rest.old.now) }
+fn read_roll(rest: &mut &[u8]) -> Option<Shared>
+    ensures { GivesSome result rest.new.now (spec.read_roll rest.old.now) }
 {
     let day = read_day(rest)?;
-    Ok(Shared::Roll(day))
+    Some(Shared::Roll(day))
 }
 
 #[tactic(auto, unfolding(crate::specs::Reading::read_holiday))]
-fn read_holiday(rest: &mut &[u8]) -> Result<Shared, RowFault>
-    ensures { Gives result rest.new.now (spec.read_holiday rest.old.now) }
+fn read_holiday(rest: &mut &[u8]) -> Option<Shared>
+    ensures { GivesSome result rest.new.now (spec.read_holiday rest.old.now) }
 {
     let day = read_day(rest)?;
-    Ok(Shared::Holiday(day))
+    Some(Shared::Holiday(day))
 }
 
 #[tactic(auto, unfolding(crate::specs::Reading::read_fee_row))]
-fn read_fee_row(rest: &mut &[u8]) -> Result<Shared, RowFault>
-    ensures { Gives result rest.new.now (spec.read_fee_row rest.old.now) }
+fn read_fee_row(rest: &mut &[u8]) -> Option<Shared>
+    ensures { GivesSome result rest.new.now (spec.read_fee_row rest.old.now) }
 {
     let day = read_day(rest)?;
     let first = read_number(rest)?;
     let repeat = read_number(rest)?;
-    Ok(Shared::FeeRow { day, first, repeat })
+    Some(Shared::FeeRow { day, first, repeat })
 }

@@ -2,3 +2,4 @@ mod NumberLemmas
 mod FieldLemmas
 mod TextRules
 pub mod DatedLemmas
+mod NameLemmas

@@ -1,6 +1,7 @@
 -- The fields of a line, and reading them from left to right.
 use Rattle.std.specs.Prelude.{◌≡◌, ℕ, ◌==◌, List, [], ◌∷◌, Option, Some, None, Result, Ok, Err}
 use Rattle.std.specs.List.{slice_split}
+use Rattle.card_text.specs.declared.line.BadField.{BadField}
 use Rattle.card_text.specs.declared.line.LineFault.{LineFault}
 use Rattle.card_text.specs.declared.line.LineFault.TheVariants as fault
 
@@ -48,3 +49,13 @@ Gives (Err e) rest read = Fails e read
 abbrev pub GivesAll : {X : Type 0} → Result X LineFault → Result X ℕ → Type 0
 GivesAll (Ok x) read = read ≡ Ok x
 GivesAll (Err e) read = Fails e read
+
+-- the same where no memory is taken
+abbrev pub Reads : {X : Type 0} → Result X BadField → List (List ℕ) → Result (X × List (List ℕ)) ℕ → Type 0
+Reads (Ok x) rest read = read ≡ Ok (x, rest)
+Reads (Err bad) rest read = read ≡ Err bad.0
+
+-- the same of all fields
+abbrev pub ReadsAll : {X : Type 0} → Result X BadField → Result X ℕ → Type 0
+ReadsAll (Ok x) read = read ≡ Ok x
+ReadsAll (Err bad) read = read ≡ Err bad.0

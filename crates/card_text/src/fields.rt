@@ -1,11 +1,11 @@
 // The fields of a line, from left to right.
 ghost use Rattle.std.specs.Prelude.{◌≡◌, ◌≤◌, ◌==◌, ◌∷◌, ℕ, List, length, Some, Ok, IfOk, IfErr};
 ghost use Rattle.std.specs.List.{position_or_len};
-ghost use Rattle.card_text.specs.Fields.{fields_of, fields_left, field, end_at, Gives, GivesAll, Fails};
+ghost use Rattle.card_text.specs.Fields.{fields_of, fields_left, field, end_at, Gives, Reads, ReadsAll};
 ghost use Rattle.card_text.specs.Forms.{name_of, number_of, day_of, category_of, place_of, channel_of, plan_kind_of, finding_of};
 
 use crate::forms;
-use crate::line::LineFault;
+use crate::line::{BadField, LineFault};
 use card_days::{Channel, Day};
 use card_events::{Category, Finding, Name, Num, Place, PlanKind};
 use std::alloc::Global;
@@ -30,12 +30,12 @@ fn space_at(text: &[u8]) -> usize
     text.len()
 }
 
-fn next_field<'a>(number: u8, rest: &mut &'a [u8]) -> Result<&'a [u8], LineFault>
+fn next_field<'a>(number: u8, rest: &mut &'a [u8]) -> Result<&'a [u8], BadField>
     ensures ok { IfOk result (λ text. field Some number (fields_left rest.old.now) ≡ Ok (text.now, fields_left rest.new.now)) }
-    ensures err { IfErr result (λ e. Fails e (field (λ (x : List ℕ). Some x) number (fields_left rest.old.now))) }
+    ensures err { IfErr result (λ bad. field (λ (x : List ℕ). Some x) number (fields_left rest.old.now) ≡ Err bad.0) }
 {
     match *rest {
-        [] => Err(LineFault::Bad(number)),
+        [] => Err(BadField(number)),
         [_, text @ ..] => {
             let (field, others) = split_field(text);
             *rest = others;
@@ -57,89 +57,89 @@ pub fn name_field(alloc: Global, number: u8, rest: &mut &[u8]) -> Result<Name, L
 }
 
 /// The next field as a number.
-pub fn number_field(number: u8, rest: &mut &[u8]) -> Result<Num, LineFault>
-    ensures { Gives result (fields_left rest.new.now) (field number_of number (fields_left rest.old.now)) }
+pub fn number_field(number: u8, rest: &mut &[u8]) -> Result<Num, BadField>
+    ensures { Reads result (fields_left rest.new.now) (field number_of number (fields_left rest.old.now)) }
 {
     let text = next_field(number, rest)?;
     match forms::read_number(text) {
-        None => Err(LineFault::Bad(number)),
+        None => Err(BadField(number)),
         Some(value) => Ok(value),
     }
 }
 
 /// The next field as a day.
-pub fn day_field(number: u8, rest: &mut &[u8]) -> Result<Day, LineFault>
-    ensures { Gives result (fields_left rest.new.now) (field day_of number (fields_left rest.old.now)) }
+pub fn day_field(number: u8, rest: &mut &[u8]) -> Result<Day, BadField>
+    ensures { Reads result (fields_left rest.new.now) (field day_of number (fields_left rest.old.now)) }
 {
     let text = next_field(number, rest)?;
     match forms::read_day(text) {
-        None => Err(LineFault::Bad(number)),
+        None => Err(BadField(number)),
         Some(day) => Ok(day),
     }
 }
 
 /// The next field as a category.
-pub fn category_field(number: u8, rest: &mut &[u8]) -> Result<Category, LineFault>
-    ensures { Gives result (fields_left rest.new.now) (field category_of number (fields_left rest.old.now)) }
+pub fn category_field(number: u8, rest: &mut &[u8]) -> Result<Category, BadField>
+    ensures { Reads result (fields_left rest.new.now) (field category_of number (fields_left rest.old.now)) }
 {
     let text = next_field(number, rest)?;
     match forms::read_category(text) {
-        None => Err(LineFault::Bad(number)),
+        None => Err(BadField(number)),
         Some(category) => Ok(category),
     }
 }
 
 /// The next field as a place.
-pub fn place_field(number: u8, rest: &mut &[u8]) -> Result<Place, LineFault>
-    ensures { Gives result (fields_left rest.new.now) (field place_of number (fields_left rest.old.now)) }
+pub fn place_field(number: u8, rest: &mut &[u8]) -> Result<Place, BadField>
+    ensures { Reads result (fields_left rest.new.now) (field place_of number (fields_left rest.old.now)) }
 {
     let text = next_field(number, rest)?;
     match forms::read_place(text) {
-        None => Err(LineFault::Bad(number)),
+        None => Err(BadField(number)),
         Some(place) => Ok(place),
     }
 }
 
 /// The next field as a channel.
-pub fn channel_field(number: u8, rest: &mut &[u8]) -> Result<Channel, LineFault>
-    ensures { Gives result (fields_left rest.new.now) (field channel_of number (fields_left rest.old.now)) }
+pub fn channel_field(number: u8, rest: &mut &[u8]) -> Result<Channel, BadField>
+    ensures { Reads result (fields_left rest.new.now) (field channel_of number (fields_left rest.old.now)) }
 {
     let text = next_field(number, rest)?;
     match forms::read_channel(text) {
-        None => Err(LineFault::Bad(number)),
+        None => Err(BadField(number)),
         Some(channel) => Ok(channel),
     }
 }
 
 /// The next field as a kind of plan.
-pub fn plan_kind_field(number: u8, rest: &mut &[u8]) -> Result<PlanKind, LineFault>
-    ensures { Gives result (fields_left rest.new.now) (field plan_kind_of number (fields_left rest.old.now)) }
+pub fn plan_kind_field(number: u8, rest: &mut &[u8]) -> Result<PlanKind, BadField>
+    ensures { Reads result (fields_left rest.new.now) (field plan_kind_of number (fields_left rest.old.now)) }
 {
     let text = next_field(number, rest)?;
     match forms::read_plan_kind(text) {
-        None => Err(LineFault::Bad(number)),
+        None => Err(BadField(number)),
         Some(kind) => Ok(kind),
     }
 }
 
 /// The next field as a finding.
-pub fn finding_field(number: u8, rest: &mut &[u8]) -> Result<Finding, LineFault>
-    ensures { Gives result (fields_left rest.new.now) (field finding_of number (fields_left rest.old.now)) }
+pub fn finding_field(number: u8, rest: &mut &[u8]) -> Result<Finding, BadField>
+    ensures { Reads result (fields_left rest.new.now) (field finding_of number (fields_left rest.old.now)) }
 {
     let text = next_field(number, rest)?;
     match forms::read_finding(text) {
-        None => Err(LineFault::Bad(number)),
+        None => Err(BadField(number)),
         Some(finding) => Ok(finding),
     }
 }
 
 /// No field is left; else the next one, of this number, is surplus.
 #[tactic(auto, using(crate::proofs::FieldLemmas::not_at_end))]
-pub fn at_end(number: u8, rest: &[u8]) -> Result<(), LineFault>
-    ensures { GivesAll result (end_at number (fields_left rest.now)) }
+pub fn at_end(number: u8, rest: &[u8]) -> Result<(), BadField>
+    ensures { ReadsAll result (end_at number (fields_left rest.now)) }
 {
     match rest {
         [] => Ok(()),
-        [_, ..] => Err(LineFault::Bad(number)),
+        [_, ..] => Err(BadField(number)),
     }
 }

@@ -1,5 +1,5 @@
 ghost use Rattle.std.specs.Prelude.{◌≡◌};
-ghost use Rattle.card_text.specs.declared.line.LineFault.TheVariants.{Memory};
+ghost use Rattle.card_text.specs.declared.line.LineFault.TheVariants.{Bad, Memory};
 
 use card_events::{Name, Request};
 use card_units::NoMemory;
@@ -19,6 +19,18 @@ pub enum Line {
 pub enum LineFault {
     Memory,
     Bad(u8),
+}
+
+/// The number of the first field that is bad.
+#[derive(Clone, Copy, Debug)]
+pub struct BadField(pub u8);
+
+impl From<BadField> for LineFault {
+    ghost from_gives = { λ field e. e ≡ Bad field.0 };
+
+    fn from(field: BadField) -> Self {
+        LineFault::Bad(field.0)
+    }
 }
 
 impl From<NoMemory> for LineFault {

@@ -1,12 +1,12 @@
 // Lines, by their word.
 ghost use Rattle.std.specs.Prelude.{◌≡◌, ℕ, List, Result, IfOk};
 ghost use Rattle.card_events.specs.declared.request.Request.{Request};
-ghost use Rattle.card_text.specs.Fields.{fields_left, GivesAll};
+ghost use Rattle.card_text.specs.Fields.{fields_left, GivesAll, ReadsAll};
 ghost use Rattle.card_text.specs.Lines.{roll_of, holiday_of, fee_row_of, posted_of, show_of, line_of_word, line_of, IsDatedLine};
 ghost use Rattle.card_text.specs.Lines as spec;
 
 use crate::fields::{at_end, day_field, name_field, number_field, split_field};
-use crate::line::{Line, LineFault};
+use crate::line::{BadField, Line, LineFault};
 use crate::post_reading::read_post;
 use crate::word::{PostKind, Word, read_word};
 use card_events::{Name, Request, Shared};
@@ -41,11 +41,20 @@ fn read_fields(alloc: Global, word: Word, rest: &[u8]) -> Result<Line, NoMemory>
     ensures { IfOk result (λ l. l ≡ line_of_word word (fields_left rest.now)) }
 {
     match word {
-        Word::Roll => request_line(read_roll(rest)),
-        Word::Holiday => request_line(read_holiday(rest)),
-        Word::FeeRow => request_line(read_fee_row(rest)),
+        Word::Roll => Ok(shared_line(read_roll(rest))),
+        Word::Holiday => Ok(shared_line(read_holiday(rest))),
+        Word::FeeRow => Ok(shared_line(read_fee_row(rest))),
         Word::Show => show_line(read_show(alloc, rest)),
         Word::Post(kind) => request_line(read_posted(alloc, kind, rest)),
+    }
+}
+
+fn shared_line(read: Result<Request, BadField>) -> Line
+    ensures { (r : Result Request ℕ) → ReadsAll read r → result ≡ spec.request_line r }
+{
+    match read {
+        Ok(request) => Line::Request(request),
+        Err(BadField(number)) => Line::Bad(number),
     }
 }
 
@@ -70,8 +79,8 @@ fn show_line(read: Result<Name, LineFault>) -> Result<Line, NoMemory>
 }
 
 #[tactic(auto, unfolding(crate::specs::Lines::roll_of))]
-fn read_roll(text: &[u8]) -> Result<Request, LineFault>
-    ensures { GivesAll result (roll_of (fields_left text.now)) }
+fn read_roll(text: &[u8]) -> Result<Request, BadField>
+    ensures { ReadsAll result (roll_of (fields_left text.now)) }
 {
     let mut left = text;
     let rest = &mut left;
@@ -81,8 +90,8 @@ fn read_roll(text: &[u8]) -> Result<Request, LineFault>
 }
 
 #[tactic(auto, unfolding(crate::specs::Lines::holiday_of))]
-fn read_holiday(text: &[u8]) -> Result<Request, LineFault>
-    ensures { GivesAll result (holiday_of (fields_left text.now)) }
+fn read_holiday(text: &[u8]) -> Result<Request, BadField>
+    ensures { ReadsAll result (holiday_of (fields_left text.now)) }
 {
     let mut left = text;
     let rest = &mut left;
@@ -92,8 +101,8 @@ fn read_holiday(text: &[u8]) -> Result<Request, LineFault>
 }
 
 #[tactic(auto, unfolding(crate::specs::Lines::fee_row_of))]
-fn read_fee_row(text: &[u8]) -> Result<Request, LineFault>
-    ensures { GivesAll result (fee_row_of (fields_left text.now)) }
+fn read_fee_row(text: &[u8]) -> Result<Request, BadField>
+    ensures { ReadsAll result (fee_row_of (fields_left text.now)) }
 {
     let mut left = text;
     let rest = &mut left;

@@ -1,19 +1,19 @@
 // The fields of each kind of post, behind the account and the key.
-ghost use Rattle.card_text.specs.Fields.{fields_left, Gives, GivesAll};
+ghost use Rattle.card_text.specs.Fields.{fields_left, Reads, ReadsAll};
 ghost use Rattle.card_text.specs.Posts.{post_of, terms_of, open_of, charge_of, credit_of, payment_of, return_of, plan_of, notice_of, lower_of, penalty_of, review_of, dispute_of, ack_of, resolve_of, ask_refund_of, refund_of, amend_of, bill_of};
 
 use crate::fields::{
     at_end, category_field, channel_field, day_field, finding_field, number_field, place_field,
     plan_kind_field,
 };
-use crate::line::LineFault;
+use crate::line::BadField;
 use crate::word::PostKind;
 use card_events::{Post, Terms};
 
 /// The post of this kind that the rest of a line gives.
 #[tactic(auto, unfolding(crate::specs::Posts::post_of))]
-pub fn read_post(kind: PostKind, text: &[u8]) -> Result<Post, LineFault>
-    ensures { GivesAll result (post_of kind (fields_left text.now)) }
+pub fn read_post(kind: PostKind, text: &[u8]) -> Result<Post, BadField>
+    ensures { ReadsAll result (post_of kind (fields_left text.now)) }
 {
     match kind {
         PostKind::Open => read_open(text),
@@ -37,8 +37,8 @@ pub fn read_post(kind: PostKind, text: &[u8]) -> Result<Post, LineFault>
 }
 
 #[tactic(auto, unfolding(crate::specs::Posts::terms_of))]
-fn read_terms(rest: &mut &[u8]) -> Result<Terms, LineFault>
-    ensures { Gives result (fields_left rest.new.now) (terms_of (fields_left rest.old.now)) }
+fn read_terms(rest: &mut &[u8]) -> Result<Terms, BadField>
+    ensures { Reads result (fields_left rest.new.now) (terms_of (fields_left rest.old.now)) }
 {
     let close = number_field(5, rest)?;
     let purchase = number_field(6, rest)?;
@@ -60,8 +60,8 @@ fn read_terms(rest: &mut &[u8]) -> Result<Terms, LineFault>
 }
 
 #[tactic(auto, unfolding(crate::specs::Posts::open_of))]
-fn read_open(text: &[u8]) -> Result<Post, LineFault>
-    ensures { GivesAll result (open_of (fields_left text.now)) }
+fn read_open(text: &[u8]) -> Result<Post, BadField>
+    ensures { ReadsAll result (open_of (fields_left text.now)) }
 {
     let mut left = text;
     let rest = &mut left;
@@ -72,8 +72,8 @@ fn read_open(text: &[u8]) -> Result<Post, LineFault>
 }
 
 #[tactic(auto, unfolding(crate::specs::Posts::charge_of))]
-fn read_charge(text: &[u8]) -> Result<Post, LineFault>
-    ensures { GivesAll result (charge_of (fields_left text.now)) }
+fn read_charge(text: &[u8]) -> Result<Post, BadField>
+    ensures { ReadsAll result (charge_of (fields_left text.now)) }
 {
     let mut left = text;
     let rest = &mut left;
@@ -85,8 +85,8 @@ fn read_charge(text: &[u8]) -> Result<Post, LineFault>
 }
 
 #[tactic(auto, unfolding(crate::specs::Posts::credit_of))]
-fn read_credit(text: &[u8]) -> Result<Post, LineFault>
-    ensures { GivesAll result (credit_of (fields_left text.now)) }
+fn read_credit(text: &[u8]) -> Result<Post, BadField>
+    ensures { ReadsAll result (credit_of (fields_left text.now)) }
 {
     let mut left = text;
     let rest = &mut left;
@@ -98,8 +98,8 @@ fn read_credit(text: &[u8]) -> Result<Post, LineFault>
 }
 
 #[tactic(auto, unfolding(crate::specs::Posts::payment_of))]
-fn read_payment(text: &[u8]) -> Result<Post, LineFault>
-    ensures { GivesAll result (payment_of (fields_left text.now)) }
+fn read_payment(text: &[u8]) -> Result<Post, BadField>
+    ensures { ReadsAll result (payment_of (fields_left text.now)) }
 {
     let mut left = text;
     let rest = &mut left;
@@ -118,8 +118,8 @@ fn read_payment(text: &[u8]) -> Result<Post, LineFault>
 }
 
 #[tactic(auto, unfolding(crate::specs::Posts::return_of))]
-fn read_return(text: &[u8]) -> Result<Post, LineFault>
-    ensures { GivesAll result (return_of (fields_left text.now)) }
+fn read_return(text: &[u8]) -> Result<Post, BadField>
+    ensures { ReadsAll result (return_of (fields_left text.now)) }
 {
     let mut left = text;
     let rest = &mut left;
@@ -130,8 +130,8 @@ fn read_return(text: &[u8]) -> Result<Post, LineFault>
 }
 
 #[tactic(auto, unfolding(crate::specs::Posts::plan_of))]
-fn read_plan(text: &[u8]) -> Result<Post, LineFault>
-    ensures { GivesAll result (plan_of (fields_left text.now)) }
+fn read_plan(text: &[u8]) -> Result<Post, BadField>
+    ensures { ReadsAll result (plan_of (fields_left text.now)) }
 {
     let mut left = text;
     let rest = &mut left;
@@ -152,8 +152,8 @@ fn read_plan(text: &[u8]) -> Result<Post, LineFault>
 }
 
 #[tactic(auto, unfolding(crate::specs::Posts::notice_of))]
-fn read_notice(text: &[u8]) -> Result<Post, LineFault>
-    ensures { GivesAll result (notice_of (fields_left text.now)) }
+fn read_notice(text: &[u8]) -> Result<Post, BadField>
+    ensures { ReadsAll result (notice_of (fields_left text.now)) }
 {
     let mut left = text;
     let rest = &mut left;
@@ -172,8 +172,8 @@ fn read_notice(text: &[u8]) -> Result<Post, LineFault>
 }
 
 #[tactic(auto, unfolding(crate::specs::Posts::lower_of))]
-fn read_lower(text: &[u8]) -> Result<Post, LineFault>
-    ensures { GivesAll result (lower_of (fields_left text.now)) }
+fn read_lower(text: &[u8]) -> Result<Post, BadField>
+    ensures { ReadsAll result (lower_of (fields_left text.now)) }
 {
     let mut left = text;
     let rest = &mut left;
@@ -189,8 +189,8 @@ fn read_lower(text: &[u8]) -> Result<Post, LineFault>
 }
 
 #[tactic(auto, unfolding(crate::specs::Posts::review_of))]
-fn read_review(text: &[u8]) -> Result<Post, LineFault>
-    ensures { GivesAll result (review_of (fields_left text.now)) }
+fn read_review(text: &[u8]) -> Result<Post, BadField>
+    ensures { ReadsAll result (review_of (fields_left text.now)) }
 {
     let mut left = text;
     let rest = &mut left;
@@ -201,8 +201,8 @@ fn read_review(text: &[u8]) -> Result<Post, LineFault>
 }
 
 #[tactic(auto, unfolding(crate::specs::Posts::dispute_of))]
-fn read_dispute(text: &[u8]) -> Result<Post, LineFault>
-    ensures { GivesAll result (dispute_of (fields_left text.now)) }
+fn read_dispute(text: &[u8]) -> Result<Post, BadField>
+    ensures { ReadsAll result (dispute_of (fields_left text.now)) }
 {
     let mut left = text;
     let rest = &mut left;
@@ -214,8 +214,8 @@ fn read_dispute(text: &[u8]) -> Result<Post, LineFault>
 }
 
 #[tactic(auto, unfolding(crate::specs::Posts::ack_of))]
-fn read_ack(text: &[u8]) -> Result<Post, LineFault>
-    ensures { GivesAll result (ack_of (fields_left text.now)) }
+fn read_ack(text: &[u8]) -> Result<Post, BadField>
+    ensures { ReadsAll result (ack_of (fields_left text.now)) }
 {
     let mut left = text;
     let rest = &mut left;
@@ -226,8 +226,8 @@ fn read_ack(text: &[u8]) -> Result<Post, LineFault>
 }
 
 #[tactic(auto, unfolding(crate::specs::Posts::resolve_of))]
-fn read_resolve(text: &[u8]) -> Result<Post, LineFault>
-    ensures { GivesAll result (resolve_of (fields_left text.now)) }
+fn read_resolve(text: &[u8]) -> Result<Post, BadField>
+    ensures { ReadsAll result (resolve_of (fields_left text.now)) }
 {
     let mut left = text;
     let rest = &mut left;
@@ -239,8 +239,8 @@ fn read_resolve(text: &[u8]) -> Result<Post, LineFault>
 }
 
 #[tactic(auto, unfolding(crate::specs::Posts::ask_refund_of))]
-fn read_ask_refund(text: &[u8]) -> Result<Post, LineFault>
-    ensures { GivesAll result (ask_refund_of (fields_left text.now)) }
+fn read_ask_refund(text: &[u8]) -> Result<Post, BadField>
+    ensures { ReadsAll result (ask_refund_of (fields_left text.now)) }
 {
     let mut left = text;
     let rest = &mut left;
@@ -250,8 +250,8 @@ fn read_ask_refund(text: &[u8]) -> Result<Post, LineFault>
 }
 
 #[tactic(auto, unfolding(crate::specs::Posts::refund_of))]
-fn read_refund(text: &[u8]) -> Result<Post, LineFault>
-    ensures { GivesAll result (refund_of (fields_left text.now)) }
+fn read_refund(text: &[u8]) -> Result<Post, BadField>
+    ensures { ReadsAll result (refund_of (fields_left text.now)) }
 {
     let mut left = text;
     let rest = &mut left;
@@ -261,8 +261,8 @@ fn read_refund(text: &[u8]) -> Result<Post, LineFault>
 }
 
 #[tactic(auto, unfolding(crate::specs::Posts::amend_of))]
-fn read_amend(text: &[u8]) -> Result<Post, LineFault>
-    ensures { GivesAll result (amend_of (fields_left text.now)) }
+fn read_amend(text: &[u8]) -> Result<Post, BadField>
+    ensures { ReadsAll result (amend_of (fields_left text.now)) }
 {
     let mut left = text;
     let rest = &mut left;
@@ -274,8 +274,8 @@ fn read_amend(text: &[u8]) -> Result<Post, LineFault>
 }
 
 #[tactic(auto, unfolding(crate::specs::Posts::bill_of))]
-fn read_bill(text: &[u8]) -> Result<Post, LineFault>
-    ensures { GivesAll result (bill_of (fields_left text.now)) }
+fn read_bill(text: &[u8]) -> Result<Post, BadField>
+    ensures { ReadsAll result (bill_of (fields_left text.now)) }
 {
     let mut left = text;
     let rest = &mut left;
@@ -285,8 +285,8 @@ fn read_bill(text: &[u8]) -> Result<Post, LineFault>
 }
 
 #[tactic(auto, unfolding(crate::specs::Posts::penalty_of))]
-fn read_penalty(text: &[u8]) -> Result<Post, LineFault>
-    ensures { GivesAll result (penalty_of (fields_left text.now)) }
+fn read_penalty(text: &[u8]) -> Result<Post, BadField>
+    ensures { ReadsAll result (penalty_of (fields_left text.now)) }
 {
     at_end(4, text)?;
     Ok(Post::Penalty)

@@ -58,7 +58,7 @@ pub fn show_text(
     let balances = Balances { owed, credit, held };
     match str::from_utf8(account.bytes()) {
         Ok(name) => account_text(alloc, name, day, &balances),
-        Err(_) => Err(NoMemory),
+        Err(_) => unreachable!(),
     }
 }
 

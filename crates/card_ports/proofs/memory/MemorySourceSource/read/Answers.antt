@@ -15,6 +15,6 @@ returns-clause-bytes c =
       all ∙ sym (take-append-drop n (drop at xs)) ∙ ap (λ l. l ++ drop n (drop at xs)) (sym front)
           ∙ ap (λ l. take n c.copy_front-n.new.buf ++ l) (drop-drop n at xs),
       λ none room.
-        let same : at + n ≡ at = omega (arith, none) in
-        ap (λ (k : ℕ). drop k xs) same ∙ sym given ∙ c.copy_front-n.ensures.end none room,
+          let same : at + n ≡ at = omega (arith, none) in
+          ap (λ (k : ℕ). drop k xs) same ∙ sym given ∙ c.copy_front-n.ensures.end none room,
     )
