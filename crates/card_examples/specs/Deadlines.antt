@@ -9,43 +9,49 @@ use Rattle.card_events.specs.declared.post.Finding.TheVariants.{Keep, Reduce}
 use Rattle.card_events.specs.declared.post.Place.TheVariants as place
 use Rattle.card_events.specs.declared.post.Post.TheVariants as post
 use Rattle.card_events.specs.declared.request.Request.{Request}
-use Rattle.card_model.specs.Books.{Book}
-use Rattle.card_model.specs.Deadlines.{ack_by, credit_since, last_notice_day, lower_by, open_tasks, refund_by, resolve_by}
-use Rattle.card_model.specs.Entries.{credit_balance}
+use Rattle.card_events.specs.declared.request.Request.TheVariants as request
+use Rattle.card_model.specs.Deadlines.{ack_by, last_notice_day, lower_by, refund_by, resolve_by}
 use Rattle.card_model.specs.Machine.{State, lists_of, run}
 use Rattle.card_model.specs.Refusals.{Lists}
+use Rattle.card_model.specs.Work.{work}
 use Rattle.card_model.specs.declared.task.Task.{Task}
 use Rattle.card_model.specs.declared.task.TaskKind.{TaskKind}
 use Rattle.card_model.specs.declared.task.TaskKind.TheVariants as task
-use Rattle.card_examples.specs.Accounts.{book_of, charge_jan10, fee_row, name, open_a, pay_online, roll, to_a}
+use Rattle.card_examples.specs.Accounts.{charge_jan10, fee_row, name, open_a, pay_online, roll, to_a}
 
--- the open tasks of an account's lists and book
-abbrev pub tasks_with : State → Option Lists → Book → List Task
-tasks_with s None b = []
-tasks_with s (Some l) b =
-    let a = anchor_of l.posts in
-    let holidays = (shared_rows s.shared).holidays in
-    open_tasks name a holidays (corrected a holidays l.posts) (credit_balance b.entries) (credit_since b.entries a.opened s.today) s.today
-
--- the account's open tasks today
+-- the open tasks today
 abbrev pub tasks_after : List Request → List Task
-tasks_after requests = tasks_with (run requests) (lists_of name (run requests).accounts) (book_of requests)
+tasks_after requests = work (run requests)
 
 -- a task of the account
 abbrev pub task_of : ℕ → TaskKind → ℕ → Task
 task_of by kind post = record { by = by; account = name; kind = kind; post = post }
 
+-- a task of account `b`
+abbrev pub task_of_b : ℕ → TaskKind → ℕ → Task
+task_of_b by kind post = record { by = by; account = 98 ∷ []; kind = kind; post = post }
+
 -- an account whose cycles close on each 15th, from 2024-01-16 on
 abbrev pub of_15th : Anchor
 of_15th = record { opened = day_at 2024 1 16; close_day = 15 }
 
--- a charge, its statement issued on 2024-02-16, and a dispute of 2024-04-16
+-- an account that is opened on a 16th of January, and charged; its statement is issued on 2024-02-16
+abbrev pub opened_jan16 : List ℕ → List Request
+opened_jan16 account =
+    request.Post account (1 ∷ []) (post.Open (day_at 2024 1 16) (record { close = 15; purchase = 1999; cash = 2499; transfer = 2199; penalty = 2999; floor = 2500; pct = 100 }))
+    ∷ request.Post account (2 ∷ []) (post.Charge (day_at 2024 2 1) place.Purchase 5000) ∷ request.Post account (3 ∷ []) (post.Bill 1) ∷ []
+
+-- a dispute of 2024-04-16
+abbrev pub dispute_of : List ℕ → Request
+dispute_of account = request.Post account (4 ∷ []) (post.Dispute (day_at 2024 4 16) 2 5000)
+
+-- on this account
 abbrev pub disputed : List Request
-disputed =
-    roll 2024 2 16
-    ∷ to_a 1 (post.Open (day_at 2024 1 16) (record { close = 15; purchase = 1999; cash = 2499; transfer = 2199; penalty = 2999; floor = 2500; pct = 100 }))
-    ∷ to_a 2 (post.Charge (day_at 2024 2 1) place.Purchase 5000) ∷ to_a 3 (post.Bill 1) ∷ roll 2024 4 17
-    ∷ to_a 4 (post.Dispute (day_at 2024 4 16) 2 5000) ∷ []
+disputed = roll 2024 2 16 ∷ opened_jan16 name ++ roll 2024 4 17 ∷ dispute_of name ∷ []
+
+-- the same on account `b`, which was opened before it
+abbrev pub two_disputed : List Request
+two_disputed = roll 2024 2 16 ∷ opened_jan16 (98 ∷ []) ++ opened_jan16 name ++ roll 2024 4 17 ∷ dispute_of (98 ∷ []) ∷ dispute_of name ∷ []
 
 -- a charge that the statement of 2024-02-06 shows, and one of the same cycle that came in after it was issued
 abbrev pub charged_late : List Request
@@ -104,6 +110,10 @@ pub record DeadlinesAreWorked : Type 0 where
   pub two_cycles : resolve_by of_15th (day_at 2024 3 20) ≡ day_at 2024 6 15
   pub days90 : resolve_by of_15th (day_at 2024 3 16) ≡ day_at 2024 6 14
   pub disputes : tasks_after disputed ≡ task_of (day_at 2024 5 16) task.Ack 4 ∷ task_of (day_at 2024 7 15) task.Resolve 4 ∷ []
+  -- tasks stand by day, then by account
+  pub two_accounts : tasks_after two_disputed
+      ≡ task_of (day_at 2024 5 16) task.Ack 4 ∷ task_of_b (day_at 2024 5 16) task.Ack 4 ∷ task_of (day_at 2024 7 15) task.Resolve 4
+      ∷ task_of_b (day_at 2024 7 15) task.Resolve 4 ∷ []
   pub acknowledged : tasks_after (disputed ++ to_a 5 (post.Ack (day_at 2024 4 17) 4) ∷ []) ≡ task_of (day_at 2024 7 15) task.Resolve 4 ∷ []
   pub resolved : tasks_after (disputed ++ to_a 5 (post.Resolve (day_at 2024 4 17) 4 0) ∷ []) ≡ []
   -- a refund that was asked for on a Wednesday is due on the seventh business day; a holiday moves it

@@ -14,6 +14,7 @@ returns c =
       two_cycles = refl;
       days90 = refl;
       disputes = refl;
+      two_accounts = refl;
       acknowledged = refl;
       resolved = refl;
       refund = refl;
