@@ -1,60 +1,95 @@
-// The accepted posts of an account.
-use card_days::{Calendar, Day};
-use card_events::{Kept, Name, Post};
+use crate::correction::{Correction, numbered};
+use crate::effect::{Effect, no_cents};
+use crate::enter::enter;
+use crate::index::{enter_key, find};
+use crate::make::{copy_history, one, one_correction, one_effect, one_kept, one_slot, opening};
+use crate::order::slot;
+use card_days::{Anchor, Calendar, Day};
+use card_events::{Kept, Name, Post, Slot};
 use card_units::NoMemory;
 use std::alloc::Global;
 use std::marker::Model;
 
-/// The accepted posts of an account, in order of acceptance, at most 10,000. The first one opened it.
+/// The accepted posts of an account, in order of acceptance, at most 10,000, of which the first opened it; and the
+/// corrected list, which says what counts of each post now.
 #[derive(Drop)]
 pub struct Posts {
     history: Vec<Kept>,
+    index: Vec<u32>,
+    corrections: Vec<Correction>,
+    effects: Vec<Effect>,
+    order: Vec<Slot>,
+    anchor: Anchor,
     has_room: bool,
 }
 
 impl Model for Posts {
-    ghost use Rattle.std.specs.Prelude.{◌≡◌, ◌<◌, ◌≤◌, true, length, vec_len, vec_capacity};
-    ghost use Rattle.card_posts.specs.Posted.{Posted, AreNumbered};
+    ghost use Rattle.std.specs.Prelude.{◌≡◌, ◌<◌, true, vec_len, vec_capacity};
+    ghost use Rattle.card_posts.specs.Effect.{corrected_with};
+    ghost use Rattle.card_posts.specs.Index.{IsIndex};
+    ghost use Rattle.card_posts.specs.Posted.{Posted};
+    ghost use Rattle.card_posts.specs.Stored.{AreBeside, HaveRoom, IsKept};
 
     ghost Value = { Posted };
 
-    ghost view = { λ p. record { history = p.history.items; has_room = p.has_room } };
+    ghost view = { λ p. record { history = p.history.items; corrected = corrected_with 1 5 p.history.items p.effects.items; has_room = p.has_room } };
 
-    ghost invariant = { λ p. (length p.history.items ≤ 10_000) × AreNumbered 1 p.history.items × (p.has_room ≡ true → vec_len p.history < vec_capacity p.history) };
+    ghost invariant = { λ p. IsKept p.anchor p.history.items × IsIndex p.history.items p.index.items × AreBeside p.history.items p.corrections.items p.effects.items p.order.items × (p.has_room ≡ true → HaveRoom p.history p.index p.corrections p.effects p.order) };
 }
 
-/// What became of a post: its number.
+/// What became of a post: its number, and the earliest day on which the corrected list differs from what it was.
 #[derive(Clone, Copy, Debug, PartialEq, Eq)]
 pub struct Pushed {
     pub number: u32,
+    pub from: Day,
 }
 
 impl Posts {
-    ghost use Rattle.std.specs.Prelude.{◌≡◌, ◌+◌, ◌<◌, ◌≤◌, ◌++◌, [], ◌∷◌, true, false, length, IfOk, OnOk, OnErr, option_copied};
-    ghost use Rattle.card_events.specs.History.{at_number};
+    ghost use Rattle.std.specs.Prelude.{◌≡◌, ℕ, ◌+◌, ◌<◌, ◌≤◌, ◌++◌, List, [], ◌∷◌, true, false, length, IfOk, OnOk, OnErr, option_copied};
+    ghost use Rattle.card_days.specs.Billing.{IsCloseDay};
+    ghost use Rattle.card_events.specs.History.{anchor_of, at_number, terms_in};
     ghost use Rattle.card_events.specs.Keys.{with_key};
-    ghost use Rattle.card_posts.specs.Posted.{opens};
+    ghost use Rattle.card_posts.specs.Change.{IsFirstChange};
+    ghost use Rattle.card_posts.specs.Posted.{AreNumbered, IsReceived, StandsFor, folding_order, opens, target_of};
+    ghost use Rattle.card_posts.specs.Stored.{AreTimely};
 
-    /// The post that opens an account, which has number 1.
+    /// The post that opens an account, which has number 1. Its terms close cycles on day 1 to 28 of a month. The
+    /// corrected list is that of the post under any calendar.
     pub fn start(alloc: Global, key: &Name, accepted: Day, post: &Post) -> Result<Posts, NoMemory>
-        requires { opens post.now ≡ true }
+        requires opens { opens post.now ≡ true }
+        requires close_day { IsCloseDay (terms_in post.now).close }
+        requires dated { accepted ≤ 47_481 }
         ensures history { IfOk result (λ posts. posts.history ≡ record { number = 1; key = key.now; accepted = accepted; post = post.now } ∷ []) }
+        ensures stands { IfOk result (λ posts. (holidays : List ℕ) → StandsFor holidays posts) }
         ensures room { IfOk result (λ posts. posts.has_room ≡ false) }
     {
-        let key = key.copy(alloc)?;
-        let mut history = Vec::new(alloc);
-        history.reserve(1)?;
-        append(&mut history, key, accepted, post);
+        let anchor = opening(post);
+        let kept = Kept {
+            number: 1,
+            key: key.copy(alloc)?,
+            accepted,
+            post: *post,
+        };
+        let effect = Effect {
+            day: anchor.opened,
+            cents: no_cents(),
+        };
         Ok(Posts {
-            history,
+            index: one(alloc, 1)?,
+            corrections: one_correction(alloc)?,
+            order: one_slot(alloc, slot(1, &effect))?,
+            effects: one_effect(alloc, effect)?,
+            history: one_kept(alloc, kept)?,
+            anchor,
             has_room: false,
         })
     }
 
-    /// How many there are.
+    /// How many there are. They are numbered from 1 on.
     pub fn len(&self) -> u32
         ensures value { result ≡ length self.now.history }
         ensures bound { result ≤ 10_000 }
+        ensures numbered { AreNumbered 1 self.now.history }
     {
         self.history.len() as u32
     }
@@ -63,17 +98,28 @@ impl Posts {
     pub fn get(&self, number: u32) -> Option<&Kept>
         ensures { option_copied result ≡ at_number number self.now.history }
     {
-        if number == 0 {
-            return None;
-        }
-        self.history.get(number as usize - 1)
+        numbered(&self.history, number as u64)
     }
 
-    /// The number of the post with this key. None comes exactly where no post has it.
+    /// The number of the post with this key, the first where several have it. None comes exactly where no post has it.
     pub fn with_key(&self, key: &Name) -> Option<u32>
         ensures { result ≡ with_key key.now self.now.history }
     {
-        first_with_key(&self.history, key)
+        find(&self.history, &self.index, key)
+    }
+
+    /// The corrected list as it is folded: by effective day, then by number. Its cents are 0 for kinds without cents.
+    pub fn in_order(&self) -> &[Slot]
+        ensures { result.now ≡ folding_order self.now.corrected }
+    {
+        &self.order
+    }
+
+    /// Whether there is room for one more post. It takes no memory.
+    pub fn has_room(&self) -> bool
+        ensures { result ≡ self.now.has_room }
+    {
+        self.has_room
     }
 
     /// Makes room for one more post. After want of memory the posts are as they were.
@@ -85,32 +131,52 @@ impl Posts {
             return Ok(());
         }
         self.history.reserve(1)?;
+        self.index.reserve(1)?;
+        self.corrections.reserve(1)?;
+        self.effects.reserve(1)?;
+        self.order.reserve(1)?;
         self.has_room = true;
         Ok(())
     }
 
-    /// Whether there is room for one more post. It takes no memory.
-    pub fn has_room(&self) -> bool
-        ensures { result ≡ self.now.has_room }
-    {
-        self.has_room
-    }
-
-    /// One more post, with room made for it. It takes no memory.
-    pub fn add(&mut self, key: Name, accepted: Day, post: &Post, _calendar: &Calendar) -> Pushed
+    /// One more post, with room made for it. It takes no memory and can't fail. The corrected list must be that of the
+    /// posts under this calendar, and is so afterwards. The post is about no later one. A payment came in by the day of
+    /// acceptance, and an Amend gives no later day.
+    pub fn add(&mut self, key: Name, accepted: Day, post: &Post, calendar: &Calendar) -> Pushed
         requires room { self.old.has_room ≡ true }
         requires few { length self.old.history < 10_000 }
+        requires stands { StandsFor calendar.now self.old }
+        requires target { target_of post.now ≤ length self.old.history }
+        requires dated { accepted ≤ 47_481 }
+        requires received { IsReceived (anchor_of self.old.history).opened accepted post.now }
         ensures history { self.new.history ≡ self.old.history ++ record { number = length self.old.history + 1; key = key; accepted = accepted; post = post.now } ∷ [] }
+        ensures stands { StandsFor calendar.now self.new }
         ensures room { self.new.has_room ≡ false }
         ensures number { result.number ≡ length self.old.history + 1 }
+        ensures from { IsFirstChange result.from self.old.corrected self.new.corrected }
     {
         let number = self.len() + 1;
-        append(&mut self.history, key, accepted, post);
+        enter_key(&self.history, &mut self.index, &key);
+        let kept = Kept {
+            number,
+            key,
+            accepted,
+            post: *post,
+        };
+        let from = enter(
+            &mut self.history,
+            &mut self.corrections,
+            &mut self.effects,
+            &mut self.order,
+            &self.anchor,
+            calendar,
+            kept,
+        );
         self.has_room = false;
-        Pushed { number }
+        Pushed { number, from }
     }
 
-    /// One more post. After want of memory the posts are as they were.
+    /// One more post: `make_room` and `add`. After want of memory the posts are as they were.
     pub fn push(
         &mut self,
         key: Name,
@@ -119,43 +185,41 @@ impl Posts {
         calendar: &Calendar,
     ) -> Result<Pushed, NoMemory>
         requires few { length self.old.history < 10_000 }
+        requires stands { StandsFor calendar.now self.old }
+        requires target { target_of post.now ≤ length self.old.history }
+        requires dated { accepted ≤ 47_481 }
+        requires received { IsReceived (anchor_of self.old.history).opened accepted post.now }
         ensures history { OnOk result (self.new.history ≡ self.old.history ++ record { number = length self.old.history + 1; key = key; accepted = accepted; post = post.now } ∷ []) }
+        ensures stands { OnOk result (StandsFor calendar.now self.new) }
         ensures room { OnOk result (self.new.has_room ≡ false) }
         ensures number { IfOk result (λ pushed. pushed.number ≡ length self.old.history + 1) }
+        ensures from { IfOk result (λ pushed. IsFirstChange pushed.from self.old.corrected self.new.corrected) }
         ensures err { OnErr result (self.new ≡ self.old) }
     {
         self.make_room()?;
         Ok(self.add(key, accepted, post, calendar))
     }
-}
 
-ghost use Rattle.std.specs.Prelude.{◌≡◌, ◌+◌, ◌<◌, ◌≤◌, ◌++◌, [], ◌∷◌, length, vec_len, vec_capacity};
-ghost use Rattle.card_events.specs.Keys.{with_key};
-
-fn first_with_key(history: &[Kept], key: &Name) -> Option<u32>
-    requires { length history.now ≤ 10_000 }
-    ensures { result ≡ with_key key.now history.now }
-{
-    for i in 0..history.len() {
-        let kept = &history[i];
-        if kept.key.bytes() == key.bytes() {
-            return Some(i as u32 + 1);
-        }
+    /// The same posts in memory of their own, without room for one more.
+    pub fn copy(&self, alloc: Global) -> Result<Posts, NoMemory>
+        ensures { IfOk result (λ posts. posts ≡ record self.now { has_room = false }) }
+    {
+        Ok(Posts {
+            history: copy_history(alloc, &self.history)?,
+            index: Vec::from_slice(alloc, &self.index)?,
+            corrections: Vec::from_slice(alloc, &self.corrections)?,
+            effects: Vec::from_slice(alloc, &self.effects)?,
+            order: Vec::from_slice(alloc, &self.order)?,
+            anchor: self.anchor,
+            has_room: false,
+        })
     }
-    None
-}
 
-// one more post, under the next number, where there is room for it
-fn append(history: &mut Vec<Kept>, key: Name, accepted: Day, post: &Post)
-    requires few { length history.old.items < 10_000 }
-    requires room { vec_len history.old < vec_capacity history.old }
-    ensures history { history.new.items ≡ history.old.items ++ record { number = length history.old.items + 1; key = key; accepted = accepted; post = post.now } ∷ [] }
-{
-    let number = history.len() as u32 + 1;
-    let _ = history.push(Kept {
-        number,
-        key,
-        accepted,
-        post: *post,
-    });
+    // The opening day, with what every history keeps.
+    pub(crate) fn opened(&self) -> Day
+        ensures value { result ≡ (anchor_of self.now.history).opened }
+        ensures timely { AreTimely (anchor_of self.now.history).opened self.now.history }
+    {
+        self.anchor.opened
+    }
 }

@@ -1,6 +1,13 @@
-use Rattle.std.proofs.Common.{◌∙◌, refl}
-use Rattle.card_posts.proofs.Numbers.{first-one}
+use Rattle.std.proofs.Common.{◌≡◌, [], ◌∷◌, ap, ◌∙◌, refl}
+use Rattle.card_events.specs.History.{anchor_of}
+use Rattle.card_days.specs.declared.anchor.Anchor.{Anchor}
+use Rattle.card_posts.proofs.Opening.{AreFirst, first-lists, stands-one}
 use Rattle.card_posts.proofs.posts.Posts.start.Goals as goal
 
 pub invariant_of-result : goal.invariant_of-result
-invariant_of-result c = let kept = first-one _ _ _ c.append.ensures.history (c.in_ok-reserve.ensures.items ∙ c.new-history.ensures.items) refl in (kept.0, kept.1, λ e. absurd (cc))
+invariant_of-result c =
+    let first = first-lists c.opening-anchor.result _ _ _ _ _ _ _ c.in_ok-one_kept.ensures c.in_ok-one.ensures c.in_ok-one_correction.ensures c.in_ok-one_effect.ensures (c.in_ok-one_slot.ensures ∙ ap (λ s. s ∷ []) c.slot.ensures) c.requires.opens c.requires.close_day refl c.requires.dated c.opening-anchor.ensures in
+    (first.kept, first.index, first.beside, λ e. absurd (cc))
+
+pub returns-clause-stands : goal.returns-clause-stands
+returns-clause-stands c holidays = stands-one _ _ _ _ c.in_ok-one_kept.ensures c.in_ok-one_effect.ensures c.requires.opens (ap (λ (a : Anchor). a.opened) c.opening-anchor.ensures) c.no_cents.ensures holidays
