@@ -1,10 +1,9 @@
 -- The corrected list after one more post.
-use Rattle.std.proofs.Common.{◌≡◌, ℕ, zero, suc, ◌+◌, ◌-◌, ◌<◌, ◌≤◌, min, false, List, [], ◌∷◌, ◌++◌, take, length, length-append, get_or, map, refl, sym, ap, ◌∙◌, subst, arith, pos}
+use Rattle.std.proofs.Common.{◌≡◌, ℕ, zero, suc, ◌+◌, ◌<◌, ◌≤◌, min, false, List, [], ◌∷◌, ◌++◌, take, length, length-append, get_or, map, refl, sym, ap, ◌∙◌, subst, arith, pos}
 use Rattle.std.proofs.lemmas.List.{take_more}
 use Rattle.card_days.specs.declared.anchor.Anchor.{Anchor}
 use Rattle.card_events.specs.History.{CorrectedPost, anchor_of, cents_of, corrected, corrected_from, corrected_post, effective_day, next_segment, slot_of}
 use Rattle.card_events.specs.declared.kept.Kept.{Kept}
-use Rattle.card_events.specs.declared.kept.Slot.{Slot}
 use Rattle.card_posts.specs.Change.{IsFirstChange, first_change}
 use Rattle.card_posts.specs.Corrections.{corrects}
 use Rattle.card_posts.specs.Effect.{corrected_by, corrected_with, effect_of, effects, effects_from, slots_from}

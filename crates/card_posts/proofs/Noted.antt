@@ -1,14 +1,13 @@
 -- What later posts say of each post, after one more post.
 use Rattle.std.proofs.Common.{◌≡◌, ℕ, zero, suc, ◌+◌, ◌-◌, ◌<◌, ◌≤◌, ◌^◌, min, Bool, true, false, cond, ◌==◌, List, [], ◌∷◌, ◌++◌, length, length-append, get_or, set, refl, sym, ap, ◌∙◌, subst, arith, Option, Some, None}
 use Rattle.std.specs.List.{sum_by}
-use Rattle.std.specs.Option.{option_or}
 use Rattle.std.proofs.lemmas.Bool.Decides.{nat_tests}
 use Rattle.std.proofs.lemmas.List.Sums.{sum_by-cons}
 use Rattle.card_events.specs.History.{amend_of, at_number, confirmed, confirms, dispute_names, disputes, last_amend}
 use Rattle.card_events.specs.declared.kept.Kept.{Kept}
 use Rattle.card_events.specs.declared.post.Post.{Post}
 use Rattle.card_events.specs.declared.post.Post.TheVariants as post
-use Rattle.card_posts.specs.Corrections.{charge_in, charge_named, correction_of, corrections, corrections_from, corrects}
+use Rattle.card_posts.specs.Corrections.{charge_in, charge_named, correction_of, corrections_from, corrects}
 use Rattle.card_posts.specs.Posted.{target_of}
 use Rattle.card_posts.specs.Stored.{NameEarlier}
 use Rattle.card_posts.specs.declared.correction.Correction.{Correction}

@@ -1,6 +1,5 @@
 -- The lists of an account that was just opened.
-use Rattle.std.proofs.Common.{◌≡◌, ℕ, suc, ◌+◌, ◌<◌, ◌≤◌, true, List, [], ◌∷◌, length, refl, sym, ap, ◌∙◌, subst, arith, None}
-use Rattle.std.specs.List.{sum_by}
+use Rattle.std.proofs.Common.{◌≡◌, ℕ, ◌<◌, ◌≤◌, true, List, [], ◌∷◌, refl, sym, ◌∙◌, subst, arith, None}
 use Rattle.card_days.specs.Billing.{IsCloseDay}
 use Rattle.card_days.specs.declared.anchor.Anchor.{Anchor}
 use Rattle.card_events.specs.History.{amend_of, anchor_of, cents_of, confirmed, confirms, corrected, corrected_from, corrected_post, effective_day, last_amend, opening_in, terms_in}
@@ -13,7 +12,7 @@ use Rattle.card_posts.specs.Effect.{corrected_with, slot_by, slots_from}
 use Rattle.card_posts.specs.Index.{IsIndex}
 use Rattle.card_posts.specs.Order.{in_order, placed}
 use Rattle.card_posts.specs.Posted.{AreNumbered, IsReceived, opens, target_of}
-use Rattle.card_posts.specs.Stored.{AreBeside, AreTimely, IsKept, IsTimely, NameEarlier}
+use Rattle.card_posts.specs.Stored.{AreBeside, AreTimely, IsKept, NameEarlier}
 use Rattle.card_posts.specs.declared.correction.Correction.{Correction}
 use Rattle.card_posts.specs.declared.effect.Effect.{Effect}
 use Rattle.card_posts.proofs.IndexLemmas.{index-one}

@@ -1,6 +1,6 @@
 -- What is kept of later posts for each post, by number: the last Amend, and the sum that was confirmed as an error.
 use Rattle.std.specs.Prelude.{ℕ, suc, ◌-◌, ◌^◌, min, Bool, true, false, List, [], ◌∷◌, Option, Some, None}
-use Rattle.card_events.specs.History.{amended_cents, confirmed, last_amend}
+use Rattle.card_events.specs.History.{confirmed, last_amend}
 use Rattle.card_events.specs.declared.kept.Kept.{Kept}
 use Rattle.card_events.specs.declared.post.Post.{Post}
 use Rattle.card_events.specs.declared.post.Post.TheVariants as post

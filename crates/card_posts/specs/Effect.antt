@@ -1,7 +1,7 @@
 -- The effective day and corrected cents that are kept for each post, by number.
-use Rattle.std.specs.Prelude.{ℕ, suc, ◌+◌, ◌≤◌, Bool, true, false, if◌then◌else◌, List, [], ◌∷◌, Option, Some, None, pos}
+use Rattle.std.specs.Prelude.{ℕ, suc, ◌≤◌, Bool, true, false, if◌then◌else◌, List, [], ◌∷◌, Option, Some, None, pos}
 use Rattle.card_days.specs.declared.anchor.Anchor.{Anchor}
-use Rattle.card_events.specs.History.{CorrectedPost, at_number, effective_day, cents_of, next_segment}
+use Rattle.card_events.specs.History.{CorrectedPost, effective_day, cents_of, next_segment}
 use Rattle.card_events.specs.declared.kept.Kept.{Kept}
 use Rattle.card_events.specs.declared.kept.Slot.{Slot}
 use Rattle.card_events.specs.declared.post.Post.{Post}

@@ -1,8 +1,7 @@
-use Rattle.std.proofs.Common.{◌≡◌, ◌+◌, max, unwrap_or, sym, ap, ◌∙◌, refl}
+use Rattle.std.proofs.Common.{◌≡◌, ◌+◌, max, unwrap_or, sym, ap, ◌∙◌}
 use Rattle.card_days.specs.Business.{credit_day, is_mail}
-use Rattle.card_events.specs.History.{amended_day, at_number, effective_day, last_amend}
-use Rattle.card_posts.specs.Effect.{awaited_day, own_day}
-use Rattle.card_posts.specs.Posted.{target_of}
+use Rattle.card_events.specs.History.{amended_day, effective_day, last_amend}
+use Rattle.card_posts.specs.Effect.{own_day}
 use Rattle.card_posts.specs.declared.correction.Correction.{Correction}
 use Rattle.card_posts.proofs.DayLemmas.{day-by-later}
 use Rattle.card_posts.proofs.effect.day_now.Goals as goal

@@ -1,5 +1,4 @@
-use Rattle.std.proofs.Common.{◌≡◌, ℕ, ◌+◌, ◌<◌, ◌≤◌, length, get_or, sym, ap, subst, ◌∙◌, refl, arith}
-use Rattle.card_events.specs.History.{cents_of, effective_day}
+use Rattle.std.proofs.Common.{◌≡◌, ℕ, ◌+◌, ◌<◌, get_or, sym, ap, subst, ◌∙◌, refl, arith}
 use Rattle.card_events.specs.declared.kept.Kept.{Kept}
 use Rattle.card_posts.specs.Corrections.{correction_of}
 use Rattle.card_posts.specs.Effect.{IsAmendDated, effect_of}

@@ -1,6 +1,5 @@
 use Rattle.std.proofs.lemmas.Grind.{common_steps}
-use Rattle.std.proofs.Common.{◌≡◌, ℕ, ◌+◌, ◌-◌, ◌≤◌, min, List, [], ◌∷◌, ◌++◌, length, length-append, take, get_or, arith, sym, ◌∙◌, ap, subst, refl}
-use Rattle.card_events.specs.declared.kept.Kept.{Kept}
+use Rattle.std.proofs.Common.{◌≡◌, ℕ, ◌+◌, ◌≤◌, min, List, [], ◌∷◌, ◌++◌, length, length-append, take, get_or, arith, sym, ◌∙◌, ap, subst}
 use Rattle.card_posts.specs.Change.{IsFirstChange, first_change}
 use Rattle.card_posts.specs.Effect.{corrected_with, effects, slot_by, slots_from}
 use Rattle.card_posts.specs.Order.{in_order, placed}

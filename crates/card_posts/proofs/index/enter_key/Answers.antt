@@ -1,5 +1,5 @@
 use Rattle.std.proofs.lemmas.Grind.{common_steps}
-use Rattle.std.proofs.Common.{◌≡◌, ◌+◌, ◌++◌, [], ◌∷◌, length, arith, sym, subst, List, ℕ, refl, ◌∙◌}
+use Rattle.std.proofs.Common.{◌≡◌, ◌+◌, ◌++◌, [], ◌∷◌, length, arith, sym, subst, refl, ◌∙◌}
 use Rattle.std.specs.List.{insert}
 use Rattle.card_posts.specs.Index.{IsEnd, IsIndex}
 use Rattle.card_posts.proofs.IndexLemmas.{index-more}

@@ -3,7 +3,7 @@ use Rattle.std.specs.Str.{bytes_eq}
 use Rattle.std.specs.Prelude.{slice_get}
 use Rattle.card_events.specs.Keys.{with_key}
 use Rattle.card_events.specs.declared.kept.Kept.{Kept}
-use Rattle.card_posts.specs.Index.{IsIndex, IsStart, first_with, key_of}
+use Rattle.card_posts.specs.Index.{IsIndex, IsStart, key_of}
 use Rattle.card_posts.proofs.IndexLemmas.{found_at, start-finds}
 use Rattle.card_posts.proofs.index.find.Goals as goal
 

@@ -1,4 +1,4 @@
-use Rattle.std.proofs.Common.{◌≡◌, ◌+◌, ◌<◌, ◌≤◌, length, take, drop, arith, ◌∙◌, ◌++◌, get_or, refl, sym, ap, ℕ, List, set}
+use Rattle.std.proofs.Common.{◌≡◌, ◌+◌, ◌<◌, ◌≤◌, length, take, drop, arith, ◌∙◌, ◌++◌, get_or, refl, ap, ℕ, List, set}
 use Rattle.card_posts.specs.Change.{after_one, first_change}
 use Rattle.card_posts.specs.Effect.{effects}
 use Rattle.card_posts.specs.declared.effect.Effect.{Effect}

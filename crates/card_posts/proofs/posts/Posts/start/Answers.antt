@@ -1,7 +1,6 @@
-use Rattle.std.proofs.Common.{◌≡◌, [], ◌∷◌, ap, ◌∙◌, refl}
-use Rattle.card_events.specs.History.{anchor_of}
+use Rattle.std.proofs.Common.{[], ◌∷◌, ap, ◌∙◌, refl}
 use Rattle.card_days.specs.declared.anchor.Anchor.{Anchor}
-use Rattle.card_posts.proofs.Opening.{AreFirst, first-lists, stands-one}
+use Rattle.card_posts.proofs.Opening.{first-lists, stands-one}
 use Rattle.card_posts.proofs.posts.Posts.start.Goals as goal
 
 pub invariant_of-result : goal.invariant_of-result
