@@ -101,8 +101,8 @@ fn own_day(kept: &Kept) -> Day
     }
 }
 
-// the post that a post is about, and 0 for what is about none
-fn target_of(post: &Post) -> u64
+// The post that a post is about, and 0 for what is about none
+pub fn target_of(post: &Post) -> u64
     ensures { result ≡ target_of post.now }
 {
     match post {

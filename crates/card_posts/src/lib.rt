@@ -10,5 +10,7 @@ mod make;
 mod order;
 mod posts;
 mod refresh;
+#[cfg(test)]
+mod tests;
 
 pub use posts::{Posts, Pushed};
