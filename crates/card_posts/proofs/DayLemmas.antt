@@ -1,0 +1,170 @@
+-- Effective days by a post's own day and that of the post it waits for.
+use Rattle.std.proofs.Common.{◌≡◌, ℕ, zero, suc, ◌+◌, ◌<◌, ◌≤◌, max, Bool, true, false, cond, ◌==◌, List, [], ◌∷◌, ◌++◌, length, get_or, refl, ap, arith, Option, Some, None}
+use Rattle.std.specs.Option.{option_or}
+use Rattle.card_days.specs.declared.anchor.Anchor.{Anchor}
+use Rattle.card_days.specs.declared.anchor.Channel.{Channel}
+use Rattle.card_events.specs.History.{amend_of, at_number, charge_day, dispute_day, effective_day, last_amend, payment_day}
+use Rattle.card_events.specs.declared.kept.Kept.{Kept}
+use Rattle.card_events.specs.declared.post.Place.{Place}
+use Rattle.card_events.specs.declared.post.Post.{Post}
+use Rattle.card_events.specs.declared.post.Post.TheVariants as post
+use Rattle.card_posts.specs.Effect.{IsAmendDated, awaited_day, own_day}
+use Rattle.card_posts.specs.Posted.{target_of, IsReceived}
+use Rattle.card_posts.specs.Stored.{AreTimely, IsTimely, NameEarlier}
+
+top : (d : ℕ) → d ≡ max d 0
+top d = omega arith
+
+payment : (a : Anchor) (holidays : List ℕ) (h : List Kept) (t d : ℕ) (o : Option Kept) → payment_day a holidays h t o ≡ awaited_day a holidays h (post.Return d t) o
+unfolding effective_day
+payment a holidays h t d None = refl
+payment a holidays h t d (Some k) = by k.post
+  where
+    by : (q : Post) → payment_day a holidays h t (Some (record { number = k.number; key = k.key; accepted = k.accepted; post = q })) ≡ awaited_day a holidays h (post.Return d t) (Some (record { number = k.number; key = k.key; accepted = k.accepted; post = q }))
+    by (post.Open d t) = refl
+    by (post.Charge d p c) = refl
+    by (post.Credit d p c) = refl
+    by (post.Payment d i y c) = refl
+    by (post.Return d t) = refl
+    by (post.Plan d v r w f) = refl
+    by (post.Notice d y r w) = refl
+    by (post.Lower d y r) = refl
+    by post.Penalty = refl
+    by (post.Review d f) = refl
+    by (post.Dispute d t c) = refl
+    by (post.Ack d t) = refl
+    by (post.Resolve d t c) = refl
+    by (post.AskRefund d) = refl
+    by (post.Refund c) = refl
+    by (post.Amend t d c) = refl
+    by (post.Bill c) = refl
+
+charge : (a : Anchor) (holidays : List ℕ) (h : List Kept) (t d c : ℕ) (o : Option Kept) → charge_day h t o ≡ awaited_day a holidays h (post.Dispute d t c) o
+unfolding effective_day
+charge a holidays h t d c None = refl
+charge a holidays h t d c (Some k) = by k.post
+  where
+    by : (q : Post) → charge_day h t (Some (record { number = k.number; key = k.key; accepted = k.accepted; post = q })) ≡ awaited_day a holidays h (post.Dispute d t c) (Some (record { number = k.number; key = k.key; accepted = k.accepted; post = q }))
+    by (post.Open d t) = refl
+    by (post.Charge d p c) = refl
+    by (post.Credit d p c) = refl
+    by (post.Payment d i y c) = refl
+    by (post.Return d t) = refl
+    by (post.Plan d v r w f) = refl
+    by (post.Notice d y r w) = refl
+    by (post.Lower d y r) = refl
+    by post.Penalty = refl
+    by (post.Review d f) = refl
+    by (post.Dispute d t c) = refl
+    by (post.Ack d t) = refl
+    by (post.Resolve d t c) = refl
+    by (post.AskRefund d) = refl
+    by (post.Refund c) = refl
+    by (post.Amend t d c) = refl
+    by (post.Bill c) = refl
+
+dispute : (a : Anchor) (holidays : List ℕ) (h : List Kept) (t d c : ℕ) (o : Option Kept) → dispute_day h o ≡ awaited_day a holidays h (post.Resolve d t c) o
+unfolding effective_day
+dispute a holidays h t d c None = refl
+dispute a holidays h t d c (Some k) = by k.post
+  where
+    by : (q : Post) → dispute_day h (Some (record { number = k.number; key = k.key; accepted = k.accepted; post = q })) ≡ awaited_day a holidays h (post.Resolve d t c) (Some (record { number = k.number; key = k.key; accepted = k.accepted; post = q }))
+    by (post.Open d t) = refl
+    by (post.Charge d p c) = refl
+    by (post.Credit d p c) = refl
+    by (post.Payment d i y c) = refl
+    by (post.Return d t) = refl
+    by (post.Plan d v r w f) = refl
+    by (post.Notice d y r w) = refl
+    by (post.Lower d y r) = refl
+    by post.Penalty = refl
+    by (post.Review d f) = refl
+    by (post.Dispute d t c) = refl
+    by (post.Ack d t) = refl
+    by (post.Resolve d t c) = refl
+    by (post.AskRefund d) = refl
+    by (post.Refund c) = refl
+    by (post.Amend t d c) = refl
+    by (post.Bill c) = refl
+
+amend : (a : Anchor) (holidays : List ℕ) (h : List Kept) (t d c : ℕ) (o : Option Kept) → d ≡ max d (awaited_day a holidays h (post.Amend t d c) o)
+amend a holidays h t d c None = top d
+amend a holidays h t d c (Some k) = top d
+
+-- a post that isn't a Charge, a Credit or a Payment
+pub day-by-later : (a : Anchor) (holidays : List ℕ) (h : List Kept) (n accepted : ℕ) (q : Post)
+    → ((d : ℕ) (p : Place) (c : ℕ) → q ≡ post.Charge d p c → ⊥)
+    → ((d : ℕ) (p : Place) (c : ℕ) → q ≡ post.Credit d p c → ⊥)
+    → ((d i : ℕ) (y : Channel) (c : ℕ) → q ≡ post.Payment d i y c → ⊥)
+    → effective_day a holidays h n accepted q ≡ max (own_day accepted q) (awaited_day a holidays h q (at_number (target_of q) h))
+unfolding effective_day
+day-by-later a holidays h n accepted (post.Open d t) no1 no2 no3 = top d
+day-by-later a holidays h n accepted (post.Charge d p c) no1 no2 no3 = absurd (no1 d p c refl)
+day-by-later a holidays h n accepted (post.Credit d p c) no1 no2 no3 = absurd (no2 d p c refl)
+day-by-later a holidays h n accepted (post.Payment d i y c) no1 no2 no3 = absurd (no3 d i y c refl)
+day-by-later a holidays h n accepted (post.Return d t) no1 no2 no3 = ap (λ x. max d x) (payment a holidays h t d (at_number t h))
+day-by-later a holidays h n accepted (post.Plan d v r w f) no1 no2 no3 = top d
+day-by-later a holidays h n accepted (post.Notice d y r w) no1 no2 no3 = top d
+day-by-later a holidays h n accepted (post.Lower d y r) no1 no2 no3 = top d
+day-by-later a holidays h n accepted post.Penalty no1 no2 no3 = top accepted
+day-by-later a holidays h n accepted (post.Review d f) no1 no2 no3 = top d
+day-by-later a holidays h n accepted (post.Dispute d t c) no1 no2 no3 = ap (λ x. max d x) (charge a holidays h t d c (at_number t h))
+day-by-later a holidays h n accepted (post.Ack d t) no1 no2 no3 = top d
+day-by-later a holidays h n accepted (post.Resolve d t c) no1 no2 no3 = ap (λ x. max d x) (dispute a holidays h t d c (at_number t h))
+day-by-later a holidays h n accepted (post.AskRefund d) no1 no2 no3 = top d
+day-by-later a holidays h n accepted (post.Refund c) no1 no2 no3 = top accepted
+day-by-later a holidays h n accepted (post.Amend t d c) no1 no2 no3 = amend a holidays h t d c (at_number t h)
+day-by-later a holidays h n accepted (post.Bill c) no1 no2 no3 = top accepted
+
+-- ---- days of receipt
+either : (opened : ℕ) (x y : Option (ℕ × ℕ)) → IsAmendDated opened x → IsAmendDated opened y → IsAmendDated opened (option_or x y)
+either opened None y f g = g
+either opened (Some x) y f g = f
+
+amend-one : (opened n : ℕ) (k : Kept) → IsTimely opened k → IsAmendDated opened (amend_of n k.post)
+amend-one opened n k h = by k.post k.accepted h.dated h.received
+  where
+    if_named : (b : Bool) (d c : ℕ) → opened ≤ d → d ≤ 47_481 → IsAmendDated opened (cond b (Some (d, c)) None)
+    if_named true d c l m = (l, m)
+    if_named false d c l m = tt
+
+    by : (q : Post) (accepted : ℕ) → accepted ≤ 47_481 → IsReceived opened accepted q → IsAmendDated opened (amend_of n q)
+    by (post.Open d t) accepted l g = tt
+    by (post.Charge d p c) accepted l g = tt
+    by (post.Credit d p c) accepted l g = tt
+    by (post.Payment d i y c) accepted l g = tt
+    by (post.Return d t) accepted l g = tt
+    by (post.Plan d v r w f) accepted l g = tt
+    by (post.Notice d y r w) accepted l g = tt
+    by (post.Lower d y r) accepted l g = tt
+    by post.Penalty accepted l g = tt
+    by (post.Review d f) accepted l g = tt
+    by (post.Dispute d t c) accepted l g = tt
+    by (post.Ack d t) accepted l g = tt
+    by (post.Resolve d t c) accepted l g = tt
+    by (post.AskRefund d) accepted l g = tt
+    by (post.Refund c) accepted l g = tt
+    by (post.Amend t d c) accepted l g = if_named (t == n) d c g.0 (omega (arith, g.1, l))
+    by (post.Bill c) accepted l g = tt
+
+pub amend-dated : (opened n : ℕ) (h : List Kept) → AreTimely opened h → IsAmendDated opened (last_amend n h)
+unfolding last_amend AreTimely
+amend-dated opened n [] h = tt
+amend-dated opened n (k ∷ ks) h = either opened (last_amend n ks) (amend_of n k.post) (amend-dated opened n ks h.1) (amend-one opened n k h.0)
+
+pub timely-at : (opened i : ℕ) (h : List Kept) (k : Kept) → AreTimely opened h → i < length h → IsTimely opened (get_or h i k)
+unfolding AreTimely
+timely-at opened i [] k h l = absurd (omega (arith, l))
+timely-at opened zero (q ∷ ks) k h l = h.0
+timely-at opened (suc i) (q ∷ ks) k h l = timely-at opened i ks k h.1 (omega (arith, l))
+
+pub timely-append : (opened : ℕ) (h : List Kept) (k : Kept) → AreTimely opened h → IsTimely opened k → AreTimely opened (h ++ k ∷ [])
+unfolding AreTimely
+timely-append opened [] k h g = (g, tt)
+timely-append opened (q ∷ ks) k h g = (h.0, timely-append opened ks k h.1 g)
+
+pub names-at : (n i : ℕ) (h : List Kept) (k : Kept) → NameEarlier n h → i < length h → target_of (get_or h i k).post < n + i
+unfolding NameEarlier
+names-at n i [] k h l = absurd (omega (arith, l))
+names-at n zero (q ∷ ks) k h l = omega (arith, h.0)
+names-at n (suc i) (q ∷ ks) k h l = let r = names-at (suc n) i ks k h.1 (omega (arith, l)) in omega (arith, r)

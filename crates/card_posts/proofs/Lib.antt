@@ -1,0 +1,12 @@
+pub mod Numbers
+pub mod Ordered
+pub mod SlotLists
+pub mod OneMore
+pub mod Noted
+pub mod Targets
+pub mod DayLemmas
+pub mod Changed
+pub mod Following
+pub mod IndexLemmas
+pub mod Opening
+pub mod Holidays

@@ -1,0 +1,15 @@
+use Rattle.std.proofs.Common.{◌∙◌, ap, length}
+use Rattle.card_posts.specs.Effect.{effects}
+use Rattle.card_posts.proofs.Following.{plain-last}
+use Rattle.card_posts.proofs.OneMore.{effects-length}
+use Rattle.card_posts.proofs.enter.enter.Goals as goal
+
+pub follow-requires-clause-plain : goal.follow-requires-clause-plain
+follow-requires-clause-plain c d f = plain-last c.args.anchor.now c.args.calendar.now c.args.history.now.items c.deref.result.now c.args.kept d c.args.effects.now.items c.requires.stands (c.deref.ensures.value ∙ c.append.ensures.history) c.requires.kept.names c.requires.earlier f
+
+pub returns-clause-beside : goal.returns-clause-beside
+returns-clause-beside c = record {
+  corrections = c.append.ensures.corrections;
+  effects = ap length (c.follow.ensures.effects ∙ ap (λ u. effects c.args.anchor.now c.args.calendar.now u) c.deref.ensures.value) ∙ effects-length c.args.anchor.now c.args.calendar.now c.append.new.history.items 1 c.append.new.history.items;
+  order = c.follow.ensures.order;
+}

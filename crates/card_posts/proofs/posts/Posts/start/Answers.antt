@@ -1,0 +1,12 @@
+use Rattle.std.proofs.Common.{[], ◌∷◌, ap, ◌∙◌, refl}
+use Rattle.card_days.specs.declared.anchor.Anchor.{Anchor}
+use Rattle.card_posts.proofs.Opening.{first-lists, stands-one}
+use Rattle.card_posts.proofs.posts.Posts.start.Goals as goal
+
+pub invariant_of-result : goal.invariant_of-result
+invariant_of-result c =
+    let first = first-lists c.opening-anchor.result _ _ _ _ _ _ _ c.in_ok-one_kept.ensures c.in_ok-one.ensures c.in_ok-one_correction.ensures c.in_ok-one_effect.ensures (c.in_ok-one_slot.ensures ∙ ap (λ s. s ∷ []) c.slot.ensures) c.requires.opens c.requires.close_day refl c.requires.dated c.opening-anchor.ensures in
+    (first.kept, first.index, first.beside, λ e. absurd (cc))
+
+pub returns-clause-stands : goal.returns-clause-stands
+returns-clause-stands c holidays = stands-one _ _ _ _ c.in_ok-one_kept.ensures c.in_ok-one_effect.ensures c.requires.opens (ap (λ (a : Anchor). a.opened) c.opening-anchor.ensures) c.no_cents.ensures holidays

@@ -1,0 +1,34 @@
+-- What is kept of later posts for each post, by number: the last Amend, and the sum that was confirmed as an error.
+use Rattle.std.specs.Prelude.{ℕ, suc, ◌-◌, ◌^◌, min, Bool, true, false, List, [], ◌∷◌, Option, Some, None}
+use Rattle.card_events.specs.History.{confirmed, last_amend}
+use Rattle.card_events.specs.declared.kept.Kept.{Kept}
+use Rattle.card_events.specs.declared.post.Post.{Post}
+use Rattle.card_events.specs.declared.post.Post.TheVariants as post
+use Rattle.card_posts.specs.declared.correction.Correction.{Correction}
+
+-- what the history says of post n. A sum above the greatest number of its field is kept as that number
+abbrev pub correction_of : List Kept → ℕ → Correction
+correction_of history n = record { amend = last_amend n history; confirmed = min (confirmed n history) (2 ^ 64 - 1) }
+
+-- what it says of these posts, the first of which is post n
+unfoldable pub corrections_from : List Kept → ℕ → List Kept → List Correction
+corrections_from history n [] = []
+corrections_from history n (k ∷ ks) = correction_of history n ∷ corrections_from history (suc n) ks
+
+abbrev pub corrections : List Kept → List Correction
+corrections history = corrections_from history 1 history
+
+-- the charge that a Dispute names, and 0 for what is none
+abbrev pub charge_in : Post → ℕ
+charge_in (post.Dispute _ target _) = target
+charge_in _ = 0
+
+abbrev pub charge_named : Option Kept → ℕ
+charge_named None = 0
+charge_named (Some k) = charge_in k.post
+
+-- the post changes what counts for earlier ones
+abbrev pub corrects : Post → Bool
+corrects (post.Amend _ _ _) = true
+corrects (post.Resolve _ _ _) = true
+corrects _ = false

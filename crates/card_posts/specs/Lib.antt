@@ -1,0 +1,7 @@
+pub mod Change
+pub mod Corrections
+pub mod Effect
+pub mod Index
+pub mod Order
+pub mod Posted
+pub mod Stored

@@ -1,0 +1,55 @@
+-- The accepted posts of an account, as clauses see them.
+use Rattle.std.specs.Prelude.{◌≡◌, ℕ, suc, ◌≤◌, max, Bool, true, false, List, [], ◌∷◌, map}
+use Rattle.card_events.specs.History.{CorrectedPost, anchor_of, corrected, slot_of}
+use Rattle.card_events.specs.declared.kept.Kept.{Kept}
+use Rattle.card_events.specs.declared.kept.Slot.{Slot}
+use Rattle.card_events.specs.declared.post.Post.{Post}
+use Rattle.card_events.specs.declared.post.Post.TheVariants as post
+use Rattle.card_posts.specs.Order.{in_order}
+
+-- the accepted posts, in order of acceptance; what counts of each now, by number; and whether there is room for one more
+pub record Posted : Type 0 where
+  pub history : List Kept
+  pub corrected : List CorrectedPost
+  pub has_room : Bool
+
+-- the corrected list is that of the history under these holidays
+abbrev pub StandsFor : List ℕ → Posted → Type 0
+StandsFor holidays posted = posted.corrected ≡ corrected (anchor_of posted.history) holidays posted.history
+
+-- a corrected list as it is folded: its slots by effective day, then by number
+abbrev pub folding_order : List CorrectedPost → List Slot
+folding_order posts = in_order (map slot_of posts)
+
+-- the post opens an account
+abbrev pub opens : Post → Bool
+opens (post.Open _ _) = true
+opens _ = false
+
+-- each post bears its place as its number, where the first of the list has number n
+unfoldable pub AreNumbered : ℕ → List Kept → Type 0
+AreNumbered n [] = Unit {0}
+AreNumbered n (k ∷ ks) = (k.number ≡ n) × AreNumbered (suc n) ks
+
+-- the post that a correction, a Return or a Resolve is about, and 0 for what is about none
+abbrev pub target_of : Post → ℕ
+target_of (post.Return _ target) = target
+target_of (post.Dispute _ target _) = target
+target_of (post.Resolve _ target _) = target
+target_of (post.Amend target _ _) = target
+target_of _ = 0
+
+-- the day lies from the opening day to the day of acceptance
+abbrev pub IsPastDay : ℕ → ℕ → ℕ → Type 0
+IsPastDay opened accepted day = (opened ≤ day) × (day ≤ accepted)
+
+-- a payment came in on such a day, at a minute of it, and an Amend gives such a day. Nothing is asked of other posts
+abbrev pub IsReceived : ℕ → ℕ → Post → Type 0
+IsReceived opened accepted (post.Payment day minute _ _) = IsPastDay opened accepted day × (minute ≤ 1_439)
+IsReceived opened accepted (post.Amend _ day _) = IsPastDay opened accepted day
+IsReceived opened accepted _ = Unit {0}
+
+-- the last day on which a post was accepted
+unfoldable pub last_accepted : List Kept → ℕ
+last_accepted [] = 0
+last_accepted (k ∷ ks) = max k.accepted (last_accepted ks)

@@ -1,0 +1,52 @@
+-- What is stored beside the accepted posts of an account.
+use Rattle.std.specs.Prelude.{◌≡◌, ℕ, suc, ◌<◌, ◌≤◌, List, [], ◌∷◌, length, vec_len, vec_capacity}
+use Rattle.std.specs.Global.{Vec}
+use Rattle.card_days.specs.Billing.{IsCloseDay}
+use Rattle.card_days.specs.declared.anchor.Anchor.{Anchor}
+use Rattle.card_events.specs.History.{anchor_of}
+use Rattle.card_events.specs.declared.kept.Kept.{Kept}
+use Rattle.card_events.specs.declared.kept.Slot.{Slot}
+use Rattle.card_posts.specs.Corrections.{corrections}
+use Rattle.card_posts.specs.Effect.{slots_from}
+use Rattle.card_posts.specs.Order.{in_order}
+use Rattle.card_posts.specs.Posted.{AreNumbered, IsReceived, target_of}
+use Rattle.card_posts.specs.declared.correction.Correction.{Correction}
+use Rattle.card_posts.specs.declared.effect.Effect.{Effect}
+
+-- each of these posts, the first of which is post n, is about an earlier one
+unfoldable pub NameEarlier : ℕ → List Kept → Type 0
+NameEarlier n [] = Unit {0}
+NameEarlier n (k ∷ ks) = (target_of k.post < n) × NameEarlier (suc n) ks
+
+-- a post was accepted on a day of requests, and payments came in by then
+pub record IsTimely (opened : ℕ) (k : Kept) : Type 0 where
+  pub dated : k.accepted ≤ 47_481
+  pub received : IsReceived opened k.accepted k.post
+
+unfoldable pub AreTimely : ℕ → List Kept → Type 0
+AreTimely opened [] = Unit {0}
+AreTimely opened (k ∷ ks) = IsTimely opened k × AreTimely opened ks
+
+-- the history of an account that may be kept
+pub record IsKept (a : Anchor) (history : List Kept) : Type 0 where
+  pub few : length history ≤ 10_000
+  pub some : 1 ≤ length history
+  pub anchor : a ≡ anchor_of history
+  pub close_day : IsCloseDay a.close_day
+  pub numbered : AreNumbered 1 history
+  pub names : NameEarlier 1 history
+  pub timely : AreTimely a.opened history
+
+-- what is kept beside it
+pub record AreBeside (history : List Kept) (later : List Correction) (now : List Effect) (slots : List Slot) : Type 0 where
+  pub corrections : later ≡ corrections history
+  pub effects : length now ≡ length history
+  pub order : slots ≡ in_order (slots_from 1 now)
+
+-- there is room for one more in each
+pub record HaveRoom (history : Vec Kept) (index : Vec ℕ) (later : Vec Correction) (now : Vec Effect) (slots : Vec Slot) : Type 0 where
+  pub history_room : vec_len history < vec_capacity history
+  pub index_room : vec_len index < vec_capacity index
+  pub correction_room : vec_len later < vec_capacity later
+  pub effect_room : vec_len now < vec_capacity now
+  pub slot_room : vec_len slots < vec_capacity slots

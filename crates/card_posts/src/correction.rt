@@ -1,0 +1,95 @@
+// What later posts say of each post, by number.
+ghost use Rattle.std.specs.Prelude.{◌≡◌, ◌+◌, ◌-◌, ◌^◌, ◌<◌, ◌≤◌, ◌++◌, [], ◌∷◌, Some, min, length, slice_index_or, slice_set, option_copied};
+ghost use Rattle.card_events.specs.History.{at_number};
+ghost use Rattle.card_events.specs.declared.kept.Kept.{Kept};
+ghost use Rattle.card_posts.specs.Corrections.{charge_in, charge_named, corrections_from};
+ghost use Rattle.card_posts.specs.Posted.{target_of};
+ghost use Rattle.card_posts.specs.Stored.{NameEarlier};
+
+use card_days::Day;
+use card_events::{Kept, Num, Post};
+
+// What later posts say of a post: the day and cents of the last Amend, and the sum that was confirmed as an error in it.
+#[derive(Clone, Copy, Debug, PartialEq, Eq)]
+pub struct Correction {
+    pub amend: Option<(Day, Num)>,
+    pub confirmed: u64,
+}
+
+// The post with a number.
+pub fn numbered(history: &[Kept], number: u64) -> Option<&Kept>
+    ensures { option_copied result ≡ at_number number history.now }
+{
+    if number == 0 {
+        return None;
+    }
+    history.get(number as usize - 1)
+}
+
+// the charge that a Dispute names, and 0 for what is none
+fn charge_in(post: &Post) -> u64
+    ensures { result ≡ charge_in post.now }
+{
+    match post {
+        Post::Dispute { target, .. } => target.get(),
+        _ => 0,
+    }
+}
+
+// the charge that the Dispute of this number names, and 0 for what is none
+fn disputed(history: &[Kept], number: u64) -> u64
+    ensures { result ≡ charge_named (at_number number history.now) }
+{
+    match numbered(history, number) {
+        Some(kept) => charge_in(&kept.post),
+        None => 0,
+    }
+}
+
+// Sets the day and cents that stand for a post.
+fn set_amend(corrections: &mut [Correction], target: u64, day: Day, cents: Num)
+    requires { target ≤ length corrections.old }
+    ensures set { (d : Correction) → 0 < target → corrections.new ≡ slice_set corrections.old (target - 1) (record { amend = Some (day, cents); confirmed = (slice_index_or corrections.old (target - 1) d).confirmed }) }
+    ensures none { target ≡ 0 → corrections.new ≡ corrections.old }
+{
+    if target > 0 {
+        let at = target as usize - 1;
+        let confirmed = corrections[at].confirmed;
+        corrections[at] = Correction {
+            amend: Some((day, cents)),
+            confirmed,
+        };
+    }
+}
+
+// Adds to what was confirmed of an error in a charge.
+fn add_confirmed(corrections: &mut [Correction], target: u64, cents: u64)
+    requires { target ≤ length corrections.old }
+    ensures set { (d : Correction) → 0 < target → corrections.new ≡ slice_set corrections.old (target - 1) (record { amend = (slice_index_or corrections.old (target - 1) d).amend; confirmed = min ((slice_index_or corrections.old (target - 1) d).confirmed + cents) (2 ^ 64 - 1) }) }
+    ensures none { target ≡ 0 → corrections.new ≡ corrections.old }
+{
+    if target > 0 {
+        let at = target as usize - 1;
+        let before = &corrections[at];
+        let amend = before.amend;
+        let confirmed = before.confirmed.saturating_add(cents);
+        corrections[at] = Correction { amend, confirmed };
+    }
+}
+
+// Brings what is said of earlier posts up to one more post.
+pub fn note(history: &[Kept], corrections: &mut [Correction], post: &Post)
+    requires names { NameEarlier 1 history.now }
+    requires earlier { target_of post.now ≤ length history.now }
+    requires corrections { corrections.old ≡ corrections_from history.now 1 history.now }
+    ensures { (k : Kept) → k.post ≡ post.now → corrections.new ≡ corrections_from (history.now ++ k ∷ []) 1 history.now }
+{
+    match post {
+        Post::Amend { target, day, cents } => set_amend(corrections, target.get(), *day, *cents),
+        Post::Resolve { target, cents, .. } => {
+            let charge = disputed(history, target.get());
+            add_confirmed(corrections, charge, cents.get());
+        }
+        _ => {}
+    }
+}

@@ -1,0 +1,16 @@
+//! The accepted posts of an account, and its corrected list.
+#![tactic(auto)]
+
+mod correction;
+mod effect;
+mod enter;
+mod index;
+pub mod laws;
+mod make;
+mod order;
+mod posts;
+mod refresh;
+#[cfg(test)]
+mod tests;
+
+pub use posts::{Posts, Pushed};

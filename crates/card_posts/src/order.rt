@@ -1,0 +1,72 @@
+// Slots in the order in which they are folded.
+ghost use Rattle.std.specs.Prelude.{◌≡◌, ◌+◌, ◌<◌, ◌≤◌, length, slice_set, vec_len, vec_capacity};
+ghost use Rattle.card_posts.specs.Effect.{slot_by, slots_from};
+ghost use Rattle.card_posts.specs.Order.{before, placed, in_order, IsAscending, IsPlace, without};
+
+use crate::effect::Effect;
+use card_events::Slot;
+
+// The slot of a post.
+pub fn slot(number: u32, effect: &Effect) -> Slot
+    ensures { result ≡ slot_by number effect.now }
+{
+    Slot {
+        day: effect.day,
+        number,
+        cents: effect.cents.get() as i64,
+    }
+}
+
+fn is_before(a: &Slot, b: &Slot) -> bool
+    ensures { result ≡ before a.now b.now }
+{
+    a.day < b.day || a.day == b.day && a.number < b.number
+}
+
+// where a slot belongs, behind those that come before it
+fn place_of(order: &[Slot], slot: &Slot) -> usize
+    requires { IsAscending order.now }
+    ensures { IsPlace slot.now order.now result }
+{
+    order.partition_point(|other| is_before(other, slot))
+}
+
+// Puts a slot into its place, with room for it.
+pub fn place(order: &mut Vec<Slot>, slot: Slot)
+    requires order { IsAscending order.old.items }
+    requires room { vec_len order.old < vec_capacity order.old }
+    ensures order { order.new.items ≡ placed slot order.old.items }
+    ensures len { vec_len order.new ≡ vec_len order.old + 1 }
+    ensures capacity { vec_capacity order.old ≤ vec_capacity order.new }
+{
+    let at = place_of(order, &slot);
+    let _ = order.insert(at, slot);
+}
+
+// Takes the slot of a post out of its place.
+fn take_out(order: &mut Vec<Slot>, effects: &[Effect], i: usize)
+    requires few { length effects.now ≤ 10_000 }
+    requires order { order.old.items ≡ in_order (slots_from 1 effects.now) }
+    requires known { i < length effects.now }
+    ensures order { order.new.items ≡ in_order (without i (slots_from 1 effects.now)) }
+    ensures len { vec_len order.new + 1 ≡ vec_len order.old }
+    ensures capacity { vec_capacity order.new ≡ vec_capacity order.old }
+{
+    let old = slot(i as u32 + 1, &effects[i]);
+    let from = place_of(order, &old);
+    let _ = order.remove(from);
+}
+
+// Moves the slot of a post to where it belongs now.
+pub fn change(order: &mut Vec<Slot>, effects: &[Effect], i: usize, now: &Effect)
+    requires few { length effects.now ≤ 10_000 }
+    requires order { order.old.items ≡ in_order (slots_from 1 effects.now) }
+    requires known { i < length effects.now }
+    requires room { vec_len order.old ≤ vec_capacity order.old }
+    ensures order { order.new.items ≡ in_order (slots_from 1 (slice_set effects.now i now.now)) }
+    ensures len { vec_len order.new ≡ vec_len order.old }
+    ensures capacity { vec_capacity order.old ≤ vec_capacity order.new }
+{
+    take_out(order, effects, i);
+    place(order, slot(i as u32 + 1, now));
+}

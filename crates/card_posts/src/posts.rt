@@ -1,0 +1,225 @@
+use crate::correction::{Correction, numbered};
+use crate::effect::{Effect, no_cents};
+use crate::enter::enter;
+use crate::index::{enter_key, find};
+use crate::make::{copy_history, one, one_correction, one_effect, one_kept, one_slot, opening};
+use crate::order::slot;
+use card_days::{Anchor, Calendar, Day};
+use card_events::{Kept, Name, Post, Slot};
+use card_units::NoMemory;
+use std::alloc::Global;
+use std::marker::Model;
+
+/// The accepted posts of an account, in order of acceptance, at most 10,000, of which the first opened it; and the
+/// corrected list, which says what counts of each post now.
+#[derive(Drop)]
+pub struct Posts {
+    history: Vec<Kept>,
+    index: Vec<u32>,
+    corrections: Vec<Correction>,
+    effects: Vec<Effect>,
+    order: Vec<Slot>,
+    anchor: Anchor,
+    has_room: bool,
+}
+
+impl Model for Posts {
+    ghost use Rattle.std.specs.Prelude.{◌≡◌, ◌<◌, true, vec_len, vec_capacity};
+    ghost use Rattle.card_posts.specs.Effect.{corrected_with};
+    ghost use Rattle.card_posts.specs.Index.{IsIndex};
+    ghost use Rattle.card_posts.specs.Posted.{Posted};
+    ghost use Rattle.card_posts.specs.Stored.{AreBeside, HaveRoom, IsKept};
+
+    ghost Value = { Posted };
+
+    ghost view = { λ p. record { history = p.history.items; corrected = corrected_with 1 5 p.history.items p.effects.items; has_room = p.has_room } };
+
+    ghost invariant = { λ p. IsKept p.anchor p.history.items × IsIndex p.history.items p.index.items × AreBeside p.history.items p.corrections.items p.effects.items p.order.items × (p.has_room ≡ true → HaveRoom p.history p.index p.corrections p.effects p.order) };
+}
+
+/// What became of a post: its number, and the earliest day on which the corrected list differs from what it was.
+#[derive(Clone, Copy, Debug, PartialEq, Eq)]
+pub struct Pushed {
+    pub number: u32,
+    pub from: Day,
+}
+
+impl Posts {
+    ghost use Rattle.std.specs.Prelude.{◌≡◌, ℕ, ◌+◌, ◌<◌, ◌≤◌, ◌++◌, List, [], ◌∷◌, true, false, length, IfOk, OnOk, OnErr, option_copied};
+    ghost use Rattle.card_days.specs.Billing.{IsCloseDay};
+    ghost use Rattle.card_events.specs.History.{anchor_of, at_number, terms_in};
+    ghost use Rattle.card_events.specs.Keys.{with_key};
+    ghost use Rattle.card_posts.specs.Change.{IsFirstChange};
+    ghost use Rattle.card_posts.specs.Posted.{AreNumbered, IsReceived, StandsFor, folding_order, opens, target_of};
+    ghost use Rattle.card_posts.specs.Stored.{AreTimely};
+
+    /// The post that opens an account, which has number 1. Its terms close cycles on day 1 to 28 of a month. The
+    /// corrected list is that of the post under any calendar.
+    pub fn start(alloc: Global, key: &Name, accepted: Day, post: &Post) -> Result<Posts, NoMemory>
+        requires opens { opens post.now ≡ true }
+        requires close_day { IsCloseDay (terms_in post.now).close }
+        requires dated { accepted ≤ 47_481 }
+        ensures history { IfOk result (λ posts. posts.history ≡ record { number = 1; key = key.now; accepted = accepted; post = post.now } ∷ []) }
+        ensures stands { IfOk result (λ posts. (holidays : List ℕ) → StandsFor holidays posts) }
+        ensures room { IfOk result (λ posts. posts.has_room ≡ false) }
+    {
+        let anchor = opening(post);
+        let kept = Kept {
+            number: 1,
+            key: key.copy(alloc)?,
+            accepted,
+            post: *post,
+        };
+        let effect = Effect {
+            day: anchor.opened,
+            cents: no_cents(),
+        };
+        Ok(Posts {
+            index: one(alloc, 1)?,
+            corrections: one_correction(alloc)?,
+            order: one_slot(alloc, slot(1, &effect))?,
+            effects: one_effect(alloc, effect)?,
+            history: one_kept(alloc, kept)?,
+            anchor,
+            has_room: false,
+        })
+    }
+
+    /// How many there are. They are numbered from 1 on.
+    pub fn len(&self) -> u32
+        ensures value { result ≡ length self.now.history }
+        ensures bound { result ≤ 10_000 }
+        ensures numbered { AreNumbered 1 self.now.history }
+    {
+        self.history.len() as u32
+    }
+
+    /// The post with this number. None comes exactly where no post has it.
+    pub fn get(&self, number: u32) -> Option<&Kept>
+        ensures { option_copied result ≡ at_number number self.now.history }
+    {
+        numbered(&self.history, number as u64)
+    }
+
+    /// The number of the post with this key, the first where several have it. None comes exactly where no post has it.
+    pub fn with_key(&self, key: &Name) -> Option<u32>
+        ensures { result ≡ with_key key.now self.now.history }
+    {
+        find(&self.history, &self.index, key)
+    }
+
+    /// The corrected list as it is folded: by effective day, then by number. Its cents are 0 for kinds without cents.
+    pub fn in_order(&self) -> &[Slot]
+        ensures { result.now ≡ folding_order self.now.corrected }
+    {
+        &self.order
+    }
+
+    /// Whether there is room for one more post. It takes no memory.
+    pub fn has_room(&self) -> bool
+        ensures { result ≡ self.now.has_room }
+    {
+        self.has_room
+    }
+
+    /// Makes room for one more post. After want of memory the posts are as they were.
+    pub fn make_room(&mut self) -> Result<(), NoMemory>
+        ensures ok { OnOk result (self.new ≡ record self.old { has_room = true }) }
+        ensures err { OnErr result (self.new ≡ self.old) }
+    {
+        if self.has_room {
+            return Ok(());
+        }
+        self.history.reserve(1)?;
+        self.index.reserve(1)?;
+        self.corrections.reserve(1)?;
+        self.effects.reserve(1)?;
+        self.order.reserve(1)?;
+        self.has_room = true;
+        Ok(())
+    }
+
+    /// One more post, with room made for it. It takes no memory and can't fail. The corrected list must be that of the
+    /// posts under this calendar, and is so afterwards. The post is about no later one. A payment came in by the day of
+    /// acceptance, and an Amend gives no later day.
+    pub fn add(&mut self, key: Name, accepted: Day, post: &Post, calendar: &Calendar) -> Pushed
+        requires room { self.old.has_room ≡ true }
+        requires few { length self.old.history < 10_000 }
+        requires stands { StandsFor calendar.now self.old }
+        requires target { target_of post.now ≤ length self.old.history }
+        requires dated { accepted ≤ 47_481 }
+        requires received { IsReceived (anchor_of self.old.history).opened accepted post.now }
+        ensures history { self.new.history ≡ self.old.history ++ record { number = length self.old.history + 1; key = key; accepted = accepted; post = post.now } ∷ [] }
+        ensures stands { StandsFor calendar.now self.new }
+        ensures room { self.new.has_room ≡ false }
+        ensures number { result.number ≡ length self.old.history + 1 }
+        ensures from { IsFirstChange result.from self.old.corrected self.new.corrected }
+    {
+        let number = self.len() + 1;
+        enter_key(&self.history, &mut self.index, &key);
+        let kept = Kept {
+            number,
+            key,
+            accepted,
+            post: *post,
+        };
+        let from = enter(
+            &mut self.history,
+            &mut self.corrections,
+            &mut self.effects,
+            &mut self.order,
+            &self.anchor,
+            calendar,
+            kept,
+        );
+        self.has_room = false;
+        Pushed { number, from }
+    }
+
+    /// One more post: `make_room` and `add`. After want of memory the posts are as they were.
+    pub fn push(
+        &mut self,
+        key: Name,
+        accepted: Day,
+        post: &Post,
+        calendar: &Calendar,
+    ) -> Result<Pushed, NoMemory>
+        requires few { length self.old.history < 10_000 }
+        requires stands { StandsFor calendar.now self.old }
+        requires target { target_of post.now ≤ length self.old.history }
+        requires dated { accepted ≤ 47_481 }
+        requires received { IsReceived (anchor_of self.old.history).opened accepted post.now }
+        ensures history { OnOk result (self.new.history ≡ self.old.history ++ record { number = length self.old.history + 1; key = key; accepted = accepted; post = post.now } ∷ []) }
+        ensures stands { OnOk result (StandsFor calendar.now self.new) }
+        ensures room { OnOk result (self.new.has_room ≡ false) }
+        ensures number { IfOk result (λ pushed. pushed.number ≡ length self.old.history + 1) }
+        ensures from { IfOk result (λ pushed. IsFirstChange pushed.from self.old.corrected self.new.corrected) }
+        ensures err { OnErr result (self.new ≡ self.old) }
+    {
+        self.make_room()?;
+        Ok(self.add(key, accepted, post, calendar))
+    }
+
+    /// The same posts in memory of their own, without room for one more.
+    pub fn copy(&self, alloc: Global) -> Result<Posts, NoMemory>
+        ensures { IfOk result (λ posts. posts ≡ record self.now { has_room = false }) }
+    {
+        Ok(Posts {
+            history: copy_history(alloc, &self.history)?,
+            index: Vec::from_slice(alloc, &self.index)?,
+            corrections: Vec::from_slice(alloc, &self.corrections)?,
+            effects: Vec::from_slice(alloc, &self.effects)?,
+            order: Vec::from_slice(alloc, &self.order)?,
+            anchor: self.anchor,
+            has_room: false,
+        })
+    }
+
+    // The opening day, with what every history keeps.
+    pub(crate) fn opened(&self) -> Day
+        ensures value { result ≡ (anchor_of self.now.history).opened }
+        ensures timely { AreTimely (anchor_of self.now.history).opened self.now.history }
+    {
+        self.anchor.opened
+    }
+}

@@ -1,0 +1,126 @@
+// Bringing what counts for earlier posts, and their order, up to a correction.
+ghost use Rattle.std.specs.Prelude.{◌≡◌, ◌+◌, ◌<◌, ◌≤◌, min, false, length, take, slice_index_or, slice_set, vec_len, vec_capacity};
+ghost use Rattle.card_posts.specs.Change.{after_one, first_change, stands};
+ghost use Rattle.card_posts.specs.Corrections.{corrections_from, corrects};
+ghost use Rattle.card_posts.specs.Effect.{slots_from};
+ghost use Rattle.card_posts.specs.Effect as spec;
+ghost use Rattle.card_posts.specs.Order.{in_order};
+ghost use Rattle.card_posts.specs.Stored.{IsKept};
+ghost use Rattle.card_posts.specs.declared.effect.Effect.{Effect};
+
+use crate::correction::Correction;
+use crate::effect::{Effect, effect_now};
+use crate::order::change;
+use card_days::{Anchor, Calendar, Day};
+use card_events::{Kept, Post, Slot};
+
+// whether nothing of it has changed
+fn stands(before: &Effect, now: &Effect) -> bool
+    ensures { result ≡ stands before.now now.now }
+{
+    before.day == now.day && before.cents == now.cents
+}
+
+// The earlier of two days.
+pub fn sooner(a: Day, b: Day) -> Day
+    ensures value { result ≡ min a b }
+    ensures bound { a ≤ 48_576 }
+{
+    if a.number() < b.number() { a } else { b }
+}
+
+// Whether a post changes what counts for earlier ones.
+fn is_correction(post: &Post) -> bool
+    ensures { result ≡ corrects post.now }
+{
+    matches!(post, Post::Amend { .. } | Post::Resolve { .. })
+}
+
+fn last_day() -> Day
+    ensures { result ≡ 48_576 }
+{
+    Day::from_number(48_576).unwrap()
+}
+
+// brings one post, and its place in the order, up to what counts now. Answers the first day known to differ
+fn refresh_one(
+    effects: &mut [Effect],
+    order: &mut Vec<Slot>,
+    i: usize,
+    now: &Effect,
+    first: Day,
+) -> Day
+    requires few { length effects.old ≤ 10_000 }
+    requires known { i < length effects.old }
+    requires order { order.old.items ≡ in_order (slots_from 1 effects.old) }
+    requires room { vec_len order.old ≤ vec_capacity order.old }
+    ensures effects { effects.new ≡ slice_set effects.old i now.now }
+    ensures order { order.new.items ≡ in_order (slots_from 1 effects.new) }
+    ensures first { (d : Effect) → result ≡ after_one first (slice_index_or effects.old i d) now.now }
+    ensures len { vec_len order.new ≡ vec_len order.old }
+    ensures capacity { vec_capacity order.old ≤ vec_capacity order.new }
+{
+    if stands(&effects[i], now) {
+        return first;
+    }
+    let before = effects[i].day;
+    change(order, effects, i, now);
+    effects[i] = *now;
+    sooner(first, sooner(before, now.day))
+}
+
+// brings the first posts up to what the history says. Answers the first day known to differ
+fn refresh(
+    history: &[Kept],
+    corrections: &[Correction],
+    effects: &mut [Effect],
+    order: &mut Vec<Slot>,
+    anchor: &Anchor,
+    calendar: &Calendar,
+) -> Day
+    requires kept { IsKept anchor.now history.now }
+    requires corrections { corrections.now ≡ corrections_from history.now 1 history.now }
+    requires length { length effects.old ≤ length history.now }
+    requires order { order.old.items ≡ in_order (slots_from 1 effects.old) }
+    requires room { vec_len order.old ≤ vec_capacity order.old }
+    ensures effects { effects.new ≡ take (length effects.old) (spec.effects anchor.now calendar.now history.now) }
+    ensures order { order.new.items ≡ in_order (slots_from 1 effects.new) }
+    ensures first { result ≡ first_change 48_576 effects.old effects.new }
+    ensures len { vec_len order.new ≡ vec_len order.old }
+    ensures capacity { vec_capacity order.old ≤ vec_capacity order.new }
+{
+    let mut first = last_day();
+    for i in 0..effects.len() {
+        let now = effect_now(history, corrections, effects, i, anchor, calendar);
+        first = refresh_one(effects, order, i, &now, first);
+    }
+    first
+}
+
+// Brings earlier posts up to a new one, which stands last in the history. Answers the first day known to differ.
+pub fn update(
+    history: &[Kept],
+    corrections: &[Correction],
+    effects: &mut [Effect],
+    order: &mut Vec<Slot>,
+    anchor: &Anchor,
+    calendar: &Calendar,
+    post: &Post,
+) -> Day
+    requires kept { IsKept anchor.now history.now }
+    requires corrections { corrections.now ≡ corrections_from history.now 1 history.now }
+    requires length { length effects.old ≤ length history.now }
+    requires order { order.old.items ≡ in_order (slots_from 1 effects.old) }
+    requires room { vec_len order.old ≤ vec_capacity order.old }
+    requires plain { corrects post.now ≡ false → effects.old ≡ take (length effects.old) (spec.effects anchor.now calendar.now history.now) }
+    ensures effects { effects.new ≡ take (length effects.old) (spec.effects anchor.now calendar.now history.now) }
+    ensures order { order.new.items ≡ in_order (slots_from 1 effects.new) }
+    ensures first { result ≡ first_change 48_576 effects.old effects.new }
+    ensures len { vec_len order.new ≡ vec_len order.old }
+    ensures capacity { vec_capacity order.old ≤ vec_capacity order.new }
+{
+    if is_correction(post) {
+        return refresh(history, corrections, effects, order, anchor, calendar);
+    }
+    last_day()
+}
