@@ -13,6 +13,9 @@ use Rattle.card_posts.specs.declared.effect.Effect.{Effect}
 use Rattle.card_posts.proofs.Changed.{change-last, first-change-exact}
 use Rattle.card_posts.proofs.DayLemmas.{timely-append}
 use Rattle.card_posts.proofs.Numbers.{numbered-more}
+use Rattle.card_posts.proofs.Ordered.{on-in_order}
+use Rattle.card_posts.proofs.SlotLists.{slots-numbered}
+use Rattle.card_posts.specs.Order.{in_order, on_day}
 use Rattle.card_posts.proofs.OneMore.{effects-append, effects-length, more, names-append, plain-effects}
 
 take-all : (n : ℕ) (xs : List Effect) → length xs ≡ n → take n xs ≡ xs
@@ -130,3 +133,10 @@ kept-more a h k kept few number earlier timely =
       names = names-append 1 h k kept.names (omega (arith, earlier));
       timely = timely-append a.opened h k kept.timely timely;
     }
+
+-- the slots of a day stand in order of acceptance
+pub days-in-order : (a : Anchor) (holidays : List ℕ) (h : List Kept) (day : ℕ) → on_day day (in_order (map slot_of (corrected a holidays h))) ≡ on_day day (map slot_of (corrected a holidays h))
+days-in-order a holidays h day =
+    let es : List Effect = effects a holidays h in
+    let slots : map slot_of (corrected a holidays h) ≡ slots_from 1 es = sym (ap (map slot_of) (corrected-is a holidays h)) ∙ slots-of 1 5 h es (effects-length a holidays h 1 h) in
+    rw slots (on-in_order 1 day (slots_from 1 es) (slots-numbered 1 es))

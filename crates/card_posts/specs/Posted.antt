@@ -31,7 +31,7 @@ unfoldable pub AreNumbered : ℕ → List Kept → Type 0
 AreNumbered n [] = Unit {0}
 AreNumbered n (k ∷ ks) = (k.number ≡ n) × AreNumbered (suc n) ks
 
--- the post that a correction, a Return or a Resolve is about, and 0 for what is about none
+-- the earlier post that a Return, a Dispute, a Resolve or an Amend names, and 0 for the other kinds
 abbrev pub target_of : Post → ℕ
 target_of (post.Return _ target) = target
 target_of (post.Dispute _ target _) = target

@@ -45,7 +45,7 @@ pub struct Pushed {
 }
 
 impl Posts {
-    ghost use Rattle.std.specs.Prelude.{◌≡◌, ℕ, ◌+◌, ◌<◌, ◌≤◌, ◌++◌, List, [], ◌∷◌, true, false, length, IfOk, OnOk, OnErr, option_copied};
+    ghost use Rattle.std.specs.Prelude.{◌≡◌, ℕ, ◌+◌, ◌<◌, ◌≤◌, ◌++◌, List, [], ◌∷◌, true, false, length, IsOk, IfOk, OnOk, OnErr, option_copied};
     ghost use Rattle.card_days.specs.Billing.{IsCloseDay};
     ghost use Rattle.card_events.specs.History.{anchor_of, at_number, terms_in};
     ghost use Rattle.card_events.specs.Keys.{with_key};
@@ -122,9 +122,11 @@ impl Posts {
         self.has_room
     }
 
-    /// Makes room for one more post. After want of memory the posts are as they were.
+    /// Makes room for one more post. Where there is room already it can't fail. After want of memory the posts are as they
+    /// were.
     pub fn make_room(&mut self) -> Result<(), NoMemory>
         ensures ok { OnOk result (self.new ≡ record self.old { has_room = true }) }
+        ensures roomy { self.old.has_room ≡ true → IsOk result }
         ensures err { OnErr result (self.new ≡ self.old) }
     {
         if self.has_room {
@@ -176,7 +178,8 @@ impl Posts {
         Pushed { number, from }
     }
 
-    /// One more post: `make_room` and `add`. After want of memory the posts are as they were.
+    /// One more post: `make_room` and `add`. Where there is room already it can't fail. After want of memory the posts are
+    /// as they were.
     pub fn push(
         &mut self,
         key: Name,
@@ -194,6 +197,7 @@ impl Posts {
         ensures room { OnOk result (self.new.has_room ≡ false) }
         ensures number { IfOk result (λ pushed. pushed.number ≡ length self.old.history + 1) }
         ensures from { IfOk result (λ pushed. IsFirstChange pushed.from self.old.corrected self.new.corrected) }
+        ensures roomy { self.old.has_room ≡ true → IsOk result }
         ensures err { OnErr result (self.new ≡ self.old) }
     {
         self.make_room()?;
