@@ -4,6 +4,8 @@
 pub mod laws;
 mod moves;
 mod segments;
+#[cfg(test)]
+mod tests;
 
 pub use card_model::{Entry, EntryKind, Note, Segment, Sort};
 pub use segments::Segments;

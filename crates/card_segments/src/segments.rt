@@ -125,7 +125,13 @@ impl Segments {
     /// Owes more on a segment. Credit is raised towards 0 first, and the segment by the rest. Condition: a segment other
     /// than Credit and Held, 0 to 10^15 cents, and balances of at most 10^16 cents in size. After want of memory balances
     /// and entries are as they were; where the list has room for two more entries it can't fail.
-    pub fn debit(&mut self, id: u8, cents: Cents, note: &Note, out: &mut Vec<Entry>) -> Result<(), NoMemory>
+    pub fn debit(
+        &mut self,
+        id: u8,
+        cents: Cents,
+        note: &Note,
+        out: &mut Vec<Entry>,
+    ) -> Result<(), NoMemory>
         requires segment { 2 ≤ id }
         requires known { id < length self.old.balances }
         requires amount { pos 0 ≤ℤ cents }
@@ -147,7 +153,13 @@ impl Segments {
     /// Owes less on a segment, or, on Credit, holds more of the consumer's. Condition: Credit, or a segment with a balance
     /// of at least so many cents; 0 to 10^15 cents; and balances of at most 10^16 cents in size. After want of memory
     /// balances and entries are as they were; where the list has room for one more entry it can't fail.
-    pub fn credit(&mut self, id: u8, cents: Cents, note: &Note, out: &mut Vec<Entry>) -> Result<(), NoMemory>
+    pub fn credit(
+        &mut self,
+        id: u8,
+        cents: Cents,
+        note: &Note,
+        out: &mut Vec<Entry>,
+    ) -> Result<(), NoMemory>
         requires known { id < length self.old.balances }
         requires enough { 1 ≤ id → cents ≤ℤ slice_index_or self.old.balances id (pos 0) }
         requires amount { pos 0 ≤ℤ cents }
@@ -169,7 +181,13 @@ impl Segments {
     /// Moves cents of a segment to Held (12 CFR 1026.13(d)). The segment's entry stands first. Condition: a segment other
     /// than Credit and Held with a balance of at least so many cents; 0 to 10^15 cents; and balances of at most 10^16 cents
     /// in size. After want of memory balances and entries are as they were; where the list has room for two more entries it can't fail.
-    pub fn hold(&mut self, id: u8, cents: Cents, note: &Note, out: &mut Vec<Entry>) -> Result<(), NoMemory>
+    pub fn hold(
+        &mut self,
+        id: u8,
+        cents: Cents,
+        note: &Note,
+        out: &mut Vec<Entry>,
+    ) -> Result<(), NoMemory>
         requires segment { 2 ≤ id }
         requires known { id < length self.old.balances }
         requires enough { cents ≤ℤ slice_index_or self.old.balances id (pos 0) }
@@ -192,7 +210,13 @@ impl Segments {
     /// Moves cents out of Held, and debits a segment with them. Condition: a segment other than Credit and Held; Held with
     /// at least so many cents; 0 to 10^15 cents; and balances of at most 10^16 cents in size. After want of memory balances
     /// and entries are as they were; where the list has room for three more entries it can't fail.
-    pub fn release(&mut self, id: u8, cents: Cents, note: &Note, out: &mut Vec<Entry>) -> Result<(), NoMemory>
+    pub fn release(
+        &mut self,
+        id: u8,
+        cents: Cents,
+        note: &Note,
+        out: &mut Vec<Entry>,
+    ) -> Result<(), NoMemory>
         requires segment { 2 ≤ id }
         requires known { id < length self.old.balances }
         requires enough { cents ≤ℤ slice_index_or self.old.balances 1 (pos 0) }

@@ -1,5 +1,3 @@
-use Rattle.std.proofs.Common.{ℕ, List, ℤ}
-use Rattle.card_model.specs.declared.entry.Entry.{Entry}
 use Rattle.card_model.proofs.Posted.{are_balances-posted}
 use Rattle.card_segments.proofs.Sums.{sums-start, sums-segment}
 use Rattle.card_segments.proofs.laws.balances_are_sums.Goals as goal

@@ -1,6 +1,6 @@
-use Rattle.std.proofs.Common.{◌≡◌, ◌+◌, ◌*◌, ◌<◌, ◌≤◌, take, length, ap, sym, ◌∙◌, arith, pos, ◌+ℤ◌, w64, to_z, FitsSigned, slice_index_or}
+use Rattle.std.proofs.Common.{◌+◌, ◌*◌, ◌<◌, length, ap, sym, ◌∙◌, arith, pos, ◌+ℤ◌, w64, to_z, FitsSigned, slice_index_or}
 use Rattle.std.proofs.lemmas.Int.{to_z-of_z}
-use Rattle.card_segments.proofs.Totals.{total-owed, total-take_more, within-fits, within-sum}
+use Rattle.card_segments.proofs.Totals.{total-take_more, within-fits, within-sum}
 use Rattle.card_segments.proofs.moves.sum.Goals as goal
 
 pub loop-balance-preserved : goal.loop-balance-preserved

@@ -1,5 +1,4 @@
 use Rattle.std.proofs.Common.{◌<◌, length, sym, subst}
-use Rattle.std.specs.Prelude.{◌≤◌, ◌≤ℤ◌, pos, slice_index_or}
 use Rattle.std.proofs.Common.{w64}
 use Rattle.std.proofs.lemmas.Int.{to_z-of_z}
 use Rattle.card_segments.specs.Balances.{AreWithin, Balances}
@@ -12,5 +11,4 @@ invariant_of-self c =
     let known = subst (λ (b : Balances). c.args.id < length b.balances) inside c.requires.known in
     let small = subst (λ (b : Balances). AreWithin 10_000_000_000_000_000 b.balances) inside c.requires.small in
     let amount : IsAmount c.args.cents = record { low = c.requires.amount; high = c.requires.limit } in
-    
     rw (c.raise.ensures.balances, to_z-of_z w64 c.args.cents c.ranges.cents) (kept-debit _ c.args.id c.args.cents _ c.self.inside.balances.items c.requires.segment known amount small c.self.invariant)

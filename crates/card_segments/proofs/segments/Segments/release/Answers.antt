@@ -1,5 +1,5 @@
 use Rattle.std.proofs.Common.{◌<◌, length, sym, subst}
-use Rattle.std.specs.Prelude.{◌≤◌, ◌≤ℤ◌, pos, slice_index_or}
+use Rattle.std.specs.Prelude.{◌≤ℤ◌, pos, slice_index_or}
 use Rattle.std.proofs.Common.{w64}
 use Rattle.std.proofs.lemmas.Int.{to_z-of_z}
 use Rattle.card_segments.specs.Balances.{AreWithin, Balances}
