@@ -1,0 +1,4 @@
+pub mod Better
+pub mod Turn
+pub mod HoldingLists
+pub mod PartFacts

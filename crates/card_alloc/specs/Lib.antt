@@ -1,0 +1,3 @@
+pub mod Holdings
+pub mod Parts
+pub mod Rules

@@ -1,0 +1,1 @@
+//! Laws on allocation. Their functions do nothing; their clauses are what holds.
