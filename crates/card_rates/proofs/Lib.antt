@@ -1,0 +1,3 @@
+mod Added
+mod ByNumber
+mod OneMore

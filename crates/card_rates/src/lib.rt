@@ -1,0 +1,9 @@
+//! The rate of each segment of an account on each day (12 CFR 1026.55).
+#![tactic(auto)]
+
+mod book;
+mod make;
+mod rate;
+mod segment;
+
+pub use book::RateBook;
