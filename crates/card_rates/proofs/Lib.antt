@@ -1,3 +1,6 @@
 mod Added
 mod ByNumber
+mod DayLaws
+mod LaterPosts
 mod OneMore
+mod Penalties

@@ -2,6 +2,7 @@
 #![tactic(auto)]
 
 mod book;
+pub mod laws;
 mod make;
 mod rate;
 mod segment;
