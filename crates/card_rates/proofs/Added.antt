@@ -150,7 +150,7 @@ few-next before after ks i k e is =
     omega (arith, long, rest, added, more)
 
 -- ---- Lowers
-take-next : (ks : List Kept) (i : ℕ) (k : Kept) → slice_get ks i ≡ Some k → take (suc i) ks ≡ take i ks ++ k ∷ []
+pub take-next : (ks : List Kept) (i : ℕ) (k : Kept) → slice_get ks i ≡ Some k → take (suc i) ks ≡ take i ks ++ k ∷ []
 take-next [] i k e = cc
 take-next (x ∷ xs) zero k e = let same : x ≡ k = cc in ap (λ y. y ∷ []) same
 take-next (x ∷ xs) (suc i) k e = ap (λ ys. x ∷ ys) (take-next xs i k e)

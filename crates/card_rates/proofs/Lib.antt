@@ -4,3 +4,4 @@ mod DayLaws
 mod LaterPosts
 mod OneMore
 mod Penalties
+mod TestLemmas

@@ -125,6 +125,22 @@ impl RateBook {
         newest_of(&self.segments, sort_of(category), day)
     }
 
+    // How many segments there are, Credit and Held among them.
+    #[cfg(test)]
+    pub(crate) fn len(&self) -> usize
+        ensures { result ≡ length self.now.segments + 2 }
+    {
+        self.segments.len() + 2
+    }
+
+    // How many penalties have begun.
+    #[cfg(test)]
+    pub(crate) fn penalty_count(&self) -> usize
+        ensures { result ≡ length self.now.penalties }
+    {
+        self.penalties.len()
+    }
+
     // the segment with a number, other than Credit and Held
     fn segment_with(&self, number: u8) -> Option<&RatedSegment>
         requires there { number < length self.now.segments + 2 }

@@ -6,5 +6,7 @@ pub mod laws;
 mod make;
 mod rate;
 mod segment;
+#[cfg(test)]
+mod tests;
 
 pub use book::RateBook;
