@@ -4,4 +4,6 @@ mod DayLaws
 mod LaterPosts
 mod OneMore
 mod Penalties
+mod Runs
+mod Spans
 mod TestLemmas

@@ -1,19 +1,23 @@
 -- Laws on rates, for all lists of posts. What is read from all posts is what is read from those up to the day.
-use Rattle.std.specs.Prelude.{◌≡◌, ℕ, ◌<◌, ◌≤◌, List, [], Option, Some}
-use Rattle.std.specs.List.{Contains}
-use Rattle.card_events.specs.History.{CorrectedPost, anchor_of}
+use Rattle.std.specs.Prelude.{◌≡◌, ℕ, ◌+◌, ◌<◌, ◌≤◌, false, List, [], Option, Some}
+use Rattle.std.specs.List.{All, Contains}
+use Rattle.card_events.specs.History.{CorrectedPost, anchor_of, corrected}
 use Rattle.card_events.specs.SharedRows.{SharedRows}
 use Rattle.card_events.specs.declared.kept.Kept.{Kept}
+use Rattle.card_events.specs.declared.request.Request.{Request}
 use Rattle.card_model.specs.Books.{Account, Book, account_of, all_segments, rate_in}
+use Rattle.card_model.specs.Breaks.{is_break}
 use Rattle.card_model.specs.Closing.{close}
 use Rattle.card_model.specs.Cycles.{Cycle, IssuedRow, Seen, seen_on}
 use Rattle.card_model.specs.DueDates.{on_due}
 use Rattle.card_model.specs.Effects.{after_posts}
 use Rattle.card_model.specs.Folds.{book}
+use Rattle.card_model.specs.Machine.{NamedAccount, run}
 use Rattle.card_model.specs.Rates.{accrual_rate, starts}
 use Rattle.card_model.specs.Segments.{SegmentTerms, newest}
+use Rattle.card_model.specs.declared.segment.Interval.{Interval}
 use Rattle.card_model.specs.declared.segment.Sort.{Sort}
-use Rattle.card_rates.specs.RateBooks.{AreByNumber, rate_of, rates_of}
+use Rattle.card_rates.specs.RateBooks.{AreByNumber, HasFewSegments, rate_of, rates_of}
 
 -- what may be seen on a day
 abbrev pub seen_in : List Kept → List IssuedRow → SharedRows → ℕ → Seen
@@ -78,3 +82,30 @@ RatesOfALaterBook =
 pub record RatesOfADay : Type 0 where
   pub any : RatesOfAnyBook
   pub later : RatesOfALaterBook
+
+-- ---- spans
+-- none of so many days from the first on is a break day
+abbrev pub AreQuiet : List Kept → List IssuedRow → SharedRows → List Interval → ℕ → ℕ → Type 0
+AreQuiet history issued shared penalties first days =
+    (i : ℕ) → i < days → is_break (account_of history) (corrected (anchor_of history) shared.holidays history) issued penalties (first + i) ≡ false
+
+-- Over days without a break day all is as on the first of them. The day before it may differ: a plan's end is a break day, and
+-- its rate changes on the day after
+pub record SpansKeepRates : Type 0 where
+  pub rates :
+      (history : List Kept) (issued : List IssuedRow) (shared : SharedRows) (penalties : List Interval) (first days i : ℕ) (g : SegmentTerms)
+      → AreQuiet history issued shared penalties first days → i < days → Contains (rates_of shared.holidays history penalties).segments g
+      → rate_of (rates_of shared.holidays history penalties) (first + i) g ≡ rate_of (rates_of shared.holidays history penalties) first g
+  pub accruals :
+      (history : List Kept) (issued : List IssuedRow) (shared : SharedRows) (penalties : List Interval) (first days i : ℕ) (g : SegmentTerms)
+      → AreQuiet history issued shared penalties first days → i < days → Contains (rates_of shared.holidays history penalties).segments g
+      → accrual_rate (first + i) g ≡ accrual_rate first g
+  pub vintages :
+      (history : List Kept) (issued : List IssuedRow) (shared : SharedRows) (penalties : List Interval) (first days i : ℕ) (s : Sort)
+      → AreQuiet history issued shared penalties first days → i < days
+      → newest s (first + i) (rates_of shared.holidays history penalties).segments ≡ newest s first (rates_of shared.holidays history penalties).segments
+
+-- ---- runs
+-- after every list of requests, each account has at most 64 segments
+abbrev pub RunsHaveFewSegments : Type 0
+RunsHaveFewSegments = (requests : List Request) → All (λ (x : NamedAccount). HasFewSegments x.lists.posts) (run requests).accounts

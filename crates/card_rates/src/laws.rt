@@ -1,5 +1,5 @@
 //! Laws on rates, for all lists of posts. Their functions do nothing; their clauses are what holds.
-ghost use Rattle.card_rates.specs.Laws.{PenaltiesStay, RatesOfADay, SegmentsOfADay};
+ghost use Rattle.card_rates.specs.Laws.{PenaltiesStay, RatesOfADay, RunsHaveFewSegments, SegmentsOfADay, SpansKeepRates};
 
 /// Segments stand by their numbers. A segment of a day is one of all posts, and one that accrues on a day is of that day. The
 /// newest vintage that has begun by a day is the same read from all posts and from those up to that day.
@@ -16,4 +16,15 @@ pub fn penalties_stay()
 /// book and of each later one.
 pub fn rates_of_a_day()
     ensures { RatesOfADay }
+{}
+
+/// Over days without a break day, a segment's rate, the rate at which it accrues and the newest vintages are those of the
+/// first of these days.
+pub fn spans_keep_rates()
+    ensures { SpansKeepRates }
+{}
+
+/// After every list of requests, each account has at most 64 segments.
+pub fn runs_have_few_segments()
+    ensures { RunsHaveFewSegments }
 {}
