@@ -5,7 +5,7 @@ ghost use Rattle.card_model.specs.Rates.{bears_as, bears_in, begun_of, capped, i
 ghost use Rattle.card_model.specs.Segments.{is_over, is_plan, is_sort, last_that, newest};
 ghost use Rattle.card_model.specs.declared.segment.Sort.TheVariants.{Promo, Deferred, Purchase};
 
-use crate::segment::{RateCap, RatedSegment, is_over, is_plan_sort, is_same_sort, number_of};
+use crate::segment::{RateCap, RatedSegment, is_over, is_plan_sort, number_of};
 use card_days::Day;
 use card_model::{Interval, Sort};
 use card_units::Bp;
@@ -35,24 +35,12 @@ pub fn no_rate() -> Bp
     Bp::new(0).unwrap()
 }
 
-fn lesser(a: Bp, b: Bp) -> Bp
-    ensures { result ≡ min a b }
-{
-    if a.get() <= b.get() { a } else { b }
-}
-
-fn greater(a: Bp, b: Bp) -> Bp
-    ensures { result ≡ max a b }
-{
-    if a.get() <= b.get() { b } else { a }
-}
-
 // the lesser of a rate and of a Lower of its sort whose day lies from one day to another
 fn lowered(cap: &RateCap, sort: Sort, from: u32, to: Day, rate: Bp) -> Bp
     ensures { result ≡ lowered_by sort from to rate cap.now }
 {
-    if is_same_sort(sort, cap.sort) && from <= number_of(cap.day) && cap.day <= to {
-        lesser(rate, cap.rate)
+    if cap.sort == sort && from <= number_of(cap.day) && cap.day <= to {
+        rate.min(cap.rate)
     } else {
         rate
     }
@@ -73,7 +61,7 @@ pub fn least_of(caps: &[RateCap], sort: Sort, day: Day, begun: BegunRate) -> Bp
 fn bears(g: &RatedSegment, sort: Sort, id: u8, day: Day) -> bool
     ensures { result ≡ bears_in day sort id g.now }
 {
-    is_same_sort(sort, g.sort) && g.id <= id && g.begins <= number_of(day) && g.effective <= day
+    g.sort == sort && g.id <= id && g.begins <= number_of(day) && g.effective <= day
 }
 
 // The rate of the newest vintage of a sort that isn't newer than this number and bears its own rate.
@@ -105,6 +93,12 @@ fn is_in_force(penalty: &Interval, day: Day) -> bool
         None => true,
         Some(last) => day <= last,
     }
+}
+
+fn greater(a: Bp, b: Bp) -> Bp
+    ensures { result ≡ max a b }
+{
+    a.max(b)
 }
 
 // a rate raised to the penalty rate, where the penalty is in force
@@ -161,7 +155,7 @@ pub fn capped_as(sort: Sort) -> Sort
 pub fn rate_in_period(g: &RatedSegment) -> Bp
     ensures { result ≡ period_rate g.now }
 {
-    if is_same_sort(Sort::Promo, g.sort) {
+    if g.sort == Sort::Promo {
         g.rate
     } else {
         no_rate()
@@ -186,7 +180,7 @@ pub fn is_running(g: &RatedSegment, day: Day) -> bool
 fn is_begun(g: &RatedSegment, sort: Sort, day: Day) -> bool
     ensures { result ≡ (is_sort sort g.now.sort && nat_le g.now.begins day) }
 {
-    is_same_sort(sort, g.sort) && g.begins <= number_of(day)
+    g.sort == sort && g.begins <= number_of(day)
 }
 
 // The newest vintage of a sort that has begun, else the opening vintage of purchases.

@@ -79,18 +79,11 @@ pub fn plan_sort(kind: PlanKind) -> Sort
     }
 }
 
-// Whether two sorts are the same.
-pub fn is_same_sort(a: Sort, b: Sort) -> bool
-    ensures { result ≡ is_sort a b }
-{
-    a == b
-}
-
 // Whether segments of a sort are plans.
 pub fn is_plan_sort(sort: Sort) -> bool
     ensures { result ≡ (is_sort Promo sort || is_sort Deferred sort) }
 {
-    is_same_sort(Sort::Promo, sort) || is_same_sort(Sort::Deferred, sort)
+    sort == Sort::Promo || sort == Sort::Deferred
 }
 
 // Whether an end lies before a day; what has no end is over.
@@ -117,10 +110,7 @@ pub fn after_end(end: &Option<Day>) -> u32
 pub fn accrues(g: &RatedSegment, day: Day) -> Option<Bp>
     ensures { result ≡ accrual_rate day g.now }
 {
-    if is_same_sort(Sort::Deferred, g.sort)
-        && g.begins <= number_of(day)
-        && !is_over(&g.ends, day)
-    {
+    if g.sort == Sort::Deferred && g.begins <= number_of(day) && !is_over(&g.ends, day) {
         Some(g.rate)
     } else {
         None

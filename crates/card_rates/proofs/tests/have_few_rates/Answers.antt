@@ -1,4 +1,4 @@
-use Rattle.std.proofs.Common.{◌≡◌, ◌≤◌, length, arith, refl}
+use Rattle.std.proofs.Common.{arith}
 use Rattle.card_model.specs.Accepted.{HasFewRates}
 use Rattle.card_rates.proofs.TestLemmas.{all-next, all-whole}
 use Rattle.card_rates.proofs.tests.have_few_rates.Goals as goal

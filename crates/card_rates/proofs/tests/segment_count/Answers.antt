@@ -1,4 +1,4 @@
-use Rattle.std.proofs.Common.{◌≡◌, sym, ap, ◌∙◌, arith}
+use Rattle.std.proofs.Common.{sym, ◌∙◌, arith}
 use Rattle.card_rates.proofs.TestLemmas.{count-no, count-yes}
 use Rattle.card_rates.proofs.tests.segment_count.Goals as goal
 use Rattle.card_rates.proofs.tests.segment_count.Goals.{then-adds_segment, else-adds_segment}
