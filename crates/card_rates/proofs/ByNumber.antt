@@ -1,0 +1,25 @@
+-- Segments stand by their numbers.
+use Rattle.std.proofs.Common.{◌≡◌, ℕ, zero, suc, ◌-◌, ◌≤◌, List, [], ◌∷◌, get_or, ap, ◌∙◌, arith}
+use Rattle.std.specs.List.{Contains}
+use Rattle.card_model.specs.Segments.{SegmentTerms}
+use Rattle.card_rates.specs.RateBooks.{AreByNumber}
+
+pub number-above : (m : ℕ) (gs : List SegmentTerms) (g : SegmentTerms) → AreByNumber m gs → Contains gs g → m ≤ g.id
+unfolding AreByNumber
+number-above m [] g h (k, l, e) = absurd (omega arith)
+number-above m (x ∷ xs) g (i, h) (zero, l, e) = let same : x.id ≡ g.id = ap (λ (v : SegmentTerms). v.id) e in omega (arith, i, same)
+number-above m (x ∷ xs) g (i, h) (suc k, l, e) = let above = number-above (suc m) xs g h (k, omega arith, e) in omega (arith, above)
+
+-- the one with a number stands at its place
+pub at-place : (m : ℕ) (gs : List SegmentTerms) (g d : SegmentTerms) → AreByNumber m gs → Contains gs g → get_or gs (g.id - m) d ≡ g
+unfolding AreByNumber
+at-place m [] g d h (k, l, e) = absurd (omega arith)
+at-place m (x ∷ xs) g d (i, h) (zero, l, e) =
+    let same : x.id ≡ g.id = ap (λ (v : SegmentTerms). v.id) e in
+    let none : g.id - m ≡ 0 = omega (arith, i, same) in
+    ap (λ k. get_or (x ∷ xs) k d) none ∙ e
+at-place m (x ∷ xs) g d (i, h) (suc k, l, e) =
+    let c : Contains xs g = (k, omega arith, e) in
+    let above = number-above (suc m) xs g h c in
+    let less : g.id - m ≡ suc (g.id - suc m) = omega (arith, above) in
+    ap (λ k. get_or (x ∷ xs) k d) less ∙ at-place (suc m) xs g d h c

@@ -1,0 +1,9 @@
+mod Added
+mod ByNumber
+mod DayLaws
+mod LaterPosts
+mod OneMore
+mod Penalties
+mod Runs
+mod Spans
+mod TestLemmas

@@ -1,0 +1,200 @@
+use crate::make::{add_all, first_segments, penalty_rate_in, post_of};
+use crate::rate::{
+    BegunRate, capped_as, is_running, is_to_come, least_of, newest_of, no_rate, raised,
+    rate_in_period, vintage_rate,
+};
+use crate::segment::{RateCap, RatedSegment, accrues, after_end, is_plan_sort, sort_of};
+use card_days::Day;
+use card_events::Category;
+use card_model::Interval;
+use card_posts::Posts;
+use card_units::{Bp, NoMemory};
+use std::alloc::Global;
+use std::marker::Model;
+
+/// The rates of an account: the segments that its posts add, with the rates that they give them, the lowered rates, and the
+/// penalties that began (12 CFR 1026.55(b)). Segments are numbered from 0 on; 0 is Credit and 1 is Held.
+#[derive(Drop)]
+pub struct RateBook {
+    penalty_rate: Bp,
+    segments: Vec<RatedSegment>,
+    caps: Vec<RateCap>,
+    penalties: Vec<Interval>,
+}
+
+impl Model for RateBook {
+    ghost use Rattle.card_rates.specs.RateBooks.{AreByNumber, Rates};
+
+    ghost Value = { Rates };
+
+    ghost view = { λ r. record { penalty = r.penalty_rate; segments = r.segments.items; lowerings = r.caps.items; penalties = r.penalties.items } };
+
+    ghost invariant = { λ r. AreByNumber 2 r.segments.items };
+}
+
+impl RateBook {
+    ghost use Rattle.std.specs.Prelude.{◌≡◌, ℕ, ◌+◌, ◌<◌, ◌≤◌, ◌++◌, List, [], ◌∷◌, Some, None, length, slice_index_or, slice_set, option_copied, IfOk, OnOk, OnErr};
+    ghost use Rattle.std.specs.List.{All, Contains, fold};
+    ghost use Rattle.card_events.specs.History.{terms_of};
+    ghost use Rattle.card_model.specs.Accepted.{AreInRange, HasFewRates};
+    ghost use Rattle.card_model.specs.Rates.{accrual_rate, bears_as, capped, own, starts, with_penalty};
+    ghost use Rattle.card_model.specs.Segments.{SegmentTerms, newest, sort_of_category};
+    ghost use Rattle.card_model.specs.declared.segment.Interval.{Interval};
+    ghost use Rattle.card_rates.specs.RateBooks.{HasFewSegments, rate_of, rates_of, with_penalties};
+
+    /// The rates of an account's posts, where no penalty has begun. The terms are in their ranges, no rate of a post is above
+    /// 9,999 basis points, and there are at most 64 segments.
+    pub fn of(alloc: Global, posts: &Posts) -> Result<RateBook, NoMemory>
+        requires terms { AreInRange (terms_of posts.now.history) }
+        requires rates { All HasFewRates posts.now.history }
+        requires few { HasFewSegments posts.now.history }
+        ensures { IfOk result (λ book. (holidays : List ℕ) → book ≡ rates_of holidays posts.now.history []) }
+    {
+        let opening = &post_of(posts, 1).post;
+        let mut segments = first_segments(alloc, opening)?;
+        let mut caps = Vec::new(alloc);
+        add_all(&mut segments, &mut caps, posts)?;
+        Ok(RateBook {
+            penalty_rate: penalty_rate_in(opening),
+            segments,
+            caps,
+            penalties: Vec::new(alloc),
+        })
+    }
+
+    /// A penalty begins on a day (12 CFR 1026.55(b)(4)). After want of memory the rates are as they were.
+    pub fn begin_penalty(&mut self, begins: Day) -> Result<(), NoMemory>
+        ensures ok { OnOk result (self.new ≡ with_penalties (self.old.penalties ++ record { begins = begins; last = None } ∷ []) self.old) }
+        ensures err { OnErr result (self.new ≡ self.old) }
+    {
+        self.penalties.push(Interval { begins, last: None })?;
+        Ok(())
+    }
+
+    /// The penalty at a place in the order of their beginnings, counted from 0, has this day as its last. The place is below
+    /// the number of penalties begun.
+    pub fn end_penalty(&mut self, which: usize, last: Day)
+        requires begun { which < length self.old.penalties }
+        ensures { (i : Interval) → self.new ≡ with_penalties (slice_set self.old.penalties which (record { begins = (slice_index_or self.old.penalties which i).begins; last = Some last })) self.old }
+    {
+        self.penalties[which].last = Some(last);
+    }
+
+    /// The same rates in memory of their own.
+    pub fn copy(&self, alloc: Global) -> Result<RateBook, NoMemory>
+        ensures { IfOk result (λ book. book ≡ self.now) }
+    {
+        Ok(RateBook {
+            penalty_rate: self.penalty_rate,
+            segments: Vec::from_slice(alloc, &self.segments)?,
+            caps: Vec::from_slice(alloc, &self.caps)?,
+            penalties: Vec::from_slice(alloc, &self.penalties)?,
+        })
+    }
+
+    /// The rate of a segment on a day, in basis points (12 CFR 1026.55(b)(1), (b)(3), (b)(4)). It takes no memory. Credit and
+    /// Held bear 0. The segment is there.
+    pub fn rate_on(&self, segment: u8, day: Day) -> Bp
+        requires there { segment < length self.now.segments + 2 }
+        ensures rate { (g : SegmentTerms) → Contains self.now.segments g → g.id ≡ segment → result ≡ rate_of self.now day g }
+        ensures unbilled { segment < 2 → result ≡ 0 }
+    {
+        match self.segment_with(segment) {
+            Some(g) => self.rate_for(g, day),
+            None => no_rate(),
+        }
+    }
+
+    /// The rate in basis points at which a deferred plan accrues interest on a day of its period, and None for any other
+    /// segment and day. It takes no memory. The segment is there.
+    pub fn accrual_on(&self, segment: u8, day: Day) -> Option<Bp>
+        requires there { segment < length self.now.segments + 2 }
+        ensures rate { (g : SegmentTerms) → Contains self.now.segments g → g.id ≡ segment → result ≡ accrual_rate day g }
+        ensures unbilled { segment < 2 → result ≡ None }
+    {
+        match self.segment_with(segment) {
+            Some(g) => accrues(g, day),
+            None => None,
+        }
+    }
+
+    /// The number of the newest vintage of a category that has begun by a day: where a charge of that day goes.
+    pub fn vintage(&self, category: Category, day: Day) -> u8
+        ensures { result ≡ newest (sort_of_category category) day self.now.segments }
+    {
+        newest_of(&self.segments, sort_of(category), day)
+    }
+
+    // How many segments there are, Credit and Held among them.
+    #[cfg(test)]
+    pub(crate) fn len(&self) -> usize
+        ensures { result ≡ length self.now.segments + 2 }
+    {
+        self.segments.len() + 2
+    }
+
+    // How many penalties have begun.
+    #[cfg(test)]
+    pub(crate) fn penalty_count(&self) -> usize
+        ensures { result ≡ length self.now.penalties }
+    {
+        self.penalties.len()
+    }
+
+    // the segment with a number, other than Credit and Held
+    fn segment_with(&self, number: u8) -> Option<&RatedSegment>
+        requires there { number < length self.now.segments + 2 }
+        ensures some { (g : SegmentTerms) → Contains self.now.segments g → g.id ≡ number → option_copied result ≡ Some g }
+        ensures none { number < 2 → option_copied result ≡ None }
+    {
+        let segments = &self.segments;
+        if number < 2 {
+            return None;
+        }
+        Some(&segments[number as usize - 2])
+    }
+
+    // the own rate of a vintage, or of a plan past its end
+    fn own_of(&self, g: &RatedSegment, day: Day) -> BegunRate
+        ensures { result ≡ own self.now.segments day g.now }
+    {
+        if is_plan_sort(g.sort) {
+            BegunRate {
+                rate: g.after,
+                from: after_end(&g.ends),
+            }
+        } else {
+            vintage_rate(&self.segments, g.sort, g.id, day)
+        }
+    }
+
+    // the rate of a segment that is no plan in its period
+    fn lasting(&self, g: &RatedSegment, day: Day) -> Bp
+        ensures { result ≡ fold (with_penalty self.now.lowerings self.now.penalty (bears_as g.now) day) (capped self.now.lowerings (bears_as g.now) day (own self.now.segments day g.now)) (starts day self.now.penalties) }
+    {
+        let sort = capped_as(g.sort);
+        let base = least_of(&self.caps, sort, day, self.own_of(g, day));
+        raised(
+            &self.penalties,
+            &self.caps,
+            self.penalty_rate,
+            sort,
+            day,
+            base,
+        )
+    }
+
+    // the rate of a segment
+    #[tactic(auto, unfolding(card_model::specs::Rates::rate_on))]
+    fn rate_for(&self, g: &RatedSegment, day: Day) -> Bp
+        ensures { result ≡ rate_of self.now day g.now }
+    {
+        if is_to_come(g, day) {
+            no_rate()
+        } else if is_running(g, day) {
+            rate_in_period(g)
+        } else {
+            self.lasting(g, day)
+        }
+    }
+}

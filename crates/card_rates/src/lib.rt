@@ -1,0 +1,12 @@
+//! The rate of each segment of an account on each day (12 CFR 1026.55).
+#![tactic(auto)]
+
+mod book;
+pub mod laws;
+mod make;
+mod rate;
+mod segment;
+#[cfg(test)]
+mod tests;
+
+pub use book::RateBook;
