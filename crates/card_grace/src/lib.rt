@@ -1,0 +1,8 @@
+//! Rows of days, and the interest of a cycle (12 CFR 1026.14(b), .54).
+#![tactic(auto)]
+
+mod rows;
+mod runs;
+
+pub use card_model::GraceCase;
+pub use rows::{CycleRows, Repayment};
