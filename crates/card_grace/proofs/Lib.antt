@@ -1,2 +1,5 @@
+pub mod Days
+pub mod OfBook
+pub mod Repaid
 pub mod Spreads
 pub mod Sums

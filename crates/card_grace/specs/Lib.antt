@@ -1,2 +1,4 @@
+pub mod BookRows
+pub mod Laws
 pub mod Rows
 pub mod Runs

@@ -1,6 +1,7 @@
 //! Rows of days, and the interest of a cycle (12 CFR 1026.14(b), .54).
 #![tactic(auto)]
 
+pub mod laws;
 mod rows;
 mod runs;
 
