@@ -1,3 +1,4 @@
+pub mod Accruing
 pub mod Days
 pub mod OfBook
 pub mod Repaid

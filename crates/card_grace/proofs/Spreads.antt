@@ -5,11 +5,12 @@ use Rattle.std.proofs.lemmas.List.{append-nil, append_assoc, take_more, length-a
 use Rattle.std.proofs.lemmas.List.Elements.{All-head, All-tail, All-append, All-cons, All-nil}
 use Rattle.std.proofs.lemmas.List.FromFn.{length-map-range_with_len}
 use Rattle.std.proofs.lemmas.List.Sums.{sum_by-cons, sum_by-append, sum_by_more, sum_by-take-le, sum_by_push}
+use Rattle.card_grace.specs.Laws.{AreDaysFrom}
 use Rattle.card_grace.specs.Rows.{DayRow, equal_days, row_of}
 use Rattle.card_grace.specs.Runs.{AreRuns, run_days, spread}
 use Rattle.card_grace.specs.declared.runs.Run.{Run}
 
-range-append : (a n m : ℕ) → range_with_len a (n + m) ≡ range_with_len a n ++ range_with_len (a + n) m
+pub range-append : (a n m : ℕ) → range_with_len a (n + m) ≡ range_with_len a n ++ range_with_len (a + n) m
 range-append a zero m = let e : 0 + m ≡ m = omega arith in let f : a + 0 ≡ a = omega arith in rw (e, f) refl
 range-append a (suc n) m =
     let e : suc n + m ≡ suc (n + m) = omega arith in
@@ -81,3 +82,19 @@ runs_push xs r are low few = record {
   days = omega (arith, few, sum_by_push (λ (r : Run). r.days) xs r);
   balances = All-append (λ (r : Run). r.balance ≤ 10 ^ 15) xs (r ∷ []) are.balances (All-cons (λ (r : Run). r.balance ≤ 10 ^ 15) r [] low (All-nil (λ (r : Run). r.balance ≤ 10 ^ 15)));
 }
+
+-- ---- the days of the rows
+pub equal_days-days : (a n balance rate : ℕ) → map (λ (r : DayRow). r.day) (equal_days a n balance rate) ≡ range_with_len a n
+equal_days-days a zero balance rate = refl
+equal_days-days a (suc n) balance rate = ap (λ l. a ∷ l) (equal_days-days (a + 1) n balance rate)
+
+days-by-count : (a : ℕ) (xs : List Run) → map (λ (r : DayRow). r.day) (spread a xs) ≡ range_with_len a (run_days xs)
+unfolding spread
+days-by-count a [] = refl
+days-by-count a (x ∷ xs) =
+    map-append (λ (r : DayRow). r.day) (equal_days a x.days x.balance x.rate) (spread (a + x.days) xs)
+    ∙ rw (equal_days-days a x.days x.balance x.rate, days-by-count (a + x.days) xs, sum_by-cons (λ (r : Run). r.days) x xs) (sym (range-append a x.days (run_days xs)))
+
+-- runs stand for the days from the first on
+pub spread-days : (a : ℕ) (xs : List Run) → AreDaysFrom a (spread a xs)
+spread-days a xs = days-by-count a xs ∙ ap (range_with_len a) (sym (length-spread a xs))

@@ -1,3 +1,4 @@
+pub mod Accruals
 pub mod BookRows
 pub mod Laws
 pub mod Rows

@@ -1,4 +1,5 @@
 //! Laws on the interest of a cycle. Their functions do nothing; their clauses are what holds.
+ghost use Rattle.card_grace.specs.Accruals.{AccrualOfABook};
 ghost use Rattle.card_grace.specs.Laws.{KeptRowsToo, NoEarlierDayNoRepaidPortion, RowsOfABook};
 
 /// Interest of a cycle reads the rows of the cycle's own days alone. A day's balance that bears it and what was repaid
@@ -12,4 +13,10 @@ pub fn no_earlier_day_no_repaid_portion()
 /// Rows that are those of a book give the interest sum and the average daily balance of its definition.
 pub fn rows_of_a_book()
     ensures { RowsOfABook }
+{}
+
+/// An accrual that begins with nothing before a plan's first day, and takes the row of each day, is that of the
+/// definition.
+pub fn accrual_of_a_book()
+    ensures { AccrualOfABook }
 {}

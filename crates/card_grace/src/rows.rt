@@ -36,6 +36,7 @@ impl Model for CycleRows {
 impl CycleRows {
     ghost use Rattle.std.specs.Prelude.{◌≡◌, ◌+◌, ◌*◌, ◌≤◌, ◌^◌, pos, ◌≤ℤ◌, unsigned_abs, length, IfOk, OnOk, OnErr};
     ghost use Rattle.std.specs.List.{sum_by};
+    ghost use Rattle.card_grace.specs.Laws.{AreDaysFrom};
     ghost use Rattle.card_grace.specs.Rows.{average_of, bearing, interest_on, no_rows, with_days, with_repayment, without_post};
 
     /// A cycle that begins on a day, without rows. It takes no memory.
@@ -47,6 +48,13 @@ impl CycleRows {
             runs: Vec::new(alloc),
             repaid: Vec::new(alloc),
         }
+    }
+
+    /// The cycle's first day.
+    pub fn first(&self) -> Day
+        ensures { result ≡ self.now.first }
+    {
+        self.first
     }
 
     /// Adds so many days with the same balance in cents, 0 to 10^15, and the same rate. All days together are at most
@@ -105,10 +113,11 @@ impl CycleRows {
     }
 
     /// The sum of the balances that bear interest (12 CFR 1026.54(a)(1)), each times its day's rate in units of 10^-9:
-    /// none, all as they stand, or each less what was repaid on later days up to the due date. It is at most 10^23 and
-    /// takes no memory.
+    /// none, all as they stand, or each less what was repaid on later days up to the due date. The days are the cycle's
+    /// own. It is at most 10^23 and takes no memory.
     pub fn interest_sum(&self, case: GraceCase) -> u128
         ensures value { result ≡ interest_on case self.now }
+        ensures own_days { AreDaysFrom self.now.first self.now.days }
         ensures bound { result ≤ 10 ^ 23 }
     {
         let first = self.first.number() as u32;
@@ -118,7 +127,8 @@ impl CycleRows {
     /// The average in cents of the balances that bear interest, over all days (12 CFR 1026.7(b)(5)), rounded half up;
     /// 0 with no day. It takes no memory.
     pub fn average(&self, case: GraceCase) -> Cents
-        ensures { result ≡ pos (average_of case self.now) }
+        ensures value { result ≡ pos (average_of case self.now) }
+        ensures own_days { AreDaysFrom self.now.first self.now.days }
     {
         half_up(self.balances(&case), self.days()) as Cents
     }
@@ -136,6 +146,7 @@ impl CycleRows {
     fn days(&self) -> u32
         ensures value { result ≡ length self.now.days }
         ensures bound { result ≤ 31 }
+        ensures own_days { AreDaysFrom self.now.first self.now.days }
     {
         days(&self.runs)
     }
