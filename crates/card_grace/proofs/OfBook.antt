@@ -101,7 +101,7 @@ average_is a seen b purchase first g h k =
     let c = case_of purchase seen.day g in
     let repaid = repayments seen g.id first b.entries in
     let sum = sum_by-map (day_row a seen b g) (bearing c repaid) (days_from seen first)
-            ∙ same_sums (λ x. bearing c repaid (day_row a seen b g x)) (charged_on seen b purchase g) first (seen.day + 1 - first) (bears a seen b purchase first g h k) in
+    ∙ same_sums (λ x. bearing c repaid (day_row a seen b g x)) (charged_on seen b purchase g) first (seen.day + 1 - first) (bears a seen b purchase first g h k) in
     ap (λ n. half_up n (length (map (day_row a seen b g) (days_from seen first)))) sum
     ∙ ap (half_up (sum_by (charged_on seen b purchase g) (days_from seen first))) (length-map-range_with_len (day_row a seen b g) first (seen.day + 1 - first))
 

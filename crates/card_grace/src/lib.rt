@@ -9,3 +9,6 @@ mod runs;
 pub use accrual::Accrual;
 pub use card_model::GraceCase;
 pub use rows::{CycleRows, Repayment};
+
+#[cfg(test)]
+mod tests;

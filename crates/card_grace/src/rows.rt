@@ -57,6 +57,15 @@ impl CycleRows {
         self.first
     }
 
+    /// How many days there are, at most 31.
+    pub fn days(&self) -> u32
+        ensures value { result ≡ length self.now.days }
+        ensures bound { result ≤ 31 }
+        ensures own_days { AreDaysFrom self.now.first self.now.days }
+    {
+        days(&self.runs)
+    }
+
     /// Adds so many days with the same balance in cents, 0 to 10^15, and the same rate. All days together are at most
     /// 31. After want of memory the rows are as before.
     pub fn row(&mut self, days: u32, balance: Cents, rate: Bp) -> Result<(), NoMemory>
@@ -140,14 +149,5 @@ impl CycleRows {
     {
         let first = self.first.number() as u32;
         balances_sum(&self.runs, first, case, &self.repaid)
-    }
-
-    // how many days there are
-    fn days(&self) -> u32
-        ensures value { result ≡ length self.now.days }
-        ensures bound { result ≤ 31 }
-        ensures own_days { AreDaysFrom self.now.first self.now.days }
-    {
-        days(&self.runs)
     }
 }

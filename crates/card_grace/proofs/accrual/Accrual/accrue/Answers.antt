@@ -21,6 +21,7 @@ bound sum days more balance rate h k l =
 pub invariant_of-self : goal.invariant_of-self
 invariant_of-self c =
     let same = c.unsigned_abs.ensures.value ∙ ap unsigned_abs (to_z-of_z w64 c.args.balance c.ranges.balance) in
-    let few = ap (λ (a : Accrued). a.days) c.self.view_is in
-    (omega (arith, few, c.requires.few),
-    bound c.self.inside.sum c.self.inside.days c.args.days c.unsigned_abs.result c.daily.result c.self.invariant.1 (rw same (size c.args.balance c.requires.low c.requires.high)) c.daily.ensures.bound)
+    let few = ap (λ (a : Accrued). a.days) c.self.view_is in (
+      omega (arith, few, c.requires.few),
+      bound c.self.inside.sum c.self.inside.days c.args.days c.unsigned_abs.result c.daily.result c.self.invariant.1 (rw same (size c.args.balance c.requires.low c.requires.high)) c.daily.ensures.bound,
+    )
