@@ -6,7 +6,7 @@ use Rattle.std.proofs.lemmas.Bool.{ltb-true}
 use Rattle.std.proofs.lemmas.Bool.Decides.{nat_tests}
 use Rattle.std.proofs.lemmas.List.Elements.{All-head, All-tail, All-weaker}
 use Rattle.std.proofs.lemmas.List.Sums.{sum_by-cons}
-use Rattle.card_grace.specs.BookRows.{AreLowering, is_brought, repayment_of, repayments}
+use Rattle.card_grace.specs.BookRows.{AreLowering, brought, is_brought, repayment_of, repayments}
 use Rattle.card_grace.specs.Rows.{repaid_later}
 use Rattle.card_grace.specs.declared.rows.Repayment.{Repayment}
 use Rattle.card_model.specs.Cycles.{Seen}
@@ -84,17 +84,17 @@ one_more day due e ks true false z q h m ih =
 
 -- repayments from the first day of a cycle tell what was repaid after any of its days
 pub repaid_is : (seen : Seen) (s first day due : ℕ) (es : List Entry) → first ≤ day → AreLowering es → repaid_later (repayments seen s first es) day due ≡ repaid_after seen es s day due
-unfolding repayments
+unfolding brought
 repaid_is seen s first day due [] l h = refl
 repaid_is seen s first day due (e ∷ es) l h =
-    let k = is_brought seen s first e in
+    let k = is_brought (is_returned seen.posts seen.day) s first e in
     let c = ltb day e.day && leb e.day due in
     let P : Entry → Type 0 = λ e. (is_kind kind.Credit e.kind || is_kind kind.Payment e.kind) ≡ true → e.cents ≤ℤ pos 0 in
     let Q : Entry → Type 0 = λ e. counts seen s day due e ≡ true → e.cents ≤ℤ pos 0 in
     let low = counted-low seen s day due (e ∷ es) h in
     let test : counts seen s day due e ≡ (k && c) = same_test (eqb e.segment s) (is_repayment seen e) (leb first e.day) (ltb day e.day) (leb e.day due) (λ q. later first e.day (omega (arith, ltb-true day e.day q))) in
     let here : cond (k && c) e.cents (pos 0) ≤ℤ pos 0 = rw (← test) (cond-low (counts seen s day due e) e.cents (All-head Q e es low)) in
-    one_more day due e (filter (is_brought seen s first) es) k c (sum_of (counts seen s day due) es) refl here (sum_of-low (counts seen s day due) es (All-tail Q e es low)) (repaid_is seen s first day due es l (All-tail P e es h))
+    one_more day due e (filter (is_brought (is_returned seen.posts seen.day) s first) es) k c (sum_of (counts seen s day due) es) refl here (sum_of-low (counts seen s day due) es (All-tail Q e es low)) (repaid_is seen s first day due es l (All-tail P e es h))
     ∙ rw test refl
   where
     later : (a b : ℕ) → a ≤ b → leb a b ≡ true

@@ -1,5 +1,5 @@
 -- The rows and repayments that the book of a day gives a segment in the cycle that the day lies in.
-use Rattle.std.specs.Prelude.{ℕ, ◌≡◌, ◌≤◌, true, ◌&&◌, ◌||◌, nat_le, ◌==◌, Bool, map, List, pos, ◌≤ℤ◌, ◌⊎◌}
+use Rattle.std.specs.Prelude.{ℕ, ◌≡◌, ◌≤◌, true, ◌&&◌, ◌||◌, not, nat_le, ◌==◌, Bool, map, List, pos, ◌≤ℤ◌, ◌⊎◌}
 use Rattle.std.specs.List.{All, filter}
 use Rattle.card_grace.specs.Rows.{DayRow, Rows, row_of}
 use Rattle.card_grace.specs.declared.rows.Repayment.{Repayment}
@@ -7,7 +7,8 @@ use Rattle.card_model.specs.Books.{Account, Book, rate_in}
 use Rattle.card_model.specs.Cycles.{Seen}
 use Rattle.card_model.specs.Effects.{size}
 use Rattle.card_model.specs.Entries.{is_kind}
-use Rattle.card_model.specs.Interest.{case_of, days_from, is_repayment, row}
+use Rattle.card_model.specs.Interest.{case_of, days_from, row}
+use Rattle.card_model.specs.Payments.{is_returned}
 use Rattle.card_model.specs.Segments.{SegmentTerms}
 use Rattle.card_model.specs.declared.entry.Entry.{Entry}
 use Rattle.card_model.specs.declared.entry.EntryKind.TheVariants as kind
@@ -17,17 +18,25 @@ use Rattle.card_model.specs.declared.grace.GraceCase.{GraceCase}
 abbrev pub day_row : Account → Seen → Book → SegmentTerms → ℕ → DayRow
 day_row a seen b g day = row_of (row b.entries g.id day) (rate_in a seen b day g) day
 
+-- an entry of a credit, or of a payment that isn't among those returned
+abbrev pub repays : (ℕ → Bool) → Entry → Bool
+repays returned e = is_kind kind.Credit e.kind || (is_kind kind.Payment e.kind && not (returned e.post))
+
 -- an entry that repaid a segment, from a day on
-abbrev pub is_brought : Seen → ℕ → ℕ → Entry → Bool
-is_brought seen s first e = (e.segment == s) && is_repayment seen e && nat_le first e.day
+abbrev pub is_brought : (ℕ → Bool) → ℕ → ℕ → Entry → Bool
+is_brought returned s first e = (e.segment == s) && repays returned e && nat_le first e.day
 
 -- what it brought
 abbrev pub repayment_of : Entry → Repayment
 repayment_of e = record { day = e.day; cents = size e.cents; post = e.post }
 
 -- what was repaid from a day on
-unfoldable pub repayments : Seen → ℕ → ℕ → List Entry → List Repayment
-repayments seen s first entries = map repayment_of (filter (is_brought seen s first) entries)
+unfoldable pub brought : (ℕ → Bool) → ℕ → ℕ → List Entry → List Repayment
+brought returned s first entries = map repayment_of (filter (is_brought returned s first) entries)
+
+-- what was repaid, without payments returned by today
+abbrev pub repayments : Seen → ℕ → ℕ → List Entry → List Repayment
+repayments seen s first entries = brought (is_returned seen.posts seen.day) s first entries
 
 -- the rows of a segment in the cycle that began on a day, up to today
 unfoldable pub rows_of : Account → Seen → Book → ℕ → SegmentTerms → Rows

@@ -1,5 +1,6 @@
 //! Laws on the interest of a cycle. Their functions do nothing; their clauses are what holds.
 ghost use Rattle.card_grace.specs.Accruals.{AccrualOfABook};
+ghost use Rattle.card_grace.specs.Growth.{InterestInTurn, RepaymentsLower, RowsGrow};
 ghost use Rattle.card_grace.specs.Laws.{KeptRowsToo, NoEarlierDayNoRepaidPortion, RowsOfABook};
 
 /// Interest of a cycle reads the rows of the cycle's own days alone. A day's balance that bears it and what was repaid
@@ -19,4 +20,20 @@ pub fn rows_of_a_book()
 /// definition.
 pub fn accrual_of_a_book()
     ensures { AccrualOfABook }
+{}
+
+/// The rows of a cycle begin without any, and each day adds its own. Entries add what they repaid, and a return takes
+/// out what its payment did.
+pub fn rows_grow()
+    ensures { RowsGrow }
+{}
+
+/// At a closing the interest of all segments may be read before any of it is posted, and an accrual after it.
+pub fn interest_in_turn()
+    ensures { InterestInTurn }
+{}
+
+/// In the book of every day payments and credits lower what is owed.
+pub fn repayments_lower()
+    ensures { RepaymentsLower }
 {}
