@@ -1,4 +1,5 @@
 pub mod Accruing
+pub mod Cases
 pub mod Days
 pub mod Growing
 pub mod Lowering

@@ -21,7 +21,7 @@ use Rattle.card_model.proofs.EntryFacts.{all-debit}
 use Rattle.card_model.proofs.Posted.{sum_of-append}
 use Rattle.card_grace.proofs.Days.{same_sums}
 
-sum_of-none : (p : Entry → Bool) (es : List Entry) → All (λ e. p e ≡ false) es → sum_of p es ≡ pos 0
+pub sum_of-none : (p : Entry → Bool) (es : List Entry) → All (λ e. p e ≡ false) es → sum_of p es ≡ pos 0
 sum_of-none p [] h = refl
 sum_of-none p (e ∷ es) h = rw (All-head (λ e. p e ≡ false) e es h, sum_of-none p es (All-tail (λ e. p e ≡ false) e es h)) refl
 

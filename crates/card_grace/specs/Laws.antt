@@ -1,6 +1,6 @@
 -- Laws on the interest of a cycle.
-use Rattle.std.specs.Prelude.{ℕ, ◌+◌, ◌≡◌, ◌≤◌, true, max, map, List, length}
-use Rattle.std.specs.List.{range_with_len}
+use Rattle.std.specs.Prelude.{ℕ, ◌+◌, ◌≡◌, ◌≤◌, ◌<◌, ◌==◌, ◌⊎◌, true, false, max, map, List, length, Some}
+use Rattle.std.specs.List.{All, range_with_len}
 use Rattle.card_grace.specs.BookRows.{AreLowering, HasOneCase, rows_of}
 use Rattle.card_grace.specs.Rows.{DayRow, Rows, average_of, bearing, interest_on, repaid_later}
 use Rattle.card_grace.specs.declared.rows.Repayment.{Repayment}
@@ -50,3 +50,12 @@ pub record RowsOfABook : Type 0 where
   pub average :
       (a : Account) (seen : Seen) (b : Book) (purchase : GraceCase) (first : ℕ) (g : SegmentTerms) → AreLowering b.entries → HasOneCase seen b purchase first g
       → average_of (case_of purchase seen.day g) (rows_of a seen b first g) ≡ average_balance seen b purchase first g
+
+-- A segment bears interest in one way for a whole cycle: always where it isn't deferred, and where it is, since its period
+-- ends with a closing and nothing is owed before its first day. A segment without entries has no balance
+pub record OneCaseACycle : Type 0 where
+  pub others : (seen : Seen) (b : Book) (purchase : GraceCase) (first : ℕ) (g : SegmentTerms) → is_sort sort.Deferred g.sort ≡ false → HasOneCase seen b purchase first g
+  pub deferred :
+      (seen : Seen) (b : Book) (purchase : GraceCase) (first end : ℕ) (g : SegmentTerms) → g.ends ≡ Some end → (seen.day ≤ end) ⊎ (end < first)
+      → ((day : ℕ) → first ≤ day → day < g.begins → row b.entries g.id day ≡ 0) → HasOneCase seen b purchase first g
+  pub without_entries : (entries : List Entry) (s day : ℕ) → All (λ e. (e.segment == s) ≡ false) entries → row entries s day ≡ 0

@@ -1,7 +1,7 @@
 //! Laws on the interest of a cycle. Their functions do nothing; their clauses are what holds.
 ghost use Rattle.card_grace.specs.Accruals.{AccrualOfABook};
 ghost use Rattle.card_grace.specs.Growth.{InterestInTurn, RepaymentsLower, RowsGrow};
-ghost use Rattle.card_grace.specs.Laws.{KeptRowsToo, NoEarlierDayNoRepaidPortion, RowsOfABook};
+ghost use Rattle.card_grace.specs.Laws.{KeptRowsToo, NoEarlierDayNoRepaidPortion, OneCaseACycle, RowsOfABook};
 
 /// Interest of a cycle reads the rows of the cycle's own days alone. A day's balance that bears it and what was repaid
 /// of that balance in time are together no more than the greater of the day's balance and the repayment; purchases of
@@ -14,6 +14,11 @@ pub fn no_earlier_day_no_repaid_portion()
 /// Rows that are those of a book give the interest sum and the average daily balance of its definition.
 pub fn rows_of_a_book()
     ensures { RowsOfABook }
+{}
+
+/// A segment bears interest in one way for a whole cycle, a deferred one too.
+pub fn one_case_a_cycle()
+    ensures { OneCaseACycle }
 {}
 
 /// An accrual that begins with nothing before a plan's first day, and takes the row of each day, is that of the
