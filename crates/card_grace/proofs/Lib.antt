@@ -1,0 +1,10 @@
+pub mod Accruing
+pub mod Cases
+pub mod Days
+pub mod Growing
+pub mod Lowering
+pub mod OfBook
+pub mod Repaid
+pub mod Spreads
+pub mod Sums
+pub mod Turns

@@ -1,0 +1,6 @@
+pub mod Accruals
+pub mod BookRows
+pub mod Growth
+pub mod Laws
+pub mod Rows
+pub mod Runs

@@ -1,0 +1,19 @@
+-- Equal days in a row, kept as one run.
+use Rattle.std.specs.Prelude.{ℕ, ◌+◌, ◌≤◌, ◌^◌, List, [], ◌∷◌, ◌++◌}
+use Rattle.std.specs.List.{All, sum_by}
+use Rattle.card_grace.specs.Rows.{DayRow, equal_days}
+use Rattle.card_grace.specs.declared.runs.Run.{Run}
+
+-- how many days runs have
+abbrev pub run_days : List Run → ℕ
+run_days runs = sum_by (λ (r : Run). r.days) runs
+
+-- the days of runs, from one on
+unfoldable pub spread : ℕ → List Run → List DayRow
+spread from [] = []
+spread from (r ∷ rs) = equal_days from r.days r.balance r.rate ++ spread (from + r.days) rs
+
+-- a cycle has at most 31 days, and no balance above 10^15 cents
+pub record AreRuns (runs : List Run) : Type 0 where
+  pub days : run_days runs ≤ 31
+  pub balances : All (λ (r : Run). r.balance ≤ 10 ^ 15) runs
