@@ -1,0 +1,5 @@
+pub mod Charged
+pub mod Counting
+pub mod Due
+pub mod Rows
+pub mod Table

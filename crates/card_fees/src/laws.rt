@@ -1,0 +1,1 @@
+//! Laws on fees and due dates. Their functions do nothing; their clauses are what holds.
