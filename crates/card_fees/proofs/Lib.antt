@@ -3,3 +3,5 @@ pub mod RowsFound
 pub mod Days
 pub mod Payments
 pub mod Late
+pub mod Fold
+pub mod Charges
