@@ -5,3 +5,4 @@ pub mod Payments
 pub mod Late
 pub mod Fold
 pub mod Charges
+pub mod Returned

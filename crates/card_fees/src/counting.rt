@@ -1,5 +1,5 @@
 // Sums over the payments of some days.
-ghost use Rattle.std.specs.Prelude.{◌≡◌, ℕ, List, Some, min, nat_le, nat_lt, pos};
+ghost use Rattle.std.specs.Prelude.{◌≡◌, ◌≤◌, ℕ, List, Some, false, length, min, nat_le, nat_lt, pos, take};
 ghost use Rattle.std.specs.List.{filter};
 ghost use Rattle.card_events.specs.History.{at_number};
 ghost use Rattle.card_fees.specs.Counting.{counts, is_payment_at, is_returned_among, returns_at, since, slots_sum, up_to};
@@ -57,6 +57,35 @@ fn is_payment(posts: &Posts, number: u32) -> bool
     }
 }
 
+fn is_return(posts: &Posts, number: u32) -> bool
+    ensures { (payment : ℕ) → result ≡ false → returns_at payment (at_number number posts.now.history) ≡ false }
+{
+    match posts.get(number) {
+        Some(kept) => matches!(kept.post, Post::Return { .. }),
+        None => false,
+    }
+}
+
+// the place of the first Return, or the end
+fn first_return(posts: &Posts, slots: &[Slot]) -> usize
+    ensures bound { result ≤ length slots.now }
+    ensures none { (payment : ℕ) → is_returned_among posts.now.history payment (take result slots.now) ≡ false }
+{
+    for i in 0..slots.len() {
+        if is_return(posts, slots[i].number) {
+            return i;
+        }
+    }
+    slots.len()
+}
+
+// the slots from the first Return on
+fn from_returns<'a>(posts: &Posts, slots: &'a [Slot]) -> &'a [Slot]
+    ensures { (payment : ℕ) → is_returned_among posts.now.history payment result.now ≡ is_returned_among posts.now.history payment slots.now }
+{
+    &slots[first_return(posts, slots)..]
+}
+
 fn is_return_of(post: &Post, payment: u32) -> bool
     ensures { result ≡ payments.returns payment post.now }
 {
@@ -100,9 +129,10 @@ fn counts(posts: &Posts, among: &[Slot], slot: &Slot) -> u64
 fn sum(posts: &Posts, slots: &[Slot]) -> u128
     ensures { result ≡ slots_sum posts.now.history slots.now slots.now }
 {
+    let returns = from_returns(posts, slots);
     let mut total = 0;
     for slot in slots {
-        total += counts(posts, slots, slot) as u128;
+        total += counts(posts, returns, slot) as u128;
     }
     total
 }
