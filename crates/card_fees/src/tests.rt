@@ -192,13 +192,16 @@ fn due_dates(rt: HostRuntime) -> Result<(), Fail> {
     Ok(())
 }
 
+fn is_late(rt: &impl Abort, posts: &Posts, minimums: [i64; 5], on: i32) -> bool {
+    sixty_days_late(posts, anchor(rt), &minimums, day(rt, on))
+}
+
 #[test]
 fn sixty_days(rt: HostRuntime) -> Result<(), Fail> {
     let alloc = rt.alloc();
     let posts = account(&rt, alloc, &Calendar::new(alloc))?;
-    for (on, minimums, is_late) in LATE {
-        let late = sixty_days_late(&posts, anchor(&rt), &minimums, day(&rt, on));
-        assert_eq!(rt; late, is_late, "on {on}");
+    for (on, minimums, late) in LATE {
+        assert_eq!(rt; is_late(&rt, &posts, minimums, on), late, "on {on}");
     }
     Ok(())
 }
