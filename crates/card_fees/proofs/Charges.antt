@@ -1,13 +1,13 @@
 -- Penalty fees: their bounds, and one for a due date.
-use Rattle.std.proofs.Common.{◌≡◌, ℕ, zero, suc, ◌+◌, ◌<◌, ◌≤◌, Bool, true, false, cond, not, ◌&&◌, ◌||◌, ◌==◌, nat_le, nat_lt, List, [], ◌∷◌, ◌++◌, min, Option, Some, None, refl, sym, ap, ◌∙◌, subst, arith}
-use Rattle.std.specs.List.{count_by, filter, list_any}
+use Rattle.std.proofs.Common.{◌≡◌, ℕ, ◌+◌, ◌≤◌, Bool, true, false, cond, not, ◌||◌, ◌==◌, nat_le, nat_lt, List, [], ◌∷◌, ◌++◌, min, Some, None, refl, sym, ap, ◌∙◌, subst, arith}
+use Rattle.std.specs.List.{count_by}
 use Rattle.std.specs.Option.{option_or}
 use Rattle.std.proofs.lemmas.Bool.{eqb-true}
 use Rattle.std.proofs.lemmas.Bool.Decides.{nat_tests}
 use Rattle.std.proofs.lemmas.List.Sums.{sum_by_push}
 use Rattle.card_events.specs.SharedRows.{FeeRow}
-use Rattle.card_model.specs.Cycles.{Cycle, IssuedRow, Seen}
-use Rattle.card_model.specs.Fees.{fee_cents, fee_for, is_charged_for, is_repeat, last_due, row_in_force, tier_amount}
+use Rattle.card_model.specs.Cycles.{Cycle, Seen}
+use Rattle.card_model.specs.Fees.{fee_cents, fee_for, is_charged_for, is_repeat, last_due, tier_amount}
 use Rattle.card_model.specs.Payments.{asked, counted, has_due_payment, met}
 use Rattle.card_model.specs.Segments.{last_that}
 use Rattle.card_model.specs.declared.fee.Fee.{Fee}

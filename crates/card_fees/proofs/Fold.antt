@@ -1,7 +1,6 @@
 -- The words of the fold are those of this crate.
-use Rattle.std.proofs.Common.{◌≡◌, ℕ, zero, suc, ◌+◌, ◌-◌, ◌*◌, ◌<◌, ◌≤◌, Bool, true, false, cond, not, ◌&&◌, ◌||◌, ◌==◌, nat_le, nat_lt, List, [], ◌∷◌, ◌++◌, length, map, min, Option, Some, None, refl, sym, ap, ◌∙◌, subst, arith, pos}
-use Rattle.std.specs.List.{All, count_by, filter, list_any, sum_by}
-use Rattle.std.proofs.lemmas.Bool.{eqb-true}
+use Rattle.std.proofs.Common.{◌≡◌, ℕ, suc, ◌+◌, ◌-◌, ◌*◌, ◌≤◌, Bool, true, false, cond, not, ◌&&◌, ◌||◌, nat_le, nat_lt, List, [], ◌∷◌, length, map, min, Some, refl, ap, ◌∙◌, arith, pos}
+use Rattle.std.specs.List.{All, filter, list_any, sum_by}
 use Rattle.std.proofs.lemmas.Bool.Decides.{nat_tests}
 use Rattle.std.proofs.lemmas.List.Elements.{All-head, All-tail, All-cons, All-nil}
 use Rattle.std.proofs.lemmas.List.Sums.{sum_by-cons}
@@ -11,8 +10,7 @@ use Rattle.card_events.specs.History.{CorrectedPost, is_folded}
 use Rattle.card_events.specs.declared.post.Post.{Post}
 use Rattle.card_events.specs.declared.post.Post.TheVariants as post
 use Rattle.card_model.specs.CycleDays.{HasItsDays}
-use Rattle.card_model.specs.Cycles.{Cycle, IssuedRow, Seen}
-use Rattle.card_model.specs.Entries.{at_least_zero}
+use Rattle.card_model.specs.Cycles.{Cycle, Seen}
 use Rattle.card_model.specs.Payments.{asked, counted, has_due_payment, is_between, is_payment, is_returned, met, past_due, returns, sixty_days_late}
 use Rattle.card_model.specs.Payments as fold
 use Rattle.card_fees.specs.Due.{HaveTheirDays, is_late_from, is_met, owes_sixty_days, past_due_at, seen_of}

@@ -1,19 +1,17 @@
 -- Payments counted over the slots of some days are those of the corrected list.
-use Rattle.std.proofs.Common.{◌≡◌, ℕ, zero, suc, ◌+◌, ◌<◌, ◌≤◌, Bool, true, false, cond, not, ◌&&◌, nat_le, List, [], ◌∷◌, map, max, Option, Some, None, refl, sym, ap, ◌∙◌, subst, arith, pos}
+use Rattle.std.proofs.Common.{◌≡◌, ℕ, suc, ◌+◌, ◌≤◌, Bool, true, false, cond, not, ◌&&◌, nat_le, List, [], ◌∷◌, map, max, Some, refl, sym, ap, ◌∙◌, arith}
 use Rattle.std.specs.Prelude.{slice_get}
-use Rattle.std.specs.List.{All, filter, list_any, sum_by}
+use Rattle.std.specs.List.{All}
 use Rattle.std.proofs.lemmas.Bool.{eqb-true}
 use Rattle.std.proofs.lemmas.Bool.Decides.{nat_tests}
 use Rattle.std.proofs.lemmas.List.Elements.{All-nil, All-cons, All-weaker}
 use Rattle.card_days.specs.declared.anchor.Anchor.{Anchor}
-use Rattle.card_days.specs.Business.{credit_day, is_mail}
-use Rattle.card_events.specs.History.{CorrectedPost, amended_day, at_number, corrected, corrected_from, corrected_post, effective_day, last_amend, next_segment, payment_day, slot_of}
+use Rattle.card_events.specs.History.{CorrectedPost, at_number, corrected, corrected_from, corrected_post, effective_day, next_segment, payment_day, slot_of}
 use Rattle.card_events.specs.declared.kept.Kept.{Kept}
 use Rattle.card_events.specs.declared.kept.Slot.{Slot}
 use Rattle.card_events.specs.declared.post.Post.{Post}
 use Rattle.card_events.specs.declared.post.Post.TheVariants as post
 use Rattle.card_model.specs.Payments.{counted, is_between, is_payment, is_returned, returns}
-use Rattle.card_posts.specs.Order.{in_order}
 use Rattle.card_posts.specs.Posted.{folding_order}
 use Rattle.card_fees.specs.Counting.{counts, is_payment_at, is_returned_among, returns_at, since, slots_sum, up_to}
 use Rattle.card_fees.proofs.Slots.{any-filter, any-in_order, any-map, any-same, sum-filter, sum-in_order, sum-map, sum-same}

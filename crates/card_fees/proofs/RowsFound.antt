@@ -1,5 +1,5 @@
 -- The row in force, found from the front.
-use Rattle.std.proofs.Common.{◌≡◌, ℕ, ◌+◌, take, length, get_or, ◌<◌, ◌≤◌, Bool, true, false, cond, nat_lt, nat_le, not, List, [], ◌∷◌, ◌++◌, map, Option, Some, None, refl, sym, ap, ◌∙◌, subst, arith}
+use Rattle.std.proofs.Common.{◌≡◌, ℕ, ◌+◌, take, length, get_or, ◌<◌, Bool, true, false, cond, nat_lt, nat_le, List, [], ◌∷◌, ◌++◌, Option, Some, None, refl, sym, ap, ◌∙◌, arith}
 use Rattle.std.specs.List.{filter}
 use Rattle.std.specs.Option.{option_map}
 use Rattle.std.proofs.lemmas.Bool.Decides.{nat_tests}

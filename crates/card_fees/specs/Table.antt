@@ -1,5 +1,5 @@
 -- The fee table: rows in the order in which they were added (12 CFR 1026.52(b)(1)(ii)).
-use Rattle.std.specs.Prelude.{ℕ, ℤ, nat_le, List, Option, Some, None, pos, option_map}
+use Rattle.std.specs.Prelude.{ℕ, ℤ, nat_le, List, Option, pos}
 use Rattle.std.specs.List.{filter}
 use Rattle.card_events.specs.SharedRows.{FeeRow}
 use Rattle.card_model.specs.Fees.{row_in_force}

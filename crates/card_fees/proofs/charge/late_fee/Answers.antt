@@ -1,4 +1,4 @@
-use Rattle.std.proofs.Common.{◌≤◌, arith}
+use Rattle.std.proofs.Common.{arith}
 use Rattle.card_fees.proofs.Days.{due-later, opened-before}
 use Rattle.card_fees.proofs.charge.late_fee.Goals as goal
 

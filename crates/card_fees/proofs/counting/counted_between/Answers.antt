@@ -1,5 +1,5 @@
-use Rattle.std.proofs.Common.{ℕ, List, ap, sym, subst, ◌≡◌, ◌∙◌}
-use Rattle.card_events.specs.History.{anchor_of, corrected}
+use Rattle.std.proofs.Common.{ap, sym, ◌∙◌}
+use Rattle.card_events.specs.History.{anchor_of}
 use Rattle.card_model.specs.Payments.{counted}
 use Rattle.card_posts.specs.Posted.{folding_order}
 use Rattle.card_fees.specs.Counting.{since, slots_sum, up_to}

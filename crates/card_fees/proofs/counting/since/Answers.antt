@@ -1,4 +1,4 @@
-use Rattle.std.proofs.Common.{rules, ◌≡◌, ◌-◌, ◌≤◌, ℕ, List, take, drop, length, nat_le, nat_lt, arith, ◌∙◌, subst, sym}
+use Rattle.std.proofs.Common.{rules, nat_le, nat_lt, arith, ◌∙◌, subst, sym}
 use Rattle.std.proofs.lemmas.List.Sorted.{IsPartitionPoint-from_clause}
 use Rattle.card_events.specs.declared.kept.Slot.{Slot}
 use Rattle.card_posts.specs.Order.{IsAscending}

@@ -1,4 +1,4 @@
-use Rattle.std.proofs.Common.{◌<◌, arith}
+use Rattle.std.proofs.Common.{arith}
 use Rattle.card_fees.proofs.Days.{due-later}
 use Rattle.card_fees.proofs.due.met.Goals as goal
 

@@ -1,4 +1,4 @@
-use Rattle.std.proofs.Common.{◌<◌, arith}
+use Rattle.std.proofs.Common.{arith}
 use Rattle.card_fees.proofs.Days.{closing-later}
 use Rattle.card_fees.proofs.due.past_due.Goals as goal
 
