@@ -1,0 +1,6 @@
+pub mod Charged
+pub mod Counting
+pub mod Due
+pub mod Laws
+pub mod Rows
+pub mod Table

@@ -1,0 +1,154 @@
+// Sums over the payments of some days.
+ghost use Rattle.std.specs.Prelude.{◌≡◌, ◌≤◌, ℕ, List, Some, false, length, min, nat_le, nat_lt, pos, take};
+ghost use Rattle.std.specs.List.{filter};
+ghost use Rattle.card_events.specs.History.{at_number};
+ghost use Rattle.card_fees.specs.Counting.{counts, is_payment_at, is_returned_among, returns_at, since, slots_sum, up_to};
+ghost use Rattle.card_model.specs.Payments as payments;
+ghost use Rattle.card_posts.specs.Order.{IsAscending};
+ghost use Rattle.card_posts.specs.Posted.{StandsFor, folding_order};
+
+use card_days::Day;
+use card_events::{Post, Slot};
+use card_posts::Posts;
+use card_units::Cents;
+
+fn is_before(slot: &Slot, day: Day) -> bool
+    ensures { result ≡ nat_lt slot.now.day day }
+{
+    slot.day < day
+}
+
+fn is_by(slot: &Slot, day: Day) -> bool
+    ensures { result ≡ nat_le slot.now.day day }
+{
+    slot.day <= day
+}
+
+// the slots from a day on
+fn since(slots: &[Slot], from: Day) -> &[Slot]
+    requires { IsAscending slots.now }
+    ensures value { result.now ≡ since from slots.now }
+    ensures order { IsAscending result.now }
+{
+    &slots[slots.partition_point(|slot| is_before(slot, from))..]
+}
+
+// the slots up to a day
+fn up_to(slots: &[Slot], to: Day) -> &[Slot]
+    requires { IsAscending slots.now }
+    ensures { result.now ≡ up_to to slots.now }
+{
+    &slots[..slots.partition_point(|slot| is_by(slot, to))]
+}
+
+// the slots from one day to another
+fn slots_of(posts: &Posts, from: Day, to: Day) -> &[Slot]
+    ensures { result.now ≡ up_to to (since from (folding_order posts.now.corrected)) }
+{
+    up_to(since(posts.in_order(), from), to)
+}
+
+fn is_payment(posts: &Posts, number: u32) -> bool
+    ensures { result ≡ is_payment_at (at_number number posts.now.history) }
+{
+    match posts.get(number) {
+        Some(kept) => matches!(kept.post, Post::Payment { .. }),
+        None => false,
+    }
+}
+
+fn is_return(posts: &Posts, number: u32) -> bool
+    ensures { (payment : ℕ) → result ≡ false → returns_at payment (at_number number posts.now.history) ≡ false }
+{
+    match posts.get(number) {
+        Some(kept) => matches!(kept.post, Post::Return { .. }),
+        None => false,
+    }
+}
+
+// the place of the first Return, or the end
+fn first_return(posts: &Posts, slots: &[Slot]) -> usize
+    ensures bound { result ≤ length slots.now }
+    ensures none { (payment : ℕ) → is_returned_among posts.now.history payment (take result slots.now) ≡ false }
+{
+    for i in 0..slots.len() {
+        if is_return(posts, slots[i].number) {
+            return i;
+        }
+    }
+    slots.len()
+}
+
+// the slots from the first Return on
+fn from_returns<'a>(posts: &Posts, slots: &'a [Slot]) -> &'a [Slot]
+    ensures { (payment : ℕ) → is_returned_among posts.now.history payment result.now ≡ is_returned_among posts.now.history payment slots.now }
+{
+    &slots[first_return(posts, slots)..]
+}
+
+fn is_return_of(post: &Post, payment: u32) -> bool
+    ensures { result ≡ payments.returns payment post.now }
+{
+    match post {
+        Post::Return { target, .. } => target.get() == payment as u64,
+        _ => false,
+    }
+}
+
+fn returns(posts: &Posts, number: u32, payment: u32) -> bool
+    ensures { result ≡ returns_at payment (at_number number posts.now.history) }
+{
+    match posts.get(number) {
+        Some(kept) => is_return_of(&kept.post, payment),
+        None => false,
+    }
+}
+
+fn is_returned(posts: &Posts, among: &[Slot], payment: u32) -> bool
+    ensures { result ≡ is_returned_among posts.now.history payment among.now }
+{
+    for slot in among {
+        if returns(posts, slot.number, payment) {
+            return true;
+        }
+    }
+    false
+}
+
+// the cents of a payment that none of the slots returns
+fn counts(posts: &Posts, among: &[Slot], slot: &Slot) -> u64
+    ensures { result ≡ counts posts.now.history among.now slot.now }
+{
+    if is_payment(posts, slot.number) && !is_returned(posts, among, slot.number) {
+        slot.cents.unsigned_abs()
+    } else {
+        0
+    }
+}
+
+fn sum(posts: &Posts, slots: &[Slot]) -> u128
+    ensures { result ≡ slots_sum posts.now.history slots.now slots.now }
+{
+    let returns = from_returns(posts, slots);
+    let mut total = 0;
+    for slot in slots {
+        total += counts(posts, returns, slot) as u128;
+    }
+    total
+}
+
+// The payments with effective days from one day to another, less those returned by its end.
+pub fn counted_between(posts: &Posts, from: Day, to: Day) -> u128
+    ensures { (holidays : List ℕ) → StandsFor holidays posts.now → result ≡ payments.counted posts.now.corrected from to }
+{
+    sum(posts, slots_of(posts, from, to))
+}
+
+/// The cents of the payments with effective days from one day to another, without those returned by its end (12 CFR
+/// 1026.10, .55(b)(4)). The corrected list is that of the posts under some calendar. A sum that the result can't hold
+/// counts as its greatest value. It takes no memory.
+pub fn counted(posts: &Posts, from: Day, to: Day) -> Cents
+    ensures { (holidays : List ℕ) → StandsFor holidays posts.now → result ≡ pos (min 9_223_372_036_854_775_807 (payments.counted posts.now.corrected from to)) }
+{
+    counted_between(posts, from, to).min(i64::MAX as u128) as i64
+}

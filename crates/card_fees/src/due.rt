@@ -1,0 +1,149 @@
+// What a due date asks for, and what the payments left of it.
+ghost use Rattle.std.specs.Prelude.{◌≡◌, ℕ, ◌+◌, ◌-◌, ◌<◌, ◌≤◌, nat_lt, List, Some, ◌≤ℤ◌, pos, unsigned_abs};
+ghost use Rattle.card_days.specs.Billing.{IsCloseDay, closing, due};
+ghost use Rattle.card_fees.specs.Due.{is_late_from, is_met, is_sixty_days_late, owes_sixty_days, past_due_at};
+ghost use Rattle.card_model.specs.Payments as payments;
+ghost use Rattle.card_posts.specs.Posted.{StandsFor};
+
+use crate::counting::counted_between;
+use card_days::{Anchor, Day, closing, due};
+use card_posts::Posts;
+use card_units::Cents;
+
+// The day after a day.
+pub fn day_after(day: Day) -> Day
+    requires { day < 48_576 }
+    ensures { result ≡ day + 1 }
+{
+    Day::from_number(day.number() + 1).unwrap()
+}
+
+// The due date of a cycle.
+pub fn due_date(a: &Anchor, k: u32) -> Day
+    requires close_day { IsCloseDay a.now.close_day }
+    requires cycle { 1 ≤ k }
+    requires in_calendar { due a.now k ≤ 48_576 }
+    ensures { result ≡ due a.now k }
+{
+    due(*a, k).unwrap()
+}
+
+// the closing of a cycle
+fn closing_date(a: &Anchor, k: u32) -> Day
+    requires close_day { IsCloseDay a.now.close_day }
+    requires cycle { 1 ≤ k }
+    requires in_calendar { closing a.now k ≤ 48_576 }
+    ensures { result ≡ closing a.now k }
+{
+    closing(*a, k).unwrap()
+}
+
+// the payments since the closing of a cycle, up to a later day
+fn since_closing(posts: &Posts, a: &Anchor, k: u32, to: Day) -> u128
+    requires close_day { IsCloseDay a.now.close_day }
+    requires cycle { 1 ≤ k }
+    requires closed { closing a.now k < to }
+    ensures { (holidays : List ℕ) → StandsFor holidays posts.now → result ≡ payments.counted posts.now.corrected (closing a.now k + 1) to }
+{
+    let _last = to.number();
+    let from = day_after(closing_date(a, k));
+    counted_between(posts, from, to)
+}
+
+/// Whether the payments credited after closing k and up to its due date, without those returned by then, reach the
+/// minimum payment in cents, which is at least 0, and 0 where the statement has no due payment (12 CFR
+/// 1026.5(b)(2)(ii)). Cycle k is at least 1, and its closing and due date are there. The corrected list is that of the
+/// posts under some calendar. It takes no memory.
+pub fn met(posts: &Posts, a: Anchor, k: u32, minimum: Cents) -> bool
+    requires close_day { IsCloseDay a.close_day }
+    requires cycle { 1 ≤ k }
+    requires in_calendar { due a k ≤ 48_576 }
+    requires low { pos 0 ≤ℤ minimum }
+    ensures { (holidays : List ℕ) → StandsFor holidays posts.now → result ≡ is_met a posts.now.corrected k (unsigned_abs minimum) }
+{
+    minimum as u128 <= since_closing(posts, &a, k, due_date(&a, k))
+}
+
+// what an amount leaves of a minimum payment
+fn left_of(minimum: Cents, paid: u128) -> Cents
+    requires { pos 0 ≤ℤ minimum }
+    ensures { result ≡ pos (unsigned_abs minimum - paid) }
+{
+    (minimum as u128).saturating_sub(paid) as i64
+}
+
+/// What is past due at closing k, in cents: the minimum payment of the cycle before less the payments credited in cycle
+/// k, without those returned by its closing, not below 0. Cycle k is at least 1, and its closing is there. The minimum
+/// payment before is at least 0; it is 0 where that statement has no due payment, and before the first. The corrected
+/// list is that of the posts under some calendar. It takes no memory.
+pub fn past_due(posts: &Posts, a: Anchor, k: u32, minimum_before: Cents) -> Cents
+    requires close_day { IsCloseDay a.close_day }
+    requires cycle { 1 ≤ k }
+    requires in_calendar { closing a k ≤ 48_576 }
+    requires low { pos 0 ≤ℤ minimum_before }
+    requires first { k ≡ 1 → minimum_before ≡ pos 0 }
+    ensures { (holidays : List ℕ) → StandsFor holidays posts.now → result ≡ pos (past_due_at a posts.now.corrected k (unsigned_abs minimum_before)) }
+{
+    if k == 1 {
+        return 0;
+    }
+    let end = closing_date(&a, k);
+    left_of(minimum_before, since_closing(posts, &a, k - 1, end))
+}
+
+// whether a due date lies more than 60 days back
+fn is_long_past(a: &Anchor, k: u32, day: Day) -> bool
+    requires close_day { IsCloseDay a.now.close_day }
+    requires cycle { 1 ≤ k }
+    ensures { result ≡ nat_lt (due a.now k + 60) day }
+{
+    let day = day.number();
+    match due(*a, k) {
+        Some(due) => due.number() + 60 < day,
+        None => false,
+    }
+}
+
+// whether the payments since a closing are below the minimum payment, more than 60 days after the due date
+fn owes(posts: &Posts, a: &Anchor, k: u32, minimum: Cents, day: Day) -> bool
+    requires close_day { IsCloseDay a.now.close_day }
+    requires cycle { 1 ≤ k }
+    ensures { (holidays : List ℕ) → StandsFor holidays posts.now → result ≡ owes_sixty_days a.now posts.now.corrected day k minimum }
+{
+    if minimum <= 0 {
+        return false;
+    }
+    if !is_long_past(a, k, day) {
+        return false;
+    }
+    since_closing(posts, a, k, day) < minimum as u128
+}
+
+/// Whether the account is sixty days late on a day (12 CFR 1026.55(b)(4)): some due date lies more than 60 days back,
+/// and the payments credited since its closing, without those returned by the day, are below its minimum payment. The
+/// minimum payments are those of cycles 1, 2 and so on, in cents, 0 where a statement has no due payment. The corrected
+/// list is that of the posts under some calendar. It takes no memory.
+pub fn sixty_days_late(posts: &Posts, a: Anchor, minimums: &[Cents], day: Day) -> bool
+    requires close_day { IsCloseDay a.close_day }
+    ensures { (holidays : List ℕ) → StandsFor holidays posts.now → result ≡ is_sixty_days_late a posts.now.corrected day minimums.now }
+{
+    for i in 0..minimums.len() {
+        if owes_at(posts, &a, i, &minimums[i], day) {
+            return true;
+        }
+    }
+    false
+}
+
+// whether it is so of the cycle at a place, where cycle 1 has place 0
+fn owes_at(posts: &Posts, a: &Anchor, i: usize, minimum: &Cents, day: Day) -> bool
+    requires close_day { IsCloseDay a.now.close_day }
+    requires small { i < 9_223_372_036_854_775_807 }
+    ensures { (holidays : List ℕ) → StandsFor holidays posts.now → result ≡ owes_sixty_days a.now posts.now.corrected day (i + 1) minimum.now }
+{
+    let _last = day.number();
+    if i >= u32::MAX as usize {
+        return false;
+    }
+    owes(posts, a, i as u32 + 1, *minimum, day)
+}

@@ -1,0 +1,48 @@
+//! Laws on penalty fees and due dates. Their functions do nothing; their clauses are what holds.
+ghost use Rattle.card_fees.specs.Laws.{CountedInThePast, CountedIsSmall, FeesAreWithin, FeesOfTheFold, FeesStayOneEach, LateFeesOfTheFold, LateOfTheFold, MetOfTheFold, PastDueOfTheFold};
+
+/// A penalty fee is at most the minimum payment of its due date, and at most that of the last due date before its day
+/// (12 CFR 1026.52(b)(2)(i)(A)).
+pub fn fees_are_within()
+    ensures { FeesAreWithin }
+{}
+
+/// A due date has at most one penalty fee (12 CFR 1026.52(b)(2)(ii)).
+pub fn fees_stay_one_each()
+    ensures { FeesStayOneEach }
+{}
+
+/// The fee that the fold charges is the one of this crate, on the fee rows, the fees so far and the two minimum payments.
+pub fn fees_of_the_fold()
+    ensures { FeesOfTheFold }
+{}
+
+/// The late fee needs the minimum payment of its own due date alone.
+pub fn late_fees_of_the_fold()
+    ensures { LateFeesOfTheFold }
+{}
+
+/// The fold of a day counts payments up to it as they are counted over the whole corrected list.
+pub fn counted_in_the_past()
+    ensures { CountedInThePast }
+{}
+
+/// Whether a due date was met in the fold is what this crate says of the cycle's number and its minimum payment.
+pub fn met_of_the_fold()
+    ensures { MetOfTheFold }
+{}
+
+/// So is what is past due at the next closing.
+pub fn past_due_of_the_fold()
+    ensures { PastDueOfTheFold }
+{}
+
+/// So is whether the account is sixty days late.
+pub fn late_of_the_fold()
+    ensures { LateOfTheFold }
+{}
+
+/// With at most 10,000 posts of at most 12 digits each, the sum of counted payments is never cut.
+pub fn counted_is_small()
+    ensures { CountedIsSmall }
+{}
