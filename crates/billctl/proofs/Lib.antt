@@ -1,3 +1,4 @@
 pub mod LineLemmas
+pub mod RowLemmas
 pub mod FeedLemmas
 pub mod ApplyLemmas

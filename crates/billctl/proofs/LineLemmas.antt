@@ -1,14 +1,12 @@
 -- Lines, cut from left to right.
-use Rattle.std.proofs.Common.{◌≡◌, ℕ, zero, suc, ◌+◌, ◌-◌, ◌<◌, ◌≤◌, Bool, true, false, ◌||◌, eqb, ltb, cond, ◌⊎◌, List, [], ◌∷◌, ◌++◌, length, map, take, drop, get_or, refl, ap, sym, ◌∙◌, subst, arith, append_assoc, append-nil, length-append, inl, inr}
-use Rattle.std.proofs.lemmas.Bool.{ltb-true, ltb-false, lt-ltb, le-ltb}
+use Rattle.std.proofs.Common.{◌≡◌, ℕ, suc, ◌+◌, ◌<◌, ◌≤◌, Bool, true, false, ◌||◌, eqb, ltb, cond, ◌⊎◌, List, [], ◌∷◌, ◌++◌, length, map, take, refl, ap, sym, ◌∙◌, arith, append_assoc, append-nil, length-append, inl, inr}
+use Rattle.std.proofs.lemmas.Bool.{ltb-true, ltb-false, lt-ltb}
 use Rattle.std.proofs.lemmas.List.{take_all, take-append-le, length-take}
-use Rattle.card_text.specs.declared.line.Line.{Line}
 use Rattle.card_text.specs.Lines.{line_of}
-use Rattle.billctl.specs.Input.{first_part, other_parts, ended, unended, ended_line, ended_lines, last_line, all_lines}
-use Rattle.billctl.specs.Feed.{Progress, feed, longer_line, line_done, feed_text, line_text, feed_all, text_all}
-use Rattle.card_desk.specs.Ledger.{Ledger}
-use Rattle.billctl.specs.Answers.{next, answer_text, is_refused}
-use Rattle.billctl.specs.Run.{after, text_from, any_refused}
+use Rattle.billctl.specs.Input.{first_part, other_parts, ended, unended, ended_line, last_line}
+use Rattle.billctl.specs.Feed.{Progress, feed, longer_line, line_done, feed_text, line_text, feed_rows, line_kept, feed_all, text_all, rows_all}
+use Rattle.billctl.specs.Answers.{next, answer_text, is_refused, line_rows}
+use Rattle.billctl.specs.Run.{after, text_from, rows_kept, any_refused}
 
 -- the parts that line feeds end, where u came before; and what none ends
 abbrev pub cut : List ℕ → List ℕ → List (List ℕ)
@@ -100,6 +98,7 @@ pub record IsFed (p : Progress) (u bs : List ℕ) : Type 0 where
   pub refused : (feed_all p bs).refused ≡ (p.refused || any_refused p.ledger (map ended_line (cut u bs)))
   pub line : (feed_all p bs).line ≡ take 513 (left_over u bs)
   pub text : text_all p bs ≡ text_from p.ledger (p.number + 1) (map ended_line (cut u bs))
+  pub kept : rows_all p bs ≡ rows_kept p.ledger (map ended_line (cut u bs))
 
 or_false : (b : Bool) → (b || false) ≡ b
 or_false true = refl
@@ -110,8 +109,8 @@ or_assoc true b c = refl
 or_assoc false b c = refl
 
 fed_none : (p : Progress) (u : List ℕ) → p.line ≡ take 513 u → IsFed p u []
-unfolding feed_all text_all
-fed_none p u is = record { ledger = refl; number = omega arith; refused = sym (or_false p.refused); line = is; text = refl }
+unfolding feed_all text_all rows_all
+fed_none p u is = record { ledger = refl; number = omega arith; refused = sym (or_false p.refused); line = is; text = refl; kept = refl }
 
 -- after a line
 fed_line : (p : Progress) (u bs : List ℕ) → p.line ≡ take 513 u → IsFed (line_done p) [] bs
@@ -119,7 +118,8 @@ fed_line : (p : Progress) (u bs : List ℕ) → p.line ≡ take 513 u → IsFed 
     × ((feed_all (line_done p) bs).number ≡ p.number + length (u ∷ cut [] bs))
     × ((feed_all (line_done p) bs).refused ≡ (p.refused || any_refused p.ledger (ended_line u ∷ map ended_line (cut [] bs))))
     × ((line_text p ++ text_all (line_done p) bs) ≡ text_from p.ledger (p.number + 1) (ended_line u ∷ map ended_line (cut [] bs)))
-unfolding line_done line_text
+    × ((line_kept p ++ rows_all (line_done p) bs) ≡ rows_kept p.ledger (ended_line u ∷ map ended_line (cut [] bs)))
+unfolding line_done line_text line_kept
 fed_line p u bs is rest =
     let same : ended_line p.line ≡ ended_line u = ap ended_line is ∙ kept_ended u in
     let ls = map ended_line (cut [] bs) in
@@ -130,6 +130,7 @@ fed_line p u bs is rest =
       ap (λ t. answer_text p.ledger (p.number + 1) (ended_line p.line) ++ t) rest.text
           ∙ ap (λ l. answer_text p.ledger (p.number + 1) l ++ text_from (next p.ledger l) (p.number + 1 + 1) ls) same
           ∙ ap (λ (k : ℕ). answer_text p.ledger (p.number + 1) (ended_line u) ++ text_from (next p.ledger (ended_line u)) k ls) (sym number),
+      ap (λ t. line_rows p.ledger (ended_line p.line) ++ t) rest.kept ∙ ap (λ l. line_rows p.ledger l ++ rows_kept (next p.ledger l) ls) same,
     )
 
 done_line : (p : Progress) → (line_done p).line ≡ take 513 []
@@ -156,13 +157,21 @@ feed_other : (p : Progress) (b : ℕ) → eqb b 10 ≡ false → feed p b ≡ re
 unfolding feed
 feed_other p b f = rw f refl
 
-text_lf : (p : Progress) (b : ℕ) → eqb b 10 ≡ true → feed_text p b ≡ line_text p
+pub text_lf : (p : Progress) (b : ℕ) → eqb b 10 ≡ true → feed_text p b ≡ line_text p
 unfolding feed_text
 text_lf p b t = rw t refl
 
 text_other : (p : Progress) (b : ℕ) → eqb b 10 ≡ false → feed_text p b ≡ []
 unfolding feed_text
 text_other p b f = rw f refl
+
+pub rows_lf : (p : Progress) (b : ℕ) → eqb b 10 ≡ true → feed_rows p b ≡ line_kept p
+unfolding feed_rows
+rows_lf p b t = rw t refl
+
+rows_other : (p : Progress) (b : ℕ) → eqb b 10 ≡ false → feed_rows p b ≡ []
+unfolding feed_rows
+rows_other p b f = rw f refl
 
 feed_cons : (p : Progress) (b : ℕ) (bs : List ℕ) → feed_all p (b ∷ bs) ≡ feed_all (feed p b) bs
 unfolding feed_all
@@ -171,6 +180,10 @@ feed_cons p b bs = refl
 text_cons : (p : Progress) (b : ℕ) (bs : List ℕ) → text_all p (b ∷ bs) ≡ feed_text p b ++ text_all (feed p b) bs
 unfolding text_all
 text_cons p b bs = refl
+
+rows_cons : (p : Progress) (b : ℕ) (bs : List ℕ) → rows_all p (b ∷ bs) ≡ feed_rows p b ++ rows_all (feed p b) bs
+unfolding rows_all
+rows_cons p b bs = refl
 
 pub fed : (p : Progress) (u bs : List ℕ) → p.line ≡ take 513 u → IsFed p u bs
 fed p u [] is = fed_none p u is
@@ -186,6 +199,7 @@ fed p u (b ∷ bs) is = elim (by_test (eqb b 10)) [
         refused = ap (λ (q : Progress). q.refused) here ∙ parts.2 ∙ ap (λ l. p.refused || any_refused p.ledger l) lines;
         line = ap (λ (q : Progress). q.line) here ∙ rest.line ∙ ap (take 513) (sym (left_lf u b bs t));
         text = text_cons p b bs ∙ ap (λ x. x ++ text_all (feed p b) bs) (text_lf p b t) ∙ ap (λ (q : Progress). line_text p ++ text_all q bs) (feed_lf p b t) ∙ parts.3 ∙ ap (text_from p.ledger (p.number + 1)) lines;
+        kept = rows_cons p b bs ∙ ap (λ x. x ++ rows_all (feed p b) bs) (rows_lf p b t) ∙ ap (λ (q : Progress). line_kept p ++ rows_all q bs) (feed_lf p b t) ∙ parts.4 ∙ ap (rows_kept p.ledger) lines;
       }
   | inr f ↦
       let q : Progress = record p { line = longer_line p.line b } in
@@ -199,5 +213,6 @@ fed p u (b ∷ bs) is = elim (by_test (eqb b 10)) [
         refused = ap (λ (r : Progress). r.refused) here ∙ rest.refused ∙ ap (λ l. p.refused || any_refused p.ledger l) lines;
         line = ap (λ (r : Progress). r.line) here ∙ rest.line ∙ ap (take 513) (sym (left_other u b bs f));
         text = text_cons p b bs ∙ ap (λ x. x ++ text_all (feed p b) bs) (text_other p b f) ∙ ap (λ (r : Progress). text_all r bs) (feed_other p b f) ∙ rest.text ∙ ap (text_from p.ledger (p.number + 1)) lines;
+        kept = rows_cons p b bs ∙ ap (λ x. x ++ rows_all (feed p b) bs) (rows_other p b f) ∙ ap (λ (r : Progress). rows_all r bs) (feed_other p b f) ∙ rest.kept ∙ ap (rows_kept p.ledger) lines;
       }
 ]

@@ -1,14 +1,16 @@
--- What is written for a line, and how the ledger goes on.
-use Rattle.std.specs.Prelude.{ℕ, Bool, true, false, if◌then◌else◌, List}
+-- What is written for a line, what is kept of it, and how the ledger goes on.
+use Rattle.std.specs.Prelude.{ℕ, Bool, true, false, if◌then◌else◌, List, [], Option, Some, None}
 use Rattle.card_events.specs.Built.{is_built}
 use Rattle.card_events.specs.declared.reply.Reply.{Reply}
 use Rattle.card_events.specs.declared.reply.Reply.TheVariants as reply
 use Rattle.card_events.specs.declared.reply.Refusal.TheVariants as refusal
-use Rattle.card_desk.specs.Ledger.{Ledger, step}
+use Rattle.card_desk.specs.Kept.{new_rows}
 use Rattle.card_desk.specs.Views.{seen}
 use Rattle.card_desk.specs.declared.view.Ask.TheVariants as ask
 use Rattle.card_desk.specs.declared.view.View.{View}
 use Rattle.card_desk.specs.declared.view.View.TheVariants as view
+use Rattle.card_keeper.specs.declared.row.Row.{Row}
+use Rattle.card_model.specs.Machine.{State, step}
 use Rattle.card_text.specs.declared.line.Line.{Line}
 use Rattle.card_text.specs.declared.line.Line.TheVariants as line
 use Rattle.card_text.specs.Replies.{reply_text, refusal_text, bad_text, show_text}
@@ -27,20 +29,41 @@ is_refusal reply.Done = false
 is_refusal (reply.Accepted n) = false
 is_refusal (reply.Refused r) = true
 
--- what is written for the line of this number. A request of a kind that the ledger doesn't take so far is bad at its word
-unfoldable pub answer_text : Ledger → ℕ → Line → List ℕ
-answer_text s number (line.Request r) = if is_built r then reply_text (step s r).1 else bad_text number 1
+-- the reply to a line with a request of a kind that the ledger takes so far
+unfoldable pub reply_in : State → Line → Option Reply
+reply_in s (line.Request r) = if is_built r then Some (step s r).1 else None
+reply_in s (line.Show account) = None
+reply_in s (line.Bad field) = None
+
+-- what is written for a request with this reply, or with none as the ledger doesn't take its kind so far: it is bad at its word
+abbrev pub text_for : ℕ → Option Reply → List ℕ
+text_for number None = bad_text number 1
+text_for number (Some r) = reply_text r
+
+abbrev pub is_refused_by : Option Reply → Bool
+is_refused_by None = true
+is_refused_by (Some r) = is_refusal r
+
+-- what is written for the line of this number
+unfoldable pub answer_text : State → ℕ → Line → List ℕ
+answer_text s number (line.Request r) = text_for number (reply_in s (line.Request r))
 answer_text s number (line.Show account) = view_text account (seen s (ask.Show account))
 answer_text s number (line.Bad field) = bad_text number field
 
 -- whether that is `no` or `bad`
-unfoldable pub is_refused : Ledger → Line → Bool
-is_refused s (line.Request r) = if is_built r then is_refusal (step s r).1 else true
+unfoldable pub is_refused : State → Line → Bool
+is_refused s (line.Request r) = is_refused_by (reply_in s (line.Request r))
 is_refused s (line.Show account) = is_no_account (seen s (ask.Show account))
 is_refused s (line.Bad field) = true
 
 -- the ledger after the line
-unfoldable pub next : Ledger → Line → Ledger
+unfoldable pub next : State → Line → State
 next s (line.Request r) = if is_built r then (step s r).0 else s
 next s (line.Show account) = s
 next s (line.Bad field) = s
+
+-- the rows that are kept of the line: that of a newly accepted request
+unfoldable pub line_rows : State → Line → List Row
+line_rows s (line.Request r) = if is_built r then new_rows s r else []
+line_rows s (line.Show account) = []
+line_rows s (line.Bad field) = []

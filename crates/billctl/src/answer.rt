@@ -1,72 +1,92 @@
-// What is written for a line.
-ghost use Rattle.std.specs.Prelude.{◌≡◌, IfOk};
+// What a line comes to, and what is written for it.
+ghost use Rattle.std.specs.Prelude.{◌≡◌, ◌≤◌, IfOk, OnOk, OnErr, IsErrOf};
 ghost use Rattle.std.specs.String.{string_bytes};
+ghost use Rattle.card_desk.specs.Kept.{Fits};
 ghost use Rattle.card_desk.specs.Views.{seen};
-ghost use Rattle.billctl.specs.Answers.{answer_text, is_refused, next};
+ghost use Rattle.card_desk.specs.declared.view.Ask.TheVariants as ask;
+ghost use Rattle.card_keeper.specs.Rows.{AddsRows, KeepsRows};
+ghost use Rattle.card_model.specs.Machine.{State};
+ghost use Rattle.card_ports.specs.Counts.{Rose};
+ghost use Rattle.card_text.specs.Lines.{IsDatedLine};
+ghost use Rattle.billctl.specs.Answers.{answer_text, is_refused, line_rows, next, reply_in};
 ghost use Rattle.billctl.specs.Answers as spec;
 
-use card_desk::{Ask, Desk, View};
-use card_events::{Name, Refusal, Reply, Request};
+use card_desk::{Desk, Fault, View};
+use card_events::{Name, Refusal, Reply};
+use card_keeper::Keeper;
 use card_text::{Line, bad_text, reply_text, show_text};
 use card_units::NoMemory;
 use std::alloc::Global;
 
-/// What is written for the line of this number, and whether that is `no` or `bad`. The desk goes on.
-#[tactic(auto, unfolding(crate::specs::Answers::answer_text, crate::specs::Answers::is_refused, crate::specs::Answers::next))]
-pub fn answer(
+/// Carries out the request of a line, where it is of a kind that the ledger takes so far, and gives the reply to it. Where
+/// it is newly accepted its row is kept.
+#[tactic(auto, unfolding(crate::specs::Answers::reply_in, crate::specs::Answers::next, crate::specs::Answers::line_rows))]
+pub fn carry_out<K: Keeper>(
     alloc: Global,
     desk: &mut Desk,
-    number: u64,
-    line: Line,
-) -> Result<(String, bool), NoMemory>
-    ensures next { IfOk result (λ a. desk.new ≡ next desk.old line) }
-    ensures text { IfOk result (λ a. string_bytes a.0 ≡ answer_text desk.old number line) }
-    ensures refused { IfOk result (λ a. a.1 ≡ is_refused desk.old line) }
+    keeper: &mut K,
+    line: &Line,
+) -> Result<Option<Reply>, Fault>
+    requires dated { IsDatedLine line.now }
+    requires fits { Fits (K.rows keeper.old) desk.old }
+    ensures reply { IfOk result (λ reply. reply ≡ reply_in desk.old line.now) }
+    ensures next { OnOk result (desk.new ≡ next desk.old line.now) }
+    ensures kept { OnOk result (AddsRows (K.rows keeper.old) (K.rows keeper.new) (line_rows desk.old line.now)) }
+    ensures fits { OnOk result (Fits (K.rows keeper.new) desk.new) }
+    ensures rows_stay { OnErr result (KeepsRows (K.rows keeper.old) (K.rows keeper.new)) }
+    ensures count { K.faults keeper.old ≤ K.faults keeper.new }
+    ensures cause { IsErrOf result Fault.Keeper → Rose (K.faults keeper.old) (K.faults keeper.new) }
 {
     match line {
-        Line::Request(request) => answer_request(alloc, desk, number, &request),
-        Line::Show(account) => answer_show(alloc, desk, account),
-        Line::Bad(field) => {
-            let text = bad_text(alloc, number, field)?;
-            Ok((text, true))
-        }
+        Line::Request(request) if request.is_built() => match desk.apply(alloc, keeper, request) {
+            Ok(reply) => Ok(Some(reply)),
+            Err(fault) => Err(fault),
+        },
+        _ => Ok(None),
     }
 }
 
-// A request of a kind that the ledger doesn't take so far is bad at its word.
-#[tactic(auto, unfolding(crate::specs::Answers::answer_text, crate::specs::Answers::is_refused, crate::specs::Answers::next))]
+/// What is written for the line of this number, which was carried out with this reply, and whether that is `no` or `bad`. A
+/// request of a kind that the ledger doesn't take so far is bad at its word.
+#[tactic(auto, unfolding(crate::specs::Answers::reply_in, crate::specs::Answers::next, crate::specs::Answers::answer_text, crate::specs::Answers::is_refused))]
+pub fn answer(
+    alloc: Global,
+    desk: &Desk,
+    number: u64,
+    line: &Line,
+    reply: &Option<Reply>,
+) -> Result<(String, bool), NoMemory>
+    ensures text { (s : State) → desk.now ≡ next s line.now → reply.now ≡ reply_in s line.now → IfOk result (λ a. string_bytes a.0 ≡ answer_text s number line.now) }
+    ensures refused { (s : State) → desk.now ≡ next s line.now → reply.now ≡ reply_in s line.now → IfOk result (λ a. a.1 ≡ is_refused s line.now) }
+{
+    match line {
+        Line::Request(_) => answer_request(alloc, number, reply),
+        Line::Show(account) => answer_show(alloc, desk, account),
+        Line::Bad(field) => Ok((bad_text(alloc, number, *field)?, true)),
+    }
+}
+
 fn answer_request(
     alloc: Global,
-    desk: &mut Desk,
     number: u64,
-    request: &Request,
+    reply: &Option<Reply>,
 ) -> Result<(String, bool), NoMemory>
-    ensures next { IfOk result (λ a. desk.new ≡ next desk.old (Line.Request request.now)) }
-    ensures text { IfOk result (λ a. string_bytes a.0 ≡ answer_text desk.old number (Line.Request request.now)) }
-    ensures refused { IfOk result (λ a. a.1 ≡ is_refused desk.old (Line.Request request.now)) }
+    ensures text { IfOk result (λ a. string_bytes a.0 ≡ spec.text_for number reply.now) }
+    ensures refused { IfOk result (λ a. a.1 ≡ spec.is_refused_by reply.now) }
 {
-    if !request.is_built() {
-        let text = bad_text(alloc, number, 1)?;
-        return Ok((text, true));
-    }
-    match desk.apply(alloc, request) {
-        Ok(reply) => {
-            let text = reply_text(alloc, &reply)?;
-            Ok((text, is_refusal(&reply)))
-        }
-        Err(NoMemory) => Err(NoMemory),
+    match reply {
+        Some(reply) => Ok((reply_text(alloc, reply)?, is_refusal(reply))),
+        None => Ok((bad_text(alloc, number, 1)?, true)),
     }
 }
 
-fn answer_show(alloc: Global, desk: &Desk, account: Name) -> Result<(String, bool), NoMemory>
-    ensures text { IfOk result (λ a. string_bytes a.0 ≡ spec.view_text account (seen desk.now (Ask.Show account))) }
-    ensures refused { IfOk result (λ a. a.1 ≡ spec.is_no_account (seen desk.now (Ask.Show account))) }
+#[tactic(auto, unfolding(card_desk::specs::Views::seen))]
+fn answer_show(alloc: Global, desk: &Desk, account: &Name) -> Result<(String, bool), NoMemory>
+    ensures text { IfOk result (λ a. string_bytes a.0 ≡ spec.view_text account.now (seen desk.now (ask.Show account.now))) }
+    ensures refused { IfOk result (λ a. a.1 ≡ spec.is_no_account (seen desk.now (ask.Show account.now))) }
 {
-    let ask = Ask::Show(account);
-    let view = desk.see(&ask);
-    let Ask::Show(account) = &ask;
-    let text = view_text(alloc, account, &view)?;
-    Ok((text, is_no_account(&view)))
+    let view = desk.show(account);
+    Ok((view_text(alloc, account, &view)?, is_no_account(&view)))
 }
 
 #[tactic(auto, unfolding(crate::specs::Answers::view_text, card_text::specs::Replies::reply_text))]

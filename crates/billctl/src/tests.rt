@@ -1,4 +1,5 @@
 use crate::billctl;
+use card_keeper::{Body, FailingKeeper, Keeper, MemoryKeeper, Row};
 use card_ports::{MemorySink, MemorySource, Sink, SinkFault};
 use std::alloc::{AllocError, Global};
 use std::process::Abort;
@@ -6,6 +7,15 @@ use std::test::Fail;
 
 const FIRST_DAY: &str =
     "roll 2024-03-01\nopen a o 2024-03-01 5 1999 2499 2199 2999 2500 100\ncharge a c1 2024-03-01 purchase 1250\nshow a\n";
+
+const ROLL: &[u8] = b"\x01\x01\x00\x00\x4d\x47";
+
+const OPEN: &[u8] =
+    b"\x01\x04\x01a\x01o\x00\x00\x4d\x47\x00\x00\x00\x00\x00\x00\x00\x05\x00\x00\x00\x00\x00\x00\x07\xcf\x00\x00\x00\x00\x00\x00\x09\xc3\x00\x00\x00\x00\x00\x00\x08\x97\x00\x00\x00\x00\x00\x00\x0b\xb7\x00\x00\x00\x00\x00\x00\x09\xc4\x00\x00\x00\x00\x00\x00\x00\x64";
+
+const CUT_CHARGE: &[u8] = b"\x01\x05\x01a\x02c1\x00\x00\x4d\x47\x00\x00\x00\x00\x00\x00\x00\x04";
+
+const OTHER_FORMAT: &[u8] = b"\x03\x01\x00\x00\x4d\x48";
 
 const REPLIES: &str = "ok\nok 1\nok 2\nshow a 2024-03-01 owed 1250 credit 0 held 0\n";
 
@@ -17,9 +27,10 @@ fn words(alloc: Global, list: &[&str]) -> Result<Vec<String>, AllocError> {
     Ok(words)
 }
 
-// What `apply` writes for a text, and the status, where these reads and writes fail.
-fn applied(
+// What `apply` writes for a text over kept rows, and the status, where these reads and writes fail.
+fn applied<K: Keeper>(
     alloc: Global,
+    keeper: &mut K,
     text: &[u8],
     reads: &[u64],
     writes: &[u64],
@@ -29,8 +40,15 @@ fn applied(
         Vec::from_slice(alloc, reads)?,
     );
     let mut output = MemorySink::new(alloc, Vec::from_slice(alloc, writes)?);
-    let status = billctl(alloc, &words(alloc, &["apply"])?, &mut input, &mut output);
+    let apply = words(alloc, &["apply"])?;
+    let status = billctl(alloc, &apply, &mut input, &mut output, keeper);
     Ok((Vec::from_slice(alloc, output.taken())?, status))
+}
+
+// The same over no rows, where no read and no write fails.
+fn applied_alone(alloc: Global, text: &[u8]) -> Result<(Vec<u8>, u8), AllocError> {
+    let mut keeper = MemoryKeeper::new(alloc);
+    applied(alloc, &mut keeper, text, &[], &[])
 }
 
 // The lines behind the four of the first day are answered so.
@@ -45,7 +63,7 @@ fn expect_after(
     text.extend_from_slice(lines)?;
     let mut wanted = String::from_str(alloc, REPLIES)?;
     wanted.push_str(replies)?;
-    let (written, ended) = applied(alloc, &text, &[], &[])?;
+    let (written, ended) = applied_alone(alloc, &text)?;
     assert_eq!(rt; written.as_slice(), wanted.as_bytes());
     assert_eq!(rt; ended, status);
     Ok(())
@@ -55,11 +73,11 @@ fn expect_after(
 fn the_first_day_with_and_without_the_last_line_feed(rt: HostRuntime) -> Result<(), Fail> {
     let alloc = rt.alloc();
     for text in [FIRST_DAY, FIRST_DAY.trim_end()] {
-        let (written, status) = applied(alloc, text.as_bytes(), &[], &[])?;
+        let (written, status) = applied_alone(alloc, text.as_bytes())?;
         assert_eq!(rt; written.as_slice(), REPLIES.as_bytes());
         assert_eq!(rt; status, 0);
     }
-    let (written, status) = applied(alloc, b"", &[], &[])?;
+    let (written, status) = applied_alone(alloc, b"")?;
     assert_eq!(rt; written.len(), 0);
     assert_eq!(rt; status, 0);
     Ok(())
@@ -68,7 +86,22 @@ fn the_first_day_with_and_without_the_last_line_feed(rt: HostRuntime) -> Result<
 #[test]
 fn refusals_and_bad_lines_harm_no_other_line(rt: HostRuntime) -> Result<(), Fail> {
     let alloc = rt.alloc();
-    let cases: [(&[u8], &str, u8); 12] = [
+    let cases: [(&[u8], &str, u8); 15] = [
+        (
+            b"open z o 2024-03-01 29 1999 2499 2199 2999 2500 100\ncharge a c1 2024-03-01 purchase 9\n",
+            "no 4 BadTerms 1\nno 3 KeyReused 2\n",
+            1,
+        ),
+        (
+            b"charge a c2 2024-02-29 purchase 5\ncharge a c2 2024-03-02 purchase 5\n",
+            "no 7 DayBeforeOpen\nno 6 DayAhead\n",
+            1,
+        ),
+        (
+            b"roll 2024-02-29\nroll 2025-03-03\nroll 2025-03-02\n",
+            "no 27 RollBack 2024-03-01\nno 28 RollTooFar\nok\n",
+            1,
+        ),
         (
             b"charge z c1 2024-03-01 purchase 5\ncharge a c2 2024-03-01 purchase 0\nopen a p 2024-03-01 5 1999 2499 2199 2999 2500 100\nhello\n",
             "no 1 UnknownAccount\nno 5 AmountRange\nno 2 AccountExists\nbad 8 1\n",
@@ -99,7 +132,7 @@ fn refusals_and_bad_lines_harm_no_other_line(rt: HostRuntime) -> Result<(), Fail
             "bad 5 1\nbad 6 1\nshow a 2024-03-01 owed 1250 credit 0 held 0\n",
             1,
         ),
-        (b"roll 2023-02-29\nroll 2024-02-29\n", "bad 5 2\nok\n", 1),
+        (b"roll 2023-02-29\nroll 2024-03-02\n", "bad 5 2\nok\n", 1),
         (
             b"show \xff\xfe\nshow a \nshow  a\n",
             "bad 5 2\nbad 6 3\nbad 7 2\n",
@@ -132,27 +165,85 @@ fn a_line_of_any_length_is_one_bad_line(rt: HostRuntime) -> Result<(), Fail> {
         text.extend_from_slice(b"\nroll 2024-03-01")?;
         let mut wanted = String::from_str(alloc, reply)?;
         wanted.push_str("ok\n")?;
-        let (written, status) = applied(alloc, &text, &[], &[])?;
+        let (written, status) = applied_alone(alloc, &text)?;
         assert_eq!(rt; written.as_slice(), wanted.as_bytes());
         assert_eq!(rt; status, 1);
     }
     Ok(())
 }
 
+// Replies are written one by one: the third write is that to the Open.
 #[test]
 fn each_read_and_write_may_fail(rt: HostRuntime) -> Result<(), Fail> {
     let alloc = rt.alloc();
-    let cases: [(&[u64], &[u64], &str, u8); 5] = [
-        (&[1], &[], "", 3),
-        (&[2], &[], REPLIES, 3),
-        (&[3], &[], REPLIES, 0),
-        (&[], &[1], "", 4),
-        (&[], &[2], REPLIES, 0),
+    let cases: [(&[u64], &[u64], &str, u8, usize); 6] = [
+        (&[1], &[], "", 3, 0),
+        (&[2], &[], REPLIES, 3, 3),
+        (&[3], &[], REPLIES, 0, 3),
+        (&[], &[1], "", 4, 1),
+        (&[], &[3], "ok\nok 1\n", 4, 3),
+        (&[], &[5], REPLIES, 0, 3),
     ];
-    for (reads, writes, replies, status) in cases {
-        let (written, ended) = applied(alloc, FIRST_DAY.as_bytes(), reads, writes)?;
+    for (reads, writes, replies, status, rows) in cases {
+        let mut keeper = MemoryKeeper::new(alloc);
+        let (written, ended) = applied(alloc, &mut keeper, FIRST_DAY.as_bytes(), reads, writes)?;
         assert_eq!(rt; written.as_slice(), replies.as_bytes());
         assert_eq!(rt; ended, status);
+        assert_eq!(rt; keeper.rows().len(), rows);
+    }
+    Ok(())
+}
+
+#[test]
+fn lines_that_come_twice_are_kept_once(rt: HostRuntime) -> Result<(), Fail> {
+    let alloc = rt.alloc();
+    let mut keeper = MemoryKeeper::new(alloc);
+    let again =
+        "no 27 RollBack 2024-03-01\nok 1\nok 2\nshow a 2024-03-01 owed 1250 credit 0 held 0\n";
+    for (replies, status) in [(REPLIES, 0), (again, 1)] {
+        let (written, ended) = applied(alloc, &mut keeper, FIRST_DAY.as_bytes(), &[], &[])?;
+        assert_eq!(rt; written.as_slice(), replies.as_bytes());
+        assert_eq!(rt; ended, status);
+        assert_eq!(rt; keeper.rows().len(), 3);
+    }
+    let first = keeper.rows().first().ok_or("no row")?;
+    assert_eq!(rt; first.body.bytes(), ROLL);
+    Ok(())
+}
+
+// The load is the keeper's first call, and each row another.
+#[test]
+fn a_keeper_may_fail(rt: HostRuntime) -> Result<(), Fail> {
+    let alloc = rt.alloc();
+    for (call, replies, rows) in [(1, "", 0), (3, "ok\n", 1)] {
+        let mut keeper = FailingKeeper::new(alloc, Vec::from_slice(alloc, &[call])?);
+        let (written, status) = applied(alloc, &mut keeper, FIRST_DAY.as_bytes(), &[], &[])?;
+        assert_eq!(rt; written.as_slice(), replies.as_bytes());
+        assert_eq!(rt; status, 5);
+        assert_eq!(rt; keeper.rows().len(), rows);
+    }
+    Ok(())
+}
+
+#[test]
+fn damaged_rows_are_named_and_stay(rt: HostRuntime) -> Result<(), Fail> {
+    let alloc = rt.alloc();
+    for (bodies, line) in [
+        ([ROLL, OPEN, CUT_CHARGE], "damaged 3\n"),
+        ([ROLL, ROLL, OPEN], "damaged 2\n"),
+        ([OTHER_FORMAT, OPEN, OPEN], "damaged 1\n"),
+        ([b"", ROLL, OPEN], "damaged 1\n"),
+    ] {
+        let mut keeper = MemoryKeeper::new(alloc);
+        for (i, body) in bodies.iter().enumerate() {
+            let seq = i as u64 + 1;
+            let body = Body::of(Vec::from_slice(alloc, body)?);
+            keeper.append(alloc, &[Row { seq, body }])?;
+        }
+        let (written, status) = applied(alloc, &mut keeper, FIRST_DAY.as_bytes(), &[], &[])?;
+        assert_eq!(rt; written.as_slice(), line.as_bytes());
+        assert_eq!(rt; status, 8);
+        assert_eq!(rt; keeper.rows().len(), 3);
     }
     Ok(())
 }
@@ -179,7 +270,9 @@ fn a_sink_that_cannot_grow_is_want_of_memory(rt: HostRuntime) -> Result<(), Fail
     for word in ["apply", "import"] {
         let text = Vec::from_slice(alloc, FIRST_DAY.as_bytes())?;
         let mut input = MemorySource::new(text, Vec::new(alloc));
-        let status = billctl(alloc, &words(alloc, &[word])?, &mut input, &mut Full);
+        let mut keeper = MemoryKeeper::new(alloc);
+        let list = words(alloc, &[word])?;
+        let status = billctl(alloc, &list, &mut input, &mut Full, &mut keeper);
         assert_eq!(rt; status, 6);
     }
     Ok(())
@@ -195,7 +288,9 @@ fn other_words_get_the_usage_line(rt: HostRuntime) -> Result<(), Fail> {
         let text = Vec::from_slice(alloc, FIRST_DAY.as_bytes())?;
         let mut input = MemorySource::new(text, Vec::new(alloc));
         let mut output = MemorySink::new(alloc, Vec::new(alloc));
-        let status = billctl(alloc, &words(alloc, list)?, &mut input, &mut output);
+        let mut keeper = MemoryKeeper::new(alloc);
+        let list = words(alloc, list)?;
+        let status = billctl(alloc, &list, &mut input, &mut output, &mut keeper);
         assert_eq!(rt; output.taken(), usage.as_bytes());
         assert_eq!(rt; input.left(), FIRST_DAY.as_bytes());
         assert_eq!(rt; status, 2);

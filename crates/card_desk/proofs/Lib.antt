@@ -1,2 +1,14 @@
+pub mod AcceptLemmas
+pub mod CountLemmas
+pub mod DeskLemmas
+pub mod IndexLemmas
+pub mod JudgeLemmas
+pub mod LawLemmas
+pub mod LoadLemmas
+pub mod OutcomeLemmas
 pub mod PlaceLemmas
-pub mod PostLemmas
+pub mod ReasonLemmas
+pub mod RowLemmas
+pub mod RunLemmas
+pub mod SoundLemmas
+pub mod StepLemmas

@@ -1,3 +1,7 @@
-pub mod Ledger
+pub mod Applied
+pub mod Kept
+pub mod Loads
 pub mod Places
+pub mod Reasons
+pub mod Verdicts
 pub mod Views

@@ -1,14 +1,21 @@
--- The place of an account in the list.
-use Rattle.std.specs.Prelude.{◌≡◌, ℕ, ◌<◌, List, [], ◌∷◌, ◌++◌, length, slice_index_or, slice_set, Some}
-use Rattle.card_events.specs.declared.post.Post.{Post}
-use Rattle.card_desk.specs.Ledger.{History, posts_of, with_post}
+-- The places of accounts.
+use Rattle.std.specs.Prelude.{◌≡◌, ℕ, ◌+◌, ◌<◌, if◌then◌else◌, List, [], ◌∷◌, length, slice_index_or, slice_set, Option, Some, None}
+use Rattle.std.specs.Str.{bytes_eq}
+use Rattle.card_index.specs.Places.{place_of}
+use Rattle.card_model.specs.Machine.{NamedAccount, lists_of, with_lists}
+use Rattle.card_model.specs.Refusals.{Lists}
 
--- the account with one more post
-abbrev pub longer : History → Post → History
-longer a p = record { name = a.name; posts = a.posts ++ p ∷ [] }
+-- the place of the account with a name, where the first of the list has place n
+unfoldable pub place_from : List ℕ → ℕ → List NamedAccount → Option ℕ
+place_from name n [] = None
+place_from name n (a ∷ others) = let later = place_from name (n + 1) others in if bytes_eq a.name name then Some n else later
 
--- the first account with this name stands here
-pub record IsPlace (name : List ℕ) (accounts : List History) (i : ℕ) : Type 0 where
+-- the index says the place of each account
+abbrev pub IsIndex : List (List ℕ × ℕ) → List NamedAccount → Type 0
+IsIndex index accounts = (name : List ℕ) → place_of name index ≡ place_from name 0 accounts
+
+-- the account with this name stands here
+pub record IsPlace (name : List ℕ) (accounts : List NamedAccount) (i : ℕ) : Type 0 where
   pub bound : i < length accounts
-  pub there : (d : History) → posts_of name accounts ≡ Some (slice_index_or accounts i d).posts
-  pub change : (p : Post) (d : History) → with_post name p accounts ≡ slice_set accounts i (longer (slice_index_or accounts i d) p)
+  pub there : (d : NamedAccount) → lists_of name accounts ≡ Some (slice_index_or accounts i d).lists
+  pub change : (l : Lists) (d : NamedAccount) → with_lists name l accounts ≡ slice_set accounts i (record { name = (slice_index_or accounts i d).name; lists = l })

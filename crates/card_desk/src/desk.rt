@@ -1,57 +1,74 @@
 // All accounts.
-ghost use Rattle.std.specs.Prelude.{◌≡◌, None, MatchOption};
-ghost use Rattle.card_desk.specs.Ledger.{posts_of};
-ghost use Rattle.card_desk.specs.Ledger as spec;
-ghost use Rattle.card_desk.specs.Places.{IsPlace};
+ghost use Rattle.std.specs.Prelude.{◌≡◌, ◌<◌, ◌++◌, [], ◌∷◌, vec_len, vec_capacity};
+ghost use Rattle.card_desk.specs.Kept as spec;
 
 use crate::account::Account;
+use crate::fault::Fault;
+use crate::keep::keep;
+use crate::reason::{open_reason, roll_reason};
+use crate::row::row_of;
+use crate::verdict::Verdict;
 use crate::{Ask, View};
-use card_days::Day;
-use card_events::{Name, Num, Post, Refusal, Reply, Request, Shared};
+use card_days::{Calendar, Day};
+use card_events::{Name, Post, Refusal, Reply, Request, Shared};
+use card_index::NameIndex;
+use card_keeper::{Keeper, Row};
 use card_units::NoMemory;
 use std::alloc::Global;
 use std::marker::Model;
 
-/// All accounts, and the day that was rolled to last.
+/// Today, the accepted shared requests, and all accounts in the order of their opening.
 #[derive(Drop)]
 pub struct Desk {
     today: Day,
+    shared: Vec<Shared>,
     accounts: Vec<Account>,
+    index: NameIndex,
+    calendar: Calendar,
+    count: u64,
 }
 
 impl Model for Desk {
-    ghost use Rattle.card_desk.specs.Ledger.{Ledger};
+    ghost use Rattle.std.specs.Prelude.{◌≡◌, ◌≤◌, [], true, length};
+    ghost use Rattle.card_model.specs.Machine.{State};
+    ghost use Rattle.card_desk.specs.Applied.{are_short};
+    ghost use Rattle.card_desk.specs.Kept.{accepted_count};
+    ghost use Rattle.card_desk.specs.Places.{IsIndex};
 
-    ghost Value = { Ledger };
+    ghost Value = { State };
 
-    ghost view = { λ d. record { today = d.today; accounts = d.accounts.items } };
-}
+    ghost view = { λ d. record { today = d.today; shared = d.shared.items; accounts = d.accounts.items } };
 
-// The place of the account with the name.
-fn place_of(accounts: &[Account], name: &Name) -> Option<usize>
-    ensures { MatchOption result (posts_of name.now accounts.now ≡ None) (λ i. IsPlace name.now accounts.now i) }
-{
-    for (i, account) in accounts.iter().enumerate() {
-        if account.is_named(name) {
-            return Some(i);
-        }
-    }
-    None
+    ghost invariant = { λ d. IsIndex d.index d.accounts.items × (length d.accounts.items ≤ 1_000_000) × (are_short d.accounts.items ≡ true) × (d.today ≤ 47_481) × (d.calendar ≡ []) × (d.count ≡ accepted_count (record { today = d.today; shared = d.shared.items; accounts = d.accounts.items })) };
 }
 
 impl Desk {
-    ghost use Rattle.std.specs.Prelude.{◌≡◌, true, IfOk, OnErr};
-    ghost use Rattle.card_events.specs.Built.{is_built};
-    ghost use Rattle.card_desk.specs.Ledger.{new_ledger, posts_of, step, shared_step, opened, added};
+    ghost use Rattle.std.specs.Prelude.{◌≡◌, ◌≤◌, ◌<◌, ◌+◌, ◌++◌, [], ◌∷◌, true, Some, None, length, slice_index_or, IfOk, OnOk, OnErr, IsErrOf};
+    ghost use Rattle.card_events.specs.Built.{is_built, is_built_post, is_built_shared};
+    ghost use Rattle.card_days.specs.Billing.{IsCloseDay};
+    ghost use Rattle.card_events.specs.Dated.{is_dated};
+    ghost use Rattle.card_events.specs.History.{terms_in};
+    ghost use Rattle.card_keeper.specs.Rows.{KeepsRows, SameRowsTold};
+    ghost use Rattle.card_model.specs.Machine.{NamedAccount, start, lists_of, outcome_in, Accepts, kept_as, shared_reason, has_accounts};
+    ghost use Rattle.card_model.specs.Refusals.{reason_to_open};
+    ghost use Rattle.card_ports.specs.Counts.{Rose};
+    ghost use Rattle.card_posts.specs.Posted.{opens};
+    ghost use Rattle.card_desk.specs.Applied.{Steps};
+    ghost use Rattle.card_desk.specs.Kept.{Fits, accepted_count};
+    ghost use Rattle.card_desk.specs.Places.{IsPlace, place_from};
     ghost use Rattle.card_desk.specs.Views.{seen, shown};
 
-    /// No account, and 2011-01-01 for today.
+    /// 2011-01-01 for today, and nothing else.
     pub fn new(alloc: Global) -> Desk
-        ensures { result ≡ new_ledger }
+        ensures { result ≡ start }
     {
         Desk {
             today: first_day(),
+            shared: Vec::new(alloc),
             accounts: Vec::new(alloc),
+            index: NameIndex::new(alloc),
+            calendar: Calendar::new(alloc),
+            count: 0,
         }
     }
 
@@ -62,82 +79,278 @@ impl Desk {
         self.today
     }
 
-    fn open(&mut self, alloc: Global, account: &Name, post: &Post) -> Result<Reply, NoMemory>
-        ensures ok { IfOk result (λ reply. (self.new, reply) ≡ opened self.old account.now post.now (posts_of account.now self.old.accounts)) }
-        ensures err { OnErr result (self.new ≡ self.old) }
+    /// How many requests were accepted: as many as rows were kept.
+    pub fn count(&self) -> u64
+        ensures { result ≡ accepted_count self.now }
     {
-        if let Some(_) = place_of(&self.accounts, account) {
-            return Ok(Reply::Refused(Refusal::AccountExists));
+        self.count
+    }
+
+    // The row of the next accepted request.
+    fn next_row(&self, alloc: Global, request: &Request) -> Result<Row, NoMemory>
+        requires { is_dated request.now ≡ true }
+        ensures { IfOk result (λ row. row ≡ spec.row_of (accepted_count self.now + 1) request.now) }
+    {
+        row_of(alloc, self.count + 1, request)
+    }
+
+    // Keeps the row of a Roll, and rolls.
+    fn keep_roll<K: Keeper>(
+        &mut self,
+        alloc: Global,
+        keeper: &mut K,
+        request: &Request,
+        day: Day,
+    ) -> Result<Reply, Fault>
+        requires request { request.now ≡ Request.Shared (Shared.Roll day) }
+        requires dated { is_dated request.now ≡ true }
+        requires fits { Fits (K.rows keeper.old) self.old }
+        requires no_reason { shared_reason self.old.today (has_accounts self.old) (Shared.Roll day) ≡ None }
+        ensures ok { IfOk result (Steps (K.rows keeper.old) (K.rows keeper.new) self.old request.now self.new) }
+        ensures err { OnErr result (self.new ≡ self.old) }
+        ensures rows_stay { OnErr result (KeepsRows (K.rows keeper.old) (K.rows keeper.new)) }
+        ensures told { SameRowsTold (K.rows keeper.old) (K.rows keeper.new) }
+        ensures count { K.faults keeper.old ≤ K.faults keeper.new }
+        ensures cause { IsErrOf result Fault.Keeper → Rose (K.faults keeper.old) (K.faults keeper.new) }
+    {
+        let row = self.next_row(alloc, request)?;
+        self.shared.reserve(1)?;
+        keep(alloc, keeper, row)?;
+        push_shared(&mut self.shared, Shared::Roll(day));
+        self.today = day;
+        self.count += 1;
+        Ok(Reply::Done)
+    }
+
+    fn share<K: Keeper>(
+        &mut self,
+        alloc: Global,
+        keeper: &mut K,
+        request: &Request,
+        shared: &Shared,
+    ) -> Result<Reply, Fault>
+        requires request { request.now ≡ Request.Shared shared.now }
+        requires built { is_built_shared shared.now ≡ true }
+        requires dated { is_dated request.now ≡ true }
+        requires fits { Fits (K.rows keeper.old) self.old }
+        ensures ok { IfOk result (Steps (K.rows keeper.old) (K.rows keeper.new) self.old request.now self.new) }
+        ensures err { OnErr result (self.new ≡ self.old) }
+        ensures rows_stay { OnErr result (KeepsRows (K.rows keeper.old) (K.rows keeper.new)) }
+        ensures told { SameRowsTold (K.rows keeper.old) (K.rows keeper.new) }
+        ensures count { K.faults keeper.old ≤ K.faults keeper.new }
+        ensures cause { IsErrOf result Fault.Keeper → Rose (K.faults keeper.old) (K.faults keeper.new) }
+    {
+        match shared {
+            Shared::Roll(day) => match roll_reason(self.today, self.accounts.len(), *day) {
+                Some(refusal) => Ok(Reply::Refused(refusal)),
+                None => self.keep_roll(alloc, keeper, request, *day),
+            },
+            _ => unreachable!(),
         }
+    }
+
+    // Keeps the row of an Open, and opens the account.
+    fn keep_open<K: Keeper>(
+        &mut self,
+        alloc: Global,
+        keeper: &mut K,
+        request: &Request,
+        account: &Name,
+        key: &Name,
+        post: &Post,
+    ) -> Result<Reply, Fault>
+        requires request { request.now ≡ Request.Post account.now key.now post.now }
+        requires open { opens post.now ≡ true }
+        requires close_day { IsCloseDay (terms_in post.now).close }
+        requires dated { is_dated request.now ≡ true }
+        requires fits { Fits (K.rows keeper.old) self.old }
+        requires absent { place_from account.now 0 self.old.accounts ≡ None }
+        requires room { length self.old.accounts < 1_000_000 }
+        requires no_reason { reason_to_open self.old.today (length self.old.accounts) post.now ≡ None }
+        ensures ok { IfOk result (Steps (K.rows keeper.old) (K.rows keeper.new) self.old request.now self.new) }
+        ensures err { OnErr result (self.new ≡ self.old) }
+        ensures rows_stay { OnErr result (KeepsRows (K.rows keeper.old) (K.rows keeper.new)) }
+        ensures told { SameRowsTold (K.rows keeper.old) (K.rows keeper.new) }
+        ensures count { K.faults keeper.old ≤ K.faults keeper.new }
+        ensures cause { IsErrOf result Fault.Keeper → Rose (K.faults keeper.old) (K.faults keeper.new) }
+    {
+        let row = self.next_row(alloc, request)?;
         let name = account.copy(alloc)?;
-        let made = Account::open(alloc, name, post)?;
-        self.accounts.push(made)?;
-        Ok(Reply::Accepted(1))
+        let made = Account::open(alloc, name, key, self.today, post)?;
+        self.accounts.reserve(1)?;
+        let place = self.accounts.len() as u32;
+        self.index.insert(alloc, account.bytes(), place)?;
+        match keep(alloc, keeper, row) {
+            Ok(()) => {
+                push_account(&mut self.accounts, made);
+                self.count += 1;
+                Ok(Reply::Accepted(1))
+            }
+            Err(fault) => {
+                self.index.remove(account.bytes());
+                Err(fault)
+            }
+        }
     }
 
-    fn charge(&mut self, account: &Name, post: &Post, cents: Num) -> Result<Reply, NoMemory>
-        ensures ok { IfOk result (λ reply. (self.new, reply) ≡ added self.old account.now post.now cents (posts_of account.now self.old.accounts)) }
+    // A post of an account that isn't there.
+    fn post_unknown<K: Keeper>(
+        &mut self,
+        alloc: Global,
+        keeper: &mut K,
+        request: &Request,
+        account: &Name,
+        key: &Name,
+        post: &Post,
+    ) -> Result<Reply, Fault>
+        requires request { request.now ≡ Request.Post account.now key.now post.now }
+        requires dated { is_dated request.now ≡ true }
+        requires fits { Fits (K.rows keeper.old) self.old }
+        requires absent { place_from account.now 0 self.old.accounts ≡ None }
+        ensures ok { IfOk result (Steps (K.rows keeper.old) (K.rows keeper.new) self.old request.now self.new) }
         ensures err { OnErr result (self.new ≡ self.old) }
-    {
-        let Some(at) = place_of(&self.accounts, account) else {
-            return Ok(Reply::Refused(Refusal::UnknownAccount));
-        };
-        if is_no_amount(cents) {
-            return Ok(Reply::Refused(Refusal::AmountRange));
-        }
-        let account = &mut self.accounts[at];
-        let count = account.count();
-        if count >= 10_000 {
-            return Ok(Reply::Refused(Refusal::AccountFull));
-        }
-        account.add(post)?;
-        Ok(Reply::Accepted(count + 1))
-    }
-
-    fn share(&mut self, shared: &Shared) -> Reply
-        ensures { (self.new, result) ≡ shared_step self.old shared.now }
-    {
-        if let Shared::Roll(day) = shared {
-            self.today = *day;
-        }
-        Reply::Done
-    }
-
-    fn post(&mut self, alloc: Global, account: &Name, post: &Post) -> Result<Reply, NoMemory>
-        ensures ok { IfOk result (λ reply. (self.new, reply) ≡ spec.post_step self.old account.now post.now) }
-        ensures err { OnErr result (self.new ≡ self.old) }
+        ensures rows_stay { OnErr result (KeepsRows (K.rows keeper.old) (K.rows keeper.new)) }
+        ensures told { SameRowsTold (K.rows keeper.old) (K.rows keeper.new) }
+        ensures count { K.faults keeper.old ≤ K.faults keeper.new }
+        ensures cause { IsErrOf result Fault.Keeper → Rose (K.faults keeper.old) (K.faults keeper.new) }
     {
         match post {
-            Post::Open { .. } => self.open(alloc, account, post),
-            Post::Charge { cents, .. } => self.charge(account, post, *cents),
-            _ => Ok(Reply::Done),
+            Post::Open { day, terms } => {
+                match open_reason(self.today, self.accounts.len(), *day, terms) {
+                    Some(refusal) => Ok(Reply::Refused(refusal)),
+                    None => self.keep_open(alloc, keeper, request, account, key, post),
+                }
+            }
+            _ => Ok(Reply::Refused(Refusal::UnknownAccount)),
         }
     }
 
-    /// One step of the machine. After want of memory the desk is as it was.
-    #[tactic(auto, unfolding(crate::specs::Ledger::step))]
-    pub fn apply(&mut self, alloc: Global, request: &Request) -> Result<Reply, NoMemory>
-        requires { is_built request.now ≡ true }
-        ensures ok { IfOk result (λ reply. (self.new, reply) ≡ step self.old request.now) }
+    // Keeps the row of a post, and adds the post to its account.
+    fn keep_post<K: Keeper>(
+        &mut self,
+        alloc: Global,
+        keeper: &mut K,
+        request: &Request,
+        at: usize,
+        account: &Name,
+        key: &Name,
+        post: &Post,
+    ) -> Result<Reply, Fault>
+        requires request { request.now ≡ Request.Post account.now key.now post.now }
+        requires built { is_built_post post.now ≡ true }
+        requires dated { is_dated request.now ≡ true }
+        requires fits { Fits (K.rows keeper.old) self.old }
+        requires place { IsPlace account.now self.old.accounts at }
+        requires few { (d : NamedAccount) → length (slice_index_or self.old.accounts at d).lists.posts < 10_000 }
+        requires accepted { (d : NamedAccount) → outcome_in self.old account.now key.now post.now ≡ Accepts (record { posts = (slice_index_or self.old.accounts at d).lists.posts ++ kept_as (length (slice_index_or self.old.accounts at d).lists.posts + 1) key.now self.old.today post.now ∷ []; issued = (slice_index_or self.old.accounts at d).lists.issued }) }
+        ensures ok { IfOk result (Steps (K.rows keeper.old) (K.rows keeper.new) self.old request.now self.new) }
         ensures err { OnErr result (self.new ≡ self.old) }
+        ensures rows_stay { OnErr result (KeepsRows (K.rows keeper.old) (K.rows keeper.new)) }
+        ensures told { SameRowsTold (K.rows keeper.old) (K.rows keeper.new) }
+        ensures count { K.faults keeper.old ≤ K.faults keeper.new }
+        ensures cause { IsErrOf result Fault.Keeper → Rose (K.faults keeper.old) (K.faults keeper.new) }
+    {
+        let row = self.next_row(alloc, request)?;
+        let key = key.copy(alloc)?;
+        let account = &mut self.accounts[at];
+        let number = account.accept(alloc, keeper, row, key, self.today, post, &self.calendar)?;
+        self.count += 1;
+        Ok(Reply::Accepted(number))
+    }
+
+    // A post of the account at a place.
+    fn post_known<K: Keeper>(
+        &mut self,
+        alloc: Global,
+        keeper: &mut K,
+        request: &Request,
+        at: usize,
+        account: &Name,
+        key: &Name,
+        post: &Post,
+    ) -> Result<Reply, Fault>
+        requires request { request.now ≡ Request.Post account.now key.now post.now }
+        requires built { is_built_post post.now ≡ true }
+        requires dated { is_dated request.now ≡ true }
+        requires fits { Fits (K.rows keeper.old) self.old }
+        requires place { IsPlace account.now self.old.accounts at }
+        ensures ok { IfOk result (Steps (K.rows keeper.old) (K.rows keeper.new) self.old request.now self.new) }
+        ensures err { OnErr result (self.new ≡ self.old) }
+        ensures rows_stay { OnErr result (KeepsRows (K.rows keeper.old) (K.rows keeper.new)) }
+        ensures told { SameRowsTold (K.rows keeper.old) (K.rows keeper.new) }
+        ensures count { K.faults keeper.old ≤ K.faults keeper.new }
+        ensures cause { IsErrOf result Fault.Keeper → Rose (K.faults keeper.old) (K.faults keeper.new) }
+    {
+        let known = &self.accounts[at];
+        match known.judge(self.today, key, post) {
+            Verdict::Refused(refusal) => Ok(Reply::Refused(refusal)),
+            Verdict::Repeat(number) => Ok(Reply::Accepted(number)),
+            Verdict::New => self.keep_post(alloc, keeper, request, at, account, key, post),
+        }
+    }
+
+    // A post of an account.
+    fn post<K: Keeper>(
+        &mut self,
+        alloc: Global,
+        keeper: &mut K,
+        request: &Request,
+        account: &Name,
+        key: &Name,
+        post: &Post,
+    ) -> Result<Reply, Fault>
+        requires request { request.now ≡ Request.Post account.now key.now post.now }
+        requires built { is_built_post post.now ≡ true }
+        requires dated { is_dated request.now ≡ true }
+        requires fits { Fits (K.rows keeper.old) self.old }
+        ensures ok { IfOk result (Steps (K.rows keeper.old) (K.rows keeper.new) self.old request.now self.new) }
+        ensures err { OnErr result (self.new ≡ self.old) }
+        ensures rows_stay { OnErr result (KeepsRows (K.rows keeper.old) (K.rows keeper.new)) }
+        ensures told { SameRowsTold (K.rows keeper.old) (K.rows keeper.new) }
+        ensures count { K.faults keeper.old ≤ K.faults keeper.new }
+        ensures cause { IsErrOf result Fault.Keeper → Rose (K.faults keeper.old) (K.faults keeper.new) }
+    {
+        match self.index.find(account.bytes()) {
+            Some(at) => { self.post_known(alloc, keeper, request, at as usize, account, key, post) }
+            None => self.post_unknown(alloc, keeper, request, account, key, post),
+        }
+    }
+
+    /// One step of the machine. A newly accepted request is prepared, then its row is kept, then it is carried out without
+    /// memory; a refusal or a repeat changes nothing. After a fault the desk and the rows are as they were.
+    ///
+    /// `Keeper`: the keeper failed. `Memory`: memory was wanted and isn't there.
+    pub fn apply<K: Keeper>(
+        &mut self,
+        alloc: Global,
+        keeper: &mut K,
+        request: &Request,
+    ) -> Result<Reply, Fault>
+        requires built { is_built request.now ≡ true }
+        requires dated { is_dated request.now ≡ true }
+        requires fits { Fits (K.rows keeper.old) self.old }
+        ensures ok { IfOk result (Steps (K.rows keeper.old) (K.rows keeper.new) self.old request.now self.new) }
+        ensures err { OnErr result (self.new ≡ self.old) }
+        ensures rows_stay { OnErr result (KeepsRows (K.rows keeper.old) (K.rows keeper.new)) }
+        ensures told { SameRowsTold (K.rows keeper.old) (K.rows keeper.new) }
+        ensures count { K.faults keeper.old ≤ K.faults keeper.new }
+        ensures cause { IsErrOf result Fault.Keeper → Rose (K.faults keeper.old) (K.faults keeper.new) }
     {
         match request {
-            Request::Shared(shared) => Ok(self.share(shared)),
-            Request::Post { account, post, .. } => self.post(alloc, account, post),
+            Request::Shared(shared) => self.share(alloc, keeper, request, shared),
+            Request::Post { account, key, post } => {
+                self.post(alloc, keeper, request, account, key, post)
+            }
         }
     }
 
-    fn show(&self, account: &Name) -> View
-        ensures { result ≡ shown self.now.today (posts_of account.now self.now.accounts) }
+    /// What is owed on an account today, in cents, or that it isn't there.
+    pub fn show(&self, account: &Name) -> View
+        ensures { result ≡ shown self.now.today (lists_of account.now self.now.accounts) }
     {
-        match place_of(&self.accounts, account) {
+        match self.index.find(account.bytes()) {
             None => View::NoAccount,
-            Some(at) => View::Show {
-                day: self.today,
-                owed: self.accounts[at].owed(),
-                credit: 0,
-                held: 0,
-            },
+            Some(at) => self.accounts[at as usize].show(self.today),
         }
     }
 
@@ -152,16 +365,28 @@ impl Desk {
     }
 }
 
+// One more, for which room was made.
+fn push_shared(list: &mut Vec<Shared>, shared: Shared)
+    requires { vec_len list.old < vec_capacity list.old }
+    ensures { list.new.items ≡ list.old.items ++ shared ∷ [] }
+{
+    let _ = list.push(shared);
+}
+
+// One more, for which room was made.
+fn push_account(list: &mut Vec<Account>, account: Account)
+    requires { vec_len list.old < vec_capacity list.old }
+    ensures { list.new.items ≡ list.old.items ++ account ∷ [] }
+{
+    let _ = list.push(account);
+}
+
 // A new desk stands at 2011-01-01.
 fn first_day() -> Day
     ensures { result ≡ 14_975 }
 {
-    Day::from_number(14_975).unwrap()
-}
-
-fn is_no_amount(cents: Num) -> bool
-    ensures { result ≡ spec.is_no_amount cents }
-{
-    let cents = cents.get();
-    cents == 0 || cents > 1_000_000_000
+    match Day::from_number(14_975) {
+        Some(day) => day,
+        None => unreachable!(),
+    }
 }

@@ -1,0 +1,44 @@
+#!/bin/sh
+# How long `apply` takes over generated lines, and how long their rows take to load: for 50,000 and 200,000 lines over 1,000
+# accounts, or for the numbers of lines that are given. It isn't part of the gate. The program is built in a copy.
+#
+#     bench/kept-rows.sh [LINES..]
+set -e
+top=$(cd "$(dirname "$0")/.." && pwd)
+work=$(mktemp -d)
+trap 'rm -rf "$work"' EXIT
+cp -r "$top/crates" "$top/crates.txt" "$top/HANDLES" "$work"
+cp "$top/bench/twice.rt" "$work/crates/billctl/src/main.rt"
+rm -rf "$work/crates/billctl/src/tests.rt" "$work/crates/billctl/must-fail"
+echo "building the program of the benchmark" >&2
+(cd "$work/crates/billctl" && rt run </dev/null >"$work/build.log" 2>&1) || { cat "$work/build.log" >&2; exit 1; }
+program="$work/crates/billctl/out/billctl"
+
+# One roll, the accounts, and charges to them in turn.
+lines() {
+    awk -v lines="$1" -v accounts=1000 'BEGIN {
+        print "roll 2024-03-01"
+        for (a = 0; a < accounts; a++)
+            printf "open a%04d o 2024-03-01 5 1999 2499 2199 2999 2500 100\n", a
+        for (n = accounts + 1; n < lines; n++)
+            printf "charge a%04d c%d 2024-03-01 purchase %d\n", n * 7919 % accounts, n, 100 + n % 9000
+    }'
+}
+
+# Seconds of a run, to the hundredth.
+seconds() {
+    before=$(date +%s%N)
+    "$program" $1 <"$2" >"$work/replies"
+    after=$(date +%s%N)
+    echo "$before $after" | awk '{ printf "%.2f", ($2 - $1) / 1e9 }'
+}
+
+echo "cores $(nproc)"
+for count in "${@:-50000 200000}"; do
+    for n in $count; do
+        lines "$n" >"$work/lines"
+        apply=$(seconds "" "$work/lines")
+        both=$(seconds load "$work/lines")
+        echo "lines $n replies $(grep -c '^ok' "$work/replies") apply ${apply}s apply and load ${both}s"
+    done
+done

@@ -1,0 +1,14 @@
+/// Why a run ends before its input does.
+#[derive(Clone, Copy, Debug, PartialEq, Eq)]
+pub enum End {
+    /// The source failed.
+    Source,
+    /// The sink failed.
+    Sink,
+    /// The keeper failed.
+    Keeper,
+    /// Memory was wanted and isn't there.
+    Memory,
+    /// So many bytes were read, and no end came.
+    Endless,
+}

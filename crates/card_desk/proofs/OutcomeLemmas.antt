@@ -1,0 +1,82 @@
+-- What a post comes to, for an account that is there and for one that isn't.
+use Rattle.std.proofs.Common.{◌≡◌, ℕ, ◌+◌, Bool, true, false, List, [], ◌∷◌, ◌++◌, length, Option, Some, None, refl, ap, ◌∙◌, append-nil}
+use Rattle.std.specs.Prelude.{if◌then◌else◌}
+use Rattle.card_events.specs.Built.{is_built_post}
+use Rattle.card_events.specs.Keys.{with_key}
+use Rattle.card_events.specs.SharedRows.{shared_rows}
+use Rattle.card_events.specs.declared.post.Post.{Post}
+use Rattle.card_events.specs.declared.post.Post.TheVariants as post
+use Rattle.card_events.specs.declared.post.Terms.{Terms}
+use Rattle.card_events.specs.declared.reply.Refusal.{Refusal}
+use Rattle.card_events.specs.declared.reply.Refusal.TheVariants as refusal
+use Rattle.card_model.specs.Machine.{State, Outcome, Refuses, Repeats, Accepts, lists_of, outcome, outcome_in, at_key, judged, accepted, issues, kept_as, is_open, is_repeat_of, opened}
+use Rattle.card_model.specs.Refusals.{Lists, Present, reason_against, reason_to_open}
+use Rattle.card_events.specs.History.{at_number}
+use Rattle.card_desk.specs.Verdicts.{verdict_of}
+use Rattle.card_desk.specs.declared.verdict.Verdict.TheVariants as verdict
+
+-- what a post of an account is judged by
+abbrev pub now_of : State → Lists → Present
+now_of s lists = record { today = s.today; shared = shared_rows s.shared; lists = lists }
+
+pub known_outcome : (s : State) (name key : List ℕ) (p : Post) (lists : Lists) → lists_of name s.accounts ≡ Some lists
+    → outcome_in s name key p ≡ at_key (now_of s lists) key p (with_key key lists.posts)
+unfolding outcome
+known_outcome s name key p lists is = ap (outcome s.today s.shared (length s.accounts) key p) is
+
+-- ---- accounts that aren't there
+unknown_by : (s : State) (key : List ℕ) (p : Post) → Outcome
+unknown_by s key p = outcome s.today s.shared (length s.accounts) key p None
+
+pub open_refused : (s : State) (name key : List ℕ) (day : ℕ) (t : Terms) (r : Refusal) → lists_of name s.accounts ≡ None → reason_to_open s.today (length s.accounts) (post.Open day t) ≡ Some r
+    → outcome_in s name key (post.Open day t) ≡ Refuses r
+unfolding outcome
+open_refused s name key day t r absent is = ap (outcome s.today s.shared (length s.accounts) key (post.Open day t)) absent ∙ ap (opened key s.today (post.Open day t)) is
+
+pub open_accepted : (s : State) (name key : List ℕ) (p : Post) → lists_of name s.accounts ≡ None → is_open p ≡ true → reason_to_open s.today (length s.accounts) p ≡ None
+    → outcome_in s name key p ≡ Accepts (record { posts = kept_as 1 key s.today p ∷ []; issued = [] })
+unfolding outcome
+open_accepted s name key p absent opens is =
+    ap (outcome s.today s.shared (length s.accounts) key p) absent
+    ∙ ap (λ (b : Bool). if b then opened key s.today p (reason_to_open s.today (length s.accounts) p) else Refuses refusal.UnknownAccount) opens ∙ ap (opened key s.today p) is
+
+not_open : (p : Post) → ((day : ℕ) (t : Terms) → p ≡ post.Open day t → ⊥) → is_open p ≡ false
+not_open (post.Open day t) other = absurd (other day t refl)
+not_open _ other = refl
+
+pub unknown_refused : (s : State) (name key : List ℕ) (p : Post) → lists_of name s.accounts ≡ None → ((day : ℕ) (t : Terms) → p ≡ post.Open day t → ⊥)
+    → outcome_in s name key p ≡ Refuses refusal.UnknownAccount
+unfolding outcome
+unknown_refused s name key p absent other =
+    ap (outcome s.today s.shared (length s.accounts) key p) absent
+    ∙ ap (λ (b : Bool). if b then opened key s.today p (reason_to_open s.today (length s.accounts) p) else Refuses refusal.UnknownAccount) (not_open p other)
+
+-- ---- accounts that are there
+new_by_reason : (now : Present) (key : List ℕ) (p : Post) (r : Option Refusal) → verdict.New ≡ verdict_of (judged now key p r) → judged now key p r ≡ Accepts (accepted now key p)
+new_by_reason now key p None is = refl
+new_by_reason now key p (Some r) is = absurd (cc)
+
+new_by_open : (now : Present) (key : List ℕ) (p : Post) (b : Bool) (o : Outcome) → (verdict.New ≡ verdict_of o → o ≡ Accepts (accepted now key p))
+    → verdict.New ≡ verdict_of (if b then Refuses refusal.AccountExists else o) → (if b then Refuses refusal.AccountExists else o) ≡ Accepts (accepted now key p)
+new_by_open now key p true o rest is = absurd (cc)
+new_by_open now key p false o rest is = rest is
+
+old_by_repeat : (n : ℕ) (b : Bool) (o : Outcome) → verdict.New ≡ verdict_of (if b then Repeats n else Refuses (refusal.KeyReused n)) → (if b then Repeats n else Refuses (refusal.KeyReused n)) ≡ o
+old_by_repeat n true o is = absurd (cc)
+old_by_repeat n false o is = absurd (cc)
+
+pub new_at_key : (now : Present) (key : List ℕ) (p : Post) (k : Option ℕ) → verdict.New ≡ verdict_of (at_key now key p k) → at_key now key p k ≡ Accepts (accepted now key p)
+new_at_key now key p None is = new_by_open now key p (is_open p) (judged now key p (reason_against now p)) (new_by_reason now key p (reason_against now p)) is
+new_at_key now key p (Some n) is = old_by_repeat n (is_repeat_of p (at_number n now.lists.posts)) (Accepts (accepted now key p)) is
+
+no_issue : (now : Present) (p : Post) → is_built_post p ≡ true → issues now p ≡ []
+no_issue now (post.Bill cycle) built = absurd (cc)
+no_issue now _ built = refl
+
+-- a post that is accepted goes to the end, and issues nothing
+pub accepted_is : (now : Present) (key : List ℕ) (p : Post) → is_built_post p ≡ true
+    → accepted now key p ≡ record { posts = now.lists.posts ++ kept_as (length now.lists.posts + 1) key now.today p ∷ []; issued = now.lists.issued }
+unfolding accepted
+accepted_is now key p built =
+    ap (λ l. record { posts = now.lists.posts ++ kept_as (length now.lists.posts + 1) key now.today p ∷ []; issued = l })
+    (ap (λ l. now.lists.issued ++ l) (no_issue now p built) ∙ append-nil now.lists.issued)

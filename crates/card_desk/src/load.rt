@@ -1,0 +1,125 @@
+// A desk from kept rows.
+ghost use Rattle.std.specs.Prelude.{◌≡◌, ◌≤◌, ◌+◌, ℕ, true, false, IfOk, OnOk, IsErrOf};
+ghost use Rattle.card_events.specs.Built.{is_built};
+ghost use Rattle.card_events.specs.Dated.{is_dated};
+ghost use Rattle.card_events.specs.declared.request.Request.{Request};
+ghost use Rattle.card_keeper.specs.Rows.{GivesRows, KeepsRows, SameRowsTold};
+ghost use Rattle.card_model.specs.Machine.{is_new, step};
+ghost use Rattle.card_ports.specs.Counts.{Rose};
+ghost use Rattle.card_desk.specs.Kept.{AreDamaged, IsNewRow, IsRunOf, accepted_count};
+ghost use Rattle.card_desk.specs.Loads.{GoesOn};
+
+use crate::Desk;
+use crate::fault::{Fault, LoadFault};
+use card_events::Request;
+use card_keeper::{Keeper, KeeperFault, Row};
+use card_rows::decode;
+use card_units::NoMemory;
+use std::alloc::Global;
+
+// Keeps nothing, tells nothing and never fails: rows that are loaded aren't kept again.
+#[derive(Drop)]
+struct Untold {}
+
+impl Keeper for Untold {
+    ghost use Rattle.std.specs.Prelude.{None};
+
+    ghost rows = { λ k. None };
+
+    ghost faults = { λ k. 0 };
+
+    fn load(&mut self, alloc: Global) -> Result<Vec<Row>, KeeperFault> {
+        Ok(Vec::new(alloc))
+    }
+
+    fn append(&mut self, _alloc: Global, _more: &[Row]) -> Result<(), KeeperFault> {
+        Ok(())
+    }
+}
+
+impl Desk {
+    ghost use Rattle.std.specs.Prelude.{◌≡◌, ◌≤◌, ℕ, Err, IfOk, IsErrOf};
+    ghost use Rattle.card_keeper.specs.Rows.{KeepsRows, SameRowsTold};
+    ghost use Rattle.card_ports.specs.Counts.{Rose};
+    ghost use Rattle.card_desk.specs.Kept.{AreDamagedAt, IsLoadedOf, Fits};
+
+    /// The desk that the kept rows give: that of a run of their requests. The rows stay, whatever is answered.
+    ///
+    /// `Damaged(n)`: row n, counted from 1, is the first whose number isn't n, whose body is no spelling, or whose request
+    /// is refused, a repeat or of a kind that isn't taken, in its place; it never comes for rows that a desk wrote.
+    /// `Keeper`: the keeper failed. `Memory`: memory was wanted and isn't there.
+    pub fn load<K: Keeper>(alloc: Global, keeper: &mut K) -> Result<Desk, LoadFault>
+        ensures ok { IfOk result (IsLoadedOf (K.rows keeper.old)) }
+        ensures fits { IfOk result (Fits (K.rows keeper.new)) }
+        ensures damaged { (n : ℕ) → result ≡ Err (LoadFault.Damaged n) → AreDamagedAt (K.rows keeper.old) n }
+        ensures rows_stay { KeepsRows (K.rows keeper.old) (K.rows keeper.new) }
+        ensures told { SameRowsTold (K.rows keeper.old) (K.rows keeper.new) }
+        ensures count { K.faults keeper.old ≤ K.faults keeper.new }
+        ensures cause { IsErrOf result LoadFault.Keeper → Rose (K.faults keeper.old) (K.faults keeper.new) }
+    {
+        let rows = kept_rows(alloc, keeper)?;
+        run_rows(alloc, &rows)
+    }
+}
+
+// All rows that are kept.
+fn kept_rows<K: Keeper>(alloc: Global, keeper: &mut K) -> Result<Vec<Row>, LoadFault>
+    ensures given { IfOk result (λ all. GivesRows (K.rows keeper.old) all.items) }
+    ensures damaged { (n : ℕ) → IsErrOf result (LoadFault.Damaged n) → ⊥ }
+    ensures rows_stay { KeepsRows (K.rows keeper.old) (K.rows keeper.new) }
+    ensures told { SameRowsTold (K.rows keeper.old) (K.rows keeper.new) }
+    ensures count { K.faults keeper.old ≤ K.faults keeper.new }
+    ensures cause { IsErrOf result LoadFault.Keeper → Rose (K.faults keeper.old) (K.faults keeper.new) }
+{
+    match keeper.load(alloc) {
+        Ok(rows) => Ok(rows),
+        Err(KeeperFault::Failed) => Err(LoadFault::Keeper),
+        Err(KeeperFault::Memory) => Err(LoadFault::Memory),
+    }
+}
+
+// Carries out the requests of rows, from the first day on.
+fn run_rows(alloc: Global, rows: &[Row]) -> Result<Desk, LoadFault>
+    ensures ok { IfOk result (IsRunOf rows.now) }
+    ensures damaged { (n : ℕ) → IsErrOf result (LoadFault.Damaged n) → AreDamaged rows.now n }
+    ensures never { IsErrOf result LoadFault.Keeper → ⊥ }
+{
+    let mut desk = Desk::new(alloc);
+    for (i, row) in rows.iter().enumerate() {
+        let number = i as u64 + 1;
+        if !run_row(alloc, &mut desk, number, row)? {
+            return Err(LoadFault::Damaged(number));
+        }
+    }
+    Ok(desk)
+}
+
+// Carries out the request of the row that has this place, and says whether it is one that is newly accepted.
+fn run_row(alloc: Global, desk: &mut Desk, number: u64, row: &Row) -> Result<bool, NoMemory>
+    ensures new { IfOk result (λ new. new ≡ true → GoesOn desk.old number row.now desk.new) }
+    ensures bad { IfOk result (λ new. new ≡ false → (r : Request) → IsNewRow desk.old number row.now r → ⊥) }
+{
+    if row.seq != number {
+        return Ok(false);
+    }
+    match decode(alloc, row.body.bytes())? {
+        Some(request) if request.is_built() => run_request(alloc, desk, &request),
+        _ => Ok(false),
+    }
+}
+
+// Carries out a request, and says whether it was newly accepted.
+fn run_request(alloc: Global, desk: &mut Desk, request: &Request) -> Result<bool, NoMemory>
+    requires built { is_built request.now ≡ true }
+    requires dated { is_dated request.now ≡ true }
+    ensures new { IfOk result (λ new. new ≡ is_new desk.old request.now) }
+    ensures step { OnOk result (desk.new ≡ (step desk.old request.now).0) }
+{
+    let count = desk.count();
+    let mut keeper = Untold {};
+    match desk.apply(alloc, &mut keeper, request) {
+        Ok(_) => Ok(desk.count() > count),
+        Err(Fault::Memory) => Err(NoMemory),
+        Err(Fault::Keeper) => unreachable!(),
+    }
+}

@@ -1,0 +1,22 @@
+// The rows of requests.
+ghost use Rattle.std.specs.Prelude.{◌≡◌, true, IfOk};
+ghost use Rattle.card_events.specs.Dated.{is_dated};
+ghost use Rattle.card_desk.specs.Kept as spec;
+
+use card_events::Request;
+use card_keeper::{Body, Row};
+use card_rows::encode;
+use card_units::NoMemory;
+use std::alloc::Global;
+
+/// The row of a request, under a number.
+pub fn row_of(alloc: Global, seq: u64, request: &Request) -> Result<Row, NoMemory>
+    requires { is_dated request.now ≡ true }
+    ensures { IfOk result (λ row. row ≡ spec.row_of seq request.now) }
+{
+    let body = encode(alloc, request)?;
+    Ok(Row {
+        seq,
+        body: Body::of(body.into_bytes()),
+    })
+}

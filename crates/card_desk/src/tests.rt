@@ -1,0 +1,208 @@
+use crate::{Ask, Desk, Fault, LoadFault, View};
+use card_days::Day;
+use card_events::{Name, Num, Place, Post, Refusal, Reply, Request, Shared, Terms};
+use card_keeper::{Body, FailingKeeper, Keeper, MemoryKeeper, Row};
+use std::alloc::Global;
+use std::test::Fail;
+
+const ROLL: &[u8] = b"\x01\x01\x00\x00\x4d\x47";
+
+const OPEN: &[u8] =
+    b"\x01\x04\x01a\x01o\x00\x00\x4d\x47\x00\x00\x00\x00\x00\x00\x00\x1c\x00\x00\x00\x00\x00\x00\x07\xcf\x00\x00\x00\x00\x00\x00\x09\xc3\x00\x00\x00\x00\x00\x00\x07\xcf\x00\x00\x00\x00\x00\x00\x0b\xb7\x00\x00\x00\x00\x00\x00\x09\xc4\x00\x00\x00\x00\x00\x00\x00\x64";
+
+const CHARGE: &[u8] = b"\x01\x05\x01a\x02c1\x00\x00\x4d\x47\x00\x00\x00\x00\x00\x00\x00\x04\x4c";
+
+const CUT_CHARGE: &[u8] = b"\x01\x05\x01a\x02c1\x00\x00\x4d\x47\x00\x00\x00\x00\x00\x00\x00\x04";
+
+const OTHER_FORMAT: &[u8] = b"\x03\x01\x00\x00\x4d\x48";
+
+const HOLIDAY: &[u8] = b"\x01\x02\x00\x00\x4d\x48";
+
+fn number(n: u64) -> Result<Num, Fail> {
+    Ok(Num::new(n).ok_or("a number is too large")?)
+}
+
+fn name(alloc: Global, text: &str) -> Result<Name, Fail> {
+    Ok(Name::read(alloc, text.as_bytes())?.ok_or("no name")?)
+}
+
+fn day(year: u16, month: u8, day: u8) -> Result<Day, Fail> {
+    Ok(Day::from_ymd(year, month, day).ok_or("no such day")?)
+}
+
+fn roll(day: Day) -> Request {
+    Request::Shared(Shared::Roll(day))
+}
+
+// Opens an account on 2024-03-01.
+fn open(alloc: Global, account: &str, close: u64) -> Result<Request, Fail> {
+    let terms = Terms {
+        close: number(close)?,
+        purchase: number(1999)?,
+        cash: number(2499)?,
+        transfer: number(1999)?,
+        penalty: number(2999)?,
+        floor: number(2500)?,
+        pct: number(100)?,
+    };
+    let day = day(2024, 3, 1)?;
+    Ok(Request::Post {
+        account: name(alloc, account)?,
+        key: name(alloc, "o")?,
+        post: Post::Open { day, terms },
+    })
+}
+
+// A charge to the account `a` on 2024-03-01.
+fn charge(alloc: Global, key: &str, cents: u64) -> Result<Request, Fail> {
+    let day = day(2024, 3, 1)?;
+    let cents = number(cents)?;
+    let place = Place::Purchase;
+    Ok(Request::Post {
+        account: name(alloc, "a")?,
+        key: name(alloc, key)?,
+        post: Post::Charge { day, place, cents },
+    })
+}
+
+// What the desk that the kept rows give answers to a request.
+fn answer<K: Keeper>(
+    alloc: Global,
+    keeper: &mut K,
+    request: &Request,
+) -> Result<Result<Reply, Fault>, Fail> {
+    let mut desk = Desk::load(alloc, keeper)?;
+    if !request.is_built() || !request.is_dated() {
+        return Err(Fail::from("a request that isn't taken"));
+    }
+    Ok(desk.apply(alloc, keeper, request))
+}
+
+// Has the desk that the kept rows give carry out a request.
+fn accept<K: Keeper>(alloc: Global, keeper: &mut K, request: &Request) -> Result<(), Fail> {
+    match answer(alloc, keeper, request)? {
+        Ok(_) => Ok(()),
+        Err(_) => Err(Fail::from("a fault")),
+    }
+}
+
+// Keeps the rows of the first day: its Roll, the Open of the account `a`, and a charge of 11.00.
+fn first_day(alloc: Global, keeper: &mut MemoryKeeper) -> Result<(), Fail> {
+    accept(alloc, keeper, &roll(day(2024, 3, 1)?))?;
+    accept(alloc, keeper, &open(alloc, "a", 28)?)?;
+    accept(alloc, keeper, &charge(alloc, "c1", 1100)?)?;
+    Ok(())
+}
+
+#[test]
+fn keeps_the_first_day(rt: HostRuntime) -> Result<(), Fail> {
+    let mut keeper = MemoryKeeper::new(rt.alloc());
+    first_day(rt.alloc(), &mut keeper)?;
+    assert_eq!(rt; keeper.rows().len(), 3);
+    for (row, body) in keeper.rows().iter().zip([ROLL, OPEN, CHARGE]) {
+        assert_eq!(rt; row.body.bytes(), body);
+    }
+    let desk = Desk::load(rt.alloc(), &mut keeper)?;
+    assert_eq!(rt; desk.today(), day(2024, 3, 1)?);
+    assert_eq!(rt; desk.count(), 3);
+    let view = desk.see(&Ask::Show(name(rt.alloc(), "a")?));
+    assert!(rt;
+        matches!(
+            view,
+            View::Show {
+                owed: 1100,
+                credit: 0,
+                held: 0,
+                ..
+            }
+        )
+    );
+    Ok(())
+}
+
+#[test]
+fn answers_repeats_and_refusals(rt: HostRuntime) -> Result<(), Fail> {
+    let alloc = rt.alloc();
+    let mut keeper = MemoryKeeper::new(alloc);
+    first_day(alloc, &mut keeper)?;
+    let today = day(2024, 3, 1)?;
+    let rolled = answer(alloc, &mut keeper, &roll(today))?;
+    assert_eq!(rt; rolled, Ok(Reply::Refused(Refusal::RollBack(today))));
+    let far = answer(alloc, &mut keeper, &roll(day(2025, 3, 3)?))?;
+    assert_eq!(rt; far, Ok(Reply::Refused(Refusal::RollTooFar)));
+    let opened = answer(alloc, &mut keeper, &open(alloc, "a", 28)?)?;
+    assert_eq!(rt; opened, Ok(Reply::Accepted(1)));
+    let charged = answer(alloc, &mut keeper, &charge(alloc, "c1", 1100)?)?;
+    assert_eq!(rt; charged, Ok(Reply::Accepted(2)));
+    let reused = answer(alloc, &mut keeper, &charge(alloc, "c1", 9)?)?;
+    assert_eq!(rt; reused, Ok(Reply::Refused(Refusal::KeyReused(2))));
+    let bad = answer(alloc, &mut keeper, &open(alloc, "z", 29)?)?;
+    assert_eq!(rt; bad, Ok(Reply::Refused(Refusal::BadTerms(1))));
+    assert_eq!(rt; keeper.rows().len(), 3);
+    Ok(())
+}
+
+// A load and an append are calls of the keeper each: the fourth is the append of the Open.
+#[test]
+fn a_keeper_that_fails_leaves_the_rows(rt: HostRuntime) -> Result<(), Fail> {
+    let alloc = rt.alloc();
+    let mut keeper = FailingKeeper::new(alloc, Vec::from_slice(alloc, &[4])?);
+    accept(alloc, &mut keeper, &roll(day(2024, 3, 1)?))?;
+    let failed = answer(alloc, &mut keeper, &open(alloc, "a", 28)?)?;
+    assert_eq!(rt; failed, Err(Fault::Keeper));
+    assert_eq!(rt; keeper.rows().len(), 1);
+    let opened = answer(alloc, &mut keeper, &open(alloc, "a", 28)?)?;
+    assert_eq!(rt; opened, Ok(Reply::Accepted(1)));
+    Ok(())
+}
+
+// Loads the Roll, and behind it rows with these numbers and bodies.
+fn load_of(alloc: Global, rows: [(u64, &[u8]); 3]) -> Result<Result<u64, LoadFault>, Fail> {
+    let mut keeper = MemoryKeeper::new(alloc);
+    for (seq, body) in rows {
+        let body = Body::of(Vec::from_slice(alloc, body)?);
+        keeper.append(alloc, &[Row { seq, body }])?;
+    }
+    match Desk::load(alloc, &mut keeper) {
+        Ok(desk) => Ok(Ok(desk.count())),
+        Err(fault) => Ok(Err(fault)),
+    }
+}
+
+#[test]
+fn damaged_rows_are_told(rt: HostRuntime) -> Result<(), Fail> {
+    for (rows, loaded) in [
+        ([(1, ROLL), (2, OPEN), (3, CHARGE)], Ok(3)),
+        (
+            [(1, ROLL), (2, OPEN), (4, CHARGE)],
+            Err(LoadFault::Damaged(3)),
+        ),
+        (
+            [(1, ROLL), (2, OPEN), (3, CUT_CHARGE)],
+            Err(LoadFault::Damaged(3)),
+        ),
+        (
+            [(1, ROLL), (2, OPEN), (3, OPEN)],
+            Err(LoadFault::Damaged(3)),
+        ),
+        (
+            [(1, ROLL), (2, CHARGE), (3, OPEN)],
+            Err(LoadFault::Damaged(2)),
+        ),
+        (
+            [(1, ROLL), (2, HOLIDAY), (3, OPEN)],
+            Err(LoadFault::Damaged(2)),
+        ),
+        (
+            [(1, OTHER_FORMAT), (2, OPEN), (3, CHARGE)],
+            Err(LoadFault::Damaged(1)),
+        ),
+        (
+            [(1, b""), (2, OPEN), (3, CHARGE)],
+            Err(LoadFault::Damaged(1)),
+        ),
+    ] {
+        assert_eq!(rt; load_of(rt.alloc(), rows)?, loaded);
+    }
+    Ok(())
+}

@@ -1,0 +1,10 @@
+use card_events::Refusal;
+
+/// What a post comes to, before it is carried out.
+#[derive(Clone, Copy, Debug)]
+pub enum Verdict {
+    Refused(Refusal),
+    /// The post of this number has the same key and content.
+    Repeat(u32),
+    New,
+}
