@@ -57,16 +57,12 @@ none-counted k (g ∷ gs) e = at (g.due_cycle == k) refl e (none-counted k gs)
     at true q e r = absurd (cc)
     at false q e r = rw q (r e)
 
-pub fees-one-each : (rows : List FeeRow) (fees : List Fee) (c : Cause) (minimum last : ℕ) (f : Fee) → AreOneEach fees → fee_by rows fees c minimum last ≡ Some f → AreOneEach (fees ++ f ∷ [])
-fees-one-each rows fees c minimum last f one h k = at (f.due_cycle == k) refl
+pub one-more-each : (fees : List Fee) (f : Fee) → AreOneEach fees → is_charged_for f.due_cycle fees ≡ false → AreOneEach (fees ++ f ∷ [])
+one-more-each fees f one first k = at (f.due_cycle == k) refl
   where
-    p : IsCharged fees c (tier_amount (row_on rows c.day) (is_repeat c.kind c.cycle fees)) minimum last f
-    p = charged-parts rows fees c minimum last f h
-
     at : (b : Bool) → (f.due_cycle == k) ≡ b → count_by (λ (g : Fee). g.due_cycle == k) (fees ++ f ∷ []) ≤ 1
     at true e =
-        let for_k : c.due_cycle ≡ k = sym p.for_it ∙ eqb-true f.due_cycle k e in
-        let none = none-counted k fees (subst (λ n. is_charged_for n fees ≡ false) for_k p.first) in
+        let none = none-counted k fees (subst (λ n. is_charged_for n fees ≡ false) (eqb-true f.due_cycle k e) first) in
         let more = count-one-more k fees f in
         let is = ap one-if e in
         omega (arith, none, more, is)
@@ -75,6 +71,11 @@ fees-one-each rows fees c minimum last f one h k = at (f.due_cycle == k) refl
         let more = count-one-more k fees f in
         let is = ap one-if e in
         omega (arith, before, more, is)
+
+pub fees-one-each : (rows : List FeeRow) (fees : List Fee) (c : Cause) (minimum last : ℕ) (f : Fee) → AreOneEach fees → fee_by rows fees c minimum last ≡ Some f → AreOneEach (fees ++ f ∷ [])
+fees-one-each rows fees c minimum last f one h =
+    let p = charged-parts rows fees c minimum last f h in
+    one-more-each fees f one (ap (λ n. is_charged_for n fees) p.for_it ∙ p.first)
 
 -- ---- the fold's fee
 pub fee-fold : (seen : Seen) (rows : List FeeRow) (cycles : List Cycle) (fees : List Fee) (cycle : ℕ) (kind : FeeKind) (c : Cycle) → SeesRows seen rows

@@ -6,3 +6,4 @@ pub mod Late
 pub mod Fold
 pub mod Charges
 pub mod Returned
+pub mod OneFee

@@ -4,10 +4,12 @@ use Rattle.std.specs.List.{All, filter}
 use Rattle.card_days.specs.Billing.{closing, due}
 use Rattle.card_days.specs.declared.anchor.Anchor.{Anchor}
 use Rattle.card_events.specs.History.{CorrectedPost}
-use Rattle.card_events.specs.SharedRows.{FeeRow}
+use Rattle.card_events.specs.SharedRows.{FeeRow, SharedRows}
+use Rattle.card_events.specs.declared.kept.Kept.{Kept}
 use Rattle.card_model.specs.CycleDays.{HasItsDays}
-use Rattle.card_model.specs.Cycles.{Cycle, Seen}
+use Rattle.card_model.specs.Cycles.{Cycle, IssuedRow, Seen}
 use Rattle.card_model.specs.Fees.{fee_cents, fee_for, last_due}
+use Rattle.card_model.specs.Folds.{book}
 use Rattle.card_model.specs.Payments.{asked, counted, met, past_due, sixty_days_late}
 use Rattle.card_model.specs.declared.fee.Fee.{Fee}
 use Rattle.card_model.specs.declared.fee.FeeKind.{FeeKind}
@@ -27,6 +29,10 @@ abbrev pub FeesStayOneEach : Type 0
 FeesStayOneEach =
     (rows : List FeeRow) (fees : List Fee) (c : Cause) (minimum last : ℕ) (f : Fee) → AreOneEach fees → fee_by rows fees c minimum last ≡ Some f
     → AreOneEach (fees ++ f ∷ [])
+
+-- in the book of every day no due date has two fees
+abbrev pub DueDatesHaveOneFee : Type 0
+DueDatesHaveOneFee = (history : List Kept) (issued : List IssuedRow) (shared : SharedRows) (day : ℕ) → AreOneEach (book history issued shared day).fees
 
 -- ---- the fold's words
 -- the fold of a day sees these fee rows up to it

@@ -1,5 +1,5 @@
 //! Laws on penalty fees and due dates. Their functions do nothing; their clauses are what holds.
-ghost use Rattle.card_fees.specs.Laws.{CountedInThePast, CountedIsSmall, FeesAreWithin, FeesOfTheFold, FeesStayOneEach, LateFeesOfTheFold, LateOfTheFold, MetOfTheFold, PastDueOfTheFold};
+ghost use Rattle.card_fees.specs.Laws.{CountedInThePast, CountedIsSmall, DueDatesHaveOneFee, FeesAreWithin, FeesOfTheFold, FeesStayOneEach, LateFeesOfTheFold, LateOfTheFold, MetOfTheFold, PastDueOfTheFold};
 
 /// A penalty fee is at most the minimum payment of its due date, and at most that of the last due date before its day
 /// (12 CFR 1026.52(b)(2)(i)(A)).
@@ -7,9 +7,14 @@ pub fn fees_are_within()
     ensures { FeesAreWithin }
 {}
 
-/// A due date has at most one penalty fee (12 CFR 1026.52(b)(2)(ii)).
+/// Where no due date has two penalty fees, none has two with one more (12 CFR 1026.52(b)(2)(ii)).
 pub fn fees_stay_one_each()
     ensures { FeesStayOneEach }
+{}
+
+/// In the book of every day no due date has two penalty fees (12 CFR 1026.52(b)(2)(ii)).
+pub fn due_dates_have_one_fee()
+    ensures { DueDatesHaveOneFee }
 {}
 
 /// The fee that the fold charges is the one of this crate, on the fee rows, the fees so far and the two minimum payments.
