@@ -14,7 +14,8 @@ use Rattle.card_events.specs.declared.post.Terms.{Terms}
 use Rattle.card_model.specs.Rates.{Lowering, lowering_of, lowerings}
 use Rattle.card_model.specs.Segments.{SegmentTerms, opening_vintages, segment_of, segments}
 use Rattle.card_model.specs.declared.segment.Interval.{Interval}
-use Rattle.card_rates.specs.RateBooks.{AreByNumber, Rates, added_from}
+use Rattle.card_rates.specs.Added.{added_from}
+use Rattle.card_rates.specs.RateBooks.{AreByNumber, Rates}
 
 -- ---- the corrected list
 pub added-is : (a : Anchor) (holidays : List ℕ) (history : List Kept) (n s : ℕ) (ks : List Kept)

@@ -1,5 +1,5 @@
 -- What is read from all posts is what is read from those up to the day.
-use Rattle.std.proofs.Common.{◌≡◌, ℕ, ◌≤◌, ◌<◌, Bool, true, false, cond, ◌&&◌, not, List, [], ◌∷◌, refl, sym, ap, ◌∙◌, subst, leb, arith, Option, Some, None}
+use Rattle.std.proofs.Common.{◌+◌, length, ◌≡◌, ℕ, ◌≤◌, ◌<◌, Bool, true, false, cond, ◌&&◌, not, List, [], ◌∷◌, refl, sym, ap, ◌∙◌, subst, leb, arith, Option, Some, None}
 use Rattle.std.proofs.lemmas.Bool.Decides.{nat_tests}
 use Rattle.std.proofs.lemmas.List.Elements.{All-cons, All-contains, All-contains_itself, All-filter, All-head, All-tail, All-weaker}
 use Rattle.std.specs.List.{All, Contains, cons_option, filter, filter_map}
@@ -15,9 +15,10 @@ use Rattle.card_model.specs.Rates.{accrual_rate, lowering_of, lowerings, rate_on
 use Rattle.card_model.specs.Segments.{SegmentTerms, is_over, is_sort, newest, opening_vintage, segment_of, segments}
 use Rattle.card_model.specs.declared.segment.Sort.TheVariants as sort
 use Rattle.card_model.proofs.Past.{filter_implied}
-use Rattle.card_rates.specs.Laws.{AccrualsAreOfTheDay, RatesOfADay, RatesOfALaterBook, RatesOfAnyBook, SegmentsAreByNumber, SegmentsOfADay, SegmentsStay, VintagesAreOfTheDay, seen_in, segments_on}
-use Rattle.card_rates.specs.RateBooks.{AreByNumber}
+use Rattle.card_rates.specs.Laws.{AccrualsAreOfTheDay, RatesOfADay, RatesOfALaterBook, RatesOfAnyBook, SegmentsAreByNumber, SegmentsAreThere, SegmentsOfADay, SegmentsStay, VintagesAreOfTheDay, VintagesAreThere, seen_in, segments_on}
+use Rattle.card_rates.specs.RateBooks.{AreByNumber, rates_of}
 use Rattle.card_rates.proofs.Added.{all-by-number, segments-are}
+use Rattle.card_rates.proofs.ByNumber.{last-below, number-above, number-below}
 use Rattle.card_rates.proofs.LaterPosts.{AreDated, begins-later, corrected-dated, newest-stays, no-leb, own_day, rate-stays}
 use Rattle.card_rates.proofs.Penalties.{book-starts}
 
@@ -225,9 +226,25 @@ accruals history issued shared x rate g c e =
     none : (v : SegmentTerms) → None ≡ Some v → ⊥
     none v e = cc
 
+length-segments : (a : Anchor) (terms : Terms) (ps : List CorrectedPost) → 3 ≤ length (segments a terms ps)
+unfolding segments
+length-segments a terms ps = omega arith
+
 by_number : SegmentsAreByNumber
 by_number holidays history =
     subst (AreByNumber 2) (sym (segments-are (anchor_of history) (terms_of history) holidays history)) (all-by-number (anchor_of history).opened (terms_of history) history)
 
+there : SegmentsAreThere
+there holidays history g c =
+    let all = (rates_of holidays history []).segments in
+    let below = number-below 2 all g (by_number holidays history) c in
+    (number-above 2 all g (by_number holidays history) c, omega (arith, below))
+
+vintages-there : VintagesAreThere
+vintages-there holidays history s x =
+    let all = (rates_of holidays history []).segments in
+    let some = length-segments (anchor_of history) (terms_of history) (corrected (anchor_of history) holidays history) in
+    last-below (λ (g : SegmentTerms). is_sort s g.sort && leb g.begins x) (length all + 2) 2 all (by_number holidays history) (omega (arith, some)) (omega arith)
+
 pub segments_of_a_day : SegmentsOfADay
-segments_of_a_day = record { stay = stay; numbers = by_number; accruals = accruals; vintages = vintages }
+segments_of_a_day = record { stay = stay; numbers = by_number; there = there; vintages_there = vintages-there; accruals = accruals; vintages = vintages }

@@ -1,9 +1,9 @@
-mod Added
-mod ByNumber
-mod DayLaws
-mod LaterPosts
-mod OneMore
-mod Penalties
-mod Runs
-mod Spans
-mod TestLemmas
+pub mod Added
+pub mod ByNumber
+pub mod DayLaws
+pub mod LaterPosts
+pub mod OneMore
+pub mod Penalties
+pub mod Runs
+pub mod Spans
+pub mod TestLemmas

@@ -1,5 +1,5 @@
 -- Laws on rates, for all lists of posts. What is read from all posts is what is read from those up to the day.
-use Rattle.std.specs.Prelude.{◌≡◌, ℕ, ◌+◌, ◌<◌, ◌≤◌, false, List, [], Option, Some}
+use Rattle.std.specs.Prelude.{◌≡◌, ℕ, ◌+◌, ◌<◌, ◌≤◌, false, List, [], length, Option, Some}
 use Rattle.std.specs.List.{All, Contains}
 use Rattle.card_events.specs.History.{CorrectedPost, anchor_of, corrected}
 use Rattle.card_events.specs.SharedRows.{SharedRows}
@@ -38,6 +38,16 @@ SegmentsStay =
 abbrev pub SegmentsAreByNumber : Type 0
 SegmentsAreByNumber = (holidays : List ℕ) (history : List Kept) → AreByNumber 2 (rates_of holidays history []).segments
 
+-- the number of a segment, and that of a newest vintage, is one of theirs: 2 and above, and below how many there are with
+-- Credit and Held
+abbrev pub SegmentsAreThere : Type 0
+SegmentsAreThere =
+    (holidays : List ℕ) (history : List Kept) (g : SegmentTerms) → Contains (rates_of holidays history []).segments g
+    → (2 ≤ g.id) × (g.id < length (rates_of holidays history []).segments + 2)
+
+abbrev pub VintagesAreThere : Type 0
+VintagesAreThere = (holidays : List ℕ) (history : List Kept) (s : Sort) (day : ℕ) → newest s day (rates_of holidays history []).segments < length (rates_of holidays history []).segments + 2
+
 -- what accrues on a day is a segment of that day
 abbrev pub AccrualsAreOfTheDay : Type 0
 AccrualsAreOfTheDay =
@@ -53,6 +63,8 @@ VintagesAreOfTheDay =
 pub record SegmentsOfADay : Type 0 where
   pub stay : SegmentsStay
   pub numbers : SegmentsAreByNumber
+  pub there : SegmentsAreThere
+  pub vintages_there : VintagesAreThere
   pub accruals : AccrualsAreOfTheDay
   pub vintages : VintagesAreOfTheDay
 

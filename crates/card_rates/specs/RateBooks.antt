@@ -1,10 +1,10 @@
 -- What the rates of an account are read from, as clauses see it. Rates are in basis points.
 use Rattle.std.specs.Prelude.{◌≡◌, ℕ, suc, ◌+◌, ◌≤◌, List, [], ◌∷◌}
-use Rattle.std.specs.List.{cons_option, count_by}
-use Rattle.card_events.specs.History.{adds_segment, anchor_of, corrected, next_segment, terms_of}
+use Rattle.std.specs.List.{count_by}
+use Rattle.card_events.specs.History.{adds_segment, anchor_of, corrected, terms_of}
 use Rattle.card_events.specs.declared.kept.Kept.{Kept}
 use Rattle.card_model.specs.Rates.{Lowering, lowerings, rate_on, starts}
-use Rattle.card_model.specs.Segments.{SegmentTerms, segment_of, segments}
+use Rattle.card_model.specs.Segments.{SegmentTerms, segments}
 use Rattle.card_model.specs.declared.segment.Interval.{Interval}
 
 -- the penalty rate of the terms, the segments but Credit and Held, all Lowers, and the penalties begun, each in order
@@ -35,11 +35,6 @@ rate_of r day g = rate_on r.lowerings r.penalty (starts day r.penalties) r.segme
 -- at most 64 segments: five from the opening on, and one for each Plan and Notice
 abbrev pub HasFewSegments : List Kept → Type 0
 HasFewSegments history = 5 + count_by (λ k. adds_segment k.post) history ≤ 64
-
--- the segments that these posts add, the first of which is post n, where the first segment has this number
-unfoldable pub added_from : ℕ → ℕ → List Kept → List SegmentTerms
-added_from n segment [] = []
-added_from n segment (k ∷ ks) = cons_option (segment_of segment n k.post) (added_from (suc n) (next_segment segment k.post) ks)
 
 -- each segment bears its place as its number, where the first of the list has number n
 unfoldable pub AreByNumber : ℕ → List SegmentTerms → Type 0

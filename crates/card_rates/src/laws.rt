@@ -1,8 +1,9 @@
 //! Laws on rates, for all lists of posts. Their functions do nothing; their clauses are what holds.
 ghost use Rattle.card_rates.specs.Laws.{PenaltiesStay, RatesOfADay, RunsHaveFewSegments, SegmentsOfADay, SpansKeepRates};
 
-/// Segments stand by their numbers. A segment of a day is one of all posts, and one that accrues on a day is of that day. The
-/// newest vintage that has begun by a day is the same read from all posts and from those up to that day.
+/// Segments stand by their numbers, which are 2 and above and below how many there are. A segment of a day is one of all
+/// posts, and one that accrues on a day is of that day. The newest vintage that has begun by a day is the same read from all
+/// posts and from those up to that day.
 pub fn segments_of_a_day()
     ensures { SegmentsOfADay }
 {}

@@ -5,7 +5,7 @@ ghost use Rattle.card_events.specs.History.{adds_segment, at_number, opening_in,
 ghost use Rattle.card_model.specs.Accepted.{HasFewRates, posted_rate};
 ghost use Rattle.card_model.specs.Rates.{lowering_of};
 ghost use Rattle.card_model.specs.Segments.{opening_vintage, opening_vintages, segment_of};
-ghost use Rattle.card_rates.specs.RateBooks.{added_from};
+ghost use Rattle.card_rates.specs.Added.{added_from};
 
 use crate::rate::no_rate;
 use crate::segment::{RateCap, RatedSegment, number_of, plan_sort, sort_of};

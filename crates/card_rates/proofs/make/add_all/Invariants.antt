@@ -2,7 +2,7 @@ use Rattle.std.proofs.Common.{◌≡◌, ◌+◌, ◌≤◌, ◌++◌, length, t
 use Rattle.std.specs.List.{count_by, filter_map}
 use Rattle.card_events.specs.History.{adds_segment}
 use Rattle.card_model.specs.Rates.{lowering_of}
-use Rattle.card_rates.specs.RateBooks.{added_from}
+use Rattle.card_rates.specs.Added.{added_from}
 use Rattle.card_rates.proofs.make.add_all.Given as goal
 
 abbrev pub invariant-loop-i : goal.invariant-loop-i

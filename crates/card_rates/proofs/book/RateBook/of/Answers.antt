@@ -5,7 +5,8 @@ use Rattle.card_events.specs.declared.kept.Kept.{Kept}
 use Rattle.card_model.specs.Rates.{lowering_of}
 use Rattle.card_events.specs.declared.post.Terms.{Terms}
 use Rattle.card_model.specs.Segments.{opening_vintages}
-use Rattle.card_rates.specs.RateBooks.{AreByNumber, added_from}
+use Rattle.card_rates.specs.Added.{added_from}
+use Rattle.card_rates.specs.RateBooks.{AreByNumber}
 use Rattle.card_rates.proofs.Added.{all-by-number, first-opening, first-terms, lowered-is, same-rates, segments-are}
 use Rattle.card_rates.proofs.book.RateBook.of.Goals as goal
 
