@@ -1,5 +1,5 @@
 -- A segment bears interest in one way for a whole cycle.
-use Rattle.std.proofs.Common.{◌≡◌, ℕ, ◌+◌, ◌<◌, ◌≤◌, Bool, true, false, cond, ◌&&◌, ◌||◌, not, List, [], ◌∷◌, refl, sym, ap, ◌∙◌, arith, eqb, ltb, leb, inl, inr, ◌⊎◌, Option, Some, pos}
+use Rattle.std.proofs.Common.{◌≡◌, ℕ, ◌<◌, ◌≤◌, Bool, true, false, ◌&&◌, not, List, refl, ap, arith, eqb, ltb, leb, inl, inr, ◌⊎◌, Some}
 use Rattle.std.specs.List.{All}
 use Rattle.std.proofs.lemmas.Bool.{cases_lt}
 use Rattle.std.proofs.lemmas.Bool.Decides.{nat_tests}
@@ -8,9 +8,9 @@ use Rattle.card_grace.specs.BookRows.{HasOneCase}
 use Rattle.card_grace.specs.Laws.{OneCaseACycle}
 use Rattle.card_model.specs.Books.{Book}
 use Rattle.card_model.specs.Cycles.{Seen}
-use Rattle.card_model.specs.Entries.{at_least_zero, is_kind}
+use Rattle.card_model.specs.Entries.{at_least_zero}
 use Rattle.card_model.specs.Interest.{case_of, is_in_row, row}
-use Rattle.card_model.specs.Segments.{SegmentTerms, is_deferred_on, is_over, is_sort}
+use Rattle.card_model.specs.Segments.{SegmentTerms, is_sort}
 use Rattle.card_model.specs.declared.entry.Entry.{Entry}
 use Rattle.card_model.specs.declared.grace.GraceCase.{GraceCase}
 use Rattle.card_model.specs.declared.segment.Sort.TheVariants as sort

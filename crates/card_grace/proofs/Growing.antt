@@ -1,5 +1,5 @@
 -- Rows grow day by day, and repayments entry by entry.
-use Rattle.std.proofs.Common.{◌≡◌, ℕ, zero, suc, ◌+◌, ◌-◌, ◌<◌, ◌≤◌, Bool, true, false, cond, ◌&&◌, ◌||◌, not, List, [], ◌∷◌, ◌++◌, map, length, refl, sym, ap, ◌∙◌, arith, eqb, leb}
+use Rattle.std.proofs.Common.{◌≡◌, ℕ, zero, suc, ◌+◌, ◌-◌, ◌<◌, ◌≤◌, Bool, true, false, cond, ◌&&◌, ◌||◌, not, List, [], ◌∷◌, ◌++◌, map, refl, ap, ◌∙◌, arith, eqb, leb}
 use Rattle.std.specs.List.{All, filter, range_with_len}
 use Rattle.std.proofs.lemmas.Bool.Decides.{nat_tests}
 use Rattle.std.proofs.lemmas.List.{map-append}
@@ -7,12 +7,10 @@ use Rattle.std.proofs.lemmas.List.Elements.{All-head, All-tail, All-weaker, filt
 use Rattle.std.proofs.lemmas.List.FromFn.{length-map-range_with_len}
 use Rattle.card_grace.specs.BookRows.{brought, day_row, is_brought, repayment_of, repayments, repays, rows_of}
 use Rattle.card_grace.specs.Growth.{GoesOn, IsOfNoCredit, RowsGrow, or_post, with_repaid}
-use Rattle.card_grace.specs.Rows.{DayRow, Rows, equal_days, no_rows, others, row_of, with_days}
-use Rattle.card_grace.specs.declared.rows.Repayment.{Repayment}
+use Rattle.card_grace.specs.Rows.{DayRow, no_rows, others, row_of, with_days}
 use Rattle.card_model.specs.Books.{Account, Book}
 use Rattle.card_model.specs.Cycles.{Seen}
 use Rattle.card_model.specs.Entries.{is_kind}
-use Rattle.card_model.specs.Interest.{days_from}
 use Rattle.card_model.specs.Payments.{is_returned}
 use Rattle.card_model.specs.Segments.{SegmentTerms}
 use Rattle.card_model.specs.declared.entry.Entry.{Entry}
@@ -62,7 +60,7 @@ taken returned post s first (e ∷ es) h =
     let P : Entry → Type 0 = λ e. is_kind kind.Credit e.kind ≡ true → eqb e.post post ≡ false in
     let kept = split (is_kind kind.Credit e.kind) (is_kind kind.Payment e.kind) (returned e.post) (eqb e.post post) (All-head P e es h) in
     let test : is_brought (or_post returned post) s first e ≡ (is_brought returned s first e && not (eqb e.post post)) =
-        ap (λ r. eqb e.segment s && r && leb first e.day) kept ∙ regroup (eqb e.segment s) (repays returned e) (not (eqb e.post post)) (leb first e.day) in
+    ap (λ r. eqb e.segment s && r && leb first e.day) kept ∙ regroup (eqb e.segment s) (repays returned e) (not (eqb e.post post)) (leb first e.day) in
     rw test (one (is_brought returned s first e) (eqb e.post post) refl (taken returned post s first es (All-tail P e es h)))
   where
     one : (k q : Bool) → eqb e.post post ≡ q → map repayment_of (filter (is_brought (or_post returned post) s first) es) ≡ others post (map repayment_of (filter (is_brought returned s first) es))

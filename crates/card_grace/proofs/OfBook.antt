@@ -1,17 +1,16 @@
 -- Rows of a book, and the definition of a cycle's interest.
-use Rattle.std.proofs.Common.{◌≡◌, ℕ, zero, suc, ◌+◌, ◌-◌, ◌*◌, ◌<◌, ◌≤◌, Bool, true, false, cond, List, [], ◌∷◌, map, length, refl, sym, ap, ◌∙◌, subst, arith, inl, inr, ◌⊎◌, max}
-use Rattle.std.specs.List.{range_with_len, sum_by}
+use Rattle.std.proofs.Common.{◌≡◌, ℕ, ◌+◌, ◌-◌, ◌*◌, ◌<◌, ◌≤◌, true, List, [], ◌∷◌, map, length, refl, sym, ap, ◌∙◌, arith, inl, inr, ◌⊎◌, max}
+use Rattle.std.specs.List.{sum_by}
 use Rattle.std.proofs.lemmas.List.FromFn.{length-map-range_with_len}
 use Rattle.std.proofs.lemmas.List.Sums.{sum_by-cons}
 use Rattle.card_units.specs.Money.{daily}
 use Rattle.card_grace.specs.BookRows.{AreLowering, HasOneCase, day_row, repayments, rows_of}
 use Rattle.card_grace.specs.Laws.{AgreeFrom, KeptRowsToo, NoEarlierDayNoRepaidPortion, RowsOfABook}
-use Rattle.card_grace.specs.Rows.{DayRow, Rows, average_of, bearing, interest_on, repaid_later}
-use Rattle.card_grace.specs.declared.rows.Repayment.{Repayment}
+use Rattle.card_grace.specs.Rows.{DayRow, average_of, bearing, interest_on, repaid_later}
 use Rattle.card_model.specs.Books.{Account, Book, rate_in}
 use Rattle.card_model.specs.Cycles.{Seen}
 use Rattle.card_model.specs.Interest.{average_balance, case_of, charged, charged_on, days_from, half_up, interest_sum, repaid_after, row}
-use Rattle.card_model.specs.Segments.{SegmentTerms, is_deferred_on, is_sort}
+use Rattle.card_model.specs.Segments.{SegmentTerms, is_sort}
 use Rattle.card_model.specs.declared.entry.Entry.{Entry}
 use Rattle.card_model.specs.declared.grace.GraceCase.{GraceCase}
 use Rattle.card_model.specs.declared.grace.GraceCase.TheVariants as case
