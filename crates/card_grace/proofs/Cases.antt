@@ -42,7 +42,7 @@ deferred seen b purchase first end g e k none day l m = by (cases_lt day g.begin
     by (inl early) = inr (none day l early)
     by (inr begun) = inl (rw (e, as_today (is_sort sort.Deferred g.sort) g.begins end first day seen.day l m begun k) refl)
 
-without_entries : (entries : List Entry) (s day : ℕ) → All (λ e. eqb e.segment s ≡ false) entries → row entries s day ≡ 0
+pub without_entries : (entries : List Entry) (s day : ℕ) → All (λ e. eqb e.segment s ≡ false) entries → row entries s day ≡ 0
 unfolding row
 without_entries entries s day h =
     ap at_least_zero (sum_of-none (is_in_row s day) entries (All-weaker (λ e. eqb e.segment s ≡ false) (λ e. is_in_row s day e ≡ false) (λ e k. rw k refl) entries h))

@@ -15,6 +15,7 @@ use Rattle.card_model.specs.Payments.{is_returned}
 use Rattle.card_model.specs.Segments.{SegmentTerms}
 use Rattle.card_model.specs.declared.entry.Entry.{Entry}
 use Rattle.card_model.specs.declared.entry.EntryKind.TheVariants as kind
+use Rattle.card_grace.proofs.Cases.{without_entries}
 use Rattle.card_grace.proofs.Spreads.{range-append}
 
 entries : (returned : ℕ → Bool) (s first : ℕ) (xs ys : List Entry) → brought returned s first (xs ++ ys) ≡ brought returned s first xs ++ brought returned s first ys
@@ -97,5 +98,17 @@ days n balance rate first a g seen later b c h =
     let whole = ap (map (day_row a later c g)) (range-append first old n) ∙ map-append (day_row a later c g) (range_with_len first old) (range_with_len (first + old) n) in
     rw (long, whole, before, since, length-map-range_with_len (day_row a seen b g) first old) refl
 
+-- a segment without entries
+none_of : (returned : ℕ → Bool) (s first : ℕ) (es : List Entry) → All (λ e. eqb e.segment s ≡ false) es → brought returned s first es ≡ []
+unfolding brought
+none_of returned s first [] h = refl
+none_of returned s first (e ∷ es) h = rw (All-head (λ e. eqb e.segment s ≡ false) e es h) (none_of returned s first es (All-tail (λ e. eqb e.segment s ≡ false) e es h))
+
+added : (a : Account) (seen : Seen) (b : Book) (first : ℕ) (g : SegmentTerms) → All (λ e. eqb e.segment g.id ≡ false) b.entries → rows_of a seen b first g ≡ with_days (seen.day + 1 - first) 0 0 (no_rows first)
+unfolding rows_of
+added a seen b first g h =
+    let here : first + 0 ≡ first = omega arith in
+    rw (here, none_of (is_returned seen.posts seen.day) g.id first b.entries h, same_map (day_row a seen b g) (row_of 0 0) first (seen.day + 1 - first) (λ x l m. rw (without_entries b.entries g.id x h) refl)) refl
+
 pub rows_grow : RowsGrow
-rows_grow = record { begins = begins; days = days; entries = entries; returned = taken }
+rows_grow = record { begins = begins; days = days; added = added; entries = entries; returned = taken }
