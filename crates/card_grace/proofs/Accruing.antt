@@ -1,9 +1,9 @@
 -- A running sum is the sum of the definition.
-use Rattle.std.proofs.Common.{◌≡◌, ℕ, zero, suc, ◌+◌, ◌-◌, ◌*◌, ◌<◌, ◌≤◌, List, [], ◌∷◌, ◌++◌, refl, sym, ap, ◌∙◌, subst, arith}
+use Rattle.std.proofs.Common.{◌≡◌, ℕ, zero, suc, ◌+◌, ◌-◌, ◌*◌, ◌≤◌, refl, ap, ◌∙◌, arith}
 use Rattle.std.specs.List.{range_with_len, sum_by}
 use Rattle.std.proofs.lemmas.List.Sums.{sum_by-append, sum_by-cons}
 use Rattle.card_units.specs.Money.{daily}
-use Rattle.card_grace.specs.Accruals.{Accrued, AccrualOfABook, GrowsBy, accrued_in, nothing_accrued, with_accrual}
+use Rattle.card_grace.specs.Accruals.{AccrualOfABook, GrowsBy, accrued_in, nothing_accrued, with_accrual}
 use Rattle.card_model.specs.Books.{Book}
 use Rattle.card_model.specs.Cycles.{Seen}
 use Rattle.card_model.specs.Interest.{accrual, row}

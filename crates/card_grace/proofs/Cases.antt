@@ -1,5 +1,5 @@
 -- A segment bears interest in one way for a whole cycle.
-use Rattle.std.proofs.Common.{◌≡◌, ℕ, ◌+◌, ◌<◌, ◌≤◌, Bool, true, false, cond, ◌&&◌, ◌||◌, not, List, [], ◌∷◌, refl, sym, ap, ◌∙◌, arith, eqb, ltb, leb, inl, inr, ◌⊎◌, Option, Some, pos}
+use Rattle.std.proofs.Common.{◌≡◌, ℕ, ◌<◌, ◌≤◌, Bool, true, false, ◌&&◌, not, List, refl, ap, arith, eqb, ltb, leb, inl, inr, ◌⊎◌, Some}
 use Rattle.std.specs.List.{All}
 use Rattle.std.proofs.lemmas.Bool.{cases_lt}
 use Rattle.std.proofs.lemmas.Bool.Decides.{nat_tests}
@@ -8,9 +8,9 @@ use Rattle.card_grace.specs.BookRows.{HasOneCase}
 use Rattle.card_grace.specs.Laws.{OneCaseACycle}
 use Rattle.card_model.specs.Books.{Book}
 use Rattle.card_model.specs.Cycles.{Seen}
-use Rattle.card_model.specs.Entries.{at_least_zero, is_kind}
+use Rattle.card_model.specs.Entries.{at_least_zero}
 use Rattle.card_model.specs.Interest.{case_of, is_in_row, row}
-use Rattle.card_model.specs.Segments.{SegmentTerms, is_deferred_on, is_over, is_sort}
+use Rattle.card_model.specs.Segments.{SegmentTerms, is_sort}
 use Rattle.card_model.specs.declared.entry.Entry.{Entry}
 use Rattle.card_model.specs.declared.grace.GraceCase.{GraceCase}
 use Rattle.card_model.specs.declared.segment.Sort.TheVariants as sort
@@ -42,7 +42,7 @@ deferred seen b purchase first end g e k none day l m = by (cases_lt day g.begin
     by (inl early) = inr (none day l early)
     by (inr begun) = inl (rw (e, as_today (is_sort sort.Deferred g.sort) g.begins end first day seen.day l m begun k) refl)
 
-without_entries : (entries : List Entry) (s day : ℕ) → All (λ e. eqb e.segment s ≡ false) entries → row entries s day ≡ 0
+pub without_entries : (entries : List Entry) (s day : ℕ) → All (λ e. eqb e.segment s ≡ false) entries → row entries s day ≡ 0
 unfolding row
 without_entries entries s day h =
     ap at_least_zero (sum_of-none (is_in_row s day) entries (All-weaker (λ e. eqb e.segment s ≡ false) (λ e. is_in_row s day e ≡ false) (λ e k. rw k refl) entries h))

@@ -1,5 +1,5 @@
 -- Sums over the days of a cycle.
-use Rattle.std.proofs.Common.{◌≡◌, ℕ, zero, suc, ◌+◌, ◌-◌, ◌*◌, ◌<◌, ◌≤◌, List, [], ◌∷◌, map, refl, sym, ap, ◌∙◌, arith}
+use Rattle.std.proofs.Common.{◌≡◌, ℕ, zero, suc, ◌+◌, ◌<◌, ◌≤◌, List, [], ◌∷◌, map, refl, arith}
 use Rattle.std.specs.List.{range_with_len, sum_by}
 use Rattle.std.proofs.lemmas.List.Sums.{sum_by-cons}
 

@@ -1,5 +1,5 @@
 -- Rows grow day by day, and repayments entry by entry.
-use Rattle.std.proofs.Common.{◌≡◌, ℕ, zero, suc, ◌+◌, ◌-◌, ◌<◌, ◌≤◌, Bool, true, false, cond, ◌&&◌, ◌||◌, not, List, [], ◌∷◌, ◌++◌, map, length, refl, sym, ap, ◌∙◌, arith, eqb, leb}
+use Rattle.std.proofs.Common.{◌≡◌, ℕ, zero, suc, ◌+◌, ◌-◌, ◌<◌, ◌≤◌, Bool, true, false, cond, ◌&&◌, ◌||◌, not, List, [], ◌∷◌, ◌++◌, map, refl, ap, ◌∙◌, arith, eqb, leb}
 use Rattle.std.specs.List.{All, filter, range_with_len}
 use Rattle.std.proofs.lemmas.Bool.Decides.{nat_tests}
 use Rattle.std.proofs.lemmas.List.{map-append}
@@ -7,16 +7,15 @@ use Rattle.std.proofs.lemmas.List.Elements.{All-head, All-tail, All-weaker, filt
 use Rattle.std.proofs.lemmas.List.FromFn.{length-map-range_with_len}
 use Rattle.card_grace.specs.BookRows.{brought, day_row, is_brought, repayment_of, repayments, repays, rows_of}
 use Rattle.card_grace.specs.Growth.{GoesOn, IsOfNoCredit, RowsGrow, or_post, with_repaid}
-use Rattle.card_grace.specs.Rows.{DayRow, Rows, equal_days, no_rows, others, row_of, with_days}
-use Rattle.card_grace.specs.declared.rows.Repayment.{Repayment}
+use Rattle.card_grace.specs.Rows.{DayRow, no_rows, others, row_of, with_days}
 use Rattle.card_model.specs.Books.{Account, Book}
 use Rattle.card_model.specs.Cycles.{Seen}
 use Rattle.card_model.specs.Entries.{is_kind}
-use Rattle.card_model.specs.Interest.{days_from}
 use Rattle.card_model.specs.Payments.{is_returned}
 use Rattle.card_model.specs.Segments.{SegmentTerms}
 use Rattle.card_model.specs.declared.entry.Entry.{Entry}
 use Rattle.card_model.specs.declared.entry.EntryKind.TheVariants as kind
+use Rattle.card_grace.proofs.Cases.{without_entries}
 use Rattle.card_grace.proofs.Spreads.{range-append}
 
 entries : (returned : ℕ → Bool) (s first : ℕ) (xs ys : List Entry) → brought returned s first (xs ++ ys) ≡ brought returned s first xs ++ brought returned s first ys
@@ -62,7 +61,7 @@ taken returned post s first (e ∷ es) h =
     let P : Entry → Type 0 = λ e. is_kind kind.Credit e.kind ≡ true → eqb e.post post ≡ false in
     let kept = split (is_kind kind.Credit e.kind) (is_kind kind.Payment e.kind) (returned e.post) (eqb e.post post) (All-head P e es h) in
     let test : is_brought (or_post returned post) s first e ≡ (is_brought returned s first e && not (eqb e.post post)) =
-        ap (λ r. eqb e.segment s && r && leb first e.day) kept ∙ regroup (eqb e.segment s) (repays returned e) (not (eqb e.post post)) (leb first e.day) in
+    ap (λ r. eqb e.segment s && r && leb first e.day) kept ∙ regroup (eqb e.segment s) (repays returned e) (not (eqb e.post post)) (leb first e.day) in
     rw test (one (is_brought returned s first e) (eqb e.post post) refl (taken returned post s first es (All-tail P e es h)))
   where
     one : (k q : Bool) → eqb e.post post ≡ q → map repayment_of (filter (is_brought (or_post returned post) s first) es) ≡ others post (map repayment_of (filter (is_brought returned s first) es))
@@ -99,5 +98,17 @@ days n balance rate first a g seen later b c h =
     let whole = ap (map (day_row a later c g)) (range-append first old n) ∙ map-append (day_row a later c g) (range_with_len first old) (range_with_len (first + old) n) in
     rw (long, whole, before, since, length-map-range_with_len (day_row a seen b g) first old) refl
 
+-- a segment without entries
+none_of : (returned : ℕ → Bool) (s first : ℕ) (es : List Entry) → All (λ e. eqb e.segment s ≡ false) es → brought returned s first es ≡ []
+unfolding brought
+none_of returned s first [] h = refl
+none_of returned s first (e ∷ es) h = rw (All-head (λ e. eqb e.segment s ≡ false) e es h) (none_of returned s first es (All-tail (λ e. eqb e.segment s ≡ false) e es h))
+
+added : (a : Account) (seen : Seen) (b : Book) (first : ℕ) (g : SegmentTerms) → All (λ e. eqb e.segment g.id ≡ false) b.entries → rows_of a seen b first g ≡ with_days (seen.day + 1 - first) 0 0 (no_rows first)
+unfolding rows_of
+added a seen b first g h =
+    let here : first + 0 ≡ first = omega arith in
+    rw (here, none_of (is_returned seen.posts seen.day) g.id first b.entries h, same_map (day_row a seen b g) (row_of 0 0) first (seen.day + 1 - first) (λ x l m. rw (without_entries b.entries g.id x h) refl)) refl
+
 pub rows_grow : RowsGrow
-rows_grow = record { begins = begins; days = days; entries = entries; returned = taken }
+rows_grow = record { begins = begins; days = days; added = added; entries = entries; returned = taken }

@@ -1,17 +1,17 @@
 -- Rows of a book, and the definition of a cycle's interest.
-use Rattle.std.proofs.Common.{◌≡◌, ℕ, zero, suc, ◌+◌, ◌-◌, ◌*◌, ◌<◌, ◌≤◌, Bool, true, false, cond, List, [], ◌∷◌, map, length, refl, sym, ap, ◌∙◌, subst, arith, inl, inr, ◌⊎◌, max}
-use Rattle.std.specs.List.{range_with_len, sum_by}
+use Rattle.std.proofs.Common.{◌≡◌, ℕ, zero, suc, eqb, false, ◌+◌, ◌-◌, ◌*◌, ◌<◌, ◌≤◌, true, List, [], ◌∷◌, map, length, refl, sym, ap, ◌∙◌, arith, inl, inr, ◌⊎◌, max}
+use Rattle.std.specs.List.{sum_by}
+use Rattle.std.proofs.lemmas.Bool.{ne_eqb}
 use Rattle.std.proofs.lemmas.List.FromFn.{length-map-range_with_len}
 use Rattle.std.proofs.lemmas.List.Sums.{sum_by-cons}
 use Rattle.card_units.specs.Money.{daily}
-use Rattle.card_grace.specs.BookRows.{AreLowering, HasOneCase, day_row, repayments, rows_of}
+use Rattle.card_grace.specs.BookRows.{AreLowering, HasOneCase, day_row, rate_of, repayments, rows_of}
 use Rattle.card_grace.specs.Laws.{AgreeFrom, KeptRowsToo, NoEarlierDayNoRepaidPortion, RowsOfABook}
-use Rattle.card_grace.specs.Rows.{DayRow, Rows, average_of, bearing, interest_on, repaid_later}
-use Rattle.card_grace.specs.declared.rows.Repayment.{Repayment}
+use Rattle.card_grace.specs.Rows.{DayRow, average_of, bearing, interest_on, repaid_later}
 use Rattle.card_model.specs.Books.{Account, Book, rate_in}
 use Rattle.card_model.specs.Cycles.{Seen}
 use Rattle.card_model.specs.Interest.{average_balance, case_of, charged, charged_on, days_from, half_up, interest_sum, repaid_after, row}
-use Rattle.card_model.specs.Segments.{SegmentTerms, is_deferred_on, is_sort}
+use Rattle.card_model.specs.Segments.{SegmentTerms, is_sort}
 use Rattle.card_model.specs.declared.entry.Entry.{Entry}
 use Rattle.card_model.specs.declared.grace.GraceCase.{GraceCase}
 use Rattle.card_model.specs.declared.grace.GraceCase.TheVariants as case
@@ -84,6 +84,19 @@ bears : (a : Account) (seen : Seen) (b : Book) (purchase : GraceCase) (first : �
     → (x : ℕ) → first ≤ x → x < first + (seen.day + 1 - first) → bearing (case_of purchase seen.day g) (repayments seen g.id first b.entries) (day_row a seen b g x) ≡ charged_on seen b purchase g x
 bears a seen b purchase first g h k x l m = bearing_is (case_of purchase seen.day g) a seen b first x g l h ∙ as_today seen b purchase x g (k x l (omega arith))
 
+charged-le : (c : GraceCase) (seen : Seen) (es : List Entry) (s day : ℕ) → charged c seen es s day ≤ row es s day
+charged-le case.None seen es s day = omega arith
+charged-le (case.Lowered due) seen es s day = omega arith
+charged-le case.Plain seen es s day = omega arith
+
+-- without a balance the rate doesn't matter
+any_rate : (balance borne rate : ℕ) → borne ≤ balance → borne * daily (rate_of balance rate) ≡ borne * daily rate
+any_rate zero borne rate l = let none : borne ≡ 0 = omega arith in rw none (nothing (daily 0) (daily rate))
+  where
+    nothing : (x y : ℕ) → 0 * x ≡ 0 * y
+    nothing x y = omega arith
+any_rate (suc n) borne rate l = let owed : eqb (suc n) 0 ≡ false = ne_eqb (suc n) 0 (λ e. omega arith) in rw owed refl
+
 interest_is : (a : Account) (seen : Seen) (b : Book) (purchase : GraceCase) (first : ℕ) (g : SegmentTerms) → AreLowering b.entries → HasOneCase seen b purchase first g
     → interest_on (case_of purchase seen.day g) (rows_of a seen b first g) ≡ interest_sum a seen b purchase first g
 unfolding rows_of interest_sum
@@ -91,8 +104,10 @@ interest_is a seen b purchase first g h k =
     let c = case_of purchase seen.day g in
     let repaid = repayments seen g.id first b.entries in
     sum_by-map (day_row a seen b g) (λ (r : DayRow). bearing c repaid r * daily r.rate) (days_from seen first)
-    ∙ same_sums (λ x. bearing c repaid (day_row a seen b g x) * daily (rate_in a seen b x g)) (λ x. charged_on seen b purchase g x * daily (rate_in a seen b x g)) first (seen.day + 1 - first)
-    (λ x l m. rw (bears a seen b purchase first g h k x l m) refl)
+    ∙ same_sums (λ x. bearing c repaid (day_row a seen b g x) * daily (day_row a seen b g x).rate) (λ x. charged_on seen b purchase g x * daily (rate_in a seen b x g)) first (seen.day + 1 - first)
+    (λ x l m.
+    ap (λ n. n * daily (rate_of (row b.entries g.id x) (rate_in a seen b x g))) (bears a seen b purchase first g h k x l m)
+    ∙ any_rate (row b.entries g.id x) (charged_on seen b purchase g x) (rate_in a seen b x g) (charged-le (case_of purchase x g) seen b.entries g.id x))
 
 average_is : (a : Account) (seen : Seen) (b : Book) (purchase : GraceCase) (first : ℕ) (g : SegmentTerms) → AreLowering b.entries → HasOneCase seen b purchase first g
     → average_of (case_of purchase seen.day g) (rows_of a seen b first g) ≡ average_balance seen b purchase first g

@@ -1,13 +1,13 @@
 -- Runs and the days that they stand for.
-use Rattle.std.proofs.Common.{◌≡◌, ℕ, zero, suc, ◌+◌, ◌<◌, ◌≤◌, ◌^◌, List, [], ◌∷◌, ◌++◌, length, take, get_or, set, map, refl, sym, ap, ◌∙◌, subst, arith}
-use Rattle.std.specs.List.{All, range_with_len, sum_by}
+use Rattle.std.proofs.Common.{◌≡◌, ℕ, zero, suc, ◌+◌, ◌<◌, ◌≤◌, ◌^◌, false, ◌&&◌, eqb, List, [], ◌∷◌, ◌++◌, length, take, get_or, set, map, refl, sym, ap, ◌∙◌, arith}
+use Rattle.std.specs.List.{range_with_len}
 use Rattle.std.proofs.lemmas.List.{append-nil, append_assoc, take_more, length-append, map-append}
-use Rattle.std.proofs.lemmas.List.Elements.{All-head, All-tail, All-append, All-cons, All-nil}
+use Rattle.std.proofs.lemmas.List.Elements.{All-append, All-cons, All-nil}
 use Rattle.std.proofs.lemmas.List.FromFn.{length-map-range_with_len}
-use Rattle.std.proofs.lemmas.List.Sums.{sum_by-cons, sum_by-append, sum_by_more, sum_by-take-le, sum_by_push}
+use Rattle.std.proofs.lemmas.List.Sums.{sum_by-cons, sum_by_more, sum_by-take-le, sum_by_push}
 use Rattle.card_grace.specs.Laws.{AreDaysFrom}
 use Rattle.card_grace.specs.Rows.{DayRow, equal_days, row_of}
-use Rattle.card_grace.specs.Runs.{AreRuns, run_days, spread}
+use Rattle.card_grace.specs.Runs.{AreRuns, ends_with, run_days, spread}
 use Rattle.card_grace.specs.declared.runs.Run.{Run}
 
 pub range-append : (a n m : ℕ) → range_with_len a (n + m) ≡ range_with_len a n ++ range_with_len (a + n) m
@@ -75,6 +75,20 @@ spread-longer a (suc i) n (x ∷ y ∷ ys) d l =
     let e : a + (x.days + run_days (y ∷ ys)) ≡ a + x.days + run_days (y ∷ ys) = omega arith in
     rw (days, e, spread-longer (a + x.days) i n (y ∷ ys) d (omega arith))
     (sym (append_assoc (equal_days a x.days x.balance x.rate) (spread (a + x.days) (y ∷ ys)) _))
+
+-- ---- the last run
+pub ends_with-none : (balance rate : ℕ) (xs : List Run) → length xs ≡ 0 → ends_with balance rate xs ≡ false
+unfolding ends_with
+ends_with-none balance rate [] e = refl
+ends_with-none balance rate (x ∷ xs) e = absurd (omega arith)
+
+pub ends_with-last : (balance rate i : ℕ) (xs : List Run) (d : Run) → i + 1 ≡ length xs → ends_with balance rate xs ≡ (eqb (get_or xs i d).balance balance && eqb (get_or xs i d).rate rate)
+unfolding ends_with
+ends_with-last balance rate i [] d l = absurd (omega arith)
+ends_with-last balance rate zero (x ∷ []) d l = refl
+ends_with-last balance rate (suc i) (x ∷ []) d l = absurd (omega arith)
+ends_with-last balance rate zero (x ∷ y ∷ ys) d l = absurd (omega arith)
+ends_with-last balance rate (suc i) (x ∷ y ∷ ys) d l = ends_with-last balance rate i (y ∷ ys) d (omega arith)
 
 -- a run at the end
 pub runs_push : (xs : List Run) (r : Run) → AreRuns xs → r.balance ≤ 10 ^ 15 → run_days xs + r.days ≤ 31 → AreRuns (xs ++ r ∷ [])

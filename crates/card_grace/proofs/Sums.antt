@@ -1,9 +1,9 @@
 -- Sums over the days of runs.
-use Rattle.std.proofs.Common.{◌≡◌, ℕ, zero, suc, ◌+◌, ◌-◌, ◌*◌, ◌<◌, ◌≤◌, ◌^◌, cond, ◌&&◌, List, [], ◌∷◌, ◌++◌, length, take, get_or, refl, sym, ap, ◌∙◌, subst, arith, ltb, leb}
-use Rattle.std.specs.List.{range_with_len, sum_by}
+use Rattle.std.proofs.Common.{◌≡◌, ℕ, zero, suc, ◌+◌, ◌-◌, ◌*◌, ◌<◌, cond, ◌&&◌, List, length, take, get_or, refl, ap, ◌∙◌, arith, ltb, leb}
+use Rattle.std.specs.List.{sum_by}
 use Rattle.std.proofs.lemmas.List.Sums.{sum_by-cons, sum_by-append, sum_by_more}
 use Rattle.card_units.specs.Money.{daily}
-use Rattle.card_grace.specs.Rows.{DayRow, bearing, equal_days, repaid_later}
+use Rattle.card_grace.specs.Rows.{DayRow, equal_days, repaid_later}
 use Rattle.card_grace.specs.Runs.{run_days, spread}
 use Rattle.card_grace.specs.declared.rows.Repayment.{Repayment}
 use Rattle.card_grace.specs.declared.runs.Run.{Run}

@@ -1,6 +1,6 @@
 -- Interest that is posted at a closing changes no other interest, and no accrual.
-use Rattle.std.proofs.Common.{◌≡◌, ℕ, zero, suc, ◌+◌, ◌-◌, ◌*◌, ◌<◌, ◌≤◌, Bool, true, false, ◌&&◌, ◌||◌, not, List, [], ◌∷◌, ◌++◌, refl, sym, ap, ◌∙◌, arith, eqb, ltb, leb, ℤ, pos, ◌+ℤ◌, Option}
-use Rattle.std.specs.List.{All, sum_by}
+use Rattle.std.proofs.Common.{◌≡◌, ℕ, ◌+◌, ◌-◌, ◌*◌, ◌≤◌, Bool, true, false, ◌&&◌, List, [], ◌∷◌, ◌++◌, refl, ap, ◌∙◌, arith, eqb, ltb, leb, pos, Option}
+use Rattle.std.specs.List.{All}
 use Rattle.std.proofs.lemmas.Int.{ints}
 use Rattle.std.proofs.lemmas.Bool.Decides.{nat_tests}
 use Rattle.std.proofs.lemmas.List.Elements.{All-head, All-tail, All-weaker}
@@ -10,7 +10,7 @@ use Rattle.card_model.specs.Books.{Account, Book, rate_in, with_entries}
 use Rattle.card_model.specs.Closing.{Posting, interest_note, post_interest, post_one, posted_for}
 use Rattle.card_model.specs.Cycles.{IssuedRow, Seen}
 use Rattle.card_model.specs.Effects.{size}
-use Rattle.card_model.specs.Entries.{at_least_zero, credit_balance, debit, is_kind, sum_of}
+use Rattle.card_model.specs.Entries.{at_least_zero, credit_balance, debit, sum_of}
 use Rattle.card_model.specs.Interest.{accrual, case_of, charged, charged_on, cycle_interest, interest_sum, is_in_row, is_repayment, repaid_after, row}
 use Rattle.card_model.specs.Segments.{SegmentTerms}
 use Rattle.card_model.specs.declared.entry.Entry.{Entry}

@@ -1,5 +1,5 @@
 -- The rows and repayments that the book of a day gives a segment in the cycle that the day lies in.
-use Rattle.std.specs.Prelude.{ℕ, ◌≡◌, ◌≤◌, true, ◌&&◌, ◌||◌, not, nat_le, ◌==◌, Bool, map, List, pos, ◌≤ℤ◌, ◌⊎◌}
+use Rattle.std.specs.Prelude.{ℕ, ◌≡◌, ◌≤◌, true, ◌&&◌, ◌||◌, not, nat_le, ◌==◌, Bool, map, List, pos, ◌≤ℤ◌, ◌⊎◌, if◌then◌else◌}
 use Rattle.std.specs.List.{All, filter}
 use Rattle.card_grace.specs.Rows.{DayRow, Rows, row_of}
 use Rattle.card_grace.specs.declared.rows.Repayment.{Repayment}
@@ -14,9 +14,13 @@ use Rattle.card_model.specs.declared.entry.Entry.{Entry}
 use Rattle.card_model.specs.declared.entry.EntryKind.TheVariants as kind
 use Rattle.card_model.specs.declared.grace.GraceCase.{GraceCase}
 
+-- the rate of a day without a balance doesn't matter, and is kept as 0
+abbrev pub rate_of : ℕ → ℕ → ℕ
+rate_of balance rate = if balance == 0 then 0 else rate
+
 -- a segment's row of a day
 abbrev pub day_row : Account → Seen → Book → SegmentTerms → ℕ → DayRow
-day_row a seen b g day = row_of (row b.entries g.id day) (rate_in a seen b day g) day
+day_row a seen b g day = row_of (row b.entries g.id day) (rate_of (row b.entries g.id day) (rate_in a seen b day g)) day
 
 -- an entry of a credit, or of a payment that isn't among those returned
 abbrev pub repays : (ℕ → Bool) → Entry → Bool

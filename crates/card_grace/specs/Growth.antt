@@ -1,5 +1,5 @@
 -- How the rows that a book gives a segment grow, day by day.
-use Rattle.std.specs.Prelude.{ℕ, ◌+◌, ◌≡◌, ◌≤◌, ◌<◌, Bool, true, false, ◌||◌, ◌==◌, List, ◌++◌, Option}
+use Rattle.std.specs.Prelude.{ℕ, ◌+◌, ◌≡◌, ◌≤◌, ◌<◌, Bool, true, false, ◌||◌, ◌==◌, List, ◌++◌, Option, ◌-◌}
 use Rattle.std.specs.List.{All}
 use Rattle.card_events.specs.SharedRows.{SharedRows}
 use Rattle.card_events.specs.declared.kept.Kept.{Kept}
@@ -37,13 +37,17 @@ or_post returned post n = returned n || (n == post)
 abbrev pub IsOfNoCredit : ℕ → List Entry → Type 0
 IsOfNoCredit post entries = All (λ e. is_kind kind.Credit e.kind ≡ true → (e.post == post) ≡ false) entries
 
--- The rows of a cycle begin without any; each day adds its own. Entries add their repayments, and a return takes out
+-- The rows of a cycle begin without any; each day adds its own. Those of a segment without entries are days without a
+-- balance. Entries add their repayments, and a return takes out
 -- those of its payment
 pub record RowsGrow : Type 0 where
   pub begins : (a : Account) (seen : Seen) (b : Book) (g : SegmentTerms) → All (λ e. e.day ≤ seen.day) b.entries → rows_of a seen b (seen.day + 1) g ≡ no_rows (seen.day + 1)
   pub days :
       (n balance rate first : ℕ) (a : Account) (g : SegmentTerms) (seen later : Seen) (b c : Book) → GoesOn n balance rate first a g seen later b c
       → rows_of a later c first g ≡ with_days n balance rate (with_repaid (repayments later g.id first c.entries) (rows_of a seen b first g))
+  pub added :
+      (a : Account) (seen : Seen) (b : Book) (first : ℕ) (g : SegmentTerms) → All (λ e. (e.segment == g.id) ≡ false) b.entries
+      → rows_of a seen b first g ≡ with_days (seen.day + 1 - first) 0 0 (no_rows first)
   pub entries : (returned : ℕ → Bool) (s first : ℕ) (xs ys : List Entry) → brought returned s first (xs ++ ys) ≡ brought returned s first xs ++ brought returned s first ys
   pub returned :
       (returned : ℕ → Bool) (post s first : ℕ) (entries : List Entry) → IsOfNoCredit post entries

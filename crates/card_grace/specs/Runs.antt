@@ -1,5 +1,5 @@
 -- Equal days in a row, kept as one run.
-use Rattle.std.specs.Prelude.{ℕ, ◌+◌, ◌≤◌, ◌^◌, List, [], ◌∷◌, ◌++◌}
+use Rattle.std.specs.Prelude.{ℕ, ◌+◌, ◌≤◌, ◌^◌, Bool, false, ◌&&◌, ◌==◌, List, [], ◌∷◌, ◌++◌}
 use Rattle.std.specs.List.{All, sum_by}
 use Rattle.card_grace.specs.Rows.{DayRow, equal_days}
 use Rattle.card_grace.specs.declared.runs.Run.{Run}
@@ -12,6 +12,12 @@ run_days runs = sum_by (λ (r : Run). r.days) runs
 unfoldable pub spread : ℕ → List Run → List DayRow
 spread from [] = []
 spread from (r ∷ rs) = equal_days from r.days r.balance r.rate ++ spread (from + r.days) rs
+
+-- the last run has this balance and rate
+unfoldable pub ends_with : ℕ → ℕ → List Run → Bool
+ends_with balance rate [] = false
+ends_with balance rate (r ∷ []) = (r.balance == balance) && (r.rate == rate)
+ends_with balance rate (r ∷ s ∷ rs) = ends_with balance rate (s ∷ rs)
 
 -- a cycle has at most 31 days, and no balance above 10^15 cents
 pub record AreRuns (runs : List Run) : Type 0 where

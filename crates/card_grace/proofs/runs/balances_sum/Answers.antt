@@ -1,7 +1,7 @@
-use Rattle.std.proofs.Common.{◌≡◌, ◌+◌, take, refl, sym, ◌∙◌, arith}
+use Rattle.std.proofs.Common.{refl, sym, ◌∙◌, arith}
 use Rattle.std.proofs.lemmas.List.Sums.{sum_by_more}
-use Rattle.card_grace.specs.Rows.{bearing, equal_days}
-use Rattle.card_grace.specs.Runs.{run_days, spread}
+use Rattle.card_grace.specs.Rows.{bearing}
+use Rattle.card_grace.specs.Runs.{spread}
 use Rattle.card_grace.specs.declared.runs.Run.{Run}
 use Rattle.card_grace.proofs.Sums.{sum_more}
 use Rattle.card_grace.proofs.runs.balances_sum.Goals as goal

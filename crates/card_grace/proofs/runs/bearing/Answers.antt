@@ -1,5 +1,4 @@
-use Rattle.std.proofs.Common.{◌≡◌, refl, sym}
-use Rattle.card_grace.specs.Rows.{bearing}
+use Rattle.std.proofs.Common.{sym}
 use Rattle.card_grace.proofs.Sums.{all_bear, none_bear}
 use Rattle.card_grace.proofs.runs.bearing.Goals as goal
 

@@ -1,7 +1,6 @@
-use Rattle.std.proofs.Common.{◌≡◌, ◌+◌, ◌-◌, ◌*◌, ◌≤◌, ◌^◌, refl, sym, ap, ◌∙◌, arith}
-use Rattle.std.specs.List.{sum_by}
+use Rattle.std.proofs.Common.{◌+◌, ◌-◌, refl, sym, ◌∙◌, arith}
 use Rattle.std.proofs.lemmas.List.FromFn.{sum_by-map-range_with_len_more}
-use Rattle.card_grace.specs.Rows.{DayRow, equal_days, repaid_later, row_of}
+use Rattle.card_grace.specs.Rows.{DayRow, repaid_later, row_of}
 use Rattle.card_grace.proofs.runs.lowered_days.Goals as goal
 
 pub loop-i-preserved : goal.loop-i-preserved

@@ -1,8 +1,8 @@
-use Rattle.std.proofs.Common.{◌≡◌, ℕ, ◌+◌, ◌*◌, ◌≤◌, ◌^◌, take, refl, sym, ◌∙◌, arith, mul-le-mul}
+use Rattle.std.proofs.Common.{ℕ, ◌*◌, ◌≤◌, ◌^◌, refl, sym, ◌∙◌, arith, mul-le-mul}
 use Rattle.std.proofs.lemmas.List.Sums.{sum_by_more}
 use Rattle.card_units.specs.Money.{daily}
-use Rattle.card_grace.specs.Rows.{DayRow, bearing, equal_days}
-use Rattle.card_grace.specs.Runs.{run_days, spread}
+use Rattle.card_grace.specs.Rows.{DayRow, bearing}
+use Rattle.card_grace.specs.Runs.{spread}
 use Rattle.card_grace.specs.declared.runs.Run.{Run}
 use Rattle.card_grace.proofs.Sums.{rate_out, sum_more}
 use Rattle.card_grace.proofs.runs.rate_sum.Goals as goal

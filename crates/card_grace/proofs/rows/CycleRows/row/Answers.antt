@@ -1,9 +1,8 @@
-use Rattle.std.proofs.Common.{◌≡◌, ℕ, ◌+◌, ◌≤◌, ◌^◌, ℤ, pos, ◌≤ℤ◌, ◌++◌, length, refl, sym, ap, ◌∙◌, subst, arith}
+use Rattle.std.proofs.Common.{◌≤◌, ◌^◌, ℤ, pos, ◌≤ℤ◌, length, refl, ap, ◌∙◌, arith}
 use Rattle.std.proofs.lemmas.Int.{ints, to_z-of_z}
 use Rattle.std.specs.Prelude.{unsigned_abs}
 use mir.Syntax.{w64}
-use Rattle.card_grace.specs.Rows.{Rows, equal_days, with_days}
-use Rattle.card_grace.specs.Runs.{AreRuns, run_days, spread}
+use Rattle.card_grace.specs.Rows.{Rows}
 use Rattle.card_grace.proofs.Spreads.{length-spread, runs_push, spread_push}
 use Rattle.card_grace.proofs.rows.CycleRows.row.Goals as goal
 
