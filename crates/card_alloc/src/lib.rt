@@ -9,6 +9,8 @@ mod parts;
 mod pay;
 mod rank;
 mod rule;
+#[cfg(test)]
+mod tests;
 
 pub use allocation::{allocate, place_credit};
 pub use moves::{put_back, take};

@@ -68,6 +68,7 @@ pub fn take(
     ensures entries { OnOk result (out.new.items ≡ out.old.items ++ parts_entries note.now parts.now) }
     ensures err { OnErr result (s.new ≡ s.old) }
     ensures err_entries { OnErr result (out.new.items ≡ out.old.items) }
+    ensures len { length s.new.balances ≡ length s.old.balances }
 {
     let items = parts.items();
     out.reserve(items.len())?;
@@ -98,6 +99,7 @@ pub fn put_back(
     ensures entries { OnOk result (out.new.items ≡ out.old.items ++ back_entries note.now newest parts.now s.old.balances) }
     ensures err { OnErr result (s.new ≡ s.old) }
     ensures err_entries { OnErr result (out.new.items ≡ out.old.items) }
+    ensures len { length s.new.balances ≡ length s.old.balances }
 {
     let items = parts.items();
     out.reserve(2 * items.len())?;

@@ -27,9 +27,9 @@ of-requires c =
     let two : length left ≡ length mid = c.pay_by-credit.auto.holdings ∙ ap length lent in
     let back = c.deref.ensures.value ∙ (ap (λ us. take n (left ++ drop (length left) us)) same ∙ written n left mid two (one ∙ size)) in
     let is = allocated-is c.args.s.now.balances c.args.ranks.now c.at_least_zero-minimum.result c.at_least_zero.result c.pay_by-first.result c.pay_by-credit.result c.deref_mut.result.now mid left c.in_ok-parts_of.field-0.items
-        (c.deref_mut.ensures.value ∙ c.in_ok-list.ensures.items) c.pay_by-first.ensures.paid
-        (ap (λ us. pay excess_rule (c.at_least_zero.result - c.at_least_zero-minimum.result) (at us c.pay_by-first.result)) (sym lent) ∙ c.pay_by-credit.ensures.paid)
-        (c.in_ok-parts_of.ensures ∙ ap (λ us. parts (at us c.pay_by-credit.result)) back) in
+    (c.deref_mut.ensures.value ∙ c.in_ok-list.ensures.items) c.pay_by-first.ensures.paid
+    (ap (λ us. pay excess_rule (c.at_least_zero.result - c.at_least_zero-minimum.result) (at us c.pay_by-first.result)) (sym lent) ∙ c.pay_by-credit.ensures.paid)
+    (c.in_ok-parts_of.ensures ∙ ap (λ us. parts (at us c.pay_by-credit.result)) back) in
     let within : c.at_least_zero-minimum.result ≤ c.at_least_zero.result = omega (arith, minimum, amount, least c.args.minimum_part c.args.amount c.requires.within) in
     let whole = allocated-parts c.args.s.now.balances c.args.ranks.now c.at_least_zero-minimum.result c.at_least_zero.result c.in_ok-list.ensures.some within in
     subst (Ascend 0) (sym is) whole.ascending
@@ -49,9 +49,9 @@ returns-clause-parts c =
     let two : length left ≡ length mid = c.pay_by-credit.auto.holdings ∙ ap length lent in
     let back = c.deref.ensures.value ∙ (ap (λ us. take n (left ++ drop (length left) us)) same ∙ written n left mid two (one ∙ size)) in
     let is = allocated-is c.args.s.now.balances c.args.ranks.now c.at_least_zero-minimum.result c.at_least_zero.result c.pay_by-first.result c.pay_by-credit.result c.deref_mut.result.now mid left c.in_ok-parts_of.field-0.items
-        (c.deref_mut.ensures.value ∙ c.in_ok-list.ensures.items) c.pay_by-first.ensures.paid
-        (ap (λ us. pay excess_rule (c.at_least_zero.result - c.at_least_zero-minimum.result) (at us c.pay_by-first.result)) (sym lent) ∙ c.pay_by-credit.ensures.paid)
-        (c.in_ok-parts_of.ensures ∙ ap (λ us. parts (at us c.pay_by-credit.result)) back) in
+    (c.deref_mut.ensures.value ∙ c.in_ok-list.ensures.items) c.pay_by-first.ensures.paid
+    (ap (λ us. pay excess_rule (c.at_least_zero.result - c.at_least_zero-minimum.result) (at us c.pay_by-first.result)) (sym lent) ∙ c.pay_by-credit.ensures.paid)
+    (c.in_ok-parts_of.ensures ∙ ap (λ us. parts (at us c.pay_by-credit.result)) back) in
     let within : c.at_least_zero-minimum.result ≤ c.at_least_zero.result = omega (arith, minimum, amount, least c.args.minimum_part c.args.amount c.requires.within) in
     let whole = allocated-parts c.args.s.now.balances c.args.ranks.now c.at_least_zero-minimum.result c.at_least_zero.result c.in_ok-list.ensures.some within in
     c.of.ensures ∙ (is ∙ (ap (λ k. allocated k c.at_least_zero.result (holdings [] c.args.s.now.balances c.args.ranks.now)) minimum
@@ -72,9 +72,9 @@ returns-clause-whole c =
     let two : length left ≡ length mid = c.pay_by-credit.auto.holdings ∙ ap length lent in
     let back = c.deref.ensures.value ∙ (ap (λ us. take n (left ++ drop (length left) us)) same ∙ written n left mid two (one ∙ size)) in
     let is = allocated-is c.args.s.now.balances c.args.ranks.now c.at_least_zero-minimum.result c.at_least_zero.result c.pay_by-first.result c.pay_by-credit.result c.deref_mut.result.now mid left c.in_ok-parts_of.field-0.items
-        (c.deref_mut.ensures.value ∙ c.in_ok-list.ensures.items) c.pay_by-first.ensures.paid
-        (ap (λ us. pay excess_rule (c.at_least_zero.result - c.at_least_zero-minimum.result) (at us c.pay_by-first.result)) (sym lent) ∙ c.pay_by-credit.ensures.paid)
-        (c.in_ok-parts_of.ensures ∙ ap (λ us. parts (at us c.pay_by-credit.result)) back) in
+    (c.deref_mut.ensures.value ∙ c.in_ok-list.ensures.items) c.pay_by-first.ensures.paid
+    (ap (λ us. pay excess_rule (c.at_least_zero.result - c.at_least_zero-minimum.result) (at us c.pay_by-first.result)) (sym lent) ∙ c.pay_by-credit.ensures.paid)
+    (c.in_ok-parts_of.ensures ∙ ap (λ us. parts (at us c.pay_by-credit.result)) back) in
     let within : c.at_least_zero-minimum.result ≤ c.at_least_zero.result = omega (arith, minimum, amount, least c.args.minimum_part c.args.amount c.requires.within) in
     let whole = allocated-parts c.args.s.now.balances c.args.ranks.now c.at_least_zero-minimum.result c.at_least_zero.result c.in_ok-list.ensures.some within in
     subst (λ k. AreParts c.args.s.now.balances k c.of.result) amount (subst (AreParts c.args.s.now.balances c.at_least_zero.result) (sym (c.of.ensures ∙ is)) whole)

@@ -20,7 +20,7 @@ of-requires c =
     let long = c.pay_by-credit.auto.holdings ∙ ap length c.deref_mut.ensures.value in
     let back = c.deref.ensures.value ∙ written c.in_ok-list.list.len left items long (sym (ap length c.deref_mut.ensures.value) ∙ c.deref_mut.ensures.len) in
     let is = placed-is c.args.s.now.balances c.args.ranks.now c.args.first.now c.at_least_zero.result c.pay_by-credit.result c.deref_mut.result.now left c.in_ok-parts_of.field-0.items
-        (c.deref_mut.ensures.value ∙ c.in_ok-list.ensures.items) c.pay_by-credit.ensures.paid (c.in_ok-parts_of.ensures ∙ ap (λ us. parts (at us c.pay_by-credit.result)) back) in
+    (c.deref_mut.ensures.value ∙ c.in_ok-list.ensures.items) c.pay_by-credit.ensures.paid (c.in_ok-parts_of.ensures ∙ ap (λ us. parts (at us c.pay_by-credit.result)) back) in
     let whole = placed-parts c.args.s.now.balances c.args.ranks.now c.args.first.now c.at_least_zero.result c.in_ok-list.ensures.some in
     subst (Ascend 0) (sym is) whole.ascending
 
@@ -32,7 +32,7 @@ returns-clause-parts c =
     let long = c.pay_by-credit.auto.holdings ∙ ap length c.deref_mut.ensures.value in
     let back = c.deref.ensures.value ∙ written c.in_ok-list.list.len left items long (sym (ap length c.deref_mut.ensures.value) ∙ c.deref_mut.ensures.len) in
     let is = placed-is c.args.s.now.balances c.args.ranks.now c.args.first.now c.at_least_zero.result c.pay_by-credit.result c.deref_mut.result.now left c.in_ok-parts_of.field-0.items
-        (c.deref_mut.ensures.value ∙ c.in_ok-list.ensures.items) c.pay_by-credit.ensures.paid (c.in_ok-parts_of.ensures ∙ ap (λ us. parts (at us c.pay_by-credit.result)) back) in
+    (c.deref_mut.ensures.value ∙ c.in_ok-list.ensures.items) c.pay_by-credit.ensures.paid (c.in_ok-parts_of.ensures ∙ ap (λ us. parts (at us c.pay_by-credit.result)) back) in
     let whole = placed-parts c.args.s.now.balances c.args.ranks.now c.args.first.now c.at_least_zero.result c.in_ok-list.ensures.some in
     c.of.ensures ∙ is ∙ ap (λ n. placed n (holdings c.args.first.now c.args.s.now.balances c.args.ranks.now)) amount
 
@@ -44,6 +44,6 @@ returns-clause-whole c =
     let long = c.pay_by-credit.auto.holdings ∙ ap length c.deref_mut.ensures.value in
     let back = c.deref.ensures.value ∙ written c.in_ok-list.list.len left items long (sym (ap length c.deref_mut.ensures.value) ∙ c.deref_mut.ensures.len) in
     let is = placed-is c.args.s.now.balances c.args.ranks.now c.args.first.now c.at_least_zero.result c.pay_by-credit.result c.deref_mut.result.now left c.in_ok-parts_of.field-0.items
-        (c.deref_mut.ensures.value ∙ c.in_ok-list.ensures.items) c.pay_by-credit.ensures.paid (c.in_ok-parts_of.ensures ∙ ap (λ us. parts (at us c.pay_by-credit.result)) back) in
+    (c.deref_mut.ensures.value ∙ c.in_ok-list.ensures.items) c.pay_by-credit.ensures.paid (c.in_ok-parts_of.ensures ∙ ap (λ us. parts (at us c.pay_by-credit.result)) back) in
     let whole = placed-parts c.args.s.now.balances c.args.ranks.now c.args.first.now c.at_least_zero.result c.in_ok-list.ensures.some in
     subst (λ n. AreParts c.args.s.now.balances n c.of.result) amount (subst (AreParts c.args.s.now.balances c.at_least_zero.result) (sym (c.of.ensures ∙ is)) whole)
