@@ -1,5 +1,6 @@
 pub mod Accruals
 pub mod BookRows
+pub mod Cases
 pub mod Growth
 pub mod Laws
 pub mod Rows

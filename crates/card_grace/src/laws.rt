@@ -1,5 +1,6 @@
 //! Laws on the interest of a cycle. Their functions do nothing; their clauses are what holds.
 ghost use Rattle.card_grace.specs.Accruals.{AccrualOfABook};
+ghost use Rattle.card_grace.specs.Cases.{CasesOfTerms};
 ghost use Rattle.card_grace.specs.Growth.{InterestInTurn, RepaymentsLower, RowsGrow};
 ghost use Rattle.card_grace.specs.Laws.{KeptRowsToo, NoEarlierDayNoRepaidPortion, OneCaseACycle, RowsOfABook};
 
@@ -41,4 +42,9 @@ pub fn interest_in_turn()
 /// In the book of every day payments and credits lower what is owed.
 pub fn repayments_lower()
     ensures { RepaymentsLower }
+{}
+
+/// A segment bears interest by its kept form as it does by its terms.
+pub fn cases_of_terms()
+    ensures { CasesOfTerms }
 {}

@@ -2,12 +2,14 @@
 #![tactic(auto)]
 
 mod accrual;
+mod case;
 pub mod laws;
 mod rows;
 mod runs;
 
 pub use accrual::Accrual;
 pub use card_model::GraceCase;
+pub use case::{case_of, is_deferred};
 pub use rows::{CycleRows, Repayment};
 
 #[cfg(test)]

@@ -1,5 +1,6 @@
-use crate::{Accrual, CycleRows, GraceCase};
+use crate::{Accrual, CycleRows, GraceCase, case_of, is_deferred};
 use card_days::Day;
+use card_model::{Segment, Sort};
 use card_units::{Bp, Cents, NoMemory, interest};
 use std::alloc::Global;
 use std::process::Abort;
@@ -115,4 +116,32 @@ fn a_deferred_balance_accrues(rt: HostRuntime) {
     accrual.accrue(17, 1, rate(&rt, 2_499));
     assert_eq!(rt; accrual.sum(), 13_145_426_039_169);
     assert_eq!(rt; interest(accrual.sum()), 13_145);
+}
+
+// a plan from 2024-01-10 to its end on 2024-08-05
+#[test]
+fn a_deferred_balance_bears_none_in_its_period(rt: HostRuntime) {
+    let plan = Segment {
+        sort: Sort::Deferred,
+        post: 2,
+        begins: day(&rt, 2024, 1, 10),
+        ends: Some(day(&rt, 2024, 8, 5)),
+    };
+    for (m, d, deferred) in [(1, 9, false), (1, 10, true), (8, 5, true), (8, 6, false)] {
+        assert_eq!(rt;
+            is_deferred(&plan, day(&rt, 2024, m, d)),
+            deferred,
+            "on {m}-{d}"
+        );
+    }
+    let purchases = by_march(&rt);
+    let vintage = Segment {
+        sort: Sort::Purchase,
+        post: 1,
+        begins: day(&rt, 2024, 1, 6),
+        ends: None,
+    };
+    assert!(rt; case_of(&purchases, &vintage, day(&rt, 2024, 8, 5)) == purchases);
+    assert!(rt; case_of(&purchases, &plan, day(&rt, 2024, 8, 5)) == GraceCase::None);
+    assert!(rt; case_of(&purchases, &plan, day(&rt, 2024, 8, 6)) == GraceCase::Plain);
 }
