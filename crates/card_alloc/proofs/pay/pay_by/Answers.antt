@@ -34,4 +34,5 @@ pub returns-clause-paid : goal.returns-clause-paid
 unfolding pay
 returns-clause-paid c =
     let none : c.loop-left.left ≡ 0 = omega arith in
-    sym c.loop-left.invariant.paid ∙ rw none refl
+    let same : c.args.credit + 0 ≡ c.args.credit = omega arith in
+    sym c.loop-left.invariant.paid ∙ rw (none, same) refl
