@@ -1,7 +1,6 @@
 -- What is put back on balances is what the ledger's definition puts back on entries.
-use Rattle.std.proofs.Common.{◌≡◌, ℕ, ◌<◌, ◌≤◌, Bool, true, false, cond, List, [], ◌∷◌, ◌++◌, length, refl, sym, ap, ◌∙◌, arith, append-nil, eqb, get_or, ℤ, pos}
+use Rattle.std.proofs.Common.{◌≡◌, ℕ, ◌<◌, Bool, true, false, cond, List, [], ◌∷◌, ◌++◌, length, refl, sym, ap, ◌∙◌, arith, append-nil, eqb, ℤ}
 use Rattle.std.specs.Prelude.{neg_ℤ}
-use Rattle.std.specs.List.{All}
 use Rattle.std.proofs.lemmas.List.Elements.{All-head, All-tail}
 use Rattle.card_model.specs.Effects.{put_back, size}
 use Rattle.card_model.specs.Entries.{AreBalances, at_least_zero, credit_balance, credit_in, debit, posted}

@@ -1,9 +1,8 @@
-use Rattle.std.proofs.Common.{◌≡◌, ℕ, ◌+◌, ◌-◌, ◌<◌, ◌≤◌, ◌^◌, min, get_or, length, refl, sym, ◌∙◌, subst, arith, Some}
-use Rattle.card_model.specs.Allocation.{Ascends, paid_at, pay}
-use Rattle.card_model.specs.declared.holding.Holding.{Holding}
+use Rattle.std.proofs.Common.{◌≡◌, ◌+◌, ◌≤◌, get_or, refl, sym, ◌∙◌, arith, Some}
+use Rattle.card_model.specs.Allocation.{pay}
 use Rattle.card_model.proofs.WholeParts.{paid_at-ascends}
 use Rattle.card_alloc.specs.Rules.{rule_of}
-use Rattle.card_alloc.proofs.Turn.{fits, over, positive, turn}
+use Rattle.card_alloc.proofs.Turn.{over, positive, turn}
 use Rattle.card_alloc.proofs.pay.pay_by.Goals as goal
 
 pub loop-left-smaller : goal.loop-left-smaller
