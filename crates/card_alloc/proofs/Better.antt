@@ -1,5 +1,5 @@
 -- The choice among the holdings from a place on, by the choice among those behind it.
-use Rattle.std.proofs.Common.{◌≡◌, ℕ, ◌+◌, ◌<◌, ◌≤◌, Bool, true, false, cond, ◌&&◌, List, drop, length, refl, sym, ap, ◌∙◌, subst, arith, ltb, get_or, Option, Some, None}
+use Rattle.std.proofs.Common.{◌≡◌, ℕ, ◌+◌, ◌<◌, Bool, true, false, cond, ◌&&◌, List, drop, length, refl, sym, ap, ◌∙◌, arith, ltb, get_or, Option, Some, None}
 use Rattle.std.proofs.lemmas.Bool.Decides.{nat_tests}
 use Rattle.std.proofs.lemmas.List.{drop_more, get_or_read}
 use Rattle.card_model.specs.Allocation.{best, choose}

@@ -1,8 +1,8 @@
 -- The holdings of balances and ranks, and the parts that they were paid.
-use Rattle.std.proofs.Common.{◌≡◌, ℕ, zero, suc, ◌+◌, ◌<◌, ◌≤◌, ◌^◌, Bool, true, false, cond, List, [], ◌∷◌, ◌++◌, length, drop, refl, sym, ap, ◌∙◌, arith, eqb, get_or, ℤ, pos, Option, Some, None}
-use Rattle.std.specs.List.{All, filter_map, cons_option}
+use Rattle.std.proofs.Common.{◌≡◌, ℕ, ◌+◌, ◌<◌, ◌≤◌, Bool, true, false, cond, List, [], ◌∷◌, ◌++◌, length, drop, refl, sym, ap, ◌∙◌, arith, eqb, get_or, ℤ, pos, Some, None}
+use Rattle.std.specs.List.{filter_map, cons_option}
 use Rattle.std.proofs.lemmas.List.{drop_more, drop_all}
-use Rattle.card_model.specs.Allocation.{Ascends, Paying, part_of, parts}
+use Rattle.card_model.specs.Allocation.{Ascends, part_of, parts}
 use Rattle.card_model.specs.declared.holding.Holding.{Holding}
 use Rattle.card_alloc.specs.Holdings.{holding, holdings_from}
 use Rattle.card_alloc.specs.Parts.{part}

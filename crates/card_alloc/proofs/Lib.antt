@@ -4,3 +4,4 @@ pub mod HoldingLists
 pub mod PartFacts
 pub mod Payable
 pub mod Undone
+pub mod Returned

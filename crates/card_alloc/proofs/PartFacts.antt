@@ -6,7 +6,7 @@ use Rattle.std.proofs.lemmas.Int.{ints}
 use Rattle.std.proofs.lemmas.List.{drop_all}
 use Rattle.std.proofs.lemmas.Bool.{eqb-true, ne_eqb}
 use Rattle.std.proofs.lemmas.List.Elements.{All-nil, All-cons, All-head, All-tail, All-weaker}
-use Rattle.card_model.specs.Allocation.{Ascends, Paying, allocated, excess_rule, minimum_rule, paid_at, paid_on, part_of, parts, pay, place_rule, placed, takes, untouched}
+use Rattle.card_model.specs.Allocation.{Ascends, Paying, allocated, excess_rule, minimum_rule, paid_at, part_of, parts, pay, place_rule, placed, takes, untouched}
 use Rattle.card_model.specs.Entries.{at_least_zero}
 use Rattle.card_model.specs.declared.holding.Holding.{Holding}
 use Rattle.card_model.proofs.Signs.{excess-chooses, minimum-chooses, pay-within, place-chooses}

@@ -1,11 +1,10 @@
 -- Parts that are taken or put back one after the other.
-use Rattle.std.proofs.Common.{◌≡◌, ℕ, zero, suc, ◌+◌, ◌-◌, ◌<◌, ◌≤◌, Bool, true, false, cond, List, [], ◌∷◌, ◌++◌, length, refl, sym, ap, ◌∙◌, subst, arith, eqb, get_or, ℤ, pos, negsuc, ◌+ℤ◌}
-use Rattle.std.specs.Prelude.{min, ◌≤ℤ◌, neg_ℤ}
-use Rattle.std.specs.List.{All}
+use Rattle.std.proofs.Common.{◌≡◌, ℕ, zero, suc, ◌+◌, ◌-◌, ◌<◌, ◌≤◌, Bool, true, false, cond, List, [], ◌∷◌, ◌++◌, length, refl, sym, ap, ◌∙◌, arith, eqb, get_or, ℤ, pos, ◌+ℤ◌}
+use Rattle.std.specs.Prelude.{min, ◌≤ℤ◌}
 use Rattle.std.proofs.lemmas.Int.{ints}
-use Rattle.std.proofs.lemmas.Bool.{eqb-true, ne_eqb}
+use Rattle.std.proofs.lemmas.Bool.{ne_eqb}
 use Rattle.std.proofs.lemmas.List.Elements.{All-nil, All-cons, All-head, All-tail}
-use Rattle.card_model.specs.Entries.{at_least_zero, balance, credit_in, debit, lowers, negated, posted}
+use Rattle.card_model.specs.Entries.{credit_in, debit, lowers, negated, posted}
 use Rattle.card_model.specs.declared.entry.Entry.{Entry}
 use Rattle.card_model.specs.declared.entry.Note.{Note}
 use Rattle.card_model.specs.declared.segment.Segment.{Segment}

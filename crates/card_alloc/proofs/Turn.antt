@@ -1,13 +1,12 @@
 -- One turn of a loop that pays whole parts.
-use Rattle.std.proofs.Common.{◌≡◌, ℕ, zero, suc, ◌+◌, ◌-◌, ◌<◌, ◌≤◌, ◌^◌, List, [], ◌∷◌, length, refl, sym, ap, ◌∙◌, subst, arith, get_or, set, Option, Some, None}
+use Rattle.std.proofs.Common.{◌≡◌, ℕ, zero, suc, ◌+◌, ◌-◌, ◌<◌, ◌≤◌, ◌^◌, List, [], ◌∷◌, length, refl, ap, ◌∙◌, arith, get_or, set, Option, Some, None}
 use Rattle.std.specs.List.{All}
 use Rattle.std.specs.Option.{option_or}
-use Rattle.std.proofs.lemmas.List.{get_or_default}
 use Rattle.std.proofs.lemmas.List.Elements.{All-nil, All-cons, All-head, All-tail, All-get_or}
-use Rattle.card_model.specs.Allocation.{Ascends, Paying, best, excess_rule, never, paid_at, paid_on, pay, place_rule, takes}
+use Rattle.card_model.specs.Allocation.{Ascends, Paying, best, excess_rule, never, paid_at, paid_on, pay, place_rule}
 use Rattle.card_model.specs.declared.holding.Holding.{Holding}
 use Rattle.card_model.proofs.Signs.{excess-chooses, minimum-chooses, place-chooses}
-use Rattle.card_model.proofs.WholeParts.{Lasts, Steady, best-none, best-steady, excess_lasts, minimum_lasts, paid_at-ascends, pay-add, pay_credit, pay_whole}
+use Rattle.card_model.proofs.WholeParts.{Lasts, Steady, best-none, best-steady, excess_lasts, minimum_lasts, pay-add, pay_credit, pay_whole}
 use Rattle.card_alloc.specs.declared.rule.Rule.{Rule}
 use Rattle.card_alloc.specs.declared.rule.Rule.TheVariants as rule
 use Rattle.card_alloc.specs.Rules.{rule_of}

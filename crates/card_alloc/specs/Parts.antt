@@ -1,6 +1,7 @@
 -- The parts of a payment, each a segment and its cents, and what takes them and puts them back.
 use Rattle.std.specs.Prelude.{ℕ, ◌+◌, ◌≤◌, ◌<◌, ◌≡◌, ◌==◌, if◌then◌else◌, List, [], ◌∷◌, ◌++◌, length, ℤ, pos, ◌≤ℤ◌, slice_index_or}
 use Rattle.std.specs.List.{All}
+use Rattle.card_model.specs.Effects.{size}
 use Rattle.card_model.specs.Entries.{credit_in, debit, posted}
 use Rattle.card_model.specs.declared.entry.Entry.{Entry}
 use Rattle.card_model.specs.declared.entry.Note.{Note}
@@ -13,6 +14,11 @@ parts_sum (p ∷ ps) = p.1 + parts_sum ps
 -- a part of so many cents, none where they are 0
 abbrev pub part : ℕ → ℕ → List (ℕ × ℕ)
 part id cents = if cents == 0 then [] else (id, cents) ∷ []
+
+-- the parts that entries tell
+abbrev pub parts_in : List Entry → List (ℕ × ℕ)
+parts_in [] = []
+parts_in (e ∷ es) = (e.segment, size e.cents) ∷ parts_in es
 
 -- each segment once, ascending from a number on
 abbrev pub Ascend : ℕ → List (ℕ × ℕ) → Type 0

@@ -46,5 +46,5 @@ pub fn pay_by(holdings: &mut [Holding], rule: Rule, amount: u64, credit: u64) ->
             }
         }
     }
-    credit
+    credit + left
 }

@@ -53,7 +53,7 @@ fn owe(
 }
 
 // Purchase, cash, transfer, a promotional and a deferred plan with these balances.
-fn owing(rt: &impl Abort, alloc: Global, balances: &[Cents]) -> Result<Segments, Fail> {
+fn owing(rt: &impl Abort, alloc: Global, balances: &[u16]) -> Result<Segments, Fail> {
     let opened = day(rt, 19_728);
     let mut segments = Segments::start(alloc, opened)?;
     for sort in [Sort::Promo, Sort::Deferred] {
@@ -68,32 +68,31 @@ fn owing(rt: &impl Abort, alloc: Global, balances: &[Cents]) -> Result<Segments,
     let mut out = Vec::new(alloc);
     let mut id = 2;
     for cents in balances {
-        owe(rt, &mut segments, id, *cents, &mut out)?;
+        owe(rt, &mut segments, id, Cents::from(*cents), &mut out)?;
         assert!(rt; id < 200);
         id += 1;
     }
     Ok(segments)
 }
 
-// Credit and Held without a rank, and these; an end of 0 is none.
-fn ranks(rt: &impl Abort, alloc: Global, rates: &[u16], ends: &[i32]) -> Result<Vec<Rank>, Fail> {
-    let none = Rank {
-        rate: 0,
-        last_two: None,
+// A rank; an end of 0 is none.
+fn rank(rt: &impl Abort, rate: u16, end: u16) -> Rank {
+    let last_two = if end == 0 {
+        None
+    } else {
+        Some(day(rt, 19_800 + i32::from(end)))
     };
+    Rank { rate, last_two }
+}
+
+// Credit and Held without a rate, and these ranks.
+fn ranks(rt: &impl Abort, alloc: Global, rates: &[u16], ends: &[u16]) -> Result<Vec<Rank>, Fail> {
     let mut ranks = Vec::new(alloc);
-    ranks.push(none)?;
-    ranks.push(none)?;
+    ranks.push(rank(rt, 0, 0))?;
+    ranks.push(rank(rt, 0, 0))?;
     for i in 0..rates.len() {
         assert!(rt; i < ends.len());
-        assert!(rt; 0 <= ends[i] && ends[i] < 100);
-        let last_two = if ends[i] == 0 {
-            None
-        } else {
-            Some(day(rt, 19_800 + ends[i]))
-        };
-        let rate = rates[i];
-        ranks.push(Rank { rate, last_two })?;
+        ranks.push(rank(rt, rates[i], ends[i]))?;
     }
     Ok(ranks)
 }
@@ -108,7 +107,17 @@ fn cents_of(parts: &Parts, id: u8) -> u64 {
     0
 }
 
-// A table's payment is allocated to these parts, by segment.
+// The parts are these, of Credit and of segments 2 to 6.
+fn has_parts(rt: &impl Abort, parts: &Parts, want: &[u16]) {
+    assert_eq!(rt; want.len(), 6);
+    assert_eq!(rt; cents_of(parts, 0), u64::from(want[0]));
+    assert_eq!(rt; cents_of(parts, 1), 0);
+    for id in 2..7 {
+        assert_eq!(rt; cents_of(parts, id), u64::from(want[id as usize - 1]));
+    }
+}
+
+// A payment is allocated to these parts.
 fn is_allocated(
     rt: &impl Abort,
     alloc: Global,
@@ -116,19 +125,16 @@ fn is_allocated(
     ranks: &[Rank],
     minimum: Cents,
     amount: Cents,
-    want: &[u64],
+    want: &[u16],
 ) -> Result<(), Fail> {
     assert!(rt; ranks.len() == segments.len() as usize);
     assert!(rt; 0 <= minimum && minimum <= amount && amount <= 1_000_000_000_000_000);
     let parts = allocate(alloc, segments, ranks, minimum, amount)?;
-    for i in 0..want.len() {
-        assert!(rt; i < 200);
-        assert_eq!(rt; cents_of(&parts, i as u8), want[i]);
-    }
+    has_parts(rt, &parts, want);
     Ok(())
 }
 
-// A table's credit is placed on these parts, by segment.
+// A merchant's credit is placed on these parts.
 fn is_placed(
     rt: &impl Abort,
     alloc: Global,
@@ -136,15 +142,12 @@ fn is_placed(
     ranks: &[Rank],
     first: &[u8],
     amount: Cents,
-    want: &[u64],
+    want: &[u16],
 ) -> Result<(), Fail> {
     assert!(rt; ranks.len() == segments.len() as usize);
     assert!(rt; 0 <= amount && amount <= 1_000_000_000_000_000);
     let parts = place_credit(alloc, segments, ranks, first, amount)?;
-    for i in 0..want.len() {
-        assert!(rt; i < 200);
-        assert_eq!(rt; cents_of(&parts, i as u8), want[i]);
-    }
+    has_parts(rt, &parts, want);
     Ok(())
 }
 
@@ -164,7 +167,7 @@ fn minimum_then_greatest_rate(rt: HostRuntime) -> Result<(), Fail> {
         &plain,
         3_500,
         40_000,
-        &[0, 0, 6_500, 30_000, 0, 3_500, 0],
+        &[0, 6_500, 30_000, 0, 3_500, 0],
     )?;
     let segments = owing(&rt, alloc, &[50_000, 30_000, 0, 20_000, 40_000])?;
     is_allocated(
@@ -174,7 +177,7 @@ fn minimum_then_greatest_rate(rt: HostRuntime) -> Result<(), Fail> {
         &ending,
         3_500,
         40_000,
-        &[0, 0, 0, 0, 0, 3_500, 36_500],
+        &[0, 0, 0, 0, 3_500, 36_500],
     )?;
     is_allocated(
         &rt,
@@ -183,7 +186,7 @@ fn minimum_then_greatest_rate(rt: HostRuntime) -> Result<(), Fail> {
         &plain,
         3_500,
         40_000,
-        &[0, 0, 6_500, 30_000, 0, 3_500, 0],
+        &[0, 6_500, 30_000, 0, 3_500, 0],
     )?;
     Ok(())
 }

@@ -1,4 +1,4 @@
-use Rattle.std.proofs.Common.{◌≡◌, ◌∙◌, ap, arith, sym, subst, length, w64}
+use Rattle.std.proofs.Common.{◌∙◌, ap, arith, sym, subst, length, w64}
 use Rattle.std.proofs.lemmas.Int.{to_z-of_z}
 use Rattle.card_model.specs.Allocation.{placed, parts}
 use Rattle.card_model.specs.Entries.{at_least_zero}

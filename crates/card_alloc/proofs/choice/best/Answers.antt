@@ -1,4 +1,4 @@
-use Rattle.std.proofs.Common.{refl, ◌≤◌, arith, length}
+use Rattle.std.proofs.Common.{refl, arith, length}
 use Rattle.std.proofs.lemmas.List.{drop_all}
 use Rattle.card_model.specs.Allocation.{best}
 use Rattle.card_alloc.proofs.choice.best.Goals as goal

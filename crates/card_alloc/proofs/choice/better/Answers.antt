@@ -1,6 +1,5 @@
-use Rattle.std.proofs.Common.{arith, subst, ◌≡◌, ◌<◌, ◌+◌, Option, Some, None, ℕ, drop, length, true, false, sym, ◌∙◌, get_or}
-use Rattle.card_model.specs.declared.holding.Holding.{Holding}
-use Rattle.card_alloc.specs.Rules.{IsPlaceOf, chosen, is_before, passes}
+use Rattle.std.proofs.Common.{arith, subst, ◌+◌, drop, sym, ◌∙◌}
+use Rattle.card_alloc.specs.Rules.{IsPlaceOf, chosen}
 use Rattle.card_alloc.proofs.Better.{closed, failing, first, kept, taken}
 use Rattle.card_alloc.proofs.choice.better.Goals as goal
 

@@ -1,10 +1,10 @@
-use Rattle.std.proofs.Common.{◌≡◌, ◌+◌, ◌*◌, ◌<◌, ◌≤◌, ◌∷◌, [], ◌++◌, ◌∙◌, append-nil, drop, length, ap, sym, subst, arith, slice_index_or}
+use Rattle.std.proofs.Common.{◌≡◌, ◌+◌, ◌<◌, ◌∷◌, [], ◌++◌, ◌∙◌, append-nil, drop, length, ap, sym, subst, arith, slice_index_or}
 use Rattle.std.proofs.lemmas.List.{drop_all, drop_more}
-use Rattle.card_model.specs.Entries.{credit_in, debit, posted}
+use Rattle.card_model.specs.Entries.{credit_in, debit}
 use Rattle.card_model.proofs.Posted.{length-posted}
 use Rattle.card_segments.specs.Balances.{after_entries}
 use Rattle.card_alloc.specs.Parts.{back_entries, segment_back}
-use Rattle.card_alloc.proofs.Payable.{HaveRoom, back-entries, back-high, back-known, back-ok, can-move, room-raise, room-start}
+use Rattle.card_alloc.proofs.Payable.{HaveRoom, back-entries, back-high, back-known, back-ok, can-move, room-raise}
 use Rattle.card_alloc.proofs.moves.put_back.Goals as goal
 
 pub return_part-requires-clause-segment : goal.return_part-requires-clause-segment

@@ -1,10 +1,10 @@
-use Rattle.std.proofs.Common.{◌≡◌, ◌+◌, ◌<◌, ◌≤◌, ◌∷◌, ◌++◌, drop, length, ap, sym, subst, arith, slice_index_or}
+use Rattle.std.proofs.Common.{◌≡◌, ◌+◌, ◌<◌, ◌∷◌, ◌++◌, drop, length, ap, subst, arith, slice_index_or}
 use Rattle.std.proofs.lemmas.List.{drop_more}
 use Rattle.card_model.specs.Effects.{parts_entries}
 use Rattle.card_model.specs.Entries.{lowers}
 use Rattle.card_model.proofs.Posted.{length-posted}
 use Rattle.card_segments.specs.Balances.{after_entries}
-use Rattle.card_alloc.proofs.Payable.{ArePayable, can-move, head-covered, join-entries, join-ok, payable-step, room-start}
+use Rattle.card_alloc.proofs.Payable.{ArePayable, can-move, head-covered, join-entries, join-ok, payable-step}
 use Rattle.card_alloc.proofs.moves.take.Goals as goal
 
 pub take_part-requires-clause-known : goal.take_part-requires-clause-known

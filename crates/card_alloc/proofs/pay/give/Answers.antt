@@ -1,4 +1,4 @@
-use Rattle.std.proofs.Common.{◌≡◌, subst, get_or, set, slice_index_or}
+use Rattle.std.proofs.Common.{◌≡◌, subst, get_or, set}
 use Rattle.std.proofs.lemmas.List.{get_or_default}
 use Rattle.card_model.specs.Allocation.{paid_at, paid_on}
 use Rattle.card_model.specs.declared.holding.Holding.{Holding}

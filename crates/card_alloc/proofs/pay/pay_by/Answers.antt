@@ -1,9 +1,8 @@
-use Rattle.std.proofs.Common.{◌≡◌, ℕ, ◌+◌, ◌-◌, ◌<◌, ◌≤◌, ◌^◌, min, get_or, length, refl, sym, ◌∙◌, subst, arith, Some}
-use Rattle.card_model.specs.Allocation.{Ascends, paid_at, pay}
-use Rattle.card_model.specs.declared.holding.Holding.{Holding}
+use Rattle.std.proofs.Common.{◌≡◌, ◌+◌, ◌≤◌, get_or, refl, sym, ◌∙◌, arith, Some}
+use Rattle.card_model.specs.Allocation.{pay}
 use Rattle.card_model.proofs.WholeParts.{paid_at-ascends}
 use Rattle.card_alloc.specs.Rules.{rule_of}
-use Rattle.card_alloc.proofs.Turn.{fits, over, positive, turn}
+use Rattle.card_alloc.proofs.Turn.{over, positive, turn}
 use Rattle.card_alloc.proofs.pay.pay_by.Goals as goal
 
 pub loop-left-smaller : goal.loop-left-smaller
@@ -34,4 +33,5 @@ pub returns-clause-paid : goal.returns-clause-paid
 unfolding pay
 returns-clause-paid c =
     let none : c.loop-left.left ≡ 0 = omega arith in
-    sym c.loop-left.invariant.paid ∙ rw none refl
+    let same : c.args.credit + 0 ≡ c.args.credit = omega arith in
+    sym c.loop-left.invariant.paid ∙ rw (none, same) refl

@@ -1,4 +1,4 @@
-use Rattle.std.proofs.Common.{◌≡◌, ◌+◌, ◌<◌, ◌≤◌, ◌^◌}
+use Rattle.std.proofs.Common.{◌≡◌, ◌≤◌}
 use Rattle.std.specs.List.{All}
 use Rattle.card_model.specs.Allocation.{Ascends, pay}
 use Rattle.card_alloc.specs.Rules.{rule_of}
