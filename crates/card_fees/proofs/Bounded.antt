@@ -1,8 +1,7 @@
 -- The bounds of the slots of some days.
-use Rattle.std.proofs.Common.{Bool, ℕ, ◌<◌, ◌≤◌, ◌≤ℤ◌, ℤ, pos, length, unsigned_abs, arith, List, get_or}
-use Rattle.std.specs.List.{All, filter}
-use Rattle.std.proofs.lemmas.Int.{ints}
-use Rattle.std.proofs.lemmas.List.Elements.{All-filter, All-get_or}
+use Rattle.std.proofs.Common.{Bool, ◌≤ℤ◌, pos, arith, List}
+use Rattle.std.specs.List.{filter}
+use Rattle.std.proofs.lemmas.List.Elements.{All-filter}
 use Rattle.std.proofs.lemmas.List.Sums.{length-filter, count_by-le-length}
 use Rattle.card_events.specs.declared.kept.Slot.{Slot}
 use Rattle.card_posts.specs.Posted.{AreBounded}
