@@ -1,9 +1,8 @@
 -- The words of the fold are those of this crate.
-use Rattle.std.proofs.Common.{◌≡◌, ℕ, suc, ◌+◌, ◌-◌, ◌*◌, ◌≤◌, Bool, true, false, cond, not, ◌&&◌, ◌||◌, nat_le, nat_lt, List, [], ◌∷◌, length, map, min, Some, refl, ap, ◌∙◌, arith, pos}
-use Rattle.std.specs.List.{All, filter, list_any, sum_by}
+use Rattle.std.proofs.Common.{◌≡◌, ℕ, suc, ◌+◌, ◌-◌, ◌≤◌, Bool, true, false, cond, not, ◌&&◌, ◌||◌, nat_le, nat_lt, List, [], ◌∷◌, map, Some, refl, ap, ◌∙◌, arith, pos}
+use Rattle.std.specs.List.{All, filter, list_any}
 use Rattle.std.proofs.lemmas.Bool.Decides.{nat_tests}
-use Rattle.std.proofs.lemmas.List.Elements.{All-head, All-tail, All-cons, All-nil}
-use Rattle.std.proofs.lemmas.List.Sums.{sum_by-cons}
+use Rattle.std.proofs.lemmas.List.Elements.{All-cons, All-nil}
 use Rattle.card_days.specs.Billing.{closing, due}
 use Rattle.card_days.specs.declared.anchor.Anchor.{Anchor}
 use Rattle.card_events.specs.History.{CorrectedPost, is_folded}
@@ -14,7 +13,7 @@ use Rattle.card_model.specs.Cycles.{Cycle, Seen}
 use Rattle.card_model.specs.Payments.{asked, counted, has_due_payment, is_between, is_payment, is_returned, met, past_due, returns, sixty_days_late}
 use Rattle.card_model.specs.Payments as fold
 use Rattle.card_fees.specs.Due.{HaveTheirDays, is_late_from, is_met, owes_sixty_days, past_due_at, seen_of}
-use Rattle.card_fees.specs.Laws.{AreFew, SeesPosts}
+use Rattle.card_fees.specs.Laws.{SeesPosts}
 use Rattle.card_fees.proofs.Slots.{any-filter, any-same, sum-filter, sum-same}
 
 -- ---- posts that the fold sees
@@ -150,27 +149,3 @@ late-fold a posts seen k [] sees h = refl
 late-fold a posts seen k (c ∷ cs) sees h =
     ap (λ b. b || list_any (fold.owes_sixty_days seen) cs) (owes-fold a posts seen k c sees h.0)
     ∙ ap (λ b. owes_sixty_days a posts seen.day k (pos (asked seen.issued (Some c))) || b) (late-fold a posts seen (suc k) cs sees h.1)
-
--- ---- the sum is small
-sum-bound : (f : CorrectedPost → ℕ) (posts : List CorrectedPost) → ((p : CorrectedPost) → f p ≤ p.cents) → All (λ p. p.cents ≤ 999_999_999_999) posts → sum_by f posts ≤ length posts * 999_999_999_999
-sum-bound f [] h a = omega arith
-sum-bound f (p ∷ ps) h a =
-    let one = sum_by-cons f p ps in
-    let first : p.cents ≤ 999_999_999_999 = All-head (λ (q : CorrectedPost). q.cents ≤ 999_999_999_999) p ps a in
-    let rest = sum-bound f ps h (All-tail (λ (q : CorrectedPost). q.cents ≤ 999_999_999_999) p ps a) in
-    let here = h p in
-    omega (arith, one, first, rest, here)
-
-cond-least : (b : Bool) (n : ℕ) → cond b n 0 ≤ n
-cond-least true n = omega arith
-cond-least false n = omega arith
-
-counted-bound : (posts : List CorrectedPost) (from to : ℕ) → All (λ p. p.cents ≤ 999_999_999_999) posts → counted posts from to ≤ length posts * 999_999_999_999
-unfolding counted
-counted-bound posts from to a = sum-bound (λ p. cond (is_payment p.post && is_between from to p && not (is_returned posts to p.number)) p.cents 0) posts (λ p. cond-least (is_payment p.post && is_between from to p && not (is_returned posts to p.number)) p.cents) a
-
-pub counted-small : (posts : List CorrectedPost) (from to : ℕ) → AreFew posts → min 9_223_372_036_854_775_807 (counted posts from to) ≡ counted posts from to
-counted-small posts from to few =
-    let bound = counted-bound posts from to few.cents in
-    let count = few.count in
-    omega (arith, bound, count)

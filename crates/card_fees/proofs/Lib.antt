@@ -1,3 +1,4 @@
+pub mod Bounded
 pub mod Slots
 pub mod RowsFound
 pub mod Days

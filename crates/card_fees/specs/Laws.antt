@@ -1,6 +1,6 @@
 -- Laws on penalty fees, and that the words of the fold are those of this crate (12 CFR 1026.5(b)(2)(ii), .52(b), .55(b)(4)).
-use Rattle.std.specs.Prelude.{ℕ, ◌+◌, ◌≡◌, ◌≤◌, false, min, nat_le, List, [], ◌∷◌, ◌++◌, length, map, Some, pos}
-use Rattle.std.specs.List.{All, filter}
+use Rattle.std.specs.Prelude.{ℕ, ◌+◌, ◌≡◌, ◌≤◌, false, nat_le, List, [], ◌∷◌, ◌++◌, map, Some, pos}
+use Rattle.std.specs.List.{filter}
 use Rattle.card_days.specs.Billing.{closing, due}
 use Rattle.card_days.specs.declared.anchor.Anchor.{Anchor}
 use Rattle.card_events.specs.History.{CorrectedPost}
@@ -79,13 +79,3 @@ abbrev pub LateOfTheFold : Type 0
 LateOfTheFold =
     (a : Anchor) (posts : List CorrectedPost) (seen : Seen) (cycles : List Cycle) → SeesPosts seen posts → HaveTheirDays a 1 cycles
     → sixty_days_late seen cycles ≡ is_sixty_days_late a posts seen.day (map (λ c. pos (asked seen.issued (Some c))) cycles)
-
--- ---- the sum
--- an account's posts: at most 10,000, each of at most 999,999,999,999 cents
-pub record AreFew (posts : List CorrectedPost) : Type 0 where
-  pub count : length posts ≤ 10_000
-  pub cents : All (λ p. p.cents ≤ 999_999_999_999) posts
-
--- their payments together are below the greatest number of 64 bits
-abbrev pub CountedIsSmall : Type 0
-CountedIsSmall = (posts : List CorrectedPost) (from to : ℕ) → AreFew posts → min 9_223_372_036_854_775_807 (counted posts from to) ≡ counted posts from to

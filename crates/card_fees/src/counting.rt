@@ -1,11 +1,11 @@
 // Sums over the payments of some days.
-ghost use Rattle.std.specs.Prelude.{◌≡◌, ◌≤◌, ℕ, List, Some, false, length, min, nat_le, nat_lt, pos, take};
+ghost use Rattle.std.specs.Prelude.{◌≡◌, ◌≤◌, ℕ, List, Some, false, length, nat_le, nat_lt, pos, take, unsigned_abs};
 ghost use Rattle.std.specs.List.{filter};
 ghost use Rattle.card_events.specs.History.{at_number};
 ghost use Rattle.card_fees.specs.Counting.{counts, is_payment_at, is_returned_among, returns_at, since, slots_sum, up_to};
 ghost use Rattle.card_model.specs.Payments as payments;
 ghost use Rattle.card_posts.specs.Order.{IsAscending};
-ghost use Rattle.card_posts.specs.Posted.{StandsFor, folding_order};
+ghost use Rattle.card_posts.specs.Posted.{AreBounded, StandsFor, folding_order};
 
 use card_days::Day;
 use card_events::{Post, Slot};
@@ -43,7 +43,8 @@ fn up_to(slots: &[Slot], to: Day) -> &[Slot]
 
 // the slots from one day to another
 fn slots_of(posts: &Posts, from: Day, to: Day) -> &[Slot]
-    ensures { result.now ≡ up_to to (since from (folding_order posts.now.corrected)) }
+    ensures value { result.now ≡ up_to to (since from (folding_order posts.now.corrected)) }
+    ensures bounded { AreBounded result.now }
 {
     up_to(since(posts.in_order(), from), to)
 }
@@ -117,7 +118,8 @@ fn is_returned(posts: &Posts, among: &[Slot], payment: u32) -> bool
 
 // the cents of a payment that none of the slots returns
 fn counts(posts: &Posts, among: &[Slot], slot: &Slot) -> u64
-    ensures { result ≡ counts posts.now.history among.now slot.now }
+    ensures value { result ≡ counts posts.now.history among.now slot.now }
+    ensures bound { result ≤ unsigned_abs slot.now.cents }
 {
     if is_payment(posts, slot.number) && !is_returned(posts, among, slot.number) {
         slot.cents.unsigned_abs()
@@ -126,29 +128,31 @@ fn counts(posts: &Posts, among: &[Slot], slot: &Slot) -> u64
     }
 }
 
-fn sum(posts: &Posts, slots: &[Slot]) -> u128
-    ensures { result ≡ slots_sum posts.now.history slots.now slots.now }
+fn sum(posts: &Posts, slots: &[Slot]) -> u64
+    requires bounded { AreBounded slots.now }
+    ensures value { result ≡ slots_sum posts.now.history slots.now slots.now }
+    ensures bound { result ≤ 9_999_999_999_990_000 }
 {
     let returns = from_returns(posts, slots);
     let mut total = 0;
     for slot in slots {
-        total += counts(posts, returns, slot) as u128;
+        total += counts(posts, returns, slot);
     }
     total
 }
 
 // The payments with effective days from one day to another, less those returned by its end.
-pub fn counted_between(posts: &Posts, from: Day, to: Day) -> u128
-    ensures { (holidays : List ℕ) → StandsFor holidays posts.now → result ≡ payments.counted posts.now.corrected from to }
+pub fn counted_between(posts: &Posts, from: Day, to: Day) -> u64
+    ensures bound { result ≤ 9_999_999_999_990_000 }
+    ensures value { (holidays : List ℕ) → StandsFor holidays posts.now → result ≡ payments.counted posts.now.corrected from to }
 {
     sum(posts, slots_of(posts, from, to))
 }
 
 /// The cents of the payments with effective days from one day to another, without those returned by its end (12 CFR
-/// 1026.10, .55(b)(4)). The corrected list is that of the posts under some calendar. A sum that the result can't hold
-/// counts as its greatest value. It takes no memory.
+/// 1026.10, .55(b)(4)). The corrected list is that of the posts under some calendar. It takes no memory.
 pub fn counted(posts: &Posts, from: Day, to: Day) -> Cents
-    ensures { (holidays : List ℕ) → StandsFor holidays posts.now → result ≡ pos (min 9_223_372_036_854_775_807 (payments.counted posts.now.corrected from to)) }
+    ensures { (holidays : List ℕ) → StandsFor holidays posts.now → result ≡ pos (payments.counted posts.now.corrected from to) }
 {
-    counted_between(posts, from, to).min(i64::MAX as u128) as i64
+    counted_between(posts, from, to) as i64
 }

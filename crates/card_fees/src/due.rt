@@ -39,11 +39,12 @@ fn closing_date(a: &Anchor, k: u32) -> Day
 }
 
 // the payments since the closing of a cycle, up to a later day
-fn since_closing(posts: &Posts, a: &Anchor, k: u32, to: Day) -> u128
+fn since_closing(posts: &Posts, a: &Anchor, k: u32, to: Day) -> u64
     requires close_day { IsCloseDay a.now.close_day }
     requires cycle { 1 ≤ k }
     requires closed { closing a.now k < to }
-    ensures { (holidays : List ℕ) → StandsFor holidays posts.now → result ≡ payments.counted posts.now.corrected (closing a.now k + 1) to }
+    ensures bound { result ≤ 9_999_999_999_990_000 }
+    ensures value { (holidays : List ℕ) → StandsFor holidays posts.now → result ≡ payments.counted posts.now.corrected (closing a.now k + 1) to }
 {
     let _last = to.number();
     let from = day_after(closing_date(a, k));
@@ -61,15 +62,15 @@ pub fn met(posts: &Posts, a: Anchor, k: u32, minimum: Cents) -> bool
     requires low { pos 0 ≤ℤ minimum }
     ensures { (holidays : List ℕ) → StandsFor holidays posts.now → result ≡ is_met a posts.now.corrected k (unsigned_abs minimum) }
 {
-    minimum as u128 <= since_closing(posts, &a, k, due_date(&a, k))
+    minimum as u64 <= since_closing(posts, &a, k, due_date(&a, k))
 }
 
 // what an amount leaves of a minimum payment
-fn left_of(minimum: Cents, paid: u128) -> Cents
+fn left_of(minimum: Cents, paid: u64) -> Cents
     requires { pos 0 ≤ℤ minimum }
     ensures { result ≡ pos (unsigned_abs minimum - paid) }
 {
-    (minimum as u128).saturating_sub(paid) as i64
+    (minimum as u64).saturating_sub(paid) as i64
 }
 
 /// What is past due at closing k, in cents: the minimum payment of the cycle before less the payments credited in cycle
@@ -116,7 +117,7 @@ fn owes(posts: &Posts, a: &Anchor, k: u32, minimum: Cents, day: Day) -> bool
     if !is_long_past(a, k, day) {
         return false;
     }
-    since_closing(posts, a, k, day) < minimum as u128
+    since_closing(posts, a, k, day) < minimum as u64
 }
 
 /// Whether the account is sixty days late on a day (12 CFR 1026.55(b)(4)): some due date lies more than 60 days back,

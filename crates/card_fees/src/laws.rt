@@ -1,5 +1,5 @@
 //! Laws on penalty fees and due dates. Their functions do nothing; their clauses are what holds.
-ghost use Rattle.card_fees.specs.Laws.{CountedInThePast, CountedIsSmall, DueDatesHaveOneFee, FeesAreWithin, FeesOfTheFold, FeesStayOneEach, LateFeesOfTheFold, LateOfTheFold, MetOfTheFold, PastDueOfTheFold};
+ghost use Rattle.card_fees.specs.Laws.{CountedInThePast, DueDatesHaveOneFee, FeesAreWithin, FeesOfTheFold, FeesStayOneEach, LateFeesOfTheFold, LateOfTheFold, MetOfTheFold, PastDueOfTheFold};
 
 /// A penalty fee is at most the minimum payment of its due date, and at most that of the last due date before its day
 /// (12 CFR 1026.52(b)(2)(i)(A)).
@@ -45,9 +45,4 @@ pub fn past_due_of_the_fold()
 /// So is whether the account is sixty days late.
 pub fn late_of_the_fold()
     ensures { LateOfTheFold }
-{}
-
-/// With at most 10,000 posts of at most 12 digits each, the sum of counted payments is never cut.
-pub fn counted_is_small()
-    ensures { CountedIsSmall }
 {}

@@ -5,6 +5,7 @@ pub mod OneMore
 pub mod Noted
 pub mod Targets
 pub mod DayLemmas
+pub mod Bounded
 pub mod Changed
 pub mod Following
 pub mod IndexLemmas

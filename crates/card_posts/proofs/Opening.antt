@@ -1,5 +1,6 @@
 -- The lists of an account that was just opened.
 use Rattle.std.proofs.Common.{◌≡◌, ℕ, ◌<◌, ◌≤◌, true, List, [], ◌∷◌, refl, sym, ◌∙◌, subst, arith, None}
+use Rattle.std.proofs.lemmas.List.Elements.{All-cons, All-nil}
 use Rattle.card_days.specs.Billing.{IsCloseDay}
 use Rattle.card_days.specs.declared.anchor.Anchor.{Anchor}
 use Rattle.card_events.specs.History.{amend_of, anchor_of, cents_of, confirmed, confirms, corrected, corrected_from, corrected_post, effective_day, last_amend, opening_in, terms_in}
@@ -113,9 +114,9 @@ corrections-one k o =
     let sum : confirms 1 (k ∷ []) k.post ≡ 0 = no-confirm (k ∷ []) k.post o in
     rw (amend, sum) refl
 
-beside-one : (k : Kept) (e : Effect) → opens k.post ≡ true → AreBeside (k ∷ []) (by_parts None 0 ∷ []) (e ∷ []) (slot_by 1 e ∷ [])
+beside-one : (k : Kept) (e : Effect) → opens k.post ≡ true → e.cents ≤ 999_999_999_999 → AreBeside (k ∷ []) (by_parts None 0 ∷ []) (e ∷ []) (slot_by 1 e ∷ [])
 unfolding in_order placed slots_from
-beside-one k e o = record { corrections = corrections-one k o; effects = refl; order = refl }
+beside-one k e o small = record { corrections = corrections-one k o; effects = refl; small = All-cons (λ (x : Effect). x.cents ≤ 999_999_999_999) e [] small (All-nil (λ (x : Effect). x.cents ≤ 999_999_999_999)); order = refl }
 
 pub record AreFirst (a : Anchor) (h : List Kept) (ns : List ℕ) (cs : List Correction) (es : List Effect) (slots : List Slot) : Type 0 where
   pub kept : IsKept a h
@@ -124,9 +125,9 @@ pub record AreFirst (a : Anchor) (h : List Kept) (ns : List ℕ) (cs : List Corr
 
 pub first-lists : (a : Anchor) (k : Kept) (e : Effect) (h : List Kept) (ns : List ℕ) (cs : List Correction) (es : List Effect) (slots : List Slot)
     → h ≡ k ∷ [] → ns ≡ 1 ∷ [] → cs ≡ by_parts None 0 ∷ [] → es ≡ e ∷ [] → slots ≡ slot_by 1 e ∷ []
-    → opens k.post ≡ true → IsCloseDay (terms_in k.post).close → k.number ≡ 1 → k.accepted ≤ 47_481 → a ≡ anchor_of (k ∷ []) → AreFirst a h ns cs es slots
-first-lists a k e h ns cs es slots h_is ns_is cs_is es_is slots_is o close number dated is =
-    rw (h_is, ns_is, cs_is, es_is, slots_is) (record { kept = kept-one a k o close number dated is; index = index-one k; beside = beside-one k e o })
+    → opens k.post ≡ true → IsCloseDay (terms_in k.post).close → k.number ≡ 1 → k.accepted ≤ 47_481 → a ≡ anchor_of (k ∷ []) → e.cents ≤ 999_999_999_999 → AreFirst a h ns cs es slots
+first-lists a k e h ns cs es slots h_is ns_is cs_is es_is slots_is o close number dated is small =
+    rw (h_is, ns_is, cs_is, es_is, slots_is) (record { kept = kept-one a k o close number dated is; index = index-one k; beside = beside-one k e o small })
 
 -- the corrected list of an opening
 day-one : (a : Anchor) (holidays : List ℕ) (h : List Kept) (accepted : ℕ) (p : Post) → opens p ≡ true → opening_in p ≡ effective_day a holidays h 1 accepted p

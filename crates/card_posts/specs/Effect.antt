@@ -1,5 +1,6 @@
 -- The effective day and corrected cents that are kept for each post, by number.
 use Rattle.std.specs.Prelude.{ℕ, suc, ◌≤◌, Bool, true, false, if◌then◌else◌, List, [], ◌∷◌, Option, Some, None, pos}
+use Rattle.std.specs.List.{All}
 use Rattle.card_days.specs.declared.anchor.Anchor.{Anchor}
 use Rattle.card_events.specs.History.{CorrectedPost, effective_day, cents_of, next_segment}
 use Rattle.card_events.specs.declared.kept.Kept.{Kept}
@@ -57,6 +58,10 @@ effects_from a holidays history n (k ∷ ks) = effect_of a holidays history n k 
 
 abbrev pub effects : Anchor → List ℕ → List Kept → List Effect
 effects a holidays history = effects_from a holidays history 1 history
+
+-- no post has more cents than requests have
+abbrev pub AreSmall : List Effect → Type 0
+AreSmall es = All (λ e. e.cents ≤ 999_999_999_999) es
 
 -- the slot of post n
 abbrev pub slot_by : ℕ → Effect → Slot

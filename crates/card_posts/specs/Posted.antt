@@ -1,5 +1,6 @@
 -- The accepted posts of an account, as clauses see them.
-use Rattle.std.specs.Prelude.{◌≡◌, ℕ, suc, ◌≤◌, max, Bool, true, false, List, [], ◌∷◌, map}
+use Rattle.std.specs.Prelude.{◌≡◌, ℕ, suc, ◌≤◌, max, Bool, true, false, List, [], ◌∷◌, length, map, pos, ◌≤ℤ◌}
+use Rattle.std.specs.List.{All}
 use Rattle.card_events.specs.History.{CorrectedPost, anchor_of, corrected, slot_of}
 use Rattle.card_events.specs.declared.kept.Kept.{Kept}
 use Rattle.card_events.specs.declared.kept.Slot.{Slot}
@@ -20,6 +21,12 @@ StandsFor holidays posted = posted.corrected ≡ corrected (anchor_of posted.his
 -- a corrected list as it is folded: its slots by effective day, then by number
 abbrev pub folding_order : List CorrectedPost → List Slot
 folding_order posts = in_order (map slot_of posts)
+
+-- there are at most 10,000 of them, each of 0 to 999,999,999,999 cents
+pub record AreBounded (slots : List Slot) : Type 0 where
+  pub count : length slots ≤ 10_000
+  pub low : All (λ s. pos 0 ≤ℤ s.cents) slots
+  pub high : All (λ s. s.cents ≤ℤ pos 999_999_999_999) slots
 
 -- the post opens an account
 abbrev pub opens : Post → Bool

@@ -7,7 +7,7 @@ use Rattle.card_events.specs.History.{anchor_of}
 use Rattle.card_events.specs.declared.kept.Kept.{Kept}
 use Rattle.card_events.specs.declared.kept.Slot.{Slot}
 use Rattle.card_posts.specs.Corrections.{corrections}
-use Rattle.card_posts.specs.Effect.{slots_from}
+use Rattle.card_posts.specs.Effect.{AreSmall, slots_from}
 use Rattle.card_posts.specs.Order.{in_order}
 use Rattle.card_posts.specs.Posted.{AreNumbered, IsReceived, target_of}
 use Rattle.card_posts.specs.declared.correction.Correction.{Correction}
@@ -41,6 +41,7 @@ pub record IsKept (a : Anchor) (history : List Kept) : Type 0 where
 pub record AreBeside (history : List Kept) (later : List Correction) (now : List Effect) (slots : List Slot) : Type 0 where
   pub corrections : later ≡ corrections history
   pub effects : length now ≡ length history
+  pub small : AreSmall now
   pub order : slots ≡ in_order (slots_from 1 now)
 
 -- there is room for one more in each

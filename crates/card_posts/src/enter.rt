@@ -3,7 +3,7 @@ ghost use Rattle.std.specs.Prelude.{◌≡◌, ◌+◌, ◌<◌, ◌≤◌, ◌+
 ghost use Rattle.card_events.specs.declared.kept.Kept.{Kept};
 ghost use Rattle.card_posts.specs.Change.{IsFirstChange};
 ghost use Rattle.card_posts.specs.Corrections.{corrections_from, corrects};
-ghost use Rattle.card_posts.specs.Effect.{corrected_with, slots_from};
+ghost use Rattle.card_posts.specs.Effect.{AreSmall, corrected_with, slots_from};
 ghost use Rattle.card_posts.specs.Effect as spec;
 ghost use Rattle.card_posts.specs.Order.{in_order};
 ghost use Rattle.card_posts.specs.Posted.{target_of};
@@ -50,11 +50,13 @@ fn follow(
     requires kept { IsKept anchor.now history.now }
     requires corrections { corrections.now ≡ corrections_from history.now 1 history.now }
     requires length { length history.now ≡ length effects.old.items + 1 }
+    requires small { AreSmall effects.old.items }
     requires order { order.old.items ≡ in_order (slots_from 1 effects.old.items) }
     requires room_effects { vec_len effects.old < vec_capacity effects.old }
     requires room_order { vec_len order.old < vec_capacity order.old }
     requires plain { (k : Kept) → corrects (slice_index_or history.now (length effects.old.items) k).post ≡ false → effects.old.items ≡ take (length effects.old.items) (spec.effects anchor.now calendar.now history.now) }
     ensures effects { effects.new.items ≡ spec.effects anchor.now calendar.now history.now }
+    ensures small { AreSmall effects.new.items }
     ensures order { order.new.items ≡ in_order (slots_from 1 effects.new.items) }
     ensures from { (h : List Kept) (k : Kept) → history.now ≡ h ++ k ∷ [] → IsFirstChange result (corrected_with 1 5 h effects.old.items) (corrected_with 1 5 history.now effects.new.items) }
 {

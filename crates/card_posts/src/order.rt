@@ -8,7 +8,8 @@ use card_events::Slot;
 
 // The slot of a post.
 pub fn slot(number: u32, effect: &Effect) -> Slot
-    ensures { result ≡ slot_by number effect.now }
+    ensures value { result ≡ slot_by number effect.now }
+    ensures small { effect.now.cents ≤ 999_999_999_999 }
 {
     Slot {
         day: effect.day,
@@ -64,6 +65,7 @@ pub fn change(order: &mut Vec<Slot>, effects: &[Effect], i: usize, now: &Effect)
     requires known { i < length effects.now }
     requires room { vec_len order.old ≤ vec_capacity order.old }
     ensures order { order.new.items ≡ in_order (slots_from 1 (slice_set effects.now i now.now)) }
+    ensures small { now.now.cents ≤ 999_999_999_999 }
     ensures len { vec_len order.new ≡ vec_len order.old }
     ensures capacity { vec_capacity order.old ≤ vec_capacity order.new }
 {

@@ -50,7 +50,7 @@ impl Posts {
     ghost use Rattle.card_events.specs.History.{anchor_of, at_number, terms_in};
     ghost use Rattle.card_events.specs.Keys.{with_key};
     ghost use Rattle.card_posts.specs.Change.{IsFirstChange};
-    ghost use Rattle.card_posts.specs.Posted.{AreNumbered, IsReceived, StandsFor, folding_order, opens, target_of};
+    ghost use Rattle.card_posts.specs.Posted.{AreBounded, AreNumbered, IsReceived, StandsFor, folding_order, opens, target_of};
     ghost use Rattle.card_posts.specs.Stored.{AreTimely};
 
     /// The post that opens an account, which has number 1. Its terms close cycles on day 1 to 28 of a month. The
@@ -108,9 +108,11 @@ impl Posts {
         find(&self.history, &self.index, key)
     }
 
-    /// The corrected list as it is folded: by effective day, then by number. Its cents are 0 for kinds without cents.
+    /// The corrected list as it is folded: by effective day, then by number. There are at most 10,000 slots. Each has 0 to
+    /// 999,999,999,999 cents, and 0 for kinds without cents.
     pub fn in_order(&self) -> &[Slot]
-        ensures { result.now ≡ folding_order self.now.corrected }
+        ensures order { result.now ≡ folding_order self.now.corrected }
+        ensures bounded { AreBounded result.now }
     {
         &self.order
     }

@@ -2,7 +2,7 @@
 ghost use Rattle.std.specs.Prelude.{◌≡◌, ◌+◌, ◌<◌, ◌≤◌, min, false, length, take, slice_index_or, slice_set, vec_len, vec_capacity};
 ghost use Rattle.card_posts.specs.Change.{after_one, first_change, stands};
 ghost use Rattle.card_posts.specs.Corrections.{corrections_from, corrects};
-ghost use Rattle.card_posts.specs.Effect.{slots_from};
+ghost use Rattle.card_posts.specs.Effect.{AreSmall, slots_from};
 ghost use Rattle.card_posts.specs.Effect as spec;
 ghost use Rattle.card_posts.specs.Order.{in_order};
 ghost use Rattle.card_posts.specs.Stored.{IsKept};
@@ -53,8 +53,10 @@ fn refresh_one(
     requires few { length effects.old ≤ 10_000 }
     requires known { i < length effects.old }
     requires order { order.old.items ≡ in_order (slots_from 1 effects.old) }
+    requires small { AreSmall effects.old }
     requires room { vec_len order.old ≤ vec_capacity order.old }
     ensures effects { effects.new ≡ slice_set effects.old i now.now }
+    ensures small { AreSmall effects.new }
     ensures order { order.new.items ≡ in_order (slots_from 1 effects.new) }
     ensures first { (d : Effect) → result ≡ after_one first (slice_index_or effects.old i d) now.now }
     ensures len { vec_len order.new ≡ vec_len order.old }
@@ -82,8 +84,10 @@ fn refresh(
     requires corrections { corrections.now ≡ corrections_from history.now 1 history.now }
     requires length { length effects.old ≤ length history.now }
     requires order { order.old.items ≡ in_order (slots_from 1 effects.old) }
+    requires small { AreSmall effects.old }
     requires room { vec_len order.old ≤ vec_capacity order.old }
     ensures effects { effects.new ≡ take (length effects.old) (spec.effects anchor.now calendar.now history.now) }
+    ensures small { AreSmall effects.new }
     ensures order { order.new.items ≡ in_order (slots_from 1 effects.new) }
     ensures first { result ≡ first_change 48_576 effects.old effects.new }
     ensures len { vec_len order.new ≡ vec_len order.old }
@@ -111,9 +115,11 @@ pub fn update(
     requires corrections { corrections.now ≡ corrections_from history.now 1 history.now }
     requires length { length effects.old ≤ length history.now }
     requires order { order.old.items ≡ in_order (slots_from 1 effects.old) }
+    requires small { AreSmall effects.old }
     requires room { vec_len order.old ≤ vec_capacity order.old }
     requires plain { corrects post.now ≡ false → effects.old ≡ take (length effects.old) (spec.effects anchor.now calendar.now history.now) }
     ensures effects { effects.new ≡ take (length effects.old) (spec.effects anchor.now calendar.now history.now) }
+    ensures small { AreSmall effects.new }
     ensures order { order.new.items ≡ in_order (slots_from 1 effects.new) }
     ensures first { result ≡ first_change 48_576 effects.old effects.new }
     ensures len { vec_len order.new ≡ vec_len order.old }

@@ -4,4 +4,4 @@ use Rattle.card_fees.specs.Counting.{counts}
 use Rattle.card_fees.proofs.counting.sum.Given as goal
 
 abbrev pub invariant-loop-slot : goal.invariant-loop-slot
-invariant-loop-slot l = (l.total ≡ sum_by (counts l.posts.history l.slots) (take l.slot-index l.slots)) × (l.total ≤ l.slot-index * 18_446_744_073_709_551_615)
+invariant-loop-slot l = (l.total ≡ sum_by (counts l.posts.history l.slots) (take l.slot-index l.slots)) × (l.total ≤ l.slot-index * 999_999_999_999)

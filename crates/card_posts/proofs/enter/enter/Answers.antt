@@ -11,5 +11,6 @@ pub returns-clause-beside : goal.returns-clause-beside
 returns-clause-beside c = record {
   corrections = c.append.ensures.corrections;
   effects = ap length (c.follow.ensures.effects ∙ ap (λ u. effects c.args.anchor.now c.args.calendar.now u) c.deref.ensures.value) ∙ effects-length c.args.anchor.now c.args.calendar.now c.append.new.history.items 1 c.append.new.history.items;
+  small = c.follow.ensures.small;
   order = c.follow.ensures.order;
 }

@@ -36,7 +36,7 @@ returns-clause-order c =
     let many : c.len-count.result ≡ length c.update-changed.new.effects = count ∙ sym (ap length front ∙ front-length (length c.args.effects.now.items) now enough) in
     let pushed : c.push.new.self.items ≡ c.update-changed.new.effects ++ c.effect_now-effect.result ∷ [] = grind (arith, common_steps) in
     c.place.ensures.order
-    ∙ (ap (λ s. placed s c.update-changed.new.order.items) (c.slot.ensures ∙ ap (λ n. slot_by (n + 1) c.effect_now-effect.result) many)
+    ∙ (ap (λ s. placed s c.update-changed.new.order.items) (c.slot.ensures.value ∙ ap (λ n. slot_by (n + 1) c.effect_now-effect.result) many)
     ∙ (ap (placed (slot_by (length c.update-changed.new.effects + 1) c.effect_now-effect.result)) c.update-changed.ensures.order
     ∙ (put-last c.update-changed.new.effects c.effect_now-effect.result ∙ ap (λ u. in_order (slots_from 1 u)) (sym pushed))))
 

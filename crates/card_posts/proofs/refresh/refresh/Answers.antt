@@ -10,6 +10,7 @@ pub loop-i-init : goal.loop-i-init
 unfolding first_change
 loop-i-init c = record {
   renewed = refl;
+  small = c.requires.small;
   order = c.requires.order;
   first = c.last_day-first.ensures;
   len = refl;
@@ -32,6 +33,7 @@ loop-i-preserved c =
     let now : c.effect_now-now.result ≡ get_or new c.loop-i.i c.effect_now-now.result = c.effect_now-now.ensures c.effect_now-now.result in
     record {
       renewed = c.refresh_one-first.ensures.effects ∙ (rw c.loop-i.invariant.renewed (ap (λ e. set (take c.loop-i.i new ++ drop c.loop-i.i c.args.effects.now) c.loop-i.i e) now ∙ renew c.loop-i.i new c.args.effects.now c.effect_now-now.result within enough));
+      small = c.refresh_one-first.ensures.small;
       order = c.refresh_one-first.ensures.order;
       first = step c.refresh_one-first.result c.loop-i.first c.loop-i.i c.effect_now-now.result c.loop-i.effects new c.args.effects.now within enough c.loop-i.invariant.renewed c.loop-i.invariant.first now (c.refresh_one-first.ensures.first c.effect_now-now.result);
       len = c.refresh_one-first.ensures.len ∙ c.loop-i.invariant.len;
