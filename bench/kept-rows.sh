@@ -25,20 +25,21 @@ lines() {
     }'
 }
 
-# Seconds of a run, to the hundredth.
+# Seconds of a run, to the hundredth: the least of five.
 seconds() {
-    before=$(date +%s%N)
-    "$program" $1 <"$2" >"$work/replies"
-    after=$(date +%s%N)
-    echo "$before $after" | awk '{ printf "%.2f", ($2 - $1) / 1e9 }'
+    for try in 1 2 3 4 5; do
+        before=$(date +%s%N)
+        "$program" $1 <"$2" >"$work/replies"
+        after=$(date +%s%N)
+        echo "$before $after"
+    done | awk '{ t = ($2 - $1) / 1e9; if (NR == 1 || t < least) least = t } END { printf "%.2f", least }'
 }
 
 echo "cores $(nproc)"
-for count in "${@:-50000 200000}"; do
-    for n in $count; do
-        lines "$n" >"$work/lines"
-        apply=$(seconds "" "$work/lines")
-        both=$(seconds load "$work/lines")
-        echo "lines $n replies $(grep -c '^ok' "$work/replies") apply ${apply}s apply and load ${both}s"
-    done
+[ $# -gt 0 ] || set -- 50000 200000
+for n in "$@"; do
+    lines "$n" >"$work/lines"
+    apply=$(seconds "" "$work/lines")
+    both=$(seconds load "$work/lines")
+    echo "lines $n accepted $(grep -c '^ok' "$work/replies") apply ${apply}s apply and load ${both}s"
 done
