@@ -2,7 +2,7 @@
 use Rattle.std.specs.Prelude.{ℕ, ◌+◌, ◌-◌, ◌≡◌, ◌≤◌, nat_lt, List, [], ◌∷◌, ◌++◌, length, Option, Some, pos}
 use Rattle.std.specs.List.{filter}
 use Rattle.std.specs.Option.{option_map}
-use Rattle.card_days.specs.Billing.{cycle_of, due}
+use Rattle.card_days.specs.Billing.{cycle_of}
 use Rattle.card_days.specs.declared.anchor.Anchor.{Anchor}
 use Rattle.card_events.specs.History.{CorrectedPost}
 use Rattle.card_events.specs.SharedRows.{FeeRow}
