@@ -17,7 +17,7 @@ use Rattle.card_fees.specs.Laws.{SeesPosts}
 use Rattle.card_fees.proofs.Slots.{any-filter, any-same, sum-filter, sum-same}
 
 -- ---- posts that the fold sees
-payment-folded : (p : Post) → is_payment p ≡ true → is_folded p ≡ true
+pub payment-folded : (p : Post) → is_payment p ≡ true → is_folded p ≡ true
 payment-folded (post.Payment _ _ _ _) e = refl
 payment-folded (post.Return _ _) e = refl
 payment-folded (post.Charge _ _ _) e = refl
@@ -36,7 +36,7 @@ payment-folded (post.AskRefund _) e = absurd (cc)
 payment-folded (post.Amend _ _ _) e = absurd (cc)
 payment-folded (post.Bill _) e = absurd (cc)
 
-return-folded : (n : ℕ) (p : Post) → returns n p ≡ true → is_folded p ≡ true
+pub return-folded : (n : ℕ) (p : Post) → returns n p ≡ true → is_folded p ≡ true
 return-folded n (post.Payment _ _ _ _) e = refl
 return-folded n (post.Return _ _) e = refl
 return-folded n (post.Charge _ _ _) e = refl
@@ -55,10 +55,10 @@ return-folded n (post.AskRefund _) e = absurd (cc)
 return-folded n (post.Amend _ _ _) e = absurd (cc)
 return-folded n (post.Bill _) e = absurd (cc)
 
-by-then : (d to day : ℕ) → to ≤ day → nat_le d to ≡ true → nat_le d day ≡ true
+pub by-then : (d to day : ℕ) → to ≤ day → nat_le d to ≡ true → nat_le d day ≡ true
 by-then d to day l h = grind (arith, nat_tests)
 
-each : {X : Type 0} (P : X → Type 0) → ((x : X) → P x) → (xs : List X) → All P xs
+pub each : {X : Type 0} (P : X → Type 0) → ((x : X) → P x) → (xs : List X) → All P xs
 each P h [] = All-nil P
 each P h (x ∷ xs) = All-cons P x xs (h x) (each P h xs)
 
@@ -87,7 +87,7 @@ returned-past day posts to n l =
     test : CorrectedPost → Bool
     test p = returns n p.post && nat_le p.day to
 
-alike : (F D : Bool) (n : ℕ) → cond F (cond D n n) n ≡ n
+pub alike : (F D : Bool) (n : ℕ) → cond F (cond D n n) n ≡ n
 alike true true n = refl
 alike true false n = refl
 alike false D n = refl

@@ -5,6 +5,7 @@ pub mod Days
 pub mod Payments
 pub mod Late
 pub mod Fold
+pub mod Before
 pub mod Charges
 pub mod Returned
 pub mod OneFee

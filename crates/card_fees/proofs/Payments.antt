@@ -32,7 +32,7 @@ stand-from a holidays history n segment (k ∷ ks) h =
     (record { kept = k; found = sym (h 0 ∙ ap (λ m. at_number m history) here); same = refl; day = refl })
     (stand-from a holidays history (suc n) (next_segment segment k.post) ks (λ i. let on : n + suc i ≡ suc n + i = omega arith in h (suc i) ∙ ap (λ m. at_number m history) on))
 
-all-stand : (a : Anchor) (holidays : List ℕ) (history : List Kept) → All (Stands a holidays history) (corrected a holidays history)
+pub all-stand : (a : Anchor) (holidays : List ℕ) (history : List Kept) → All (Stands a holidays history) (corrected a holidays history)
 all-stand a holidays history = stand-from a holidays history 1 5 history (λ i. let on : suc i ≡ 1 + i = omega arith in ap (λ m. at_number m history) on)
 
 -- ---- a Return takes effect no earlier than its payment
@@ -85,7 +85,7 @@ return-day : (a : Anchor) (holidays : List ℕ) (history : List Kept) (m acc day
 unfolding effective_day
 return-day a holidays history m acc day n = refl
 
-return-later : (a : Anchor) (holidays : List ℕ) (history : List Kept) (p q : CorrectedPost) → Stands a holidays history p → Stands a holidays history q → is_payment p.post ≡ true → returns p.number q.post ≡ true → p.day ≤ q.day
+pub return-later : (a : Anchor) (holidays : List ℕ) (history : List Kept) (p q : CorrectedPost) → Stands a holidays history p → Stands a holidays history q → is_payment p.post ≡ true → returns p.number q.post ≡ true → p.day ≤ q.day
 return-later a holidays history p q s t pays gives =
     let shape = return-shape p.number q.post gives in
     let same : t.kept.post ≡ post.Return shape.on p.number = sym t.same ∙ shape.is in

@@ -9,6 +9,7 @@ use Rattle.std.proofs.lemmas.List.Sums.{sum_by-cons}
 use Rattle.card_events.specs.declared.kept.Slot.{Slot}
 use Rattle.card_posts.specs.Order.{before, placed, in_order, IsAscending}
 use Rattle.card_posts.proofs.Ordered.{ascending-parted}
+use Rattle.card_fees.specs.Counting.{is_before}
 
 -- a slot in front of all those of a day
 abbrev pub start_of : ℕ → Slot
@@ -35,6 +36,9 @@ parted-before day xs h = parted-same (λ s. before s (start_of day)) (λ s. nat_
 
 pub parted-by : (day : ℕ) (xs : List Slot) → IsAscending xs → IsPartitionedBy (λ (s : Slot). nat_le s.day day) xs
 parted-by day xs h = parted-same (λ s. before s (start_of (day + 1))) (λ s. nat_le s.day day) xs (λ s. before-next s day) (ascending-parted (start_of (day + 1)) xs h)
+
+pub parted-in_front : (day number : ℕ) (xs : List Slot) → IsAscending xs → IsPartitionedBy (λ (s : Slot). is_before day number s.day s.number) xs
+parted-in_front day number xs h = ascending-parted (record { day = day; number = number; cents = pos 0 }) xs h
 
 -- ---- the parts of a list at the place where a test stops passing
 none-pass : (p : Slot → Bool) (xs : List Slot) → ((k : ℕ) (d : Slot) → k < length xs → p (get_or xs k d) ≡ false) → filter p xs ≡ []

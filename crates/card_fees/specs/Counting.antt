@@ -1,10 +1,22 @@
 -- Payments counted over the slots of some days.
-use Rattle.std.specs.Prelude.{ℕ, Bool, false, ◌&&◌, not, nat_le, if◌then◌else◌, List, Option, Some, None, unsigned_abs}
+use Rattle.std.specs.Prelude.{ℕ, Bool, false, ◌&&◌, ◌||◌, ◌==◌, not, nat_le, nat_lt, if◌then◌else◌, List, Option, Some, None, unsigned_abs}
 use Rattle.std.specs.List.{filter, list_any, sum_by}
-use Rattle.card_events.specs.History.{at_number}
+use Rattle.card_events.specs.History.{CorrectedPost, at_number}
 use Rattle.card_events.specs.declared.kept.Kept.{Kept}
 use Rattle.card_events.specs.declared.kept.Slot.{Slot}
-use Rattle.card_model.specs.Payments.{is_payment, returns}
+use Rattle.card_model.specs.Payments.{is_credit, is_payment, returns}
+
+-- to be folded before the post with a day and a number: on an earlier day, or on that day with a smaller number
+abbrev pub is_before : ℕ → ℕ → ℕ → ℕ → Bool
+is_before day number d n = nat_lt d day || ((d == day) && nat_lt n number)
+
+-- the posts that are folded before it
+abbrev pub earlier_posts : ℕ → ℕ → List CorrectedPost → List CorrectedPost
+earlier_posts day number posts = filter (λ q. is_before day number q.day q.number) posts
+
+-- the slots that stand in front of it
+abbrev pub in_front : ℕ → ℕ → List Slot → List Slot
+in_front day number slots = filter (λ s. is_before day number s.day s.number) slots
 
 -- the post there is a payment
 abbrev pub is_payment_at : Option Kept → Bool
@@ -28,6 +40,15 @@ counts history among s =
 -- what they count together
 abbrev pub slots_sum : List Kept → List Slot → List Slot → ℕ
 slots_sum history among slots = sum_by (counts history among) slots
+
+-- the post there is a merchant's credit
+abbrev pub is_credit_at : Option Kept → Bool
+is_credit_at None = false
+is_credit_at (Some k) = is_credit k.post
+
+-- what a slot counts among credits
+abbrev pub credits : List Kept → Slot → ℕ
+credits history s = if is_credit_at (at_number s.number history) then unsigned_abs s.cents else 0
 
 -- the slots from a day on
 abbrev pub since : ℕ → List Slot → List Slot

@@ -12,7 +12,7 @@ mod tests;
 
 pub use card_model::{Fee, FeeKind};
 pub use charge::{late_fee, returned_fee};
-pub use counting::counted;
+pub use counting::{counted, counted_before, credited};
 pub use due::{met, past_due, sixty_days_late};
 pub use required::minimum;
 pub use table::FeeTable;

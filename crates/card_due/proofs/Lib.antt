@@ -1,0 +1,5 @@
+pub mod Repaid
+pub mod Cases
+pub mod Remainder
+pub mod Issued
+pub mod LateFees

@@ -1,0 +1,7 @@
+use Rattle.std.proofs.Common.{◌≡◌, ◌≤◌, ◌*◌, take}
+use Rattle.std.specs.List.{sum_by}
+use Rattle.card_fees.specs.Counting.{credits}
+use Rattle.card_fees.proofs.counting.credits_sum.Given as goal
+
+abbrev pub invariant-loop-slot : goal.invariant-loop-slot
+invariant-loop-slot l = (l.total ≡ sum_by (credits l.posts.history) (take l.slot-index l.slots)) × (l.total ≤ l.slot-index * 999_999_999_999)
