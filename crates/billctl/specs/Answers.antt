@@ -1,6 +1,6 @@
 -- What is written for a line, what is kept of it, and how the ledger goes on.
 use Rattle.std.specs.Prelude.{ℕ, Bool, true, false, if◌then◌else◌, List, [], Option, Some, None}
-use Rattle.card_events.specs.Built.{is_built}
+use Rattle.card_desk.specs.Built.{is_built}
 use Rattle.card_events.specs.declared.reply.Reply.{Reply}
 use Rattle.card_events.specs.declared.reply.Reply.TheVariants as reply
 use Rattle.card_events.specs.declared.reply.Refusal.TheVariants as refusal

@@ -11,7 +11,7 @@ ghost use Rattle.card_text.specs.Lines.{IsDatedLine};
 ghost use Rattle.billctl.specs.Answers.{answer_text, is_refused, line_rows, next, reply_in};
 ghost use Rattle.billctl.specs.Answers as spec;
 
-use card_desk::{Desk, Fault, View};
+use card_desk::{Desk, Fault, View, is_built};
 use card_events::{Name, Refusal, Reply};
 use card_keeper::Keeper;
 use card_text::{Line, bad_text, reply_text, show_text};
@@ -38,7 +38,7 @@ pub fn carry_out<K: Keeper>(
     ensures cause { IsErrOf result Fault.Keeper → Rose (K.faults keeper.old) (K.faults keeper.new) }
 {
     match line {
-        Line::Request(request) if request.is_built() => match desk.apply(alloc, keeper, request) {
+        Line::Request(request) if is_built(request) => match desk.apply(alloc, keeper, request) {
             Ok(reply) => Ok(Some(reply)),
             Err(fault) => Err(fault),
         },

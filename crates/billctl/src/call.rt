@@ -55,10 +55,10 @@ pub fn billctl<I: Source, O: Sink, K: Keeper>(
     ensures sink { result ≡ 4 → IfSome (I.left input.old) (λ bytes. LoadedRun (K.rows keeper.old) (λ s. StoppedRun s (I.left input.old) (I.left input.new) (O.taken output.old) (O.taken output.new) (K.rows keeper.old) (K.rows keeper.new) bytes)) }
 
     // They stand whole, or the rows couldn't be loaded.
-    ensures keeper { result ≡ 5 → NothingDone (O.taken output.old) (O.taken output.new) (K.rows keeper.old) (K.rows keeper.new) ⊎ IfSome (I.left input.old) (λ bytes. LoadedRun (K.rows keeper.old) (λ s. HeldRun s (I.left input.old) (I.left input.new) (O.taken output.old) (O.taken output.new) (K.rows keeper.old) (K.rows keeper.new) bytes)) }
+    ensures keeper { result ≡ 5 → ((input.new ≡ input.old) × NothingDone (O.taken output.old) (O.taken output.new) (K.rows keeper.old) (K.rows keeper.new)) ⊎ IfSome (I.left input.old) (λ bytes. LoadedRun (K.rows keeper.old) (λ s. HeldRun s (I.left input.old) (I.left input.new) (O.taken output.old) (O.taken output.new) (K.rows keeper.old) (K.rows keeper.new) bytes)) }
 
     // Want of memory while rows were loaded, while damage was told, or in the run.
-    ensures memory { is_apply (map string_bytes words.now) ≡ true → result ≡ 6 → NothingDone (O.taken output.old) (O.taken output.new) (K.rows keeper.old) (K.rows keeper.new) ⊎ (DamagedRows (K.rows keeper.old) (TookFront (O.taken output.old) (O.taken output.new)) ⊎ IfSome (I.left input.old) (λ bytes. LoadedRun (K.rows keeper.old) (λ s. StoppedRun s (I.left input.old) (I.left input.new) (O.taken output.old) (O.taken output.new) (K.rows keeper.old) (K.rows keeper.new) bytes))) }
+    ensures memory { is_apply (map string_bytes words.now) ≡ true → result ≡ 6 → ((input.new ≡ input.old) × NothingDone (O.taken output.old) (O.taken output.new) (K.rows keeper.old) (K.rows keeper.new)) ⊎ (((input.new ≡ input.old) × DamagedRows (K.rows keeper.old) (TookFront (O.taken output.old) (O.taken output.new))) ⊎ IfSome (I.left input.old) (λ bytes. LoadedRun (K.rows keeper.old) (λ s. StoppedRun s (I.left input.old) (I.left input.new) (O.taken output.old) (O.taken output.new) (K.rows keeper.old) (K.rows keeper.new) bytes))) }
 
     // Damaged rows, which stay.
     ensures damaged { result ≡ 8 → DamagedRows (K.rows keeper.old) (TookLine (O.taken output.old) (O.taken output.new) (O.faults output.old) (O.faults output.new)) }

@@ -1,6 +1,6 @@
 -- What posts of the kinds that are taken name, and when they came in.
 use Rattle.std.proofs.Common.{◌≡◌, ℕ, true, refl, sym, subst, List, []}
-use Rattle.card_events.specs.Built.{is_built_post}
+use Rattle.card_desk.specs.Built.{is_built_post}
 use Rattle.card_events.specs.declared.post.Post.{Post}
 use Rattle.card_events.specs.declared.post.Post.TheVariants as post
 use Rattle.card_posts.specs.Posted.{Posted, StandsFor, IsReceived, target_of}

@@ -1,7 +1,7 @@
 -- What a charge comes to, under a new key.
 use Rattle.std.proofs.Common.{◌≡◌, ℕ, true, List, Option, Some, None, refl, ap, sym, ◌∙◌, subst}
 use Rattle.std.specs.Prelude.{length}
-use Rattle.card_events.specs.Built.{is_built_post}
+use Rattle.card_desk.specs.Built.{is_built_post}
 use Rattle.card_events.specs.History.{anchor_of}
 use Rattle.card_events.specs.declared.kept.Kept.{Kept}
 use Rattle.card_events.specs.declared.post.Place.{Place}

@@ -1,7 +1,7 @@
 -- What a post comes to, for an account that is there and for one that isn't.
 use Rattle.std.proofs.Common.{◌≡◌, ℕ, ◌+◌, Bool, true, false, List, [], ◌∷◌, ◌++◌, length, Option, Some, None, refl, ap, ◌∙◌, append-nil}
 use Rattle.std.specs.Prelude.{if◌then◌else◌}
-use Rattle.card_events.specs.Built.{is_built_post}
+use Rattle.card_desk.specs.Built.{is_built_post}
 use Rattle.card_events.specs.Keys.{with_key}
 use Rattle.card_events.specs.SharedRows.{shared_rows}
 use Rattle.card_events.specs.declared.post.Post.{Post}

@@ -1,7 +1,7 @@
 -- The rows of requests.
 use Rattle.std.specs.Prelude.{◌≡◌, ℕ, ◌+◌, ◌-◌, ◌≤◌, Bool, true, ◌&&◌, if◌then◌else◌, List, [], ◌∷◌, length, take, slice_get, Option, Some, None, ⊤}
 use Rattle.std.specs.List.{list_all}
-use Rattle.card_events.specs.Built.{is_built}
+use Rattle.card_desk.specs.Built.{is_built}
 use Rattle.card_events.specs.declared.request.Request.{Request}
 use Rattle.card_keeper.specs.Rows.{next_seq}
 use Rattle.card_keeper.specs.declared.row.Row.{Row}

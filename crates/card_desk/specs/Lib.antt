@@ -1,4 +1,5 @@
 pub mod Applied
+pub mod Built
 pub mod Kept
 pub mod Loads
 pub mod Places

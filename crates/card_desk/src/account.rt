@@ -43,7 +43,7 @@ impl Model for Account {
 impl Account {
     ghost use Rattle.std.specs.Prelude.{◌≡◌, ◌<◌, ◌≤◌, ◌+◌, ◌++◌, [], ◌∷◌, true, length, IfOk, OnErr, OnOk, IsErrOf, pos, Option, Some, None, List, ℕ, if◌then◌else◌};
     ghost use Rattle.card_days.specs.Billing.{IsCloseDay};
-    ghost use Rattle.card_events.specs.Built.{is_built_post};
+    ghost use Rattle.card_desk.specs.Built.{is_built_post};
     ghost use Rattle.card_events.specs.History.{terms_in};
     ghost use Rattle.card_events.specs.Keys.{with_key};
     ghost use Rattle.card_events.specs.SharedRows.{SharedRows};

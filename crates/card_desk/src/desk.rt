@@ -44,7 +44,7 @@ impl Model for Desk {
 
 impl Desk {
     ghost use Rattle.std.specs.Prelude.{◌≡◌, ◌≤◌, ◌<◌, ◌+◌, ◌++◌, [], ◌∷◌, true, Some, None, length, slice_index_or, IfOk, OnOk, OnErr, IsErrOf};
-    ghost use Rattle.card_events.specs.Built.{is_built, is_built_post, is_built_shared};
+    ghost use Rattle.card_desk.specs.Built.{is_built, is_built_post, is_built_shared};
     ghost use Rattle.card_days.specs.Billing.{IsCloseDay};
     ghost use Rattle.card_events.specs.Dated.{is_dated};
     ghost use Rattle.card_events.specs.History.{terms_in};

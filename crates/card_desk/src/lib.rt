@@ -2,6 +2,7 @@
 #![tactic(auto)]
 
 mod account;
+mod built;
 mod desk;
 mod fault;
 mod keep;
@@ -14,6 +15,7 @@ mod tests;
 mod verdict;
 mod view;
 
+pub use built::is_built;
 pub use desk::Desk;
 pub use fault::{Fault, LoadFault};
 pub use view::{Ask, View};

@@ -1,6 +1,6 @@
 // A desk from kept rows.
 ghost use Rattle.std.specs.Prelude.{◌≡◌, ◌≤◌, ◌+◌, ℕ, true, false, IfOk, OnOk, IsErrOf};
-ghost use Rattle.card_events.specs.Built.{is_built};
+ghost use Rattle.card_desk.specs.Built.{is_built};
 ghost use Rattle.card_events.specs.Dated.{is_dated};
 ghost use Rattle.card_events.specs.declared.request.Request.{Request};
 ghost use Rattle.card_keeper.specs.Rows.{GivesRows, KeepsRows, SameRowsTold};
@@ -10,6 +10,7 @@ ghost use Rattle.card_desk.specs.Kept.{AreDamaged, IsNewRow, IsRunOf, accepted_c
 ghost use Rattle.card_desk.specs.Loads.{GoesOn};
 
 use crate::Desk;
+use crate::built::is_built;
 use crate::fault::{Fault, LoadFault};
 use card_events::Request;
 use card_keeper::{Keeper, KeeperFault, Row};
@@ -103,7 +104,7 @@ fn run_row(alloc: Global, desk: &mut Desk, number: u64, row: &Row) -> Result<boo
         return Ok(false);
     }
     match decode(alloc, row.body.bytes())? {
-        Some(request) if request.is_built() => run_request(alloc, desk, &request),
+        Some(request) if is_built(&request) => run_request(alloc, desk, &request),
         _ => Ok(false),
     }
 }

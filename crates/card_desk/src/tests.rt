@@ -1,4 +1,4 @@
-use crate::{Ask, Desk, Fault, LoadFault, View};
+use crate::{Ask, Desk, Fault, LoadFault, View, is_built};
 use card_days::Day;
 use card_events::{Name, Num, Place, Post, Refusal, Reply, Request, Shared, Terms};
 use card_keeper::{Body, FailingKeeper, Keeper, MemoryKeeper, Row};
@@ -72,7 +72,7 @@ fn answer<K: Keeper>(
     request: &Request,
 ) -> Result<Result<Reply, Fault>, Fail> {
     let mut desk = Desk::load(alloc, keeper)?;
-    if !request.is_built() || !request.is_dated() {
+    if !is_built(&request) || !request.is_dated() {
         return Err(Fail::from("a request that isn't taken"));
     }
     Ok(desk.apply(alloc, keeper, request))

@@ -1,4 +1,3 @@
-pub mod Built
 pub mod Dated
 pub mod History
 pub mod Keys

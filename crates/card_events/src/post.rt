@@ -36,21 +36,6 @@ pub enum Place {
     Plan(Num),
 }
 
-impl Place {
-    ghost use Rattle.std.specs.Prelude.{◌≡◌};
-    ghost use Rattle.card_events.specs.Built as spec;
-
-    /// Whether it is the category purchase.
-    pub fn is_purchase(&self) -> bool
-        ensures { result ≡ spec.is_purchase self.now }
-    {
-        match self {
-            Place::Purchase => true,
-            _ => false,
-        }
-    }
-}
-
 /// A plan at a rate of its own, or one whose interest is charged at the end unless the balance is paid.
 #[derive(Clone, Copy, Debug, PartialEq, Eq)]
 pub enum PlanKind {
@@ -164,20 +149,8 @@ pub enum Post {
 
 impl Post {
     ghost use Rattle.std.specs.Prelude.{◌≡◌};
-    ghost use Rattle.card_events.specs.Built.{is_built_post};
     ghost use Rattle.card_events.specs.Dated.{is_dated_post};
     ghost use Rattle.card_events.specs.Same.{is_same_post};
-
-    /// Whether the ledger takes posts of this kind so far: an Open, or a Charge on purchase.
-    pub fn is_built(&self) -> bool
-        ensures { result ≡ is_built_post self.now }
-    {
-        match self {
-            Post::Open { .. } => true,
-            Post::Charge { place, .. } => place.is_purchase(),
-            _ => false,
-        }
-    }
 
     /// Whether the other post is of the same kind with the same content.
     #[tactic(auto, unfolding(crate::specs::Same::is_same_post))]

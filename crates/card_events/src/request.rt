@@ -27,18 +27,7 @@ pub enum Request {
 
 impl Shared {
     ghost use Rattle.std.specs.Prelude.{◌≡◌};
-    ghost use Rattle.card_events.specs.Built.{is_built_shared};
     ghost use Rattle.card_events.specs.Dated.{is_dated_shared};
-
-    /// Whether the ledger takes requests of this kind so far: a Roll.
-    pub fn is_built(&self) -> bool
-        ensures { result ≡ is_built_shared self.now }
-    {
-        match self {
-            Shared::Roll(_) => true,
-            _ => false,
-        }
-    }
 
     /// Whether its day is a day of requests, at most 2099-12-31.
     #[tactic(auto, unfolding(crate::specs::Dated::is_dated_shared))]
@@ -55,18 +44,7 @@ impl Shared {
 
 impl Request {
     ghost use Rattle.std.specs.Prelude.{◌≡◌};
-    ghost use Rattle.card_events.specs.Built as spec;
     ghost use Rattle.card_events.specs.Dated.{is_dated};
-
-    /// Whether the ledger takes requests of this kind so far: a Roll, an Open, or a Charge on purchase.
-    pub fn is_built(&self) -> bool
-        ensures { result ≡ spec.is_built self.now }
-    {
-        match self {
-            Request::Shared(shared) => shared.is_built(),
-            Request::Post { post, .. } => post.is_built(),
-        }
-    }
 
     /// Whether every day in it is a day of requests, at most 2099-12-31.
     #[tactic(auto, unfolding(crate::specs::Dated::is_dated))]
