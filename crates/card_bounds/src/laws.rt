@@ -1,5 +1,6 @@
 //! Bounds from the limits on posts, cents, fees and days alone.
 ghost use Rattle.card_bounds.specs.Bounds.{BalancesBounded, BalancesSmall, CyclesHaveTheirInterest, HeldIsNeverBelow, RatesSmall, RowsOfPastDays, RowsSmall, SmallAtEachStep, SumsSmall};
+ghost use Rattle.card_bounds.specs.Places.{EntriesHaveSegments};
 
 /// Every balance lies within what was moved, interest apart, and 10^13 cents.
 pub fn balances_bounded()
@@ -45,4 +46,9 @@ pub fn rates_small()
 /// A closed cycle's interest is the sum of the interest entries of its closing.
 pub fn cycles_have_their_interest()
     ensures { CyclesHaveTheirInterest }
+{}
+
+/// Every entry lies on Credit, on Held or on a segment that is there by its day.
+pub fn entries_have_segments()
+    ensures { EntriesHaveSegments }
 {}
