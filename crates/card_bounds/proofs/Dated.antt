@@ -97,7 +97,7 @@ unfolding after_posts
 posts-added issued a seen [] b = added-none (IsPlain seen.day) b.entries
 posts-added issued a seen (s ∷ ss) b = added-then (IsPlain seen.day) b.entries (effect issued a seen s s.post b).entries _ (effect-added issued a seen s s.post b) (posts-added issued a seen ss (effect issued a seen s s.post b))
 
-due-added : (issued : Option IssuedRow) (a : Account) (seen : Seen) (b : Book) (c : Option Cycle) → Added (IsPlain seen.day) b.entries (on_due issued a seen b c).entries
+pub due-added : (issued : Option IssuedRow) (a : Account) (seen : Seen) (b : Book) (c : Option Cycle) → Added (IsPlain seen.day) b.entries (on_due issued a seen b c).entries
 unfolding on_due
 due-added issued a seen b None = added-none (IsPlain seen.day) b.entries
 due-added issued a seen b (Some c) = by (eqb seen.day (c.due + 1)) (fee-added a seen 0 (late_fee issued seen b c) b)
@@ -185,13 +185,13 @@ row-front s x es new h a =
     plus z = omega (arith, ints)
 
 -- ---- days in the fold
-added-weaker : (p q : Entry → Type 0) (es new : List Entry) → ((e : Entry) → p e → q e) → Added p es new → Added q es new
+pub added-weaker : (p q : Entry → Type 0) (es new : List Entry) → ((e : Entry) → p e → q e) → Added p es new → Added q es new
 added-weaker p q es new h a = record { rest = a.rest; is = a.is; all = All-weaker p q h a.rest a.all }
 
-front-all : (p : Entry → Type 0) (es new : List Entry) → All p es → Added p es new → All p new
+pub front-all : (p : Entry → Type 0) (es new : List Entry) → All p es → Added p es new → All p new
 front-all p es new h a = subst (All p) (sym a.is) (All-append p es a.rest h a.all)
 
-abbrev Before : ℕ → Entry → Type 0
+abbrev pub Before : ℕ → Entry → Type 0
 Before d e = e.day < d
 
 day-dates : (issued : Option IssuedRow) (a : Account) (seen : Seen) (b : Book) (d : ℕ) → seen.day ≡ d → All (Before d) b.entries → All (Before (suc d)) (day_after issued a seen b).entries

@@ -4,6 +4,7 @@ pub mod Dated
 pub mod Held
 pub mod HeldDays
 pub mod Holds
+pub mod OnDays
 pub mod OnSegments
 pub mod Owned
 pub mod Points

@@ -1,7 +1,6 @@
 -- Every entry lies on Credit, on Held or on a segment that is there by the day.
-use Rattle.std.proofs.Common.{◌≡◌, ℕ, zero, suc, ◌+◌, ◌-◌, ◌<◌, ◌≤◌, Bool, true, false, cond, ◌&&◌, List, [], ◌∷◌, ◌++◌, refl, sym, ap, ◌∙◌, subst, arith, ℤ, pos, negsuc, ◌+ℤ◌, Option, Some, None, eqb, leb, map}
+use Rattle.std.proofs.Common.{◌≡◌, ℕ, zero, suc, ◌+◌, ◌-◌, ◌<◌, ◌≤◌, Bool, true, false, cond, ◌&&◌, List, [], ◌∷◌, ◌++◌, refl, subst, arith, ℤ, pos, negsuc, Option, Some, None, eqb, leb, map}
 use Rattle.std.specs.List.{All, Contains, filter, filter_map, find, cons_option}
-use Rattle.std.proofs.lemmas.Int.{ints}
 use Rattle.std.proofs.lemmas.Bool.{ne_eqb}
 use Rattle.std.proofs.lemmas.Bool.Decides.{nat_tests}
 use Rattle.std.proofs.lemmas.List.Elements.{All-nil, All-cons, All-head, All-tail, All-append, All-filter, All-map, All-weaker, All-contains, All-contains_itself}
@@ -27,7 +26,7 @@ use Rattle.card_model.specs.Entries.{balance, credit_balance, debit, entry_of, h
 use Rattle.card_model.specs.Fees.{fee_cents}
 use Rattle.card_model.specs.Folds.{book, book_after, day_after}
 use Rattle.card_model.specs.Payments.{minimum_left}
-use Rattle.card_model.specs.Segments.{SegmentTerms, id_of, is_plan, is_sort, last_that, newest, opening_vintage, opening_vintages, segment_at, segment_of, segments}
+use Rattle.card_model.specs.Segments.{SegmentTerms, id_of, is_plan, is_sort, last_that, opening_vintage, opening_vintages, segment_at, segment_of, segments}
 use Rattle.card_model.specs.declared.entry.Entry.{Entry}
 use Rattle.card_model.specs.declared.entry.Note.{Note}
 use Rattle.card_model.specs.declared.fee.Fee.{Fee}

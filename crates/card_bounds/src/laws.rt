@@ -1,6 +1,6 @@
-//! Bounds from the limits on posts, cents, fees and days alone.
+//! Bounds from the limits on posts, cents, fees and days alone; on which segments and days entries lie.
 ghost use Rattle.card_bounds.specs.Bounds.{BalancesBounded, BalancesSmall, CyclesHaveTheirInterest, HeldIsNeverBelow, RatesSmall, RowsOfPastDays, RowsSmall, SmallAtEachStep, SumsSmall};
-ghost use Rattle.card_bounds.specs.Places.{EntriesHaveSegments};
+ghost use Rattle.card_bounds.specs.Places.{CyclesBeginInTurn, EntriesHaveDays, EntriesHaveSegments};
 
 /// Every balance lies within what was moved, interest apart, and 10^13 cents.
 pub fn balances_bounded()
@@ -48,7 +48,18 @@ pub fn cycles_have_their_interest()
     ensures { CyclesHaveTheirInterest }
 {}
 
-/// Every entry lies on Credit, on Held or on a segment that is there by its day.
+/// Every entry lies on Credit, on Held or on a segment that is there by the day, and no other segment has a balance: at
+/// the end of a day, before it, and after its due date and any posts.
 pub fn entries_have_segments()
     ensures { EntriesHaveSegments }
+{}
+
+/// No entry is of a later day than its book.
+pub fn entries_have_days()
+    ensures { EntriesHaveDays }
+{}
+
+/// The cycle that a book is in begins on the day after the last closing before the next day.
+pub fn cycles_begin_in_turn()
+    ensures { CyclesBeginInTurn }
 {}
