@@ -1,9 +1,9 @@
 -- Every entry lies on Credit, on Held or on a segment that is there by the day.
-use Rattle.std.proofs.Common.{◌≡◌, ℕ, zero, suc, ◌+◌, ◌-◌, ◌<◌, ◌≤◌, Bool, true, false, cond, ◌&&◌, List, [], ◌∷◌, ◌++◌, refl, subst, arith, ℤ, pos, negsuc, Option, Some, None, eqb, leb, map}
+use Rattle.std.proofs.Common.{◌≡◌, ℕ, zero, suc, ◌+◌, ◌-◌, ◌<◌, ◌≤◌, Bool, true, false, cond, ◌&&◌, List, [], ◌∷◌, ◌++◌, refl, ap, subst, arith, ℤ, pos, negsuc, Option, Some, None, eqb, leb, map, get_or}
 use Rattle.std.specs.List.{All, Contains, filter, filter_map, find, cons_option}
 use Rattle.std.proofs.lemmas.Bool.{ne_eqb}
 use Rattle.std.proofs.lemmas.Bool.Decides.{nat_tests}
-use Rattle.std.proofs.lemmas.List.Elements.{All-nil, All-cons, All-head, All-tail, All-append, All-filter, All-map, All-weaker, All-contains, All-contains_itself}
+use Rattle.std.proofs.lemmas.List.Elements.{All-nil, All-cons, All-head, All-tail, All-append, All-filter, All-map, All-weaker, All-contains, All-contains_itself, filter_passes}
 use Rattle.std.specs.Prelude.{min}
 use Rattle.std.specs.Option.{option_or}
 use Rattle.card_bounds.specs.Places.{EntriesHaveSegments, LieOn, numbers_of, segments_by}
@@ -345,6 +345,19 @@ none-of s (e ∷ es) h =
     let rest = none-of s es (All-tail (λ (e : Entry). eqb e.segment s ≡ false) e es h) in
     rw (here, rest) refl
 
+-- of some segments of a list in which no two have one number
+unseen-apart : (all : List SegmentTerms) (sees : SegmentTerms → Bool) (g : SegmentTerms) → sees g ≡ false → ((h : SegmentTerms) → Contains all h → h.id ≡ g.id → h ≡ g) → All (λ (h : SegmentTerms). eqb h.id g.id ≡ false) (filter sees all)
+unseen-apart all sees g unseen only k d l =
+    let h = get_or (filter sees all) k d in
+    let among = All-filter sees (Contains all) all (All-contains_itself all) k d l in
+    let passes : sees h ≡ true = filter_passes sees all k d l in
+    ne_eqb h.id g.id (λ q. absurd (differ (sees h) (sees g) (ap sees (only h among q)) passes unseen))
+  where
+    differ : (t u : Bool) → t ≡ u → t ≡ true → u ≡ false → ⊥
+    differ true true a b c = cc
+    differ true false a b c = cc
+    differ false u a b c = cc
+
 pub entries_have_segments : EntriesHaveSegments
 entries_have_segments = record {
   days = days_lie;
@@ -358,5 +371,6 @@ entries_have_segments = record {
       posts-there p (row_for (present_cycle b) issued) acc seen done _ there
       (due-there p (row_for (present_cycle b) issued) acc seen b (last_cycle b.cycles) there (fold-there history issued shared n later (λ k less. omega arith)));
   without = not-there;
-  none = λ segments entries s h l other. none-of s entries (not-there segments entries s h l other);
+  unseen = λ all sees g entries h l unseen only. not-there (filter sees all) entries g.id h l (unseen-apart all sees g unseen only);
+  none = λ entries s h. none-of s entries h;
 }

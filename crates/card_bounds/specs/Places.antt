@@ -1,6 +1,6 @@
 -- On which segments the entries of a book lie, on which days, and in which cycle the book is.
-use Rattle.std.specs.Prelude.{ℕ, ◌+◌, ◌-◌, ◌==◌, ◌≡◌, ◌≤◌, ◌<◌, false, map, List, ◌∷◌, pos}
-use Rattle.std.specs.List.{All, Contains}
+use Rattle.std.specs.Prelude.{ℕ, ◌+◌, ◌-◌, ◌==◌, ◌≡◌, ◌≤◌, ◌<◌, Bool, false, map, List, ◌∷◌, pos}
+use Rattle.std.specs.List.{All, Contains, filter}
 use Rattle.card_bounds.specs.Bounds.{book_amid}
 use Rattle.card_days.specs.Billing.{closing, cycle_of}
 use Rattle.card_events.specs.History.{CorrectedPost, anchor_of}
@@ -33,7 +33,9 @@ abbrev pub book_before : List Kept → List IssuedRow → SharedRows → ℕ →
 book_before history issued shared n = book_after issued (account_of history) (seen_on (anchor_of history) shared history issued) n
 
 -- In the book of every day, before a day, and after its due date and any posts, every entry lies on Credit, on Held or on a
--- segment that is there by that day, or by any later one. So a segment that isn't among them has no entry and no balance
+-- segment that is there by that day, or by any later one. So a segment that isn't among them has no entry; nor has one that
+-- isn't seen, where those that are there are the seen ones of a list in which no other has its number. Without an entry
+-- there is no balance
 pub record EntriesHaveSegments : Type 0 where
   pub days :
       (history : List Kept) (issued : List IssuedRow) (shared : SharedRows) (day later : ℕ) → day ≤ later
@@ -47,9 +49,11 @@ pub record EntriesHaveSegments : Type 0 where
   pub without :
       (segments : List SegmentTerms) (entries : List Entry) (s : ℕ) → LieOn segments entries → 2 ≤ s → All (λ g. (g.id == s) ≡ false) segments
       → All (λ e. (e.segment == s) ≡ false) entries
-  pub none :
-      (segments : List SegmentTerms) (entries : List Entry) (s : ℕ) → LieOn segments entries → 2 ≤ s → All (λ g. (g.id == s) ≡ false) segments
-      → balance s entries ≡ pos 0
+  pub unseen :
+      (all : List SegmentTerms) (sees : SegmentTerms → Bool) (g : SegmentTerms) (entries : List Entry) → LieOn (filter sees all) entries → 2 ≤ g.id
+      → sees g ≡ false → ((h : SegmentTerms) → Contains all h → h.id ≡ g.id → h ≡ g)
+      → All (λ e. (e.segment == g.id) ≡ false) entries
+  pub none : (entries : List Entry) (s : ℕ) → All (λ e. (e.segment == s) ≡ false) entries → balance s entries ≡ pos 0
 
 -- ---- days
 -- No entry is of a later day than its book: that of a day, that before a day, and that after its due date and any posts
