@@ -1,3 +1,4 @@
+pub mod Carried
 pub mod DayLaws
 pub mod Empties
 pub mod Named

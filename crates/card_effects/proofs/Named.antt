@@ -40,8 +40,8 @@ numbers-step p segs gs s xs new all id numbers e low l here n h =
     ∙ (append-one xs (is_of_place p g) id g rest p number
     ∙ (ap (λ us. xs ++ numbers_of p us) (sym (drop_more gs (id - 2) no_segment in_list)) ∙ h)))
 
-pub numbers-all : (p : Place) (segs : List Segment) (gs : List SegmentTerms) (xs all : List ℕ) {n : ℕ} → drop 2 segs ≡ map kept_segment gs → n ≡ length segs → xs ++ numbers_of p (drop (n - 2) gs) ≡ all → xs ≡ all
-numbers-all p segs gs xs all {n} e l h =
+pub numbers-all : (p : Place) (segs : List Segment) (gs : List SegmentTerms) (xs all : List ℕ) (n : ℕ) → drop 2 segs ≡ map kept_segment gs → length segs ≤ n → xs ++ numbers_of p (drop (n - 2) gs) ≡ all → xs ≡ all
+numbers-all p segs gs xs all n e l h =
     let m = how-many segs gs e in
     sym (append-nil xs) ∙ (ap (λ us. xs ++ numbers_of p us) (sym (drop_all (n - 2) gs (omega (arith, m, l)))) ∙ h)
 

@@ -1,4 +1,5 @@
 pub mod Laws
 pub mod Places
 pub mod Ranks
+pub mod Repaid
 pub mod Standing

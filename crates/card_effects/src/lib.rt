@@ -6,6 +6,8 @@ pub mod laws;
 mod payments;
 mod place;
 mod ranks;
+mod rows;
 
 pub use debits::{charge, fee, refund};
 pub use payments::{credit, payment};
+pub use rows::{repay, unpay};

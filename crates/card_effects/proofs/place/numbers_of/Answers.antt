@@ -1,4 +1,5 @@
-use Rattle.std.proofs.Common.{◌≡◌, arith}
+use Rattle.std.proofs.Common.{◌≡◌, ◌≤◌, length, arith}
+use Rattle.card_effects.specs.Places.{numbers_of}
 use Rattle.card_effects.proofs.Named.{numbers-all, numbers-step}
 use Rattle.card_effects.proofs.place.numbers_of.Goals as goal
 
@@ -10,4 +11,5 @@ loop-id-preserved c gs numbers kept =
 
 pub returns : goal.returns
 returns c gs numbers kept =
-    numbers-all c.args.place.now c.args.segments.now.segments gs c.loop-id-after.list.items _ kept c.len-id-end.ensures.segments (c.loop-id-after.invariant gs numbers kept)
+    let over : length c.args.segments.now.segments ≤ c.loop-id.id = omega (arith, c.loop-id-test.false, c.len-id-end.ensures.segments) in
+    numbers-all c.args.place.now c.args.segments.now.segments gs c.loop-id.list.items (numbers_of c.args.place.now gs) c.loop-id.id kept over (c.loop-id.invariant gs numbers kept)
