@@ -77,7 +77,7 @@ pub taken : (a : Account) (seen : Seen) (b c : Book) (rated : Rates) (before aft
 taken a seen b c rated before after es new note cents ps numbers l s t grown same =
     let bs = before.balances in
     let stands = after-entries a seen b c rated bs es (parts_entries note ps) s grown same (parts-known note (length bs) ps t.whole.on_segments)
-        (λ g h f. elsewhere g h f) in
+    (λ g h f. elsewhere g h f) in
     subst (λ us. StandsAt a seen c rated after.balances us) (sym t.grown) (subst (λ (v : Balances). StandsAt a seen c rated v.balances (es ++ parts_entries note ps)) (sym t.moved) stands)
   where
     elsewhere : (g : SegmentTerms) → Contains rated.segments g → is_added seen.day g ≡ false → balance g.id (parts_entries note ps) ≡ pos 0
@@ -104,10 +104,10 @@ unfolding effect payment_parts
 payment-stands issued a seen p b day minute cents by rated before after es new slot until x y part ranks note ps numbers k s is u m r e f q n t =
     let l : length rated.segments + 2 ≡ length before.balances = all-are rated until slot.day ranks (length before.balances) r k in
     let same : ps ≡ allocated (minimum_of seen p b) p.cents (holdings a seen b None) =
-        q ∙ (ap (λ us. allocated x y (made.holdings [] before.balances us)) r
-        ∙ (ap (λ z. allocated z y (made.holdings [] before.balances (ranks_on rated until slot.day))) (e ∙ ap at_least_zero m)
-        ∙ (ap (λ z. allocated (minimum_of seen p b) z (made.holdings [] before.balances (ranks_on rated until slot.day))) (f ∙ slot-cents seen p slot is)
-        ∙ allocated-is a seen b rated before.balances es until slot.day (minimum_of seen p b) p.cents numbers l s u (slot-day seen p slot is)))) in
+    q ∙ (ap (λ us. allocated x y (made.holdings [] before.balances us)) r
+    ∙ (ap (λ z. allocated z y (made.holdings [] before.balances (ranks_on rated until slot.day))) (e ∙ ap at_least_zero m)
+    ∙ (ap (λ z. allocated (minimum_of seen p b) z (made.holdings [] before.balances (ranks_on rated until slot.day))) (f ∙ slot-cents seen p slot is)
+    ∙ allocated-is a seen b rated before.balances es until slot.day (minimum_of seen p b) p.cents numbers l s u (slot-day seen p slot is)))) in
     taken a seen b _ rated before after es new note y ps numbers l s t
     (parts-are b.entries note (note_of seen kind.Payment p.number) ps (allocated (minimum_of seen p b) p.cents (holdings a seen b None)) (n ∙ slot-note seen p slot kind.Payment is) same)
     refl
@@ -120,10 +120,10 @@ unfolding effect credit_parts
 credit-stands issued a seen p b day cents place rated before after es new slot until y ranks ids note ps numbers k s is u r i f q n t =
     let l : length rated.segments + 2 ≡ length before.balances = all-are rated until slot.day ranks (length before.balances) r k in
     let same : ps ≡ placed p.cents (holdings a seen b (Some place)) =
-        q ∙ (ap (λ us. placed y (made.holdings ids before.balances us)) r
-        ∙ (ap (λ us. placed y (made.holdings us before.balances (ranks_on rated until slot.day))) i
-        ∙ (ap (λ z. placed z (made.holdings (numbers_of place rated.segments) before.balances (ranks_on rated until slot.day))) (f ∙ slot-cents seen p slot is)
-        ∙ placed-is a seen b rated before.balances es until slot.day p.cents place (numbers_of place rated.segments) numbers l s u (slot-day seen p slot is) (named place rated.segments numbers)))) in
+    q ∙ (ap (λ us. placed y (made.holdings ids before.balances us)) r
+    ∙ (ap (λ us. placed y (made.holdings us before.balances (ranks_on rated until slot.day))) i
+    ∙ (ap (λ z. placed z (made.holdings (numbers_of place rated.segments) before.balances (ranks_on rated until slot.day))) (f ∙ slot-cents seen p slot is)
+    ∙ placed-is a seen b rated before.balances es until slot.day p.cents place (numbers_of place rated.segments) numbers l s u (slot-day seen p slot is) (named place rated.segments numbers)))) in
     taken a seen b _ rated before after es new note y ps numbers l s t
     (parts-are b.entries note (note_of seen kind.Credit p.number) ps (placed p.cents (holdings a seen b (Some place))) (n ∙ slot-note seen p slot kind.Credit is) same)
     refl

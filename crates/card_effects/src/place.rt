@@ -81,12 +81,7 @@ fn is_of_place(place: &Place, segment: &Segment) -> bool
 }
 
 // Adds a number, where its segment is of the place.
-fn add_number(
-    list: &mut Vec<u8>,
-    place: &Place,
-    segment: &Segment,
-    id: u8,
-) -> Result<(), NoMemory>
+fn add_number(list: &mut Vec<u8>, place: &Place, segment: &Segment, id: u8) -> Result<(), NoMemory>
     ensures { OnOk result (list.new.items ≡ list.old.items ++ (if is_kept_of place.now segment.now then id ∷ [] else [])) }
 {
     if is_of_place(place, segment) {
@@ -96,11 +91,7 @@ fn add_number(
 }
 
 // The numbers of the segments of a place.
-pub fn numbers_of(
-    alloc: Global,
-    segments: &Segments,
-    place: &Place,
-) -> Result<Vec<u8>, NoMemory>
+pub fn numbers_of(alloc: Global, segments: &Segments, place: &Place) -> Result<Vec<u8>, NoMemory>
     ensures { IfOk result (λ v. (gs : List SegmentTerms) → AreByNumber 2 gs → drop 2 segments.now.segments ≡ map kept_segment gs → v.items ≡ numbers_of place.now gs) }
 {
     let mut list = Vec::new(alloc);

@@ -19,12 +19,7 @@ pub fn unpay(rows: &mut [CycleRows], post: u32)
 }
 
 // Brings one part to the rows of its segment. Credit has none.
-fn repay_part(
-    rows: &mut [CycleRows],
-    segment: u8,
-    cents: u64,
-    slot: &Slot,
-) -> Result<(), NoMemory>
+fn repay_part(rows: &mut [CycleRows], segment: u8, cents: u64, slot: &Slot) -> Result<(), NoMemory>
     requires known { segment < length rows.old + 2 }
     requires limit { cents ≤ 1_000_000_000_000_000 }
     ensures repaid { OnOk result (AreRepaid slot.now.day slot.now.number ((segment, cents) ∷ []) rows.old rows.new) }
