@@ -3,3 +3,4 @@ pub mod Places
 pub mod Ranks
 pub mod Repaid
 pub mod Standing
+pub mod TestAccount

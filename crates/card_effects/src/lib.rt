@@ -7,6 +7,8 @@ mod payments;
 mod place;
 mod ranks;
 mod rows;
+#[cfg(test)]
+mod tests;
 
 pub use debits::{charge, fee, refund};
 pub use payments::{credit, payment};
