@@ -268,8 +268,35 @@ fn give_back(rt: &impl Abort, a: &mut Account, cents: u32) -> Result<(), Fail>
     Ok(())
 }
 
-// Purchases of 300 dollars paid with 400 leave a credit of 100, which the next charge and refunds use up; a fee is owed on
-// purchases.
+// Charges a late fee on 2024-06-07.
+fn charge_fee(rt: &impl Abort, a: &mut Account, cents: u32) -> Result<(), Fail>
+    requires { AreRated a.old.segments.segments a.old.rates }
+{
+    let on = day(rt, 19_881);
+    let late = Fee {
+        due_cycle: 5,
+        kind: FeeKind::Late,
+        repeat: false,
+        cycle: 6,
+        day: on,
+        cents: Cents::from(cents),
+    };
+    assert!(rt; are_small(&a.segments));
+    fee(&mut a.segments, &a.rates, on, 0, &late, &mut a.entries)?;
+    Ok(())
+}
+
+// The segments and cents of entries.
+fn has_entries(rt: &impl Abort, entries: &[Entry], want: [(u8, Cents); 7]) {
+    assert_eq!(rt; entries.len(), 7);
+    for (entry, (segment, cents)) in entries.iter().zip(want) {
+        assert_eq!(rt; entry.segment, segment);
+        assert_eq!(rt; entry.cents, cents);
+    }
+}
+
+// Purchases of 300 dollars paid with 400 leave a credit of 100, which a charge of 40 and a refund of 80 use up; a fee is owed
+// on purchases.
 #[test]
 fn a_credit_balance_is_used_first(rt: HostRuntime) -> Result<(), Fail> {
     let alloc = rt.alloc();
@@ -278,42 +305,22 @@ fn a_credit_balance_is_used_first(rt: HostRuntime) -> Result<(), Fail> {
     let parts = pay(&rt, alloc, &mut a, 19_880, 19_940, 0, 40_000)?;
     has_parts(&rt, &parts, [10_000, 30_000, 0, 0, 0]);
     owe(&rt, &mut a, Place::Cash, 19_880, 4_000)?;
-    assert_eq!(rt; a.segments.balance(0), -6_000);
-    assert_eq!(rt; a.segments.owed(), -6_000);
-    give_back(&rt, &mut a, 5_000)?;
-    assert_eq!(rt; a.segments.owed(), -1_000);
-    give_back(&rt, &mut a, 3_000)?;
-    let late = Fee {
-        due_cycle: 5,
-        kind: FeeKind::Late,
-        repeat: false,
-        cycle: 6,
-        day: day(&rt, 19_881),
-        cents: 3_200,
-    };
-    assert!(rt; are_small(&a.segments));
-    fee(
-        &mut a.segments,
-        &a.rates,
-        day(&rt, 19_881),
-        0,
-        &late,
-        &mut a.entries,
-    )?;
-    let want = [
-        (2, 30_000),
-        (0, -10_000),
-        (2, -30_000),
-        (0, 4_000),
-        (0, 5_000),
-        (0, 1_000),
-        (2, 2_000),
-        (2, 3_200),
-    ];
-    assert_eq!(rt; a.entries.len(), want.len());
-    for (entry, (segment, cents)) in a.entries.iter().zip(want) {
-        assert_eq!(rt; (entry.segment, entry.cents), (segment, cents));
-    }
+    give_back(&rt, &mut a, 8_000)?;
+    charge_fee(&rt, &mut a, 3_200)?;
+    assert_eq!(rt; a.segments.owed(), 5_200);
+    has_entries(
+        &rt,
+        &a.entries,
+        [
+            (2, 30_000),
+            (0, -10_000),
+            (2, -30_000),
+            (0, 4_000),
+            (0, 6_000),
+            (2, 2_000),
+            (2, 3_200),
+        ],
+    );
     Ok(())
 }
 
@@ -335,21 +342,39 @@ fn have_averages(rt: &impl Abort, rows: &[CycleRows], want: [Cents; 5]) {
     }
 }
 
-// What a payment of 2024-06-16 repaid of ten days bears no interest, until the payment is returned.
+// Pays 400 dollars on 2024-06-16.
+fn pay_rows(
+    rt: &impl Abort,
+    alloc: Global,
+    a: &mut Account,
+    rows: &mut [CycleRows],
+) -> Result<(), Fail>
+    requires { AreRated a.old.segments.segments a.old.rates }
+{
+    assert!(rt; rows.len() + 2 == a.segments.len() as usize);
+    let parts = pay(rt, alloc, a, 19_890, 19_940, 3_500, 40_000)?;
+    repay(rows, &parts, &slot(rt, 19_890, 10, 40_000))?;
+    Ok(())
+}
+
+// The rows of segments 2 to 6.
+fn all_rows(rt: &impl Abort, alloc: Global) -> Result<Vec<CycleRows>, Fail> {
+    let mut rows = Vec::new(alloc);
+    rows.push(ten_days(rt, alloc, 50_000)?)?;
+    rows.push(ten_days(rt, alloc, 30_000)?)?;
+    rows.push(ten_days(rt, alloc, 0)?)?;
+    rows.push(ten_days(rt, alloc, 20_000)?)?;
+    rows.push(ten_days(rt, alloc, 0)?)?;
+    Ok(rows)
+}
+
+// What a payment of 2024-06-16 repaid of the ten days before bears no interest, until the payment is returned.
 #[test]
 fn rows_of_a_payment(rt: HostRuntime) -> Result<(), Fail> {
     let alloc = rt.alloc();
-    let mut rows = Vec::new(alloc);
-    for balance in [50_000, 30_000, 0, 20_000, 0] {
-        rows.push(ten_days(&rt, alloc, balance)?)?;
-    }
+    let mut rows = all_rows(&rt, alloc)?;
     let mut a = owing(&rt, alloc, 0)?;
-    let parts = pay(&rt, alloc, &mut a, 19_890, 19_940, 3_500, 110_000)?;
-    has_parts(&rt, &parts, [10_000, 50_000, 30_000, 20_000, 0]);
-    assert!(rt; rows.len() + 2 == a.segments.len() as usize);
-    let mut b = owing(&rt, alloc, 0)?;
-    let parts = pay(&rt, alloc, &mut b, 19_890, 19_940, 3_500, 40_000)?;
-    repay(&mut rows, &parts, &slot(&rt, 19_890, 10, 40_000))?;
+    pay_rows(&rt, alloc, &mut a, &mut rows)?;
     have_averages(&rt, &rows, [43_500, 0, 0, 16_500, 0]);
     unpay(&mut rows, 10);
     have_averages(&rt, &rows, [50_000, 30_000, 0, 20_000, 0]);
