@@ -1,11 +1,10 @@
 -- What parts bring to the rows of segments.
-use Rattle.std.proofs.Common.{◌≡◌, ℕ, zero, suc, ◌+◌, ◌-◌, ◌<◌, ◌≤◌, Bool, true, false, cond, ◌&&◌, not, List, [], ◌∷◌, ◌++◌, length, map, take, drop, refl, sym, ap, ◌∙◌, subst, arith, eqb, eq-eqb, leb, get_or, set, inl, inr, ◌⊎◌}
-use Rattle.std.specs.List.{All, filter}
+use Rattle.std.proofs.Common.{◌≡◌, ℕ, zero, suc, ◌+◌, ◌-◌, ◌<◌, ◌≤◌, Bool, true, not, List, [], ◌∷◌, ◌++◌, length, map, take, refl, sym, ap, ◌∙◌, arith, eqb, eq-eqb, leb, get_or, set, inl, inr, ◌⊎◌}
 use Rattle.std.proofs.lemmas.Bool.{ne_eqb}
 use Rattle.std.proofs.lemmas.Bool.Decides.{nat_tests}
 use Rattle.std.proofs.lemmas.List.{append-nil, append_assoc, length-map, map-set, set-get_or, take_more}
-use Rattle.std.proofs.lemmas.List.Elements.{All-get_or, filter-append}
-use Rattle.card_alloc.specs.Parts.{AreOnSegments, IsOnSegment, parts_sum}
+use Rattle.std.proofs.lemmas.List.Elements.{filter-append}
+use Rattle.card_alloc.specs.Parts.{parts_sum}
 use Rattle.card_grace.specs.BookRows.{brought}
 use Rattle.card_grace.specs.Growth.{with_repaid}
 use Rattle.card_grace.specs.Rows.{Rows, others, with_repayment, without_post}

@@ -1,14 +1,14 @@
 -- Ranks, and the holdings that they make of balances.
-use Rattle.std.proofs.Common.{◌≡◌, ℕ, zero, suc, ◌+◌, ◌-◌, ◌<◌, ◌≤◌, Bool, true, false, cond, List, [], ◌∷◌, ◌++◌, length, drop, map, refl, sym, ap, ◌∙◌, subst, arith, eqb, ltb, get_or, Option, Some, None, ℤ, pos}
+use Rattle.std.proofs.Common.{◌≡◌, ℕ, suc, ◌+◌, ◌-◌, ◌<◌, ◌≤◌, Bool, true, false, cond, List, [], ◌∷◌, ◌++◌, length, drop, map, refl, sym, ap, ◌∙◌, subst, arith, eqb, ltb, get_or, Option, Some, None, ℤ, pos}
 use Rattle.std.specs.List.{All, Contains, filter, list_any}
 use Rattle.std.proofs.lemmas.Bool.{false≢true}
-use Rattle.std.proofs.lemmas.List.{drop_all, drop_more, length-map}
+use Rattle.std.proofs.lemmas.List.{drop_all, drop_more}
 use Rattle.std.proofs.lemmas.List.Elements.{All-nil, All-cons, All-head, All-tail, All-weaker, All-contains_itself}
 use Rattle.card_alloc.specs.Holdings as made
 use Rattle.card_alloc.specs.declared.rank.Rank.{Rank}
 use Rattle.card_events.specs.declared.post.Place.{Place}
 use Rattle.card_model.specs.Allocation.{Ascends, allocated, placed}
-use Rattle.card_model.specs.Books.{Account, Book, all_segments}
+use Rattle.card_model.specs.Books.{Account, Book}
 use Rattle.card_model.specs.Cycles.{Seen}
 use Rattle.card_model.specs.Effects.{holding, holdings, is_in_place, second_closing}
 use Rattle.card_model.specs.Entries.{at_least_zero, balance}
@@ -16,7 +16,7 @@ use Rattle.card_model.specs.Segments.{SegmentTerms}
 use Rattle.card_model.specs.declared.entry.Entry.{Entry}
 use Rattle.card_model.specs.declared.holding.Holding.{Holding}
 use Rattle.card_rates.specs.RateBooks.{AreByNumber, Rates}
-use Rattle.card_rates.proofs.ByNumber.{number-above, number-below}
+use Rattle.card_rates.proofs.ByNumber.{number-below}
 use Rattle.card_effects.specs.Ranks.{rank_on, ranks_on}
 use Rattle.card_effects.specs.Standing.{StandsAt, is_added}
 use Rattle.card_effects.proofs.Empties.{allocated-full, counts, placed-full}

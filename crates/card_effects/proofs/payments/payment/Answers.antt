@@ -1,4 +1,4 @@
-use Rattle.std.proofs.Common.{◌≡◌, ap, ◌∙◌, arith, length}
+use Rattle.std.proofs.Common.{ap, ◌∙◌, arith, length}
 use Rattle.std.specs.Prelude.{◌≤ℤ◌, pos}
 use Rattle.std.proofs.lemmas.Int.{ints}
 use Rattle.card_effects.proofs.Repaid.{payment-stands}

@@ -1,4 +1,4 @@
-use Rattle.std.proofs.Common.{◌≡◌, ◌≤◌, length, arith}
+use Rattle.std.proofs.Common.{◌≤◌, length, arith}
 use Rattle.card_effects.specs.Places.{numbers_of}
 use Rattle.card_effects.proofs.Named.{numbers-all, numbers-step}
 use Rattle.card_effects.proofs.place.numbers_of.Goals as goal

@@ -1,4 +1,4 @@
-use Rattle.std.proofs.Common.{◌-◌, ◌<◌, length, ap, arith}
+use Rattle.std.proofs.Common.{◌-◌, ◌<◌, length, arith}
 use Rattle.card_effects.specs.Ranks.{rank_on}
 use Rattle.card_effects.proofs.Places.{how-many, no_segment}
 use Rattle.card_effects.proofs.Reached.{rank-pushed}

@@ -1,4 +1,4 @@
-use Rattle.std.proofs.Common.{◌≡◌, ◌≤◌, ◌-◌, [], ◌∷◌, ℕ, ap, ◌∙◌, sym, subst, refl, inl, inr, arith, w64, to_z, set, get_or, map, length}
+use Rattle.std.proofs.Common.{◌≡◌, ◌≤◌, ◌-◌, [], ◌∷◌, ℕ, ap, ◌∙◌, sym, subst, refl, inl, inr, arith, w64, to_z, set, get_or, map}
 use Rattle.std.specs.Prelude.{unsigned_abs}
 use Rattle.std.proofs.lemmas.Int.{to_z_pos}
 use Rattle.card_grace.specs.Rows.{Rows, with_repayment, without_post}

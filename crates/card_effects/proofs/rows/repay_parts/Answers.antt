@@ -1,4 +1,4 @@
-use Rattle.std.proofs.Common.{◌≡◌, ◌+◌, ◌<◌, ◌≤◌, ℕ, List, length, take, ap, ◌∙◌, subst, arith}
+use Rattle.std.proofs.Common.{ℕ, List, ap, ◌∙◌, subst, arith}
 use Rattle.std.proofs.lemmas.List.{take_all}
 use Rattle.card_alloc.specs.Parts.{parts_sum}
 use Rattle.card_effects.specs.Repaid.{AreRepaid}
