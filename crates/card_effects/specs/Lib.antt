@@ -1,0 +1,6 @@
+pub mod Laws
+pub mod Places
+pub mod Ranks
+pub mod Repaid
+pub mod Standing
+pub mod TestAccount

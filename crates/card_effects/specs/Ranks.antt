@@ -1,0 +1,23 @@
+-- The rank of each segment on a day, for what payments and credits reach.
+use Rattle.std.specs.Prelude.{ℕ, ◌&&◌, nat_le, if◌then◌else◌, unwrap_or, map, List, ◌∷◌, Option, None}
+use Rattle.card_alloc.specs.declared.rank.Rank.{Rank}
+use Rattle.card_grace.specs.Cases.{is_deferred_in}
+use Rattle.card_model.specs.Segments.{SegmentTerms, kept_segment}
+use Rattle.card_model.specs.declared.segment.Segment.{Segment}
+use Rattle.card_rates.specs.RateBooks.{Rates, rate_of}
+
+-- the end of a Deferred in its period, where it is a day at most
+abbrev pub end_by : ℕ → ℕ → Segment → Option ℕ
+end_by until day s = if is_deferred_in day s && nat_le (unwrap_or s.ends 0) until then s.ends else None
+
+-- a segment's rate of the day, and its end where that is so soon
+abbrev pub rank_on : Rates → ℕ → ℕ → SegmentTerms → Rank
+rank_on rated until day g = record { rate = rate_of rated day g; last_two = end_by until day (kept_segment g) }
+
+-- Credit and Held have none
+abbrev pub no_rank : Rank
+no_rank = record { rate = 0; last_two = None }
+
+-- all ranks, by number
+abbrev pub ranks_on : Rates → ℕ → ℕ → List Rank
+ranks_on rated until day = no_rank ∷ no_rank ∷ map (rank_on rated until day) rated.segments

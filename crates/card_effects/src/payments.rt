@@ -1,0 +1,89 @@
+// What payments and merchants' credits repay.
+ghost use Rattle.std.specs.Prelude.{◌≡◌, ℕ, ◌++◌, Option, IfOk, OnOk, OnErr, min, pos, ◌≤ℤ◌};
+ghost use Rattle.card_alloc.specs.Parts.{AreParts};
+ghost use Rattle.card_effects.specs.Standing.{AreRated, IsSlotOf, StandsAt};
+ghost use Rattle.card_days.specs.declared.anchor.Channel.{Channel};
+ghost use Rattle.card_events.specs.History.{CorrectedPost};
+ghost use Rattle.card_events.specs.declared.post.Post.TheVariants as post;
+ghost use Rattle.card_model.specs.Books.{Account, Book};
+ghost use Rattle.card_model.specs.Cycles.{IssuedRow, Seen, last_cycle};
+ghost use Rattle.card_model.specs.Effects.{effect, parts_entries, second_closing};
+ghost use Rattle.card_model.specs.Entries.{at_least_zero};
+ghost use Rattle.card_model.specs.Payments.{minimum_left};
+ghost use Rattle.card_model.specs.declared.entry.EntryKind.TheVariants as kind;
+ghost use Rattle.card_segments.specs.Balances.{AreWithin};
+
+use crate::debits::note_of;
+use crate::place::numbers_of;
+use crate::ranks::ranks;
+use card_alloc::{Parts, allocate, place_credit, take};
+use card_days::Day;
+use card_events::{Place, Slot};
+use card_rates::RateBook;
+use card_segments::{Entry, EntryKind, Segments};
+use card_units::{Cents, NoMemory};
+use std::alloc::Global;
+
+/// A payment of so many cents on its effective day (12 CFR 1026.10, .53), and its parts. The minimum part is what is left of
+/// the minimum payment, or the whole where that is less. The following closing is the one after that of the day's cycle.
+/// Condition: segments and rates of one account, 0 <= minimum part <= cents <= 10^15, and balances of at most 10^15 cents
+/// in size. After want of memory balances and entries are as they were.
+pub fn payment(
+    alloc: Global,
+    segments: &mut Segments,
+    rates: &RateBook,
+    slot: &Slot,
+    minimum_part: Cents,
+    following_closing: Day,
+    out: &mut Vec<Entry>,
+) -> Result<Parts, NoMemory>
+    requires rated { AreRated segments.old.segments rates.now }
+    requires minimum { pos 0 ≤ℤ minimum_part }
+    requires within { minimum_part ≤ℤ slot.now.cents }
+    requires limit { slot.now.cents ≤ℤ pos 1_000_000_000_000_000 }
+    requires small { AreWithin 1_000_000_000_000_000 segments.old.balances }
+    ensures stands { OnOk result ((issued : Option IssuedRow) (a : Account) (seen : Seen) (p : CorrectedPost) (b : Book) (day minute cents : ℕ) (by : Channel) → StandsAt a seen b rates.now segments.old.balances out.old.items → IsSlotOf seen p slot.now → following_closing ≡ second_closing a seen.day → minimum_part ≡ pos (min p.cents (minimum_left seen p (last_cycle b.cycles))) → StandsAt a seen (effect issued a seen p (post.Payment day minute by cents) b) rates.now segments.new.balances out.new.items) }
+    ensures entries { IfOk result (λ parts. out.new.items ≡ out.old.items ++ parts_entries (record { day = slot.now.day; kind = kind.Payment; post = slot.now.number }) parts) }
+    ensures whole { IfOk result (λ parts. AreParts segments.old.balances (at_least_zero slot.now.cents) parts) }
+    ensures segments { segments.new.segments ≡ segments.old.segments }
+    ensures err { OnErr result (segments.new ≡ segments.old) }
+    ensures err_entries { OnErr result (out.new.items ≡ out.old.items) }
+{
+    let ranks = ranks(alloc, segments, rates, following_closing, slot.day)?;
+    let parts = allocate(alloc, segments, &ranks, minimum_part, slot.cents)?;
+    let note = note_of(slot, EntryKind::Payment);
+    take(segments, &parts, &note, out)?;
+    Ok(parts)
+}
+
+/// A merchant's credit of so many cents on its effective day, and its parts: first to the segments of its place, the oldest
+/// first, and then as the excess of a payment (12 CFR 1026.53). The following closing is the one after that of the day's cycle.
+/// Condition: segments and rates of one account, 0 to 10^15 cents, and balances of at most 10^15 cents in size. After want
+/// of memory balances and entries are as they were.
+pub fn credit(
+    alloc: Global,
+    segments: &mut Segments,
+    rates: &RateBook,
+    slot: &Slot,
+    place: &Place,
+    following_closing: Day,
+    out: &mut Vec<Entry>,
+) -> Result<Parts, NoMemory>
+    requires rated { AreRated segments.old.segments rates.now }
+    requires amount { pos 0 ≤ℤ slot.now.cents }
+    requires limit { slot.now.cents ≤ℤ pos 1_000_000_000_000_000 }
+    requires small { AreWithin 1_000_000_000_000_000 segments.old.balances }
+    ensures stands { OnOk result ((issued : Option IssuedRow) (a : Account) (seen : Seen) (p : CorrectedPost) (b : Book) (day cents : ℕ) → StandsAt a seen b rates.now segments.old.balances out.old.items → IsSlotOf seen p slot.now → following_closing ≡ second_closing a seen.day → StandsAt a seen (effect issued a seen p (post.Credit day place.now cents) b) rates.now segments.new.balances out.new.items) }
+    ensures entries { IfOk result (λ parts. out.new.items ≡ out.old.items ++ parts_entries (record { day = slot.now.day; kind = kind.Credit; post = slot.now.number }) parts) }
+    ensures whole { IfOk result (λ parts. AreParts segments.old.balances (at_least_zero slot.now.cents) parts) }
+    ensures segments { segments.new.segments ≡ segments.old.segments }
+    ensures err { OnErr result (segments.new ≡ segments.old) }
+    ensures err_entries { OnErr result (out.new.items ≡ out.old.items) }
+{
+    let ranks = ranks(alloc, segments, rates, following_closing, slot.day)?;
+    let first = numbers_of(alloc, segments, place)?;
+    let parts = place_credit(alloc, segments, &ranks, &first, slot.cents)?;
+    let note = note_of(slot, EntryKind::Credit);
+    take(segments, &parts, &note, out)?;
+    Ok(parts)
+}
