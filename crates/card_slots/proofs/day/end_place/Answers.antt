@@ -6,9 +6,9 @@ use Rattle.card_slots.proofs.Posts.{through-is}
 use Rattle.card_slots.proofs.day.end_place.Goals as goal
 
 pub count_through-requires : goal.count_through-requires
-count_through-requires c = subst IsAscending (sym c.in_order.ensures) (ascending-in_order _)
+count_through-requires c = subst IsAscending (sym c.in_order.ensures.order) (ascending-in_order _)
 
 pub returns : goal.returns
 returns c = record {
-  place = λ holidays stands. c.count_through.ensures ∙ (ap (slots_through c.args.day) c.in_order.ensures ∙ through-is c.args.day c.args.posts.now.corrected);
+  place = λ holidays stands. c.count_through.ensures ∙ (ap (slots_through c.args.day) c.in_order.ensures.order ∙ through-is c.args.day c.args.posts.now.corrected);
 }
