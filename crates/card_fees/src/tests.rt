@@ -4,8 +4,8 @@ ghost use Rattle.card_events.specs.History.{anchor_of};
 ghost use Rattle.card_posts.specs.Posted.{IsReceived, StandsFor, target_of};
 
 use crate::{
-    Fee, FeeKind, FeeTable, counted, late_fee, met, minimum, past_due, returned_fee,
-    sixty_days_late,
+    Fee, FeeKind, FeeTable, counted, counted_before, credited, late_fee, met, minimum, past_due,
+    returned_fee, sixty_days_late,
 };
 use card_days::{Anchor, Calendar, Channel, Day, closing, due};
 use card_events::{Name, Num, Place, Post, Terms};
@@ -79,7 +79,12 @@ fn post_of(rt: &impl Abort, row: (u8, i32, u64, u64)) -> Post {
             day,
             cents,
         },
-        _ => Post::Charge {
+        4 => Post::Charge {
+            day,
+            place: Place::Purchase,
+            cents,
+        },
+        _ => Post::Credit {
             day,
             place: Place::Purchase,
             cents,
@@ -143,15 +148,21 @@ fn push(
     Ok(())
 }
 
-fn account(rt: &impl Abort, alloc: Global, calendar: &Calendar) -> Result<Posts, Fail>
+fn open(rt: &impl Abort, alloc: Global, calendar: &Calendar) -> Result<Posts, Fail>
     ensures { IfOk result (λ posts. StandsFor calendar.now posts) }
 {
-    let open = Post::Open {
+    let opening = Post::Open {
         day: day(rt, 19_732),
         terms: opening(rt),
     };
     let key = Name::read(alloc, b"o")?.expect(rt, "a name");
-    let mut posts = Posts::start(alloc, &key, day(rt, 19_732), &open)?;
+    Ok(Posts::start(alloc, &key, day(rt, 19_732), &opening)?)
+}
+
+fn account(rt: &impl Abort, alloc: Global, calendar: &Calendar) -> Result<Posts, Fail>
+    ensures { IfOk result (λ posts. StandsFor calendar.now posts) }
+{
+    let mut posts = open(rt, alloc, calendar)?;
     for row in POSTS {
         let post = post_of(rt, row);
         push(rt, alloc, &mut posts, &post, calendar)?;
@@ -168,6 +179,70 @@ fn payments_of_some_days(rt: HostRuntime) -> Result<(), Fail> {
             counted(&posts, day(&rt, from), day(&rt, to)),
             cents,
             "from {from} to {to}"
+        );
+    }
+    Ok(())
+}
+
+// Posts 2 and 3 are credits, and post 5 moves the second to day 19,815 with 4,000 cents. Post 4 is a payment that post 6
+// returns on day 19,808. Posts 7 and 8 are payments received on that day; the latter came after the cut-off.
+fn account_with_credits(rt: &impl Abort, alloc: Global, calendar: &Calendar) -> Result<Posts, Fail>
+    ensures { IfOk result (λ posts. StandsFor calendar.now posts) }
+{
+    let mut posts = open(rt, alloc, calendar)?;
+    for row in [
+        (5, 19_800, 0, 300),
+        (5, 19_810, 0, 5_000),
+        (0, 19_805, 600, 1_000),
+        (3, 19_815, 3, 4_000),
+        (2, 19_808, 4, 0),
+        (0, 19_808, 600, 2_000),
+        (0, 19_808, 1_021, 700),
+    ] {
+        let post = post_of(rt, row);
+        push(rt, alloc, &mut posts, &post, calendar)?;
+    }
+    Ok(posts)
+}
+
+#[test]
+fn credits_of_some_days(rt: HostRuntime) -> Result<(), Fail> {
+    let alloc = rt.alloc();
+    let posts = account_with_credits(&rt, alloc, &Calendar::new(alloc))?;
+    for (from, to, cents) in [
+        (19_800, 19_810, 300),
+        (19_801, 19_814, 0),
+        (19_800, 19_815, 4_300),
+        (19_815, 19_815, 4_000),
+        (19_815, 19_800, 0),
+    ] {
+        assert_eq!(rt;
+            credited(&posts, day(&rt, from), day(&rt, to)),
+            cents,
+            "from {from} to {to}"
+        );
+    }
+    Ok(())
+}
+
+#[test]
+fn payments_before_a_post(rt: HostRuntime) -> Result<(), Fail> {
+    let alloc = rt.alloc();
+    let posts = account_with_credits(&rt, alloc, &Calendar::new(alloc))?;
+    for (from, on, number, cents) in [
+        (19_800, 19_808, 6, 1_000),
+        (19_800, 19_808, 7, 0),
+        (19_800, 19_808, 8, 2_000),
+        (19_800, 19_809, 8, 2_000),
+        (19_800, 19_809, 9, 2_700),
+        (19_809, 19_809, 9, 700),
+        (19_805, 19_806, 1, 1_000),
+        (19_806, 19_808, 6, 0),
+    ] {
+        assert_eq!(rt;
+            counted_before(&posts, day(&rt, from), day(&rt, on), number),
+            cents,
+            "from {from}, before post {number} on {on}"
         );
     }
     Ok(())

@@ -1,0 +1,3 @@
+pub mod Days
+pub mod Laws
+pub mod Segments
