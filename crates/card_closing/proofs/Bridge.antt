@@ -43,7 +43,7 @@ in_turn-run issued note asked (suc n) t =
 abbrev here : ℕ → ℕ × ℕ → ℕ
 here k x = cond (eqb x.0 k) x.1 0
 
-at-with : (k s x : ℕ) (xs : Amounts) → amount_at k (with_amount s x xs) ≡ amount_at k xs + cond (eqb s k) x 0
+pub at-with : (k s x : ℕ) (xs : Amounts) → amount_at k (with_amount s x xs) ≡ amount_at k xs + cond (eqb s k) x 0
 at-with k s x xs = by (eqb x 0) refl
   where
     none : (t : Bool) (n : ℕ) → n ≡ n + cond t 0 0
@@ -98,7 +98,7 @@ left-none (Some r) xs s = none (amount_at s r.statement.interest - amount_at s x
     none : (n : ℕ) → min 0 n ≡ 0
     none n = omega arith
 
-charge-none : (row : Option IssuedRow) (t : Turn) (s n : ℕ) → n ≡ 0 → charge_for (statement_of row) t s n ≡ 0
+pub charge-none : (row : Option IssuedRow) (t : Turn) (s n : ℕ) → n ≡ 0 → charge_for (statement_of row) t s n ≡ 0
 unfolding charge_for
 charge-none row t s n e =
     let none : min n (10000000000000 - owing s t.entries) ≡ 0 = omega (arith, e) in
@@ -126,7 +126,7 @@ pub record AsksAlike (row : Option IssuedRow) (seen : Seen) (amount : Book → S
 first-in : (g : SegmentTerms) (gs : List SegmentTerms) → Contains (g ∷ gs) g
 first-in g gs = (0, omega arith, refl)
 
-later-in : (g k : SegmentTerms) (gs : List SegmentTerms) → Contains gs k → Contains (g ∷ gs) k
+pub later-in : (g k : SegmentTerms) (gs : List SegmentTerms) → Contains gs k → Contains (g ∷ gs) k
 later-in g k gs (i, l, e) = (suc i, omega arith, e)
 
 bridge : (row : Option IssuedRow) (seen : Seen) (amount : Book → SegmentTerms → ℕ) (asked : List Entry → ℕ → ℕ) (sees : SegmentTerms → Bool) (kept : Posting → Type 0)

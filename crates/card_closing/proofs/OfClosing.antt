@@ -68,14 +68,15 @@ nothing-due : interest 0 ≡ 0
 unfolding interest
 nothing-due = refl
 
+-- the balances that bear interest
+pub no-balance : (c : GraceCase) (first n : ℕ) → sum_by (bearing c []) (with_days n 0 0 (no_rows first)).days ≡ 0
+no-balance c first n = sum_by-map (row_of 0 0) (bearing c []) (range_with_len (first + 0) n) ∙ zeros (λ x. bearing c [] (row_of 0 0 x)) (range_with_len (first + 0) n) (bears-none c)
+
 -- ---- the interest of the cycle
-cycle-known : (all : List SegmentTerms) (sees : SegmentTerms → Bool) (a : Account) (seen : Seen) (b : Book) (gs : List Segment) (rows : List Rows) (accruals : List Accrued) (g : SegmentTerms)
-    → StandFor all sees a seen b gs rows accruals → Contains all g
-    → of_segment (amounts_of (cycle_charge (purchase_case_in seen b) seen.day) gs rows) g.id ≡ cycle_interest a seen (purchase_case_in seen b) (first_day_of a b) b g
-unfolding cycle_charge
-cycle-known all sees a seen b gs rows accruals g h c =
+pub rows-known : (amount : Segment → Rows → ℕ) (all : List SegmentTerms) (sees : SegmentTerms → Bool) (a : Account) (seen : Seen) (b : Book) (gs : List Segment) (rows : List Rows) (accruals : List Accrued) (g : SegmentTerms)
+    → StandFor all sees a seen b gs rows accruals → Contains all g → of_segment (amounts_of amount gs rows) g.id ≡ amount (kept_segment g) (rows_of a seen b (first_day_of a b) g)
+rows-known amount all sees a seen b gs rows accruals g h c =
     let first = first_day_of a b in
-    let purchase = purchase_case_in seen b in
     let above = number-above 2 all g h.numbers c in
     let below = number-below 2 all g h.numbers c in
     let here : g.id - 2 < length all = omega (arith, above, below) in
@@ -83,10 +84,17 @@ cycle-known all sees a seen b gs rows accruals g h c =
     let mine : get_or (map (rows_of a seen b first) all) (g.id - 2) (rows_of a seen b first g) ≡ rows_of a seen b first g =
     get_or-map (rows_of a seen b first) all (g.id - 2) g (rows_of a seen b first g) here ∙ ap (rows_of a seen b first) (at-place 2 all g g h.numbers c) in
     rw (h.kept, h.same_rows)
-    (placed (cycle_charge purchase seen.day) all (map (rows_of a seen b first) all) g (rows_of a seen b first g) h.numbers c long
-    ∙ (ap (λ r. cycle_charge purchase seen.day (kept_segment g) r) mine ∙ ap interest (rows_of_a_book.interest a seen b purchase first g h.lowering (h.cases g c))))
+    (placed amount all (map (rows_of a seen b first) all) g (rows_of a seen b first g) h.numbers c long ∙ ap (λ r. amount (kept_segment g) r) mine)
 
-cycle-unknown : (all : List SegmentTerms) (sees : SegmentTerms → Bool) (a : Account) (seen : Seen) (b : Book) (gs : List Segment) (rows : List Rows) (accruals : List Accrued) (g : SegmentTerms)
+cycle-known : (all : List SegmentTerms) (sees : SegmentTerms → Bool) (a : Account) (seen : Seen) (b : Book) (gs : List Segment) (rows : List Rows) (accruals : List Accrued) (g : SegmentTerms)
+    → StandFor all sees a seen b gs rows accruals → Contains all g
+    → of_segment (amounts_of (cycle_charge (purchase_case_in seen b) seen.day) gs rows) g.id ≡ cycle_interest a seen (purchase_case_in seen b) (first_day_of a b) b g
+unfolding cycle_charge
+cycle-known all sees a seen b gs rows accruals g h c =
+    rows-known (cycle_charge (purchase_case_in seen b) seen.day) all sees a seen b gs rows accruals g h c
+    ∙ ap interest (rows_of_a_book.interest a seen b (purchase_case_in seen b) (first_day_of a b) g h.lowering (h.cases g c))
+
+pub cycle-unknown : (all : List SegmentTerms) (sees : SegmentTerms → Bool) (a : Account) (seen : Seen) (b : Book) (gs : List Segment) (rows : List Rows) (accruals : List Accrued) (g : SegmentTerms)
     → StandFor all sees a seen b gs rows accruals → Contains all g → sees g ≡ false
     → of_segment (amounts_of (cycle_charge (purchase_case_in seen b) seen.day) gs rows) g.id ≡ 0
 cycle-unknown all sees a seen b gs rows accruals g h c q =
@@ -135,7 +143,7 @@ both true false n = refl
 both false true n = refl
 both false false n = refl
 
-deferred-asks : (row : Option IssuedRow) (all : List SegmentTerms) (sees : SegmentTerms → Bool) (a : Account) (seen : Seen) (b : Book) (gs : List Segment) (rows : List Rows) (accruals : List Accrued)
+pub deferred-asks : (row : Option IssuedRow) (all : List SegmentTerms) (sees : SegmentTerms → Bool) (a : Account) (seen : Seen) (b : Book) (gs : List Segment) (rows : List Rows) (accruals : List Accrued)
     → StandFor all sees a seen b gs rows accruals
     → AsksAlike row seen (deferred_interest seen) (asked_where_owed (amounts_of (accrual_charge seen.day) gs accruals)) sees (Accrues seen b) all
 deferred-asks row all sees a seen b gs rows accruals h = record {

@@ -1,9 +1,9 @@
 -- Balances stay in step with entries when a segment is debited within the limit.
 use Rattle.std.proofs.Common.{◌≡◌, ℕ, zero, suc, ◌+◌, ◌-◌, ◌<◌, ◌≤◌, Bool, true, false, cond, List, ◌++◌, length, take, refl, sym, ap, ◌∙◌, subst, arith, ℤ, pos, negsuc, ◌+ℤ◌, ◌≤ℤ◌, neg_ℤ, eqb, get_or, Option, Some, None}
-use Rattle.std.specs.Prelude.{min, unsigned_abs}
+use Rattle.std.specs.Prelude.{min}
 use Rattle.std.proofs.lemmas.Int.{ints}
 use Rattle.std.proofs.lemmas.Bool.{eqb-true}
-use Rattle.std.proofs.lemmas.List.{take-append-le, take_all}
+use Rattle.std.proofs.lemmas.List.{length-take, take-append-le, take-take, take_all}
 use Rattle.card_model.specs.Cycles.{Amounts, Cycle}
 use Rattle.card_model.specs.Entries.{AreBalances, at_least_zero, balance, credit_balance, credit_in, debit, posted}
 use Rattle.card_model.specs.declared.entry.Entry.{Entry}
@@ -11,14 +11,10 @@ use Rattle.card_model.specs.declared.entry.Note.{Note}
 use Rattle.card_model.proofs.EntryFacts.{balance-debit}
 use Rattle.card_model.proofs.Posted.{are_balances-posted, debit-known, get_or-posted}
 use Rattle.card_segments.specs.Balances.{AreWithin, Balances, IsWithin, after_entries}
-use Rattle.card_closing.specs.Turns.{AreInStep, BeginsWith, debited, left_by}
+use Rattle.card_closing.specs.Turns.{AreInStep, BeginsWith, Turn, charge_for, charged, debited, with_amount, with_charge}
 
 pub begins-more : (xs ys : List Entry) → BeginsWith xs (xs ++ ys)
 begins-more xs ys = take-append-le (length xs) xs ys (omega arith) ∙ take_all (length xs) xs (omega arith)
-
-pub abs-same : (z : ℤ) → pos 0 ≤ℤ z → at_least_zero z ≡ unsigned_abs z
-abs-same (pos n) h = refl
-abs-same (negsuc n) h = absurd (omega (arith, ints, h))
 
 -- the credit balance of balances that are sums
 pub credit-same : (es : List Entry) (bs : List ℤ) → 0 < length bs → AreBalances es bs → credit_in bs ≡ credit_balance es
@@ -78,11 +74,13 @@ pub debited-same : (note : Note) (b : Balances) (es : List Entry) (g x : ℕ) �
 unfolding debited
 debited-same note b es g x l s = ap (λ c. es ++ debit note g x c) (credit-same es b.balances l s.sums)
 
--- what an issued statement leaves is no more than the amount, and so within the limit
-left-le : (issued : Option Cycle) (done : Amounts) (s n : ℕ) → left_by issued done s n ≤ n
-unfolding left_by
-left-le None done s n = omega arith
-left-le (Some c) done s n = omega arith
+-- ---- one segment
+pub charged-is : (issued : Option Cycle) (note : Note) (s asked x : ℕ) (t : Turn) (amounts : Amounts) (entries : List Entry) → x ≡ charge_for issued t s asked → amounts ≡ with_amount s x t.amounts → entries ≡ debited note s x t.entries
+    → record { amounts = amounts; entries = entries } ≡ charged issued note s asked t
+unfolding charged with_charge
+charged-is issued note s asked x t amounts entries h k l = rw (k, l, h) refl
 
-pub left-high : (issued : Option Cycle) (done : Amounts) (s owed asked : ℕ) → left_by issued done s (min asked (10_000_000_000_000 - owed)) ≤ 10_000_000_000_000 - owed
-left-high issued done s owed asked = let le = left-le issued done s (min asked (10_000_000_000_000 - owed)) in omega (arith, le)
+pub begins-trans : (xs ys zs : List Entry) → BeginsWith xs ys → BeginsWith ys zs → BeginsWith xs zs
+begins-trans xs ys zs h k =
+    let short : length xs ≤ length ys = omega (arith, ap length h, length-take (length xs) ys) in
+    sym (take-take (length xs) (length ys) zs short) ∙ (ap (take (length xs)) k ∙ h)

@@ -1,6 +1,6 @@
-ghost use Rattle.std.specs.Prelude.{◌≡◌, IfOk, pos};
+ghost use Rattle.std.specs.Prelude.{◌≡◌, ◌==◌, ◌++◌, if◌then◌else◌, [], ◌∷◌, IfOk, OnOk, pos};
 ghost use Rattle.card_model.specs.Entries.{at_least_zero};
-ghost use Rattle.card_model.specs.Fees.{fees_sum};
+ghost use Rattle.card_model.specs.Fees.{fees_in, fees_sum};
 
 use card_model::Fee;
 use card_units::{Cents, NoMemory};
@@ -40,7 +40,36 @@ pub fn sum_of(fees: &[Fee]) -> u128
     sum
 }
 
+// Adds a fee, where it is of a cycle.
+fn keep(items: &mut Vec<Fee>, cycle: u32, fee: &Fee) -> Result<(), NoMemory>
+    ensures { OnOk result (items.new.items ≡ items.old.items ++ (if fee.now.cycle == cycle then fee.now ∷ [] else [])) }
+{
+    if fee.cycle == cycle {
+        items.push(*fee)?;
+    }
+    Ok(())
+}
+
+// The fees of a cycle, in order.
+fn fees_in(alloc: Global, fees: &[Fee], cycle: u32) -> Result<Vec<Fee>, NoMemory>
+    ensures { IfOk result (λ v. v.items ≡ fees_in cycle fees.now) }
+{
+    let mut items = Vec::new(alloc);
+    for fee in fees {
+        keep(&mut items, cycle, fee)?;
+    }
+    Ok(items)
+}
+
 impl Fees {
+    /// Of all fees those of a cycle, in memory of their own.
+    pub fn of_cycle(alloc: Global, fees: &[Fee], cycle: u32) -> Result<Fees, NoMemory>
+        ensures { IfOk result (λ f. f ≡ fees_in cycle fees.now) }
+    {
+        let items = fees_in(alloc, fees, cycle)?;
+        Ok(Fees { items })
+    }
+
     /// These fees, in memory of their own.
     pub fn of(alloc: Global, fees: &[Fee]) -> Result<Fees, NoMemory>
         ensures { IfOk result (λ f. f ≡ fees.now) }

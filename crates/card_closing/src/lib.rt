@@ -3,13 +3,16 @@
 #![tactic(auto)]
 
 mod amounts;
+mod closing;
 mod cycle;
 mod fees;
 mod interest;
 pub mod laws;
+mod record;
 mod turn;
 
 pub use amounts::Amounts;
 pub use card_model::{Entry, Fee, GraceCase};
+pub use closing::{Closing, close};
 pub use cycle::Cycle;
 pub use fees::Fees;
