@@ -43,13 +43,13 @@ few-charged issued day purchase rows accruals gs entries u few e s =
     let second = charged-little issued (note_on day) (asked_where_owed (amounts_of (accrual_charge day) gs accruals)) s (length gs) t in
     subst (λ (v : Turn). amount_at s v.amounts ≤ 10_000_000_000_000_000) (sym e) (omega (arith, few, first, second))
 
-pub closes : (c : Closing) (issued : Option Cycle) (before after : Balances) (rows : List Rows) (accruals : List Accrued) (fees : List Fee) (entries : List Entry) (u : Turn) (cycle : Cycle)
+pub closes : (c : Closing) (issued : Option Cycle) (before after : Balances) (rows : List Rows) (accruals : List Accrued) (fees : List Fee) (entries : List Entry) (u : Turn) (cycle : Cycle) (count : ℕ)
     (row : Option IssuedRow) (all : List SegmentTerms) (sees : SegmentTerms → Bool) (a : Account) (seen : Seen) (b : Book)
     → u ≡ both issued c.closing c.purchase (drop 2 before.segments) rows accruals entries → after.segments ≡ before.segments → length rows + 2 ≡ length after.balances → AreBalances u.entries after.balances
-    → cycle ≡ recorded c issued u.amounts rows fees after (length u.entries) → IsGivenFor c issued before rows accruals fees entries row all sees a seen b
+    → count ≡ length u.entries → cycle ≡ recorded c issued u.amounts rows fees after count → IsGivenFor c issued before rows accruals fees entries row all sees a seen b
     → (u.entries ≡ (close row a seen b).entries) × (b.cycles ++ cycle ∷ [] ≡ (close row a seen b).cycles)
 unfolding close
-closes c issued before after rows accruals fees entries u cycle row all sees a seen b h s long sums k g =
+closes c issued before after rows accruals fees entries u cycle count row all sees a seen b h s long sums n k g =
     let gs = drop 2 before.segments in
     let v = ended row all sees a seen b gs rows accruals g.stand in
     let same : u ≡ v =
@@ -61,6 +61,6 @@ closes c issued before after rows accruals fees entries u cycle row all sees a s
     let mine : AreBalances v.entries after.balances = subst (λ (t : Turn). AreBalances t.entries after.balances) same sums in
     (ap (λ (t : Turn). t.entries) same ∙ (tied row all sees a seen b gs rows accruals g.stand).entries,
     ap (λ x. b.cycles ++ x ∷ [])
-    (k ∙ (ap (λ i. recorded c i u.amounts rows fees after (length u.entries)) g.statement
+    (k ∙ (ap (recorded c issued u.amounts rows fees after) n ∙ (ap (λ i. recorded c i u.amounts rows fees after (length u.entries)) g.statement
     ∙ (ap (λ (t : Turn). recorded c (statement_of row) t.amounts rows fees after (length t.entries)) same
-    ∙ recorded-is row all sees a seen b gs rows accruals g.stand after (ap (drop 2) s) (omega (arith, many, long)) mine c fees g.of_book g.same_fees))))
+    ∙ recorded-is row all sees a seen b gs rows accruals g.stand after (ap (drop 2) s) (omega (arith, many, long)) mine c fees g.of_book g.same_fees)))))

@@ -120,19 +120,19 @@ grace-cap (Some r) n = refl
 
 -- ---- a closing of the definition
 module _ (row : Option IssuedRow) (all : List SegmentTerms) (sees : SegmentTerms → Bool) (a : Account) (seen : Seen) (b : Book) (gs : List Segment) (rows : List Rows) (accruals : List Accrued) (h : StandFor all sees a seen b gs rows accruals) where
-  abbrev start : Turn
+  abbrev pub start : Turn
   start = record { amounts = []; entries = b.entries }
 
-  abbrev charged : Turn
+  abbrev pub charged : Turn
   charged = interest_turn (statement_of row) seen.day (purchase_case_in seen b) gs rows start
 
-  abbrev ended : Turn
+  abbrev pub ended : Turn
   ended = accruals_turn (statement_of row) seen.day gs accruals charged
 
-  abbrev posting : Posting
+  abbrev pub posting : Posting
   posting = closing_interest row a seen b
 
-  tied : IsTurnOf ended posting
+  pub tied : IsTurnOf ended posting
   tied = closing_interest_is row all sees a seen b gs rows accruals h
 
   stays : (g : SegmentTerms) → Contains all g → sees g ≡ false → IsSameAt g.id start ended
