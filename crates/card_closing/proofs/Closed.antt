@@ -58,9 +58,10 @@ closes c issued before after rows accruals fees entries u cycle count row all se
     ∙ (ap (λ p. both (statement_of row) seen.day p gs rows accruals entries) g.of_book.grace
     ∙ ap (λ es. both (statement_of row) seen.day (purchase_case_in seen b) gs rows accruals es) g.same_entries))) in
     let many : length rows ≡ length all = ap length g.stand.same_rows ∙ length-map all (rows_of a seen b (first_day_of a b)) in
-    let mine : AreBalances v.entries after.balances = subst (λ (t : Turn). AreBalances t.entries after.balances) same sums in
-    (ap (λ (t : Turn). t.entries) same ∙ (tied row all sees a seen b gs rows accruals g.stand).entries,
-    ap (λ x. b.cycles ++ x ∷ [])
-    (k ∙ (ap (recorded c issued u.amounts rows fees after) n ∙ (ap (λ i. recorded c i u.amounts rows fees after (length u.entries)) g.statement
-    ∙ (ap (λ (t : Turn). recorded c (statement_of row) t.amounts rows fees after (length t.entries)) same
-    ∙ recorded-is row all sees a seen b gs rows accruals g.stand after (ap (drop 2) s) (omega (arith, many, long)) mine c fees g.of_book g.same_fees)))))
+    let mine : AreBalances v.entries after.balances = subst (λ (t : Turn). AreBalances t.entries after.balances) same sums in (
+      ap (λ (t : Turn). t.entries) same ∙ (tied row all sees a seen b gs rows accruals g.stand).entries,
+      ap (λ x. b.cycles ++ x ∷ [])
+          (k ∙ (ap (recorded c issued u.amounts rows fees after) n ∙ (ap (λ i. recorded c i u.amounts rows fees after (length u.entries)) g.statement
+          ∙ (ap (λ (t : Turn). recorded c (statement_of row) t.amounts rows fees after (length t.entries)) same
+          ∙ recorded-is row all sees a seen b gs rows accruals g.stand after (ap (drop 2) s) (omega (arith, many, long)) mine c fees g.of_book g.same_fees)))),
+    )

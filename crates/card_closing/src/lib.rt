@@ -9,6 +9,8 @@ mod fees;
 mod interest;
 pub mod laws;
 mod record;
+#[cfg(test)]
+mod tests;
 mod turn;
 
 pub use amounts::Amounts;

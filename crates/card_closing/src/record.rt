@@ -31,7 +31,11 @@ fn cents_of(done: &Amounts, segment: u8) -> u64
 }
 
 // The amounts that were charged, by segment.
-pub fn charged_amounts(alloc: Global, segments: &Segments, done: &Amounts) -> Result<Amounts, NoMemory>
+pub fn charged_amounts(
+    alloc: Global,
+    segments: &Segments,
+    done: &Amounts,
+) -> Result<Amounts, NoMemory>
     requires { (s : ℕ) → amount_at s done.now ≤ 10_000_000_000_000_000 }
     ensures { IfOk result (λ v. v ≡ by_number (λ s. amount_at s done.now) (length segments.now.balances - 2)) }
 {
@@ -135,12 +139,7 @@ fn charges(done: &Amounts, fees: &Fees) -> u64
 }
 
 // The minimum payment by the account's terms.
-fn minimum_by_terms(
-    closing: &Closing,
-    done: &Amounts,
-    fees: &Fees,
-    segments: &Segments,
-) -> u64
+fn minimum_by_terms(closing: &Closing, done: &Amounts, fees: &Fees, segments: &Segments) -> u64
     requires small { AreWithin 1_000_000_000_000_000 segments.now.balances }
     requires floor { pos 0 ≤ℤ closing.now.floor }
     requires part { closing.now.pct ≤ 10_000 }
@@ -177,7 +176,10 @@ fn grace_by_balances(closing: &Closing, segments: &Segments) -> u64
     ensures value { result ≡ at_least_zero (net_of segments.now -ℤ pos (deferred_after closing.now.next_closing segments.now)) }
     ensures bound { result ≤ 9_223_372_036_854_775_807 }
 {
-    beyond(net(segments), deferred_after(segments, closing.next_closing))
+    beyond(
+        net(segments),
+        deferred_after(segments, closing.next_closing),
+    )
 }
 
 // An amount that a statement says.

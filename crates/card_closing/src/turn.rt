@@ -46,13 +46,7 @@ pub fn add(done: &mut Amounts, segment: u8, cents: u64) -> Result<(), NoMemory>
 
 // What is charged to a segment of what is asked of it.
 #[tactic(auto, unfolding(crate::specs::Turns::charge_for))]
-fn charge_of(
-    issued: Option<&Cycle>,
-    done: &Amounts,
-    segments: &Segments,
-    id: u8,
-    asked: u64,
-) -> u64
+fn charge_of(issued: Option<&Cycle>, done: &Amounts, segments: &Segments, id: u8, asked: u64) -> u64
     requires known { id < length segments.now.balances }
     ensures value { (entries : List Entry) → AreInStep segments.now entries → result ≡ charge_for (option_copied issued.entry) (record { amounts = done.now; entries = entries }) id asked }
     ensures high { result ≤ 10_000_000_000_000 - at_least_zero (slice_index_or segments.now.balances id (pos 0)) }
@@ -62,7 +56,7 @@ fn charge_of(
 }
 
 // Debits a segment of which at most 10^13 cents are owed then.
-fn debit(
+pub fn debit(
     segments: &mut Segments,
     note: &Note,
     id: u8,
