@@ -222,64 +222,63 @@ fn what_was_repaid_bears_none(rt: HostRuntime) -> Result<(), Fail> {
     Ok(())
 }
 
-// Nothing is paid: a late fee is charged on 2024-03-02, and the minimum payment of 2500 is past due.
-#[test]
-fn charges_and_what_is_past_due(rt: HostRuntime) -> Result<(), Fail> {
-    let alloc = rt.alloc();
-    let closing = second_cycle(&rt, 2_500);
+// The second cycle where nothing is paid: a late fee of 2024-03-02, which makes the balance what it is on the last four days,
+// and a minimum payment of 2500 that is past due.
+fn unpaid(
+    rt: &impl Abort,
+    alloc: Global,
+    issued: Option<&Cycle>,
+    before: Cents,
+    owed: u64,
+) -> Result<Cycle, NoMemory> {
+    assert!(rt; 0 <= before && before <= 900_000_000);
+    let closing = second_cycle(rt, 2_500);
     let late = Fee {
         due_cycle: 1,
         kind: FeeKind::Late,
         repeat: false,
         cycle: 2,
-        day: day(&rt, 2024, 3, 2),
+        day: day(rt, 2024, 3, 2),
         cents: 2_500,
     };
     let fees = [Fee { cycle: 1, ..late }, late];
-    let rows = rows_of(
-        &rt,
-        alloc,
-        closing.first,
-        [(25, 100_000), (4, 102_500)],
-        None,
-    )?;
-    let owed = (2, 102_500);
-    let cycle = closed(
-        &rt,
-        alloc,
-        &closing,
-        None,
-        owed,
-        &rows,
-        Accrual::start(),
-        &fees,
-    )?;
-    check(&rt, &cycle.interest, &[(2, 1_594)]);
-    check(&rt, &cycle.average, &[(2, 100_345)]);
-    check_cycle(&rt, &cycle, (104_094, 7_634, 104_094));
-    assert!(rt; cycle.fees.items() == [late].as_slice());
-    // that is issued, and what is recomputed of more is no more
-    let rows = rows_of(
-        &rt,
-        alloc,
-        closing.first,
-        [(25, 200_000), (4, 202_500)],
-        None,
-    )?;
-    let owed = (2, 202_500);
-    let issued = Some(&cycle);
-    let capped = closed(
-        &rt,
+    let runs = [(25, before), (4, before + 2_500)];
+    let rows = rows_of(rt, alloc, closing.first, runs, None)?;
+    closed(
+        rt,
         alloc,
         &closing,
         issued,
-        owed,
+        (2, owed),
         &rows,
         Accrual::start(),
         &fees,
-    )?;
-    check(&rt, &capped.interest, &[(2, 1_594)]);
-    check_cycle(&rt, &capped, (204_094, 7_634, 104_094));
+    )
+}
+
+#[test]
+fn charges_and_what_is_past_due(rt: HostRuntime) -> Result<(), Fail> {
+    let cycle = unpaid(&rt, rt.alloc(), None, 100_000, 102_500)?;
+    check(&rt, &cycle.interest, &[(2, 1_594)]);
+    check(&rt, &cycle.average, &[(2, 100_345)]);
+    check_cycle(&rt, &cycle, (104_094, 7_634, 104_094));
+    assert_eq!(rt; cycle.fees.items().len(), 1);
+    assert_eq!(rt; cycle.fees.sum(), 2_500);
+    Ok(())
+}
+
+// Of a statement that was issued, what is recomputed of a greater balance is no more.
+fn check_capped(rt: &impl Abort, alloc: Global, issued: &Cycle) -> Result<(), NoMemory> {
+    let capped = unpaid(rt, alloc, Some(issued), 200_000, 202_500)?;
+    check(rt, &capped.interest, &[(2, 1_594)]);
+    check_cycle(rt, &capped, (204_094, 7_634, 104_094));
+    Ok(())
+}
+
+#[test]
+fn no_more_than_was_issued(rt: HostRuntime) -> Result<(), Fail> {
+    let cycle = unpaid(&rt, rt.alloc(), None, 100_000, 102_500)?;
+    check_capped(&rt, rt.alloc(), &cycle)?;
     Ok(())
 }
 
