@@ -1,0 +1,4 @@
+pub mod Closes
+pub mod Interest
+pub mod Record
+pub mod Turns

@@ -1,0 +1,120 @@
+ghost use Rattle.std.specs.Prelude.{◌≡◌, ℕ, Bool, ◌+◌, ◌<◌, ◌≤◌, ◌++◌, [], ◌∷◌, drop, length, List, Option, IfOk, OnOk, pos, ◌≤ℤ◌, option_copied};
+ghost use Rattle.card_closing.specs.Closes.{IsGivenFor};
+ghost use Rattle.card_closing.specs.Record.{recorded};
+ghost use Rattle.card_segments.specs.Balances.{AreWithin};
+ghost use Rattle.card_closing.specs.Turns.{AreInStep, BeginsWith};
+ghost use Rattle.card_model.specs.Books.{Account, Book};
+ghost use Rattle.card_model.specs.Closing.{close};
+ghost use Rattle.card_model.specs.Cycles.{IssuedRow, Seen, amount_at};
+ghost use Rattle.card_model.specs.Segments.{SegmentTerms};
+
+use crate::interest::{charge_accruals, charge_interest};
+use crate::record::{averages, charged_amounts, grace_of, minimum_of};
+use crate::{Amounts, Cycle, Fee, Fees};
+use card_days::Day;
+use card_grace::{Accrual, CycleRows, GraceCase};
+use card_segments::{Entry, Segments};
+use card_units::{Cents, NoMemory};
+use std::alloc::Global;
+
+/// A cycle as its closing takes it: its number, its first day, its closing, its due date, and the closing after it. Amounts
+/// are cents, at least 0 but for what was owed before.
+#[derive(Clone, Copy, Debug, PartialEq, Eq)]
+pub struct Closing {
+    pub number: u32,
+    pub first: Day,
+    pub closing: Day,
+    pub due: Day,
+    pub next_closing: Day,
+    /// How purchases bear interest in the cycle (12 CFR 1026.54(a)(1)).
+    pub purchase: GraceCase,
+    /// What was owed at the closing before, 0 at the first.
+    pub previous: Cents,
+    /// The least minimum payment of the account.
+    pub floor: Cents,
+    /// The part of the balance in a minimum payment, in basis points, at most 10,000.
+    pub pct: u16,
+    /// What is left of the minimum payment of the cycle before.
+    pub past_due: Cents,
+}
+
+// The record of the cycle, of the balances after its interest.
+#[tactic(auto, unfolding(crate::specs::Record::recorded))]
+fn record(
+    alloc: Global,
+    segments: &Segments,
+    closing: &Closing,
+    issued: Option<&Cycle>,
+    done: &Amounts,
+    rows: &[CycleRows],
+    fees: &[Fee],
+    count: usize,
+) -> Result<Cycle, NoMemory>
+    requires rows { length rows.now + 2 ≡ length segments.now.balances }
+    requires step { AreWithin 1_000_000_000_000_000 segments.now.balances }
+    requires few { (s : ℕ) → amount_at s done.now ≤ 10_000_000_000_000_000 }
+    requires floor { pos 0 ≤ℤ closing.now.floor }
+    requires part { closing.now.pct ≤ 10_000 }
+    requires past_due { pos 0 ≤ℤ closing.now.past_due }
+    ensures { IfOk result (λ c. c ≡ recorded closing.now (option_copied issued.entry) done.now rows.now fees.now segments.now count) }
+{
+    let interest = charged_amounts(alloc, segments, done)?;
+    let average = averages(alloc, segments, closing, rows)?;
+    let fees = Fees::of_cycle(alloc, fees, closing.number)?;
+    let minimum = minimum_of(closing, issued, done, &fees, segments);
+    Ok(Cycle {
+        number: closing.number,
+        first: closing.first,
+        closing: closing.closing,
+        due: closing.due,
+        previous: closing.previous,
+        new_balance: segments.owed(),
+        held: segments.balance(1),
+        interest,
+        average,
+        fees,
+        minimum,
+        grace_amount: grace_of(closing, issued, segments),
+        entries: count,
+    })
+}
+
+/// Closes a cycle (12 CFR 1026.7(b), .14(b), .54).
+pub fn close(
+    alloc: Global,
+    segments: &mut Segments,
+    closing: &Closing,
+    issued: Option<&Cycle>,
+    rows: &[CycleRows],
+    accruals: &[Accrual],
+    fees: &[Fee],
+    out: &mut Vec<Entry>,
+) -> Result<Cycle, NoMemory>
+    requires step { AreInStep segments.old out.old.items }
+    requires rows { length rows.now + 2 ≡ length segments.old.balances }
+    requires accruals { length accruals.now + 2 ≡ length segments.old.balances }
+    requires floor { pos 0 ≤ℤ closing.now.floor }
+    requires part { closing.now.pct ≤ 10_000 }
+    requires past_due { pos 0 ≤ℤ closing.now.past_due }
+    ensures entries { OnOk result ((row : Option IssuedRow) (all : List SegmentTerms) (sees : SegmentTerms → Bool) (a : Account) (seen : Seen) (b : Book) → IsGivenFor closing.now (option_copied issued.entry) segments.old rows.now accruals.now fees.now out.old.items row all sees a seen b → out.new.items ≡ (close row a seen b).entries) }
+    ensures cycle { IfOk result (λ c. (row : Option IssuedRow) (all : List SegmentTerms) (sees : SegmentTerms → Bool) (a : Account) (seen : Seen) (b : Book) → IsGivenFor closing.now (option_copied issued.entry) segments.old rows.now accruals.now fees.now out.old.items row all sees a seen b → b.cycles ++ c ∷ [] ≡ (close row a seen b).cycles) }
+    ensures step { OnOk result (AreInStep segments.new out.new.items) }
+    ensures segments { OnOk result (segments.new.segments ≡ segments.old.segments) }
+    ensures begins { BeginsWith out.old.items out.new.items }
+{
+    let _count = segments.len();
+    let mut done = Amounts::none(alloc);
+    charge_interest(segments, &mut done, closing, issued, rows, out)?;
+    charge_accruals(segments, &mut done, closing, issued, accruals, out)?;
+    let cycle = record(
+        alloc,
+        segments,
+        closing,
+        issued,
+        &done,
+        rows,
+        fees,
+        out.len(),
+    )?;
+    Ok(cycle)
+}

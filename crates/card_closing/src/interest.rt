@@ -1,0 +1,128 @@
+// The interest of all segments, and the accruals whose period ends.
+ghost use Rattle.std.specs.Prelude.{◌≡◌, ◌+◌, ◌<◌, ◌≤◌, nat_lt, if◌then◌else◌, drop, length, List, OnOk, slice_index_or, option_copied};
+ghost use Rattle.card_model.specs.Entries.{owing};
+ghost use Rattle.card_model.specs.declared.entry.Entry.{Entry};
+ghost use Rattle.card_model.specs.declared.segment.Segment.{Segment};
+ghost use Rattle.card_closing.specs.Interest.{accrual_charge, accruals_turn, cycle_charge, ends_in, interest_turn, note_on};
+ghost use Rattle.card_closing.specs.Turns.{AreInStep, BeginsWith, Turn};
+
+use crate::fees::at_least_zero;
+use crate::turn::charge;
+use crate::{Amounts, Closing, Cycle};
+use card_days::Day;
+use card_grace::{Accrual, CycleRows, GraceCase, case_of, is_deferred};
+use card_segments::{Entry, EntryKind, Note, Segment, Segments};
+use card_units::{NoMemory, interest};
+
+// Whether it is a deferred balance whose period ends on a day.
+fn ends_on(segment: &Segment, day: Day) -> bool
+    ensures { result ≡ ends_in day segment.now }
+{
+    match segment.ends {
+        Some(end) => is_deferred(segment, day) && end <= day,
+        None => false,
+    }
+}
+
+// The interest of a segment in the cycle.
+#[tactic(auto, unfolding(crate::specs::Interest::cycle_charge))]
+fn interest_of(rows: &CycleRows, purchase: &GraceCase, day: Day, segment: &Segment) -> u64
+    ensures { result ≡ cycle_charge purchase.now day segment.now rows.now }
+{
+    interest(rows.interest_sum(case_of(purchase, segment, day))) as u64
+}
+
+// What a deferred balance accrued, where its period ends on the day.
+#[tactic(auto, unfolding(crate::specs::Interest::accrual_charge))]
+fn accrued_of(accrual: &Accrual, day: Day, segment: &Segment) -> u64
+    ensures { result ≡ accrual_charge day segment.now accrual.now }
+{
+    if ends_on(segment, day) {
+        interest(accrual.sum()) as u64
+    } else {
+        0
+    }
+}
+
+// The note of a day's interest.
+fn note_on(day: Day) -> Note
+    ensures { result ≡ note_on day }
+{
+    Note {
+        day,
+        kind: EntryKind::Interest,
+        post: 0,
+    }
+}
+
+// Charges each segment the interest of its rows.
+pub fn charge_interest(
+    segments: &mut Segments,
+    done: &mut Amounts,
+    closing: &Closing,
+    issued: Option<&Cycle>,
+    rows: &[CycleRows],
+    out: &mut Vec<Entry>,
+) -> Result<(), NoMemory>
+    requires rows { length rows.now + 2 ≡ length segments.old.balances }
+    requires step { AreInStep segments.old out.old.items }
+    ensures turn { OnOk result (record { amounts = done.new; entries = out.new.items } ≡ interest_turn (option_copied issued.entry) closing.now.closing closing.now.purchase (drop 2 segments.old.segments) rows.now (record { amounts = done.old; entries = out.old.items })) }
+    ensures step { OnOk result (AreInStep segments.new out.new.items) }
+    ensures segments { OnOk result (segments.new.segments ≡ segments.old.segments) }
+    ensures balances { OnOk result (length segments.new.balances ≡ length segments.old.balances) }
+    ensures begins { BeginsWith out.old.items out.new.items }
+{
+    let note = note_on(closing.closing);
+    for id in 2..segments.len() {
+        let rows = &rows[id as usize - 2];
+        let asked = interest_of(rows, &closing.purchase, closing.closing, segments.get(id));
+        charge(segments, done, issued, &note, id, asked, out)?;
+    }
+    Ok(())
+}
+
+// Whether something is owed on a segment.
+fn is_owed(segments: &Segments, id: u8) -> bool
+    requires known { id < length segments.now.balances }
+    ensures { (entries : List Entry) → AreInStep segments.now entries → result ≡ nat_lt 0 (owing id entries) }
+{
+    0 < at_least_zero(segments.balance(id))
+}
+
+// What a segment is asked of its accrual: nothing where nothing is owed on it.
+fn accrued_where_owed(segments: &Segments, accrual: &Accrual, day: Day, id: u8) -> u64
+    requires known { id < length segments.now.balances }
+    ensures { (entries : List Entry) → AreInStep segments.now entries → (d : Segment) → result ≡ (if nat_lt 0 (owing id entries) then accrual_charge day (slice_index_or segments.now.segments id d) accrual.now else 0) }
+{
+    let _count = segments.len();
+    if is_owed(segments, id) {
+        accrued_of(accrual, day, segments.get(id))
+    } else {
+        0
+    }
+}
+
+// Charges each deferred balance whose period ends what it accrued, where something is owed on it.
+pub fn charge_accruals(
+    segments: &mut Segments,
+    done: &mut Amounts,
+    closing: &Closing,
+    issued: Option<&Cycle>,
+    accruals: &[Accrual],
+    out: &mut Vec<Entry>,
+) -> Result<(), NoMemory>
+    requires accruals { length accruals.now + 2 ≡ length segments.old.balances }
+    requires step { AreInStep segments.old out.old.items }
+    ensures turn { OnOk result (record { amounts = done.new; entries = out.new.items } ≡ accruals_turn (option_copied issued.entry) closing.now.closing (drop 2 segments.old.segments) accruals.now (record { amounts = done.old; entries = out.old.items })) }
+    ensures step { OnOk result (AreInStep segments.new out.new.items) }
+    ensures segments { OnOk result (segments.new.segments ≡ segments.old.segments) }
+    ensures balances { OnOk result (length segments.new.balances ≡ length segments.old.balances) }
+    ensures begins { BeginsWith out.old.items out.new.items }
+{
+    let note = note_on(closing.closing);
+    for id in 2..segments.len() {
+        let asked = accrued_where_owed(segments, &accruals[id as usize - 2], closing.closing, id);
+        charge(segments, done, issued, &note, id, asked, out)?;
+    }
+    Ok(())
+}
