@@ -1,7 +1,7 @@
-use Rattle.std.proofs.Common.{◌≡◌, ◌≤◌, length, ap, ◌∙◌, arith, pos, w64, FitsSigned, ◌-ℤ◌, get_or}
+use Rattle.std.proofs.Common.{ap, ◌∙◌, arith, w64, ◌-ℤ◌}
 use Rattle.std.proofs.lemmas.Int.{to_z-of_z}
 use Rattle.card_segments.specs.Balances.{total}
-use Rattle.card_closing.proofs.ByNumber.{AreFit, are-fit}
+use Rattle.card_closing.proofs.ByNumber.{are-fit}
 use Rattle.card_closing.proofs.record.net.Goals as goal
 
 pub overflow_sub-result : goal.overflow_sub-result
