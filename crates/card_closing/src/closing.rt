@@ -9,7 +9,7 @@ ghost use Rattle.card_model.specs.Cycles.{IssuedRow, Seen, amount_at};
 ghost use Rattle.card_model.specs.Segments.{SegmentTerms};
 
 use crate::interest::{charge_accruals, charge_interest};
-use crate::record::{averages, charged_amounts, grace_of, minimum_of};
+use crate::record::{averages, charged_amounts, grace_of, held, minimum_of};
 use crate::{Amounts, Cycle, Fee, Fees};
 use card_days::Day;
 use card_grace::{Accrual, CycleRows, GraceCase};
@@ -69,7 +69,7 @@ fn record(
         due: closing.due,
         previous: closing.previous,
         new_balance: segments.owed(),
-        held: segments.balance(1),
+        held: held(segments),
         interest,
         average,
         fees,
