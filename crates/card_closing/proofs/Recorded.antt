@@ -1,5 +1,5 @@
 -- The record of a closing is that of the definition.
-use Rattle.std.proofs.Common.{◌≡◌, ℕ, zero, suc, ◌+◌, ◌-◌, ◌*◌, ◌/◌, ◌<◌, ◌≤◌, Bool, true, false, cond, ◌&&◌, List, [], ◌∷◌, ◌++◌, drop, map, length, refl, sym, ap, ◌∙◌, subst, arith, eqb, get_or, Option, Some, None, ℤ, pos, ◌-ℤ◌, div-lt_iff_lt-mul}
+use Rattle.std.proofs.Common.{◌≡◌, ℕ, zero, suc, ◌+◌, ◌-◌, ◌*◌, ◌/◌, ◌<◌, Bool, true, false, cond, ◌&&◌, List, [], ◌∷◌, drop, length, refl, sym, ap, ◌∙◌, arith, eqb, get_or, Option, Some, None, ℤ, pos, ◌-ℤ◌, div-lt_iff_lt-mul}
 use Rattle.std.specs.Prelude.{unsigned_abs}
 use Rattle.std.specs.List.{Contains, cons_option, filter, filter_map, range_with_len, sum_by}
 use Rattle.std.proofs.lemmas.Bool.{ne_eqb}
@@ -7,19 +7,17 @@ use Rattle.std.proofs.lemmas.List.{get_or-drop, get_or-map, length-drop, length-
 use Rattle.std.proofs.lemmas.List.Elements.{Contains-get_or}
 use Rattle.std.proofs.lemmas.List.Sums.{sum_by-cons}
 use Rattle.card_grace.specs.Accruals.{Accrued}
-use Rattle.card_grace.specs.BookRows.{rows_of}
 use Rattle.card_grace.specs.Rows.{Rows, average_of, no_rows, with_days}
 use Rattle.card_grace.proofs.Growing.{rows_grow}
 use Rattle.card_grace.proofs.OfBook.{rows_of_a_book}
 use Rattle.card_model.specs.Books.{Account, Book, all_segments, present_cycle}
 use Rattle.card_model.specs.Caps.{capped_by, issued_grace, issued_minimum}
-use Rattle.card_model.specs.Closing.{Posting, by_segment, close, closed_cycle, closing_interest, deferred_later, ends_after, first_day_of, grace_amount, interest_note, minimum_of, minimum_payment, net_balance, nonzero, purchase_case_in}
-use Rattle.card_model.specs.Cycles.{Amounts, Cycle, IssuedRow, Seen, amount_at, amounts_sum}
+use Rattle.card_model.specs.Closing.{Posting, by_segment, closed_cycle, closing_interest, ends_after, first_day_of, grace_amount, interest_note, minimum_of, minimum_payment, net_balance, nonzero, purchase_case_in}
+use Rattle.card_model.specs.Cycles.{IssuedRow, Seen, amount_at, amounts_sum}
 use Rattle.card_model.specs.Entries.{AreBalances, at_least_zero, balance, owed, owing}
 use Rattle.card_model.specs.Fees.{fees_in, fees_sum}
 use Rattle.card_model.specs.Interest.{average_balance, case_of, half_up}
 use Rattle.card_model.specs.Segments.{SegmentTerms, is_sort, kept_segment}
-use Rattle.card_model.specs.declared.entry.Entry.{Entry}
 use Rattle.card_model.specs.declared.fee.Fee.{Fee}
 use Rattle.card_model.specs.declared.grace.GraceCase.{GraceCase}
 use Rattle.card_model.specs.declared.segment.Segment.{Segment}
@@ -28,7 +26,7 @@ use Rattle.card_rates.specs.RateBooks.{AreByNumber}
 use Rattle.card_rates.proofs.ByNumber.{number-above}
 use Rattle.card_segments.specs.Balances.{Balances, total}
 use Rattle.card_segments.proofs.Totals.{total-owed}
-use Rattle.card_closing.specs.Closes.{IsGivenFor, IsOfBook}
+use Rattle.card_closing.specs.Closes.{IsOfBook}
 use Rattle.card_closing.specs.Interest.{IsTurnOf, StandFor, accrual_charge, accruals_turn, amounts_of, cycle_charge, interest_turn, statement_of}
 use Rattle.card_closing.specs.Record.{balance_later, by_number, cycle_average, deferred_after, grace_by, minimum_by, net_of, nonzero_of, recorded}
 use Rattle.card_closing.specs.Turns.{Turn, asked_of, asked_where_owed, of_segment, row_of}

@@ -1,11 +1,11 @@
 -- Balances stay in step with entries when a segment is debited within the limit.
-use Rattle.std.proofs.Common.{◌≡◌, ℕ, zero, suc, ◌+◌, ◌-◌, ◌<◌, ◌≤◌, Bool, true, false, cond, List, ◌++◌, length, take, refl, sym, ap, ◌∙◌, subst, arith, ℤ, pos, negsuc, ◌+ℤ◌, ◌≤ℤ◌, neg_ℤ, eqb, get_or, Option, Some, None}
+use Rattle.std.proofs.Common.{◌≡◌, ℕ, zero, suc, ◌-◌, ◌<◌, ◌≤◌, Bool, true, false, cond, List, ◌++◌, length, take, refl, sym, ap, ◌∙◌, subst, arith, ℤ, pos, negsuc, ◌+ℤ◌, neg_ℤ, eqb, get_or, Option}
 use Rattle.std.specs.Prelude.{min}
 use Rattle.std.proofs.lemmas.Int.{ints}
 use Rattle.std.proofs.lemmas.Bool.{eqb-true}
 use Rattle.std.proofs.lemmas.List.{length-take, take-append-le, take-take, take_all}
 use Rattle.card_model.specs.Cycles.{Amounts, Cycle}
-use Rattle.card_model.specs.Entries.{AreBalances, at_least_zero, balance, credit_balance, credit_in, debit, posted}
+use Rattle.card_model.specs.Entries.{AreBalances, at_least_zero, balance, credit_balance, credit_in, debit}
 use Rattle.card_model.specs.declared.entry.Entry.{Entry}
 use Rattle.card_model.specs.declared.entry.Note.{Note}
 use Rattle.card_model.proofs.EntryFacts.{balance-debit}

@@ -1,4 +1,4 @@
-ghost use Rattle.std.specs.Prelude.{◌≡◌, ℕ, Bool, ◌+◌, ◌<◌, ◌≤◌, ◌++◌, [], ◌∷◌, drop, length, List, Option, IfOk, OnOk, pos, ◌≤ℤ◌, option_copied};
+ghost use Rattle.std.specs.Prelude.{◌≡◌, ℕ, Bool, ◌+◌, ◌≤◌, ◌++◌, [], ◌∷◌, length, List, Option, IfOk, OnOk, pos, ◌≤ℤ◌, option_copied};
 ghost use Rattle.card_closing.specs.Closes.{IsGivenFor};
 ghost use Rattle.card_closing.specs.Record.{recorded};
 ghost use Rattle.card_segments.specs.Balances.{AreWithin};
@@ -9,7 +9,7 @@ ghost use Rattle.card_model.specs.Cycles.{IssuedRow, Seen, amount_at};
 ghost use Rattle.card_model.specs.Segments.{SegmentTerms};
 
 use crate::interest::{charge_accruals, charge_interest};
-use crate::record::{averages, charged_amounts, grace_of, minimum_of};
+use crate::record::{averages, charged_amounts, grace_of, held, minimum_of};
 use crate::{Amounts, Cycle, Fee, Fees};
 use card_days::Day;
 use card_grace::{Accrual, CycleRows, GraceCase};
@@ -17,8 +17,8 @@ use card_segments::{Entry, Segments};
 use card_units::{Cents, NoMemory};
 use std::alloc::Global;
 
-/// A cycle as its closing takes it: its number, its first day, its closing, its due date, and the closing after it. Amounts
-/// are cents, at least 0 but for what was owed before.
+/// A cycle as its closing takes it: its number, from 1, its first day, its closing, its due date, and the closing after it;
+/// amounts in cents.
 #[derive(Clone, Copy, Debug, PartialEq, Eq)]
 pub struct Closing {
     pub number: u32,
@@ -28,13 +28,13 @@ pub struct Closing {
     pub next_closing: Day,
     /// How purchases bear interest in the cycle (12 CFR 1026.54(a)(1)).
     pub purchase: GraceCase,
-    /// What was owed at the closing before, 0 at the first.
+    /// What was owed at the closing before, 0 at the first closing.
     pub previous: Cents,
-    /// The least minimum payment of the account.
+    /// The least minimum payment by the account's terms, at least 0.
     pub floor: Cents,
-    /// The part of the balance in a minimum payment, in basis points, at most 10,000.
+    /// The part of the balance in a minimum payment by the account's terms, in basis points, at most 10,000.
     pub pct: u16,
-    /// What is left of the minimum payment of the cycle before.
+    /// What is left of the minimum payment of the cycle before, at least 0.
     pub past_due: Cents,
 }
 
@@ -51,7 +51,7 @@ fn record(
     count: usize,
 ) -> Result<Cycle, NoMemory>
     requires rows { length rows.now + 2 ≡ length segments.now.balances }
-    requires step { AreWithin 1_000_000_000_000_000 segments.now.balances }
+    requires small { AreWithin 1_000_000_000_000_000 segments.now.balances }
     requires few { (s : ℕ) → amount_at s done.now ≤ 10_000_000_000_000_000 }
     requires floor { pos 0 ≤ℤ closing.now.floor }
     requires part { closing.now.pct ≤ 10_000 }
@@ -69,7 +69,7 @@ fn record(
         due: closing.due,
         previous: closing.previous,
         new_balance: segments.owed(),
-        held: segments.balance(1),
+        held: held(segments),
         interest,
         average,
         fees,
@@ -79,7 +79,13 @@ fn record(
     })
 }
 
-/// Closes a cycle (12 CFR 1026.7(b), .14(b), .54).
+/// Closes a cycle (12 CFR 1026.7(b), .14(b), .54): adds its interest to the segments and the entries, and gives its record.
+/// In order of number each segment is charged the interest of its rows, and then each deferred balance whose period ends what
+/// it accrued, where something is owed on it: no more than keeps it within 10^13 cents, and in all no more than the issued
+/// statement of the cycle has for the segment. The minimum payment and the grace amount are no more than those of that
+/// statement. Rows and accruals are those of the segments from number 2 on; fees of other cycles are left out.
+/// Condition: balances are the sums of the entries, at most 10^15 cents in size; they are so afterwards. After want of memory
+/// the list begins with the entries that it had, and the segments are of no use.
 pub fn close(
     alloc: Global,
     segments: &mut Segments,

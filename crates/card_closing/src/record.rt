@@ -114,6 +114,15 @@ fn deferred_after(segments: &Segments, day: Day) -> u64
     sum
 }
 
+// What is held.
+pub fn held(segments: &Segments) -> Cents
+    ensures value { result ≡ slice_index_or segments.now.balances 1 (pos 0) }
+    ensures low { pos 0 ≤ℤ result }
+{
+    let _count = segments.len();
+    segments.balance(1)
+}
+
 // What is owed, less what is held.
 fn net(segments: &Segments) -> Cents
     requires small { AreWithin 1_000_000_000_000_000 segments.now.balances }
@@ -121,7 +130,7 @@ fn net(segments: &Segments) -> Cents
     ensures size { IsWithin 100_000_000_000_000_000 result }
 {
     let _count = segments.len();
-    segments.owed() - segments.balance(1)
+    segments.owed() - held(segments)
 }
 
 // An amount, at most 10^17.

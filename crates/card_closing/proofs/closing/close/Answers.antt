@@ -1,7 +1,6 @@
-use Rattle.std.proofs.Common.{◌≡◌, ◌≤◌, drop, length, ◌∙◌, arith}
+use Rattle.std.proofs.Common.{drop, ◌∙◌, arith}
 use Rattle.std.proofs.lemmas.List.{length-drop}
 use Rattle.std.specs.Prelude.{option_copied}
-use Rattle.card_closing.specs.Turns.{Turn}
 use Rattle.card_closing.proofs.Closed.{both-turns, closes, few-charged}
 use Rattle.card_closing.proofs.closing.close.Goals as goal
 

@@ -1,7 +1,7 @@
 use Rattle.std.proofs.Common.{◌≡◌, ◌-◌, length, drop}
 use Rattle.std.specs.Prelude.{option_copied}
 use Rattle.card_closing.specs.Interest.{accrual_charge, amounts_of, note_on}
-use Rattle.card_closing.specs.Turns.{AreInStep, BeginsWith, Turn, asked_where_owed, in_turn}
+use Rattle.card_closing.specs.Turns.{AreInStep, BeginsWith, asked_where_owed, in_turn}
 use Rattle.card_closing.proofs.interest.charge_accruals.Given as goal
 
 abbrev pub invariant-loop-id : goal.invariant-loop-id

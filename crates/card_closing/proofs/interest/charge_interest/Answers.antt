@@ -1,4 +1,4 @@
-use Rattle.std.proofs.Common.{refl, ◌≡◌, ◌-◌, ◌<◌, ◌≤◌, length, drop, sym, ap, ◌∙◌, arith, get_or}
+use Rattle.std.proofs.Common.{refl, ◌≡◌, ◌-◌, length, drop, sym, ap, ◌∙◌, arith, get_or}
 use Rattle.std.specs.Prelude.{option_copied}
 use Rattle.std.proofs.lemmas.List.{take_all}
 use Rattle.card_closing.specs.Interest.{amounts_of, cycle_charge, interest_turn, note_on}

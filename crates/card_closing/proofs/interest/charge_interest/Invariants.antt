@@ -1,7 +1,7 @@
 use Rattle.std.proofs.Common.{◌≡◌, ◌-◌, length, drop}
 use Rattle.std.specs.Prelude.{option_copied}
 use Rattle.card_closing.specs.Interest.{cycle_charge, amounts_of, note_on}
-use Rattle.card_closing.specs.Turns.{AreInStep, BeginsWith, Turn, asked_of, in_turn}
+use Rattle.card_closing.specs.Turns.{AreInStep, BeginsWith, asked_of, in_turn}
 use Rattle.card_closing.proofs.interest.charge_interest.Given as goal
 
 abbrev pub invariant-loop-id : goal.invariant-loop-id

@@ -1,4 +1,4 @@
-use Rattle.std.proofs.Common.{◌≡◌, ◌-◌, ◌<◌, ◌≤◌, drop, length, sym, ap, ◌∙◌, arith, get_or}
+use Rattle.std.proofs.Common.{◌≡◌, ◌-◌, drop, length, sym, ap, ◌∙◌, arith, get_or}
 use Rattle.card_closing.specs.Interest.{amounts_of}
 use Rattle.card_closing.specs.Record.{by_number, cycle_average}
 use Rattle.card_closing.specs.Turns.{of_segment}

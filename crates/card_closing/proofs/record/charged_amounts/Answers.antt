@@ -1,4 +1,4 @@
-use Rattle.std.proofs.Common.{◌≡◌, ◌-◌, ◌≤◌, length, sym, ap, ◌∙◌, arith}
+use Rattle.std.proofs.Common.{◌≡◌, ◌-◌, length, ap, ◌∙◌, arith}
 use Rattle.card_model.specs.Cycles.{amount_at}
 use Rattle.card_closing.specs.Record.{by_number}
 use Rattle.card_closing.proofs.ByNumber.{by_number-next, by_number-none}

@@ -1,4 +1,3 @@
-use Rattle.std.proofs.Common.{◌≡◌}
 use Rattle.card_closing.proofs.Steps.{charged-is}
 use Rattle.card_closing.proofs.turn.charge.Goals as goal
 

@@ -1,4 +1,4 @@
-use Rattle.std.proofs.Common.{◌≡◌, ◌-◌, ◌<◌, ◌≤◌, length, arith, ℕ, pos, w64, to_z}
+use Rattle.std.proofs.Common.{◌≡◌, ◌-◌, ◌≤◌, arith, ℕ, pos, w64, to_z}
 use Rattle.std.proofs.lemmas.Int.{to_z_pos}
 use Rattle.card_model.specs.Entries.{credit_in, debit}
 use Rattle.card_model.proofs.Posted.{length-posted}
