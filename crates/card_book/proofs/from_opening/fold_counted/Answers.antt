@@ -1,0 +1,25 @@
+use Rattle.std.proofs.Common.{sym, ap, subst, List}
+use Rattle.card_model.specs.Books.{Book}
+use Rattle.card_model.specs.Entries.{AreBalances}
+use Rattle.card_model.specs.declared.entry.Entry.{Entry}
+use Rattle.card_book.proofs.Told.{small-on, sums-on, whole-is}
+use Rattle.card_book.proofs.from_opening.fold_counted.Goals as goal
+
+pub advance-requires-clause-stands : goal.advance-requires-clause-stands
+advance-requires-clause-stands g c = c.in_ok-book.ensures.stands (record { entries = c.new.result; cycles = c.new-2.result }) c.new.ensures.items c.new-2.ensures.items
+
+pub invariant_of-result : goal.invariant_of-result
+invariant_of-result g c =
+    let given = c.args.inputs.now in
+    let b = c.advance.new.self in
+    let t = c.advance.new.track in
+    let h = c.in_ok-advance.ensures.stands in
+    let day = c.in_ok-advance.ensures.day in
+    let sums = sums-on given b t c.args.to day h in
+    let is = whole-is given b t c.args.to day h in (
+      subst (λ (es : List Entry). AreBalances es b.state.segments.balances) (sym (ap (λ (x : Book). x.entries) is)) sums,
+      small-on given c.args.to b.state.segments.balances c.opening_day-opened.ensures.sound c.requires.last sums,
+    )
+
+pub returns : goal.returns
+returns g c = whole-is c.args.inputs.now c.advance.new.self c.advance.new.track c.args.to c.in_ok-advance.ensures.day c.in_ok-advance.ensures.stands

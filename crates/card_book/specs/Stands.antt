@@ -1,0 +1,60 @@
+-- What a Book keeps of an account, and how it stands beside a track for the book of a day. Days are day numbers.
+use Rattle.std.specs.Prelude.{ℕ, ◌+◌, ◌-◌, ◌==◌, ◌≡◌, ◌≤◌, Bool, if◌then◌else◌, unwrap_or, Option, Some, None}
+use Rattle.card_model.specs.Books.{Book, empty_book}
+use Rattle.card_model.specs.Deadlines.{credit_since}
+use Rattle.card_model.specs.Entries.{AreBalances}
+use Rattle.card_slots.specs.Segments.{account_segments}
+use Rattle.card_daily.specs.Given.{Given, book_on, opened_in}
+use Rattle.card_daily.specs.Stands.{AreBefore}
+use Rattle.card_daily.specs.declared.state.State.{State}
+use Rattle.card_daily.specs.declared.track.Track.{Track}
+
+-- the last day folded, what is kept after it, since when there is a credit balance, and whether no fold was broken off
+pub record Summary : Type 0 where
+  pub day : Option ℕ
+  pub state : State
+  pub credit_since : Option ℕ
+  pub whole : Bool
+
+-- the first day that isn't folded
+abbrev pub day_to_fold : Given → Option ℕ → ℕ
+day_to_fold g None = opened_in g
+day_to_fold g (Some day) = day + 1
+
+-- the book at the end of the last day folded, and the one before the opening day where none was
+abbrev pub book_through : Given → Option ℕ → Book
+book_through g None = empty_book
+book_through g (Some day) = book_on g day
+
+-- the first day of the run of days that end with a credit balance (12 CFR 1026.11(a)), by that book
+abbrev pub since_through : Given → Option ℕ → Option ℕ
+since_through g None = None
+since_through g (Some day) = credit_since (book_on g day).entries (opened_in g) day
+
+-- how many days there are from the first that isn't folded up to one
+abbrev pub days_through : Given → Option ℕ → ℕ → ℕ
+days_through g day to = to + 1 - day_to_fold g day
+
+-- a Book and a track stand for the book at the end of the last day folded
+pub record StandsFor (g : Given) (b : Summary) (t : Track) : Type 0 where
+  pub opened : (day : ℕ) → b.day ≡ Some day → opened_in g ≤ day
+  pub folded : AreBefore g (day_to_fold g b.day) b.state t
+  pub since : b.credit_since ≡ since_through g b.day
+
+-- what that says of the track and the balances
+pub record IsTheFold (g : Given) (b : Summary) (t : Track) : Type 0 where
+  pub entries : t.entries.items ≡ (book_through g b.day).entries
+  pub cycles : t.cycles.items ≡ (book_through g b.day).cycles
+  pub fees : b.state.fees.items ≡ (book_through g b.day).fees
+  pub penalties : b.state.rates.penalties ≡ (book_through g b.day).penalties
+  pub segments : b.state.segments.segments ≡ account_segments g.shared.holidays g.history
+  pub balances : AreBalances (book_through g b.day).entries b.state.segments.balances
+
+-- of every Book and track that stand for one
+abbrev pub BookIsTheFold : Type 0
+BookIsTheFold = (g : Given) (b : Summary) (t : Track) → StandsFor g b t → IsTheFold g b t
+
+-- ---- a day more
+-- since when there is a credit balance after a day that ends with so much
+abbrev pub since_after : ℕ → ℕ → Option ℕ → Option ℕ
+since_after credit day since = if credit == 0 then None else Some (unwrap_or since day)

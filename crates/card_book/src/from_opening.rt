@@ -1,0 +1,143 @@
+ghost use Rattle.std.specs.Prelude.{◌≡◌, ◌<◌, ◌≤◌, IfOk, neg_ℤ, option_copied, pos, slice_index_or};
+ghost use Rattle.card_daily.specs.Given.{IsSound, book_on, opened_in};
+ghost use Rattle.card_model.specs.Entries.{at_least_zero};
+ghost use Rattle.card_model.specs.Folds.{cycle_at};
+ghost use Rattle.card_segments.specs.Balances.{AreWithin};
+ghost use Rattle.card_posts.specs.Posted.{StandsFor};
+
+use crate::Book;
+use card_daily::{Cycle, Inputs, Issued, Track, opening_day};
+use card_days::{Calendar, Day};
+use card_fees::FeeTable;
+use card_posts::Posts;
+use card_segments::Segments;
+use card_steps::Steps;
+use card_units::{Cents, NoMemory};
+use std::alloc::Global;
+use std::marker::{Brand, Model};
+use std::sync::ledger::{Blank, Ledger};
+
+/// The book of an account at the end of a day, with its entries and its closed cycles.
+#[derive(Drop)]
+pub struct Folded {
+    book: Book,
+    track: Track,
+}
+
+impl Model for Folded {
+    ghost use Rattle.card_model.specs.Books.{Book};
+    ghost use Rattle.card_model.specs.Entries.{AreBalances};
+    ghost use Rattle.card_segments.specs.Balances.{AreWithin, HaveSigns};
+
+    ghost Value = { Book };
+
+    ghost view = { λ f. record { entries = f.track.entries.items; cycles = f.track.cycles.items; fees = f.book.state.fees.items; penalties = f.book.state.rates.penalties } };
+
+    ghost invariant = { λ f. AreBalances f.track.entries.items f.book.state.segments.balances × AreWithin 1_000_000_000_000_000 f.book.state.segments.balances };
+}
+
+// What a credit balance holds.
+fn credit_of(segments: &Segments) -> Cents
+    requires small { AreWithin 1_000_000_000_000_000 segments.now.balances }
+    ensures { result ≡ pos (at_least_zero (neg_ℤ (slice_index_or segments.now.balances 0 (pos 0)))) }
+{
+    let _five = segments.len();
+    -segments.balance(0)
+}
+
+// What is held.
+fn held_in(segments: &Segments) -> Cents
+    ensures { result ≡ pos (at_least_zero (slice_index_or segments.now.balances 1 (pos 0))) }
+{
+    let _five = segments.len();
+    segments.balance(1)
+}
+
+// Folds with a counter of its own.
+fn fold_counted<L: Ledger>(
+    alloc: Global,
+    inputs: &Inputs,
+    to: Day,
+    blank: Blank,
+) -> Result<Folded, NoMemory>
+    requires name { blank.name ≡ L.name }
+    requires parts { blank.parts ≡ L.parts }
+    requires some { 0 < blank.parts }
+    requires opened { opened_in inputs.now ≤ to }
+    requires last { to ≤ 47_481 }
+    ensures { IfOk result (λ f. f ≡ book_on inputs.now to) }
+{
+    let _opened = opening_day(inputs);
+    let mut book = Book::start(alloc, inputs)?;
+    let mut track = Track {
+        entries: Vec::new(alloc),
+        cycles: Vec::new(alloc),
+    };
+    let mut steps = Steps::<L>::new(blank);
+    book.advance(alloc, inputs, &mut track, to, &mut steps)?;
+    Ok(Folded { book, track })
+}
+
+/// The book of an account at the end of a day, folded from its opening day on. The day isn't before the opening day and at
+/// most 2099-12-31.
+pub fn fold(
+    alloc: Global,
+    posts: &Posts,
+    issued: &[Issued],
+    calendar: &Calendar,
+    fees: &FeeTable,
+    to: Day,
+) -> Result<Folded, NoMemory>
+    requires stands { StandsFor calendar.now posts.now }
+    requires sound { IsSound (record { history = posts.now.history; issued = issued.now; shared = record { holidays = calendar.now; fees = fees.now } }) }
+    requires opened { opened_in (record { history = posts.now.history; issued = issued.now; shared = record { holidays = calendar.now; fees = fees.now } }) ≤ to }
+    requires last { to ≤ 47_481 }
+    ensures { IfOk result (λ f. f ≡ book_on (record { history = posts.now.history; issued = issued.now; shared = record { holidays = calendar.now; fees = fees.now } }) to) }
+{
+    let inputs = Inputs::new(posts, issued, calendar, fees);
+    fold_counted::<Brand>(alloc, &inputs, to, Blank::new(1))
+}
+
+impl Folded {
+    ghost use Rattle.std.specs.Prelude.{◌≡◌, pos, option_copied};
+    ghost use Rattle.card_model.specs.Entries.{credit_balance, owed, owing};
+    ghost use Rattle.card_model.specs.Folds.{cycle_at};
+
+    /// What is owed in all, in cents; below 0 where a credit balance is left.
+    pub fn owed(&self) -> Cents
+        ensures { result ≡ owed self.now.entries }
+    {
+        self.book.segments().owed()
+    }
+
+    /// The credit balance, in cents, at least 0 (12 CFR 1026.11(a)).
+    pub fn credit(&self) -> Cents
+        ensures { result ≡ pos (credit_balance self.now.entries) }
+    {
+        credit_of(self.book.segments())
+    }
+
+    /// What is held in dispute, in cents, at least 0 (12 CFR 1026.13).
+    pub fn held(&self) -> Cents
+        ensures { result ≡ pos (owing 1 self.now.entries) }
+    {
+        held_in(self.book.segments())
+    }
+
+    /// The closed cycle with a number, from 1; None where it isn't closed.
+    pub fn cycle(&self, number: u32) -> Option<&Cycle>
+        ensures { option_copied result ≡ cycle_at number self.now.cycles }
+    {
+        cycle_of(&self.track.cycles, number)
+    }
+}
+
+fn cycle_of(cycles: &[Cycle], number: u32) -> Option<&Cycle>
+    ensures { option_copied result ≡ cycle_at number cycles.now }
+{
+    if number == 0 {
+        None
+    } else {
+        cycles.get(number as usize - 1)
+    }
+}

@@ -1,0 +1,259 @@
+ghost use Rattle.std.specs.Prelude.{◌≡◌, ◌+◌, ◌-◌, ◌<◌, ◌≤◌, ◌==◌, ℕ, length, not, pos, slice_index_or};
+ghost use Rattle.card_model.specs.Cycles.{Cycle};
+ghost use Rattle.card_model.specs.Entries.{credit_in};
+ghost use Rattle.card_book.specs.Stands.{since_after};
+
+use crate::copies::copy_state;
+use card_daily::{Cycle, Inputs, State, Statement, Track, next_day, opening_day, start};
+use card_days::Day;
+use card_segments::Segments;
+use card_steps::Steps;
+use card_units::{Cents, NoMemory};
+use std::alloc::Global;
+use std::marker::Model;
+use std::sync::ledger::Ledger;
+
+// Whether there is a credit balance.
+fn has_credit(segments: &Segments) -> bool
+    ensures { result ≡ not (credit_in segments.now.balances == 0) }
+{
+    let _five = segments.len();
+    segments.balance(0) < 0
+}
+
+// The balance of a segment, 0 where there is no such segment.
+fn balance_in(segments: &Segments, segment: u8) -> Cents
+    ensures { result ≡ slice_index_or segments.now.balances segment (pos 0) }
+{
+    if segment < segments.len() {
+        segments.balance(segment)
+    } else {
+        0
+    }
+}
+
+// Since when there is a credit balance, after a day that ends with one or without.
+fn since_after(has_credit: bool, day: Day, since: Option<Day>) -> Option<Day>
+    ensures { (credit : ℕ) → has_credit ≡ not (credit == 0) → result ≡ since_after credit day since }
+{
+    if has_credit {
+        Some(since.unwrap_or(day))
+    } else {
+        None
+    }
+}
+
+fn day_after(day: Day) -> Day
+    requires { day < 48_576 }
+    ensures { result ≡ day + 1 }
+{
+    Day::from_number(day.number() + 1).unwrap()
+}
+
+// The closed cycle with this number.
+fn cycle_in(track: &Track, number: u32) -> &Cycle
+    requires first { 1 ≤ number }
+    requires closed { number ≤ length track.now.cycles.items }
+    ensures { (d : Cycle) → result.now ≡ slice_index_or track.now.cycles.items (number - 1) d }
+{
+    &track.cycles[number as usize - 1]
+}
+
+// How many days there are from one up to another.
+fn days_between(from: Day, to: Day) -> u32
+    requires { from ≤ to + 1 }
+    ensures { result ≡ to + 1 - from }
+{
+    (to.number() + 1 - from.number()) as u32
+}
+
+/// The book of an account at the end of a day: balances, rates, the rows of the open cycle, and the fees charged, with the
+/// day since which there is a credit balance. Its entries and closed cycles lie in a track beside it. Only `advance` moves
+/// it. Clauses see it as a summary, which with a track stands for the account's book.
+#[derive(Drop)]
+pub struct Book {
+    state: State,
+    day: Option<Day>,
+    credit_since: Option<Day>,
+    whole: bool,
+}
+
+impl Model for Book {
+    ghost use Rattle.card_book.specs.Stands.{Summary};
+
+    ghost Value = { Summary };
+
+    ghost view = { λ b. record { day = b.day; state = b.state; credit_since = b.credit_since; whole = b.whole } };
+}
+
+impl Book {
+    ghost use Rattle.std.specs.Prelude.{◌≡◌, ◌+◌, ◌≤◌, ◌<◌, ℕ, [], true, false, length, IfOk, OnOk, OnErr, Some, None};
+    ghost use Rattle.card_book.specs.Stands.{StandsFor, book_through, day_to_fold, days_through, since_after};
+    ghost use Rattle.card_daily.specs.Given.{Given, opened_in};
+    ghost use Rattle.card_daily.specs.Stands.{AreBefore, Begins};
+    ghost use Rattle.card_daily.specs.declared.track.Track.{Track};
+    ghost use Rattle.card_model.specs.Entries.{AreBalances, balance, credit_in, owed};
+    ghost use Rattle.card_model.specs.Folds.{cycle_at};
+    ghost use Rattle.card_slots.specs.Segments.{account_segments};
+
+    /// The book before the opening day. It stands beside a track without entries and cycles.
+    pub fn start(alloc: Global, inputs: &Inputs) -> Result<Book, NoMemory>
+        ensures stands { IfOk result (λ b. (t : Track) → t.entries.items ≡ [] → t.cycles.items ≡ [] → StandsFor inputs.now b t) }
+        ensures day { IfOk result (λ b. b.day ≡ None) }
+        ensures whole { IfOk result (λ b. b.whole ≡ true) }
+    {
+        Ok(Book {
+            state: start(alloc, inputs)?,
+            day: None,
+            credit_since: None,
+            whole: true,
+        })
+    }
+
+    /// Folds to the end of a day, one step a day. The Book is whole, and with the track it stands for the book of these
+    /// inputs; the day isn't before the last one folded or the opening day, and at most 2099-12-31. After want of memory the
+    /// Book isn't whole and is only dropped, and the track begins with what it held.
+    pub fn advance<L: Ledger>(
+        &mut self,
+        alloc: Global,
+        inputs: &Inputs,
+        track: &mut Track,
+        to: Day,
+        steps: &mut Steps<L>,
+    ) -> Result<(), NoMemory>
+        requires whole { self.old.whole ≡ true }
+        requires stands { StandsFor inputs.now self.old track.old }
+        requires opened { opened_in inputs.now ≤ to }
+        requires later { day_to_fold inputs.now self.old.day ≤ to + 1 }
+        requires last { to ≤ 47_481 }
+        ensures stands { OnOk result (StandsFor inputs.now self.new track.new) }
+        ensures day { OnOk result (self.new.day ≡ Some to) }
+        ensures whole { OnOk result (self.new.whole ≡ true) }
+        ensures broken_off { OnErr result (self.new.whole ≡ false) }
+        ensures steps { OnOk result (steps.new ≡ steps.old + days_through inputs.now self.old.day to) }
+        ensures most_steps { steps.new ≤ steps.old + days_through inputs.now self.old.day to }
+        ensures begins { Begins track.old track.new }
+    {
+        self.whole = false;
+        for _ in 0..days_between(self.day_to_fold(inputs), to) {
+            steps.tick();
+            self.fold_next(alloc, inputs, track)?;
+        }
+        self.whole = true;
+        Ok(())
+    }
+
+    /// The same Book in memory of its own: it stands for what this one stands for.
+    pub fn copy(&self, alloc: Global) -> Result<Book, NoMemory>
+        ensures stands { IfOk result (λ b. (g : Given) (t : Track) → StandsFor g self.now t → StandsFor g b t) }
+        ensures day { IfOk result (λ b. b.day ≡ self.now.day) }
+        ensures credit_since { IfOk result (λ b. b.credit_since ≡ self.now.credit_since) }
+        ensures whole { IfOk result (λ b. b.whole ≡ self.now.whole) }
+    {
+        Ok(Book {
+            state: copy_state(&self.state, alloc)?,
+            day: self.day,
+            credit_since: self.credit_since,
+            whole: self.whole,
+        })
+    }
+
+    /// Whether no `advance` of it wanted memory.
+    pub fn whole(&self) -> bool
+        ensures { result ≡ self.now.whole }
+    {
+        self.whole
+    }
+
+    /// The last day folded, None where none was.
+    pub fn day(&self) -> Option<Day>
+        ensures { result ≡ self.now.day }
+    {
+        self.day
+    }
+
+    /// The first day of the present run of days that end with a credit balance (12 CFR 1026.11(a)), None where there is no
+    /// credit balance.
+    pub fn credit_since(&self) -> Option<Day>
+        ensures { result ≡ self.now.credit_since }
+    {
+        self.credit_since
+    }
+
+    /// What is owed in all, in cents; below 0 where a credit balance is left.
+    pub fn owed(&self) -> Cents
+        ensures { (g : Given) (t : Track) → StandsFor g self.now t → result ≡ owed (book_through g self.now.day).entries }
+    {
+        self.state.segments.owed()
+    }
+
+    /// The balance of a segment in cents, 0 where there is no such segment.
+    pub fn balance(&self, segment: u8) -> Cents
+        ensures { (g : Given) (t : Track) → StandsFor g self.now t → result ≡ balance segment (book_through g self.now.day).entries }
+    {
+        balance_in(&self.state.segments, segment)
+    }
+
+    /// The segments of the account's posts, with their balances.
+    pub fn segments(&self) -> &Segments
+        ensures kept { result.now ≡ self.now.state.segments }
+        ensures segments { (g : Given) (t : Track) → StandsFor g self.now t → result.now.segments ≡ account_segments g.shared.holidays g.history }
+        ensures balances { (g : Given) (t : Track) → StandsFor g self.now t → AreBalances (book_through g self.now.day).entries result.now.balances }
+    {
+        &self.state.segments
+    }
+
+    /// The statement of a closed cycle, to be issued on a day (12 CFR 1026.5(b)(2), .7(b)). The Book and the track stand for
+    /// the book of these inputs, and the cycle is closed in it.
+    pub fn statement(
+        &self,
+        alloc: Global,
+        _inputs: &Inputs,
+        track: &Track,
+        number: u32,
+        issue: Day,
+    ) -> Result<Statement, NoMemory>
+        requires stands { StandsFor _inputs.now self.now track.now }
+        requires first { 1 ≤ number }
+        requires closed { number ≤ length track.now.cycles.items }
+        ensures cycle { IfOk result (λ s. cycle_at number (book_through _inputs.now self.now.day).cycles ≡ Some s.cycle) }
+        ensures issue { IfOk result (λ s. s.issue ≡ issue) }
+    {
+        Ok(Statement {
+            cycle: cycle_in(track, number).copy(alloc)?,
+            issue,
+        })
+    }
+
+    // The first day that isn't folded.
+    fn day_to_fold(&self, inputs: &Inputs) -> Day
+        requires { day_to_fold inputs.now self.now.day ≤ 48_576 }
+        ensures { result ≡ day_to_fold inputs.now self.now.day }
+    {
+        match self.day {
+            Some(day) => day_after(day),
+            None => opening_day(inputs),
+        }
+    }
+
+    // Folds one day more.
+    fn fold_next(
+        &mut self,
+        alloc: Global,
+        inputs: &Inputs,
+        track: &mut Track,
+    ) -> Result<(), NoMemory>
+        requires stands { StandsFor inputs.now self.old track.old }
+        requires last { day_to_fold inputs.now self.old.day ≤ 47_481 }
+        ensures stands { OnOk result (StandsFor inputs.now self.new track.new) }
+        ensures day { OnOk result (self.new.day ≡ Some (day_to_fold inputs.now self.old.day)) }
+        ensures whole { self.new.whole ≡ self.old.whole }
+        ensures begins { Begins track.old track.new }
+    {
+        let day = self.day_to_fold(inputs);
+        next_day(alloc, inputs, day, &mut self.state, track)?;
+        self.credit_since = since_after(has_credit(&self.state.segments), day, self.credit_since);
+        self.day = Some(day);
+        Ok(())
+    }
+}

@@ -1,0 +1,35 @@
+//! Laws on the books of accounts. Their functions do nothing; their clauses are what holds.
+ghost use Rattle.card_book.specs.Stands.{BookIsTheFold};
+ghost use Rattle.card_model.specs.Laws.{BalanceIdentity, CorrectionBack, IssuedCaps, IssuingChangesNoPastDay, PastIsEnough};
+
+/// A Book and its track have the entries, the cycles, the fees and the balances of the account's book at the end of the last
+/// day folded.
+pub fn book_is_the_fold()
+    ensures { BookIsTheFold }
+{}
+
+/// In the book of every day, what is owed is the sum of all entries: charges, interest, fees, refunds and returned payments,
+/// less payments and credits. Holds sum to 0.
+pub fn balance_identity()
+    ensures { BalanceIdentity }
+{}
+
+/// In the book of every day, no cycle passes the interest, fees, minimum payment and grace amount that were issued.
+pub fn issued_caps()
+    ensures { IssuedCaps }
+{}
+
+/// The book of a day depends on the corrected posts and the fee rows up to that day alone.
+pub fn past_is_enough()
+    ensures { PastIsEnough }
+{}
+
+/// A correction that the next post takes back leaves the book of every day as it was before both.
+pub fn correction_back()
+    ensures { CorrectionBack }
+{}
+
+/// A Bill with the row that it adds changes the book of no day up to the day on which it was accepted.
+pub fn issuing_changes_no_past_day()
+    ensures { IssuingChangesNoPastDay }
+{}

@@ -1,0 +1,328 @@
+-- The posts of a day in turn: the book after each, and what stands for it.
+use Rattle.std.proofs.Common.{◌≡◌, ℕ, eqb, ◌+◌, ◌-◌, ◌≤◌, ◌<◌, Bool, true, false, cond, List, [], ◌∷◌, ◌++◌, take, drop, length, refl, sym, ap, ◌∙◌, subst, arith, get_or, Option, Some, None, Result, Ok, Err, pos}
+use Rattle.std.specs.Prelude.{◌≤ℤ◌, OnOk, OnErr}
+use Rattle.std.specs.List.{All, Contains, filter}
+use Rattle.std.proofs.lemmas.Bool.{eqb-true, false≢true}
+use Rattle.std.proofs.lemmas.Int.{ints}
+use Rattle.std.proofs.lemmas.List.{append_assoc, length-drop, length-map, take-append-drop, take_all}
+use Rattle.std.proofs.lemmas.List.Elements.{All-cons, All-filter, All-get_or, All-head, All-nil, All-tail, filter-append, filter_passes}
+use Rattle.card_bounds.proofs.OnDays.{cycles_begin_in_turn}
+use Rattle.card_bounds.proofs.Whole.{folded-few}
+use Rattle.card_bounds.specs.Bounds.{AreSmall}
+use Rattle.card_days.specs.Billing.{closing, cycle_of}
+use Rattle.card_effects.specs.Standing.{StandsAt}
+use Rattle.card_events.specs.History.{CorrectedPost, anchor_of, corrected, is_folded}
+use Rattle.card_events.specs.declared.post.Post.TheVariants as post
+use Rattle.card_grace.specs.Accruals.{Accrued, nothing_accrued}
+use Rattle.card_grace.specs.BookRows.{brought}
+use Rattle.card_grace.specs.Growth.{with_repaid}
+use Rattle.card_grace.specs.Rows.{Rows}
+use Rattle.card_model.specs.Books.{Account, Book}
+use Rattle.card_model.specs.Cycles.{IssuedRow, Seen, last_cycle, posts_on}
+use Rattle.card_model.specs.DueDates.{on_due}
+use Rattle.card_model.specs.Effects.{after_posts, effect}
+use Rattle.card_model.specs.Segments.{SegmentTerms, kept_segment}
+use Rattle.card_model.specs.declared.segment.Segment.{Segment}
+use Rattle.card_posts.specs.Change.{on}
+use Rattle.card_posts.specs.Posted.{Posted, StandsFor}
+use Rattle.card_rates.specs.RateBooks.{Rates, rates_of}
+use Rattle.card_slots.proofs.Places.{of_days}
+use Rattle.card_slots.proofs.Turns.{in_turn, of_a_day}
+use Rattle.card_slots.specs.Days.{day_post, folded_post, place_of}
+use Rattle.card_slots.specs.declared.day.DayPost.{DayPost}
+use Rattle.card_daily.proofs.Books.{IsNow, all-now, amid-small, day-is, seen-all}
+use Rattle.card_daily.proofs.Following.{begun-by}
+use Rattle.card_daily.proofs.Posting.{IsAdded, begins-more, each-same, effect-adds}
+use Rattle.card_daily.proofs.Repaying.{repaid-now}
+use Rattle.card_daily.proofs.Standing.{amid-lies, begins-with, rated, stands}
+use Rattle.card_daily.specs.Given.{Given, IsSound, account_in, is_to_come, opened_in, row_in, seen_in}
+use Rattle.card_daily.specs.Posts.{IsRestKept, StandWith, done_by, none_returned, place_in}
+use Rattle.card_daily.specs.Stands.{AreAmid, Begins, StandFor, amid, before, first_in, only_folded, posts_of, rows_amid, rows_through}
+use Rattle.card_daily.specs.declared.state.State.{State}
+use Rattle.card_daily.specs.declared.track.Track.{Track}
+
+-- ---- the book after a front of the day's posts
+without-idle : (issued : Option IssuedRow) (a : Account) (seen : Seen) (ps : List CorrectedPost) (b : Book) → after_posts issued a seen (only_folded ps) b ≡ after_posts issued a seen ps b
+unfolding after_posts
+without-idle issued a seen [] b = refl
+without-idle issued a seen (p ∷ ps) b = by (is_folded p.post) refl (without-idle issued a seen ps)
+  where
+    by : (t : Bool) → is_folded p.post ≡ t → ((c : Book) → after_posts issued a seen (only_folded ps) c ≡ after_posts issued a seen ps c) → after_posts issued a seen (cond t (p ∷ only_folded ps) (only_folded ps)) b ≡ after_posts issued a seen ps (effect issued a seen p p.post b)
+    by true e ih = ih (effect issued a seen p p.post b)
+    by false e ih = ih b ∙ ap (after_posts issued a seen ps) (sym (of_a_day.idle issued a seen p b e))
+
+-- the book that the due date left
+abbrev due_left : Given → ℕ → Book
+due_left g day = on_due (row_in g (day - opened_in g)) (account_in g) (seen_in g (opened_in g + (day - opened_in g))) (before g day) (last_cycle (before g day).cycles)
+
+-- every front of the day's posts leaves small balances
+pub front-small : (g : Given) (day i : ℕ) → IsSound g → opened_in g ≤ day → day ≤ 47481 → AreSmall (amid g day (take i (posts_of g day))).entries
+front-small g day i s o l =
+    let ps = posts_of g day in
+    let parts : posts_on (seen_in g day) ≡ only_folded (take i ps) ++ only_folded (drop i ps) =
+    of_a_day.listed g.history g.issued g.shared day ∙ (ap only_folded (sym (take-append-drop i ps)) ∙ filter-append (λ (p : CorrectedPost). is_folded p.post) (take i ps) (drop i ps)) in
+    let same = without-idle (row_in g (day - opened_in g)) (account_in g) (seen_in g (opened_in g + (day - opened_in g))) (take i ps) (due_left g day) in
+    subst (λ (b : Book). AreSmall b.entries) same (amid-small g day (only_folded (take i ps)) (only_folded (drop i ps)) s o l parts)
+
+pub amid-next : (g : Given) (day i : ℕ) (d : CorrectedPost) → opened_in g ≤ day → i < length (posts_of g day)
+    → amid g day (take (i + 1) (posts_of g day)) ≡ effect (row_in g (day - opened_in g)) (account_in g) (seen_in g day) (get_or (posts_of g day) i d) (get_or (posts_of g day) i d).post (amid g day (take i (posts_of g day)))
+amid-next g day i d o l =
+    let q = get_or (posts_of g day) i d in
+    let n = day - opened_in g in
+    in_turn.next (row_in g n) (account_in g) (seen_in g (opened_in g + n)) (posts_of g day) i d (due_left g day) l
+    ∙ ap (λ x. effect (row_in g n) (account_in g) (seen_in g x) q q.post (amid g day (take i (posts_of g day)))) (day-is (opened_in g) day o)
+
+pub cycles-before : (g : Given) (day : ℕ) (done : List CorrectedPost) → (amid g day done).cycles ≡ (before g day).cycles
+cycles-before g day done = cycles_begin_in_turn.posts g.history g.issued g.shared (day - opened_in g) done
+
+-- the cycle of a day has begun
+pub first-by : (g : Given) (day : ℕ) → IsSound g → opened_in g ≤ day → day ≤ 47481 → first_in g day ≤ day
+first-by g day s o l =
+    let e = day-is (opened_in g) day o in
+    let is = cycles_begin_in_turn.before g.history g.issued g.shared (day - opened_in g) s.opening (omega arith) in
+    let same = ap (λ x. closing (anchor_of g.history) (cycle_of (anchor_of g.history) x - 1) + 1) e in
+    let begun = begun-by (anchor_of g.history) day s.opening o l in
+    omega (arith, is, same, begun)
+
+-- ---- the post at a place
+pub record IsOfDay (today : ℕ) (p : CorrectedPost) : Type 0 where
+  pub now : is_to_come p.post ≡ false
+  pub few : is_folded p.post ≡ true → p.cents ≤ 1000000000
+  pub day : p.day ≡ today
+
+among : (P : CorrectedPost → Type 0) (f : CorrectedPost → Bool) (xs : List CorrectedPost) → All P (filter f xs) → All (λ x. f x ≡ true → P x) xs
+among P f [] h = All-nil (λ x. f x ≡ true → P x)
+among P f (x ∷ xs) h = by (f x) refl h (among P f xs)
+  where
+    by : (t : Bool) → f x ≡ t → All P (cond t (x ∷ filter f xs) (filter f xs)) → (All P (filter f xs) → All (λ y. f y ≡ true → P y) xs) → All (λ y. f y ≡ true → P y) (x ∷ xs)
+    by true e h rest = All-cons (λ y. f y ≡ true → P y) x xs (λ m. All-head P x (filter f xs) h) (rest (All-tail P x (filter f xs) h))
+    by false e h rest = All-cons (λ y. f y ≡ true → P y) x xs (λ m. absurd (false≢true (sym e ∙ m))) (rest h)
+
+pub of-day : (g : Given) (day i : ℕ) (d : CorrectedPost) → IsSound g → i < length (posts_of g day) → IsOfDay day (get_or (posts_of g day) i d)
+of-day g day i d s l =
+    let all = corrected (anchor_of g.history) g.shared.holidays g.history in
+    let few = among (λ (p : CorrectedPost). p.cents ≤ 1000000000) (λ (p : CorrectedPost). is_folded p.post) all (folded-few (anchor_of g.history) g.shared.holidays g.history s.accepted.cents) in
+    record {
+      now = All-get_or IsNow (posts_of g day) i d l (All-filter (λ (p : CorrectedPost). eqb p.day day) IsNow all (all-now g s));
+      few = All-get_or (λ (p : CorrectedPost). is_folded p.post ≡ true → p.cents ≤ 1000000000) (posts_of g day) i d l (All-filter (λ (p : CorrectedPost). eqb p.day day) (λ (p : CorrectedPost). is_folded p.post ≡ true → p.cents ≤ 1000000000) all few);
+      day = eqb-true (get_or (posts_of g day) i d).day day (All-get_or (λ (p : CorrectedPost). eqb p.day day ≡ true) (posts_of g day) i d l (filter_passes (λ (p : CorrectedPost). eqb p.day day) all));
+    }
+
+-- any post
+abbrev pub any_post : CorrectedPost
+any_post = record { number = 0; day = 0; cents = 0; accepted = 0; segment = 0; post = post.Penalty }
+
+-- the post of a day that stands at a place
+abbrev pub post_at_place : Given → ℕ → ℕ → CorrectedPost
+post_at_place g day place = get_or (posts_of g day) (place - place_in g day) any_post
+
+pub found-there : (g : Given) (day place : ℕ) (cs : List CorrectedPost) (o : Option DayPost) → cs ≡ corrected (anchor_of g.history) g.shared.holidays g.history
+    → place_in g day ≤ place → place < place_in g day + length (posts_of g day)
+    → (place ≡ place_of day cs + (place - place_in g day) → place - place_in g day < length (on day cs) → o ≡ folded_post (get_or (on day cs) (place - place_in g day) any_post))
+    → o ≡ folded_post (post_at_place g day place)
+found-there g day place cs o e low high h =
+    subst (λ us. (place ≡ place_of day us + (place - place_in g day) → place - place_in g day < length (on day us) → o ≡ folded_post (get_or (on day us) (place - place_in g day) any_post))) e h
+    (omega (arith, low)) (omega (arith, low, high))
+
+pub is-found : (q : CorrectedPost) (x : DayPost) → folded_post q ≡ Some x → (x ≡ day_post q) × (is_folded q.post ≡ true)
+is-found q x e = by (is_folded q.post) refl e
+  where
+    by : (t : Bool) → is_folded q.post ≡ t → cond t (Some (day_post q)) None ≡ Some x → (x ≡ day_post q) × (is_folded q.post ≡ true)
+    by true h e = ((let same : x ≡ day_post q = cc in same), h)
+    by false h e = absurd (no e)
+      where
+        no : None ≡ Some x → ⊥
+        no e = cc
+
+pub none-found : (q : CorrectedPost) → folded_post q ≡ None → is_folded q.post ≡ false
+none-found q e = by (is_folded q.post) refl e
+  where
+    by : (t : Bool) → is_folded q.post ≡ t → cond t (Some (day_post q)) None ≡ None → is_folded q.post ≡ false
+    by false h e = h
+    by true h e = absurd (no e)
+      where
+        no : Some (day_post q) ≡ None → ⊥
+        no e = cc
+
+-- ---- state and track
+pub with-rows : (g : Given) (day : ℕ) (done : List CorrectedPost) (s : State) (t : Track) → IsSound g → opened_in g ≤ day → AreAmid g day done s t
+    → StandWith (account_in g) (seen_in g day) (first_in g day) (rows_through g (first_in g day) (day - 1) (before g day)) (amid g day done) s t
+with-rows g day done s t sound o h =
+    let b = amid g day done in
+    let at = stands g day b s.segments.balances o (amid-lies g day done o) h.stand.sums in
+    record {
+      at = subst (λ r. StandsAt (account_in g) (seen_in g day) b r s.segments.balances t.entries.items) (sym h.stand.rates)
+          (subst (λ es. StandsAt (account_in g) (seen_in g day) b (rates_of g.shared.holidays g.history b.penalties) s.segments.balances es) (sym h.stand.entries) at);
+      rows = h.stand.rows ∙ each-same (rows_amid g day b) (λ x. with_repaid (brought none_returned x.id (first_in g day) b.entries) (rows_through g (first_in g day) (day - 1) (before g day) x))
+          (λ x. ap (λ r. with_repaid r (rows_through g (first_in g day) (day - 1) (before g day) x)) (repaid-now (seen_in g day) x.id (first_in g day) b.entries (seen-all g day sound))) s.rates.segments;
+    }
+
+pub amid-with : (g : Given) (day : ℕ) (done next : List CorrectedPost) (c : Book) (s new : State) (t after : Track) → IsSound g → AreAmid g day done s t → IsRestKept s new t after → IsAdded (amid g day done) c → c ≡ amid g day next
+    → StandWith (account_in g) (seen_in g day) (first_in g day) (rows_through g (first_in g day) (day - 1) (before g day)) c new after → AreAmid g day next new after
+amid-with g day done next c s new t after sound h k adds is w =
+    let first = first_in g day in
+    let held = rows_through g first (day - 1) (before g day) in
+    let stand : StandFor g (rows_amid g day c) c new after = record {
+      entries = w.at.same;
+      cycles = k.cycles ∙ (h.stand.cycles ∙ sym adds.cycles);
+      fees = k.fees ∙ (h.stand.fees ∙ sym adds.fees);
+      rates = k.rates ∙ (h.stand.rates ∙ ap (λ ps. rates_of g.shared.holidays g.history ps) (sym adds.penalties));
+      segments = k.segments ∙ h.stand.segments;
+      sums = w.at.sums;
+      rows = w.rows ∙ each-same (λ x. with_repaid (brought none_returned x.id first c.entries) (held x)) (rows_amid g day c)
+          (λ x. ap (λ r. with_repaid r (held x)) (sym (repaid-now (seen_in g day) x.id first c.entries (seen-all g day sound)))) new.rates.segments;
+      accruals = ap (λ (xs : List Accrued). length xs) k.accruals ∙ (h.stand.accruals ∙ ap (λ (r : Rates). length r.segments) (sym k.rates));
+    } in
+    record {
+      stand = subst (λ (b : Book). StandFor g (rows_amid g day b) b new after) is stand;
+      accrued = record {
+        sums = λ x there deferred over.
+            ap (λ (xs : List Accrued). (get_or xs (x.id - 2) nothing_accrued).sum) k.accruals ∙ h.accrued.sums x (subst (λ (r : Rates). Contains r.segments x) k.rates there) deferred over;
+        days = subst (λ (xs : List Accrued). All (λ a. a.days ≤ day - 1 + 1 - opened_in g) xs) (sym k.accruals) h.accrued.days;
+      };
+    }
+
+-- ---- the post at a place
+pub record IsAtPlace (g : Given) (day place : ℕ) (x : DayPost) : Type 0 where
+  pub same : x ≡ day_post (post_at_place g day place)
+  pub folded : is_folded (post_at_place g day place).post ≡ true
+  pub of_day : IsOfDay day (post_at_place g day place)
+
+-- what the posts tell of a place
+abbrev pub Told : Posted → ℕ → Option DayPost → Type 0
+Told posts place o =
+    (holidays : List ℕ) (day i : ℕ) (p : CorrectedPost) → StandsFor holidays posts → place ≡ place_of day posts.corrected + i → i < length (on day posts.corrected)
+    → o ≡ folded_post (get_or (on day posts.corrected) i p)
+
+pub told-here : (g : Given) (day place : ℕ) (posts : Posted) (o : Option DayPost) → StandsFor g.shared.holidays posts → posts.history ≡ g.history
+    → place_in g day ≤ place → place < place_in g day + length (posts_of g day) → Told posts place o → o ≡ folded_post (post_at_place g day place)
+told-here g day place posts o stands history low high told =
+    found-there g day place posts.corrected o (stands ∙ ap (λ h. corrected (anchor_of h) g.shared.holidays h) history) low high
+    (λ at l. told g.shared.holidays day (place - place_in g day) any_post stands at l)
+
+pub at-place : (g : Given) (day place : ℕ) (o : Option DayPost) (x : DayPost) → IsSound g → place_in g day ≤ place → place < place_in g day + length (posts_of g day)
+    → o ≡ folded_post (post_at_place g day place) → o ≡ Some x → IsAtPlace g day place x
+at-place g day place o x s low high e is =
+    let found = is-found (post_at_place g day place) x (sym e ∙ is) in
+    record { same = found.0; folded = found.1; of_day = of-day g day (place - place_in g day) any_post s (omega (arith, low, high)) }
+
+pub place-day : (g : Given) (day place : ℕ) (x : DayPost) → IsAtPlace g day place x → x.day ≡ day
+place-day g day place x h = ap (λ (d : DayPost). d.day) h.same ∙ h.of_day.day
+
+pub place-low : (g : Given) (day place : ℕ) (x : DayPost) → IsAtPlace g day place x → pos 0 ≤ℤ x.cents
+place-low g day place x h = let low : pos 0 ≤ℤ pos (post_at_place g day place).cents = omega (arith, ints) in subst (λ (d : DayPost). pos 0 ≤ℤ d.cents) (sym h.same) low
+
+pub place-high : (g : Given) (day place : ℕ) (x : DayPost) → IsAtPlace g day place x → x.cents ≤ℤ pos 1_000_000_000_000_000
+place-high g day place x h =
+    let few = h.of_day.few h.folded in
+    let high : pos (post_at_place g day place).cents ≤ℤ pos 1_000_000_000_000_000 = omega (arith, ints, few) in
+    subst (λ (d : DayPost). d.cents ≤ℤ pos 1_000_000_000_000_000) (sym h.same) high
+
+pub place-kind : (g : Given) (day place : ℕ) (x : DayPost) → IsAtPlace g day place x → is_to_come x.post ≡ false
+place-kind g day place x h = ap (λ (d : DayPost). is_to_come d.post) h.same ∙ h.of_day.now
+
+pub place-cycles : (g : Given) (day place : ℕ) (x : DayPost) (done : List CorrectedPost) (s : State) (t : Track) → IsAtPlace g day place x → AreAmid g day done s t → t.cycles.items ≡ (before g x.day).cycles
+place-cycles g day place x done s t p h = h.stand.cycles ∙ (cycles-before g day done ∙ ap (λ d. (before g d).cycles) (sym (place-day g day place x p)))
+
+-- ---- one post more
+-- the same of another day that is this one
+moved : (g : Given) (from day first : ℕ) (held : SegmentTerms → Rows) (row : Option IssuedRow) (q : CorrectedPost) (b : Book) (s new : State) (t after : Track) → from ≡ day
+    → (StandWith (account_in g) (seen_in g from) first held b s t → StandWith (account_in g) (seen_in g from) first held (effect row (account_in g) (seen_in g from) q q.post b) new after)
+    → StandWith (account_in g) (seen_in g day) first held b s t → StandWith (account_in g) (seen_in g day) first held (effect row (account_in g) (seen_in g day) q q.post b) new after
+moved g from day first held row q b s new t after e did =
+    subst (λ d. (StandWith (account_in g) (seen_in g d) first held b s t → StandWith (account_in g) (seen_in g d) first held (effect row (account_in g) (seen_in g d) q q.post b) new after)) e did
+
+-- what entering the post of a place makes of state and track
+abbrev pub Enters : Given → DayPost → State → State → Track → Track → Type 0
+Enters g x s new t after =
+    (row : Option IssuedRow) (first : ℕ) (held : SegmentTerms → Rows) (p : CorrectedPost) (b : Book) → first ≤ x.day → b.cycles ≡ (before g x.day).cycles → x ≡ day_post p
+    → StandWith (account_in g) (seen_in g x.day) first held b s t → StandWith (account_in g) (seen_in g x.day) first held (effect row (account_in g) (seen_in g x.day) p p.post b) new after
+
+-- the book after the post at a place
+abbrev after_place : Given → ℕ → ℕ → Book
+after_place g day place =
+    effect (row_in g (day - opened_in g)) (account_in g) (seen_in g day) (post_at_place g day place) (post_at_place g day place).post (amid g day (done_by g day place))
+
+next-place : (g : Given) (day place : ℕ) → opened_in g ≤ day → place_in g day ≤ place → place < place_in g day + length (posts_of g day) → after_place g day place ≡ amid g day (done_by g day (place + 1))
+next-place g day place o low high =
+    let next : place - place_in g day + 1 ≡ place + 1 - place_in g day = omega (arith, low) in
+    sym (amid-next g day (place - place_in g day) any_post o (omega (arith, low, high))) ∙ ap (λ k. amid g day (take k (posts_of g day))) next
+
+pub after-post : (g : Given) (day place : ℕ) (x : DayPost) (s new : State) (t after : Track) → IsSound g → opened_in g ≤ day → day ≤ 47481 → IsAtPlace g day place x → AreAmid g day (done_by g day place) s t
+    → Enters g x s new t after → StandWith (account_in g) (seen_in g day) (first_in g day) (rows_through g (first_in g day) (day - 1) (before g day)) (after_place g day place) new after
+after-post g day place x s new t after sound o l p h did =
+    let same = place-day g day place x p in
+    let begun = first-by g day sound o l in
+    moved g x.day day (first_in g day) (rows_through g (first_in g day) (day - 1) (before g day)) (row_in g (day - opened_in g)) (post_at_place g day place) (amid g day (done_by g day place)) s new t after same
+    (did (row_in g (day - opened_in g)) (first_in g day) (rows_through g (first_in g day) (day - 1) (before g day)) (post_at_place g day place) (amid g day (done_by g day place)) (omega (arith, begun, same))
+    (cycles-before g day (done_by g day place) ∙ ap (λ d. (before g d).cycles) (sym same)) p.same)
+    (with-rows g day (done_by g day place) s t sound o h)
+
+pub next-amid : (g : Given) (day place : ℕ) (x : DayPost) (s new : State) (t after : Track) → IsSound g → opened_in g ≤ day → day ≤ 47481 → place_in g day ≤ place → place < place_in g day + length (posts_of g day)
+    → IsAtPlace g day place x → AreAmid g day (done_by g day place) s t → IsRestKept s new t after → Enters g x s new t after → AreAmid g day (done_by g day (place + 1)) new after
+next-amid g day place x s new t after sound o l low high p h k did =
+    let adds = effect-adds (row_in g (day - opened_in g)) (account_in g) (seen_in g day) (post_at_place g day place) (post_at_place g day place).post (amid g day (done_by g day place)) p.of_day.now in
+    amid-with g day (done_by g day place) (done_by g day (place + 1)) (after_place g day place) s new t after sound h k adds (next-place g day place o low high) (after-post g day place x s new t after sound o l p h did)
+
+pub next-begins : (g : Given) (day place : ℕ) (x : DayPost) (s new : State) (t after : Track) → IsSound g → opened_in g ≤ day → day ≤ 47481
+    → IsAtPlace g day place x → AreAmid g day (done_by g day place) s t → IsRestKept s new t after → Enters g x s new t after → Begins t after
+next-begins g day place x s new t after sound o l p h k did =
+    let adds = effect-adds (row_in g (day - opened_in g)) (account_in g) (seen_in g day) (post_at_place g day place) (post_at_place g day place).post (amid g day (done_by g day place)) p.of_day.now in
+    let w = after-post g day place x s new t after sound o l p h did in
+    begins-more t after adds.more (w.at.same ∙ (adds.entries ∙ ap (λ es. es ++ adds.more) (sym h.stand.entries))) k.cycles
+
+-- a post of a kind that isn't folded
+pub next-idle : (g : Given) (day place : ℕ) (s : State) (t : Track) → opened_in g ≤ day → place_in g day ≤ place → place < place_in g day + length (posts_of g day)
+    → is_folded (post_at_place g day place).post ≡ false → AreAmid g day (done_by g day place) s t → AreAmid g day (done_by g day (place + 1)) s t
+next-idle g day place s t o low high idle h =
+    let b = amid g day (done_by g day place) in
+    let same : b ≡ amid g day (done_by g day (place + 1)) =
+    sym (of_a_day.idle (row_in g (day - opened_in g)) (account_in g) (seen_in g day) (post_at_place g day place) b idle) ∙ next-place g day place o low high in
+    record { stand = subst (λ (c : Book). StandFor g (rows_amid g day c) c s t) same h.stand; accrued = h.accrued }
+
+-- ---- rows of each segment but Credit and Held
+pub rows-count : (g : Given) (rows_by : SegmentTerms → Rows) (b : Book) (s : State) (t : Track) → StandFor g rows_by b s t → length s.segments.segments ≡ length s.segments.balances → 5 ≤ length s.segments.balances
+    → length s.rows.items + 2 ≡ length s.segments.balances
+rows-count g rows_by b s t h equal five =
+    let kept = (rated g rows_by b s t h).kept in
+    let drops = length-drop 2 s.segments.segments in
+    let many = length-map s.rates.segments kept_segment in
+    let rows = length-map s.rates.segments rows_by in
+    omega (arith, equal, five, drops, many, rows, ap (λ (xs : List Segment). length xs) kept, ap (λ (xs : List Rows). length xs) h.rows)
+
+-- ---- either way
+pub either-way : {A E : Type 0} (r : Result A E) (P : Type 0) → OnOk r P → OnErr r P → P
+either-way (Ok x) P h k = h
+either-way (Err e) P h k = k
+
+-- ---- all places of a day
+pub place-found : (g : Given) (day place : ℕ) (posts : Posted) (o : Option DayPost) (x : DayPost) → IsSound g → StandsFor g.shared.holidays posts → posts.history ≡ g.history
+    → place_in g day ≤ place → place < place_in g day + length (posts_of g day) → Told posts place o → o ≡ Some x → IsAtPlace g day place x
+place-found g day place posts o x s stands history low high told is = at-place g day place o x s low high (told-here g day place posts o stands history low high told) is
+
+pub place-is : (g : Given) (day r : ℕ) (posts : Posted) → StandsFor g.shared.holidays posts → posts.history ≡ g.history → r ≡ place_of day posts.corrected → r ≡ place_in g day
+place-is g day r posts stands history e = e ∙ ap (place_of day) (stands ∙ ap (λ h. corrected (anchor_of h) g.shared.holidays h) history)
+
+pub end-is : (g : Given) (day : ℕ) → place_in g (day + 1) ≡ place_in g day + length (posts_of g day)
+end-is g day = of_days.next (corrected (anchor_of g.history) g.shared.holidays g.history) day
+
+pub done-none : (g : Given) (day place : ℕ) → place ≡ place_in g day → [] ≡ done_by g day place
+done-none g day place e = let none : 0 ≡ place - place_in g day = omega (arith, e) in ap (λ n. take n (posts_of g day)) none
+
+pub done-all : (g : Given) (day place : ℕ) → place_in g day + length (posts_of g day) ≤ place → done_by g day place ≡ posts_of g day
+done-all g day place l = take_all (place - place_in g day) (posts_of g day) (omega (arith, l))
+
+-- ---- a track that grew twice
+grown : {A : Type 0} (xs ys : List A) → take (length xs) ys ≡ xs → ys ≡ xs ++ drop (length xs) ys
+grown xs ys e = sym (take-append-drop (length xs) ys) ∙ ap (λ l. l ++ drop (length xs) ys) e
+
+grown-twice : {A : Type 0} (xs ys zs : List A) → take (length xs) ys ≡ xs → take (length ys) zs ≡ ys → take (length xs) zs ≡ xs
+grown-twice xs ys zs e f =
+    begins-with xs zs (drop (length xs) ys ++ drop (length ys) zs)
+    (grown ys zs f ∙ (ap (λ l. l ++ drop (length ys) zs) (grown xs ys e) ∙ append_assoc xs (drop (length xs) ys) (drop (length ys) zs)))
+
+pub begins-twice : (t mid after : Track) → Begins t mid → Begins mid after → Begins t after
+begins-twice t mid after h k = record {
+  entries = grown-twice t.entries.items mid.entries.items after.entries.items h.entries k.entries;
+  cycles = grown-twice t.cycles.items mid.cycles.items after.cycles.items h.cycles k.cycles;
+}

@@ -1,0 +1,117 @@
+use Rattle.std.proofs.Common.{◌-◌, sym, ◌∙◌, arith}
+use Rattle.card_daily.proofs.PostDay.{either-way, front-small, next-amid, next-begins, next-idle, none-found, place-cycles, post_at_place, place-day, place-found, place-high, place-kind, place-low, rows-count, told-here}
+use Rattle.card_daily.proofs.Posting.{on-ok}
+use Rattle.card_daily.proofs.Standing.{rated, within}
+use Rattle.card_daily.specs.Posts.{done_by, place_in}
+use Rattle.card_daily.specs.Stands.{amid}
+use Rattle.card_daily.proofs.posts.enter.Goals as goal
+
+pub enter_post-requires-clause-opened : goal.enter_post-requires-clause-opened
+enter_post-requires-clause-opened c =
+    let g = c.args.inputs.now in
+    let day = c.args.day in
+    let place = c.args.place in
+    let x = c.in-Some.post in
+    let sound = c.anchor-anchor.ensures.sound in
+    let here = place-found g day place c.posts.result.now c.folded_at.result x sound c.posts.ensures.stands c.posts.ensures.history c.requires.from c.requires.within c.folded_at.ensures c.in-Some.is in
+    let on = place-day g day place x here in
+    let opened = c.requires.opened in
+    omega (arith, on, opened)
+
+pub enter_post-requires-clause-last : goal.enter_post-requires-clause-last
+enter_post-requires-clause-last c =
+    let g = c.args.inputs.now in
+    let day = c.args.day in
+    let place = c.args.place in
+    let x = c.in-Some.post in
+    let sound = c.anchor-anchor.ensures.sound in
+    let here = place-found g day place c.posts.result.now c.folded_at.result x sound c.posts.ensures.stands c.posts.ensures.history c.requires.from c.requires.within c.folded_at.ensures c.in-Some.is in
+    let on = place-day g day place x here in
+    let last = c.requires.last in
+    omega (arith, on, last)
+
+pub enter_post-requires-clause-cycles : goal.enter_post-requires-clause-cycles
+enter_post-requires-clause-cycles c =
+    let g = c.args.inputs.now in
+    let day = c.args.day in
+    let place = c.args.place in
+    let x = c.in-Some.post in
+    let sound = c.anchor-anchor.ensures.sound in
+    let here = place-found g day place c.posts.result.now c.folded_at.result x sound c.posts.ensures.stands c.posts.ensures.history c.requires.from c.requires.within c.folded_at.ensures c.in-Some.is in
+    place-cycles g day place x (done_by g day place) c.args.state.now c.args.track.now here c.requires.amid
+
+pub enter_post-requires-clause-rated : goal.enter_post-requires-clause-rated
+enter_post-requires-clause-rated c =
+    rated c.args.inputs.now _ (amid c.args.inputs.now c.args.day (done_by c.args.inputs.now c.args.day c.args.place)) c.args.state.now c.args.track.now c.requires.amid.stand
+
+pub enter_post-requires-clause-amount : goal.enter_post-requires-clause-amount
+enter_post-requires-clause-amount c =
+    let g = c.args.inputs.now in
+    let day = c.args.day in
+    let place = c.args.place in
+    let x = c.in-Some.post in
+    let sound = c.anchor-anchor.ensures.sound in
+    let here = place-found g day place c.posts.result.now c.folded_at.result x sound c.posts.ensures.stands c.posts.ensures.history c.requires.from c.requires.within c.folded_at.ensures c.in-Some.is in
+    place-low g day place x here
+
+pub enter_post-requires-clause-limit : goal.enter_post-requires-clause-limit
+enter_post-requires-clause-limit c =
+    let g = c.args.inputs.now in
+    let day = c.args.day in
+    let place = c.args.place in
+    let x = c.in-Some.post in
+    let sound = c.anchor-anchor.ensures.sound in
+    let here = place-found g day place c.posts.result.now c.folded_at.result x sound c.posts.ensures.stands c.posts.ensures.history c.requires.from c.requires.within c.folded_at.ensures c.in-Some.is in
+    place-high g day place x here
+
+pub enter_post-requires-clause-small : goal.enter_post-requires-clause-small
+enter_post-requires-clause-small c =
+    let g = c.args.inputs.now in
+    let day = c.args.day in
+    let place = c.args.place in
+    within (amid g day (done_by g day place)).entries c.args.state.now.segments.balances c.requires.amid.stand.sums (front-small g day (place - place_in g day) c.anchor-anchor.ensures.sound c.requires.opened c.requires.last)
+
+pub enter_post-requires-clause-rows : goal.enter_post-requires-clause-rows
+enter_post-requires-clause-rows c =
+    let g = c.args.inputs.now in
+    let day = c.args.day in
+    let place = c.args.place in
+    rows-count g _ (amid g day (done_by g day place)) c.args.state.now c.args.track.now c.requires.amid.stand (sym c.len-count.ensures.segments ∙ c.len-count.ensures.balances) (let five = c.len-count.ensures.five in omega (arith, five, c.len-count.ensures.balances))
+
+pub enter_post-requires-clause-kind : goal.enter_post-requires-clause-kind
+enter_post-requires-clause-kind c =
+    let g = c.args.inputs.now in
+    let day = c.args.day in
+    let place = c.args.place in
+    let x = c.in-Some.post in
+    let sound = c.anchor-anchor.ensures.sound in
+    let here = place-found g day place c.posts.result.now c.folded_at.result x sound c.posts.ensures.stands c.posts.ensures.history c.requires.from c.requires.within c.folded_at.ensures c.in-Some.is in
+    place-kind g day place x here
+
+pub returns-in-Some-clause-amid : goal.returns-in-Some-clause-amid
+returns-in-Some-clause-amid c =
+    let g = c.args.inputs.now in
+    let day = c.args.day in
+    let place = c.args.place in
+    let x = c.in-Some.post in
+    let sound = c.anchor-anchor.ensures.sound in
+    let here = place-found g day place c.posts.result.now c.folded_at.result x sound c.posts.ensures.stands c.posts.ensures.history c.requires.from c.requires.within c.folded_at.ensures c.in-Some.is in
+    on-ok c.enter_post.result _ _ c.enter_post.ensures.stands (λ did. next-amid g day place x c.args.state.now c.enter_post.new.state c.args.track.now c.enter_post.new.track sound c.requires.opened c.requires.last c.requires.from c.requires.within here c.requires.amid c.enter_post.ensures.rest did)
+
+pub returns-in-Some-clause-begins : goal.returns-in-Some-clause-begins
+returns-in-Some-clause-begins c =
+    let g = c.args.inputs.now in
+    let day = c.args.day in
+    let place = c.args.place in
+    let x = c.in-Some.post in
+    let sound = c.anchor-anchor.ensures.sound in
+    let here = place-found g day place c.posts.result.now c.folded_at.result x sound c.posts.ensures.stands c.posts.ensures.history c.requires.from c.requires.within c.folded_at.ensures c.in-Some.is in
+    either-way c.enter_post.result _ (on-ok c.enter_post.result _ _ c.enter_post.ensures.stands (λ did. next-begins g day place x c.args.state.now c.enter_post.new.state c.args.track.now c.enter_post.new.track sound c.requires.opened c.requires.last here c.requires.amid c.enter_post.ensures.rest did)) c.enter_post.ensures.err
+
+pub returns-in-None-clause-amid : goal.returns-in-None-clause-amid
+returns-in-None-clause-amid c =
+    let g = c.args.inputs.now in
+    let day = c.args.day in
+    let place = c.args.place in
+    next-idle g day place c.args.state.now c.args.track.now c.requires.opened c.requires.from c.requires.within
+    (none-found (post_at_place g day place) (sym (told-here g day place c.posts.result.now c.folded_at.result c.posts.ensures.stands c.posts.ensures.history c.requires.from c.requires.within c.folded_at.ensures) ∙ c.in-None.is)) c.requires.amid

@@ -1,0 +1,76 @@
+use Rattle.std.proofs.Common.{◌≡◌, ℕ, ◌+◌, ◌-◌, ◌<◌, ◌≤◌, pos, sym, ap, ◌∙◌, arith, subst, refl, List, w64}
+use Rattle.std.proofs.lemmas.Int.{to_z-of_z}
+use Rattle.card_days.specs.Billing.{closing}
+use Rattle.card_days.specs.declared.anchor.Anchor.{Anchor}
+use Rattle.card_due.proofs.Remainder.{left-fold}
+use Rattle.card_due.specs.Asked.{left_by}
+use Rattle.card_due.specs.Laws.{due_cycle_of}
+use Rattle.card_due.specs.declared.asked.DueCycle.{DueCycle}
+use Rattle.card_events.specs.History.{CorrectedPost, anchor_of, corrected}
+use Rattle.card_model.specs.Cycles.{Cycle}
+use Rattle.card_daily.proofs.Following.{begun-by, due-most}
+use Rattle.card_daily.proofs.Lasts.{IsLast, last-is}
+use Rattle.card_daily.specs.Given.{Given, IsSound, opened_in, seen_in}
+use Rattle.card_daily.proofs.posts.left_of.Goals as goal
+
+from-one : (g : Given) (day : ℕ) → IsSound g → opened_in g ≤ day → 1 ≤ day
+from-one g day s l = let o = s.opening.first in omega arith
+
+-- the cycle closed before the day
+closed : (g : Given) (day : ℕ) (c : Cycle) → IsSound g → opened_in g ≤ day → day ≤ 47481 → IsLast g day c → closing (anchor_of g.history) c.number < day
+closed g day c s o l is =
+    let begun = begun-by (anchor_of g.history) day s.opening o l in
+    let same : c.number + 1 - 1 ≡ c.number = omega arith in
+    subst (λ k. closing (anchor_of g.history) k < day) (ap (λ n. n - 1) (sym is.now ∙ is.present) ∙ same) begun
+
+pub due_cycle-due-requires-clause-days : goal.due_cycle-due-requires-clause-days
+due_cycle-due-requires-clause-days c =
+    let s = c.anchor-anchor.ensures.sound in
+    (last-is c.args.inputs.now c.args.day c.args.cycle.now s (from-one c.args.inputs.now c.args.day s c.requires.opened) c.requires.last c.requires.cycle).days
+
+pub due_cycle-due-requires-clause-number : goal.due_cycle-due-requires-clause-number
+due_cycle-due-requires-clause-number c =
+    let s = c.anchor-anchor.ensures.sound in
+    (last-is c.args.inputs.now c.args.day c.args.cycle.now s (from-one c.args.inputs.now c.args.day s c.requires.opened) c.requires.last c.requires.cycle).first
+
+pub due_cycle-due-requires-clause-last : goal.due_cycle-due-requires-clause-last
+due_cycle-due-requires-clause-last c =
+    let s = c.anchor-anchor.ensures.sound in
+    let g = c.args.inputs.now in
+    let is = last-is g c.args.day c.args.cycle.now s (from-one g c.args.day s c.requires.opened) c.requires.last c.requires.cycle in
+    let before = closed g c.args.day c.args.cycle.now s c.requires.opened c.requires.last is in
+    let most = due-most (anchor_of g.history) c.args.cycle.now.number in
+    let on = is.days.due in
+    let last = c.requires.last in
+    omega (arith, before, most, on, last)
+
+pub minimum_left-requires-clause-cycle : goal.minimum_left-requires-clause-cycle
+minimum_left-requires-clause-cycle c =
+    let s = c.anchor-anchor.ensures.sound in
+    let is = last-is c.args.inputs.now c.args.day c.args.cycle.now s (from-one c.args.inputs.now c.args.day s c.requires.opened) c.requires.last c.requires.cycle in
+    subst (λ (x : DueCycle). 1 ≤ x.cycle) (sym c.due_cycle-due.ensures) is.first
+
+pub minimum_left-requires-clause-closed : goal.minimum_left-requires-clause-closed
+minimum_left-requires-clause-closed c =
+    let s = c.anchor-anchor.ensures.sound in
+    let g = c.args.inputs.now in
+    let is = last-is g c.args.day c.args.cycle.now s (from-one g c.args.day s c.requires.opened) c.requires.last c.requires.cycle in
+    let before = closed g c.args.day c.args.cycle.now s c.requires.opened c.requires.last is in
+    subst (λ (x : DueCycle). closing c.anchor-anchor.result x.cycle < c.args.day) (sym c.due_cycle-due.ensures)
+    (subst (λ (a : Anchor). closing a c.args.cycle.now.number < c.args.day) (sym c.anchor-anchor.ensures.value) before)
+
+alike : (a b : Anchor) (ps qs : List CorrectedPost) (x y : DueCycle) (day m n : ℕ) → a ≡ b → ps ≡ qs → x ≡ y → m ≡ n → left_by a ps x day m ≡ left_by b qs y day n
+alike a b ps qs x y day m n e f h k = rw (e, f, h, k) refl
+
+pub returns-clause-value : goal.returns-clause-value
+returns-clause-value c p on number =
+    let s = c.anchor-anchor.ensures.sound in
+    let g = c.args.inputs.now in
+    let cycle = c.args.cycle.now in
+    let all = corrected (anchor_of g.history) g.shared.holidays g.history in
+    let is = last-is g c.args.day cycle s (from-one g c.args.day s c.requires.opened) c.requires.last c.requires.cycle in
+    let posts = c.posts.ensures.stands ∙ ap (λ h. corrected (anchor_of h) g.shared.holidays h) c.posts.ensures.history in
+    to_z-of_z w64 c.minimum_left.result (record { sfits = c.minimum_left.type_inv })
+    ∙ (c.minimum_left.ensures g.shared.holidays c.posts.ensures.stands
+    ∙ ap pos (alike c.anchor-anchor.result (anchor_of g.history) c.posts.result.now.corrected all c.due_cycle-due.result (due_cycle_of (seen_in g c.args.day) cycle) c.args.day c.args.number p.number c.anchor-anchor.ensures.value posts c.due_cycle-due.ensures (sym number)
+    ∙ sym (left-fold (anchor_of g.history) all (seen_in g c.args.day) cycle.number cycle p refl is.days on)))

@@ -1,0 +1,9 @@
+use Rattle.card_daily.specs.Posts.{done_by}
+use Rattle.card_daily.specs.Stands.{AreAmid, Begins}
+use Rattle.card_daily.proofs.posts.post_day.Given as goal
+
+abbrev pub invariant-loop-place : goal.invariant-loop-place
+invariant-loop-place l = record {
+  amid : AreAmid l.inputs l.day (done_by l.inputs l.day l.place) l.state l.track;
+  begins : Begins l.fn.track l.track;
+}

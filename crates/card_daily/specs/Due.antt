@@ -1,0 +1,17 @@
+-- What a due date brings on the day after it (12 CFR 1026.52(b)(1)(ii)).
+use Rattle.std.specs.Prelude.{ℕ, ◌+◌, ◌-◌, ◌==◌, if◌then◌else◌, Option, Some, None}
+use Rattle.card_model.specs.Books.{Book}
+use Rattle.card_model.specs.Cycles.{Cycle, IssuedRow, Seen, last_cycle}
+use Rattle.card_model.specs.DueDates.{late_fee}
+use Rattle.card_model.specs.declared.fee.Fee.{Fee}
+use Rattle.card_daily.specs.Given.{Given, opened_in, row_in, seen_in}
+use Rattle.card_daily.specs.Stands.{before}
+
+-- the late fee of a cycle, where today is the day after its due date
+abbrev pub fee_after : Option IssuedRow → Seen → Book → Option Cycle → Option Fee
+fee_after issued seen b None = None
+fee_after issued seen b (Some c) = let charged = late_fee issued seen b c in if seen.day == c.due + 1 then charged else None
+
+-- the fee that a day begins with
+unfoldable pub fee_due : Given → ℕ → Option Fee
+fee_due g day = fee_after (row_in g (day - opened_in g)) (seen_in g day) (before g day) (last_cycle (before g day).cycles)

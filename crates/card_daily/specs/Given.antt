@@ -1,0 +1,77 @@
+-- What the fold of an account is given, and its books from day to day.
+use Rattle.std.specs.Prelude.{ℕ, ◌≡◌, ◌≤◌, false, Bool, List, Option, Some}
+use Rattle.std.specs.List.{All}
+use Rattle.card_days.specs.Civil.{day_of_month}
+use Rattle.card_days.specs.declared.anchor.Anchor.{Anchor}
+use Rattle.card_events.specs.History.{anchor_of}
+use Rattle.card_events.specs.SharedRows.{SharedRows}
+use Rattle.card_events.specs.declared.kept.Kept.{Kept}
+use Rattle.card_events.specs.declared.post.Post.{Post}
+use Rattle.card_events.specs.declared.post.Post.TheVariants as post
+use Rattle.card_model.specs.Accepted.{AreAccepted, HasFewFees}
+use Rattle.card_model.specs.Books.{Account, Book, account_of, present_cycle}
+use Rattle.card_model.specs.Caps.{row_for}
+use Rattle.card_model.specs.CycleDays.{IsOpening}
+use Rattle.card_model.specs.Cycles.{IssuedRow, Seen, seen_on}
+use Rattle.card_model.specs.Folds.{book, book_after}
+use Rattle.card_model.specs.Refusals.{plan_days}
+use Rattle.card_rates.specs.RateBooks.{HasFewSegments}
+use Rattle.card_slots.specs.Segments.{ArePostsDated}
+
+-- the accepted posts of an account, its issued statements, and what all accounts share
+pub record Given : Type 0 where
+  pub history : List Kept
+  pub issued : List IssuedRow
+  pub shared : SharedRows
+
+-- ---- the days of the fold
+-- the opening day
+abbrev pub opened_in : Given → ℕ
+opened_in g = (anchor_of g.history).opened
+
+-- the account that is opened
+abbrev pub account_in : Given → Account
+account_in g = account_of g.history
+
+-- what the fold of a day may look at
+abbrev pub seen_in : Given → ℕ → Seen
+seen_in g day = seen_on (anchor_of g.history) g.shared g.history g.issued day
+
+-- the book after so many days from the opening day on
+abbrev pub book_in : Given → ℕ → Book
+book_in g n = book_after g.issued (account_in g) (seen_in g) n
+
+-- the book at the end of a day
+abbrev pub book_on : Given → ℕ → Book
+book_on g day = book g.history g.issued g.shared day
+
+-- the issued statement of the cycle that the book is in after so many days
+abbrev pub row_in : Given → ℕ → Option IssuedRow
+row_in g n = row_for (present_cycle (book_in g n)) g.issued
+
+-- ---- what is asked of them
+-- a Return, a Dispute, a Resolve or a Penalty, which aren't folded yet
+abbrev pub is_to_come : Post → Bool
+is_to_come (post.Return _ _) = Bool.true
+is_to_come (post.Dispute _ _ _) = Bool.true
+is_to_come (post.Resolve _ _ _) = Bool.true
+is_to_come post.Penalty = Bool.true
+is_to_come _ = false
+
+-- a plan's last day is a closing, from the opening day on
+abbrev pub EndsWithAClosing : Anchor → Kept → Type 0
+EndsWithAClosing a k = (first end : ℕ) → plan_days k.post ≡ Some (first, end) → (a.opened ≤ end) × (day_of_month end ≡ a.close_day)
+
+-- so are those of all posts of an account
+abbrev pub ArePlanned : List Kept → Type 0
+ArePlanned history = All (EndsWithAClosing (anchor_of history)) history
+
+-- What every run of the machine leaves in an account, over the kinds that are folded
+pub record IsSound (g : Given) : Type 0 where
+  pub accepted : AreAccepted (record { posts = g.history; issued = g.issued })
+  pub fees : All HasFewFees g.shared.fees
+  pub segments : HasFewSegments g.history
+  pub dated : ArePostsDated g.history
+  pub opening : IsOpening (anchor_of g.history)
+  pub plans : ArePlanned g.history
+  pub folded : All (λ k. is_to_come k.post ≡ false) g.history

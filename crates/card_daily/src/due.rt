@@ -1,0 +1,180 @@
+// What a due date brings on the day after it.
+ghost use Rattle.std.specs.Prelude.{◌≡◌, ◌+◌, ◌-◌, ◌<◌, ◌≤◌, ◌==◌, ℕ, List, [], ◌∷◌, ◌++◌, Some, None, OnOk, OnErr, pos, ◌≤ℤ◌, option_copied, option_map, vec_len, vec_capacity};
+ghost use Rattle.card_effects.specs.Standing.{AreRated, StandsAt};
+ghost use Rattle.card_model.specs.Books.{Account, Book, with_fee};
+ghost use Rattle.card_segments.specs.Balances.{AreWithin};
+ghost use Rattle.card_daily.specs.Due as spec;
+ghost use Rattle.card_events.specs.History.{anchor_of};
+ghost use Rattle.card_model.specs.CycleDays.{HasItsDays};
+ghost use Rattle.card_due.specs.Laws.{due_cycle_of, issue_day, issued_fees};
+ghost use Rattle.card_model.specs.Caps.{row_for};
+ghost use Rattle.card_model.specs.Cycles.{Cycle, Seen, last_cycle};
+ghost use Rattle.card_model.specs.DueDates as model;
+ghost use Rattle.card_daily.specs.Given.{account_in, opened_in, row_in, seen_in};
+ghost use Rattle.card_daily.specs.Stands.{AreAmid, AreBefore, Begins, before};
+
+use crate::{Inputs, Issued, State, Track};
+use card_closing::Cycle;
+use card_days::Day;
+use card_due::{DueCycle, due_fee, has_due_payment};
+use card_effects::fee;
+use card_model::Fee;
+use card_units::{Cents, NoMemory};
+
+// The day of an issued statement.
+fn issue_day(issued: Option<&Issued>) -> Option<Day>
+    ensures { result ≡ option_map (λ r. r.day) (option_copied issued.entry) }
+{
+    match issued {
+        Some(row) => Some(row.day),
+        None => None,
+    }
+}
+
+// Its minimum payment in cents.
+fn minimum_of(cycle: &Cycle) -> Cents
+    ensures { result ≡ pos cycle.now.minimum }
+{
+    cycle.minimum
+}
+
+// Its grace amount in cents.
+fn grace_of(cycle: &Cycle) -> Cents
+    ensures { result ≡ pos cycle.now.grace_amount }
+{
+    cycle.grace_amount
+}
+
+// A closed cycle with its due payment.
+fn with_due_payment(cycle: &Cycle, has_due_payment: bool) -> DueCycle
+    ensures { result ≡ record { cycle = cycle.now.number; minimum = pos cycle.now.minimum; grace_amount = pos cycle.now.grace_amount; has_due_payment = has_due_payment } }
+{
+    DueCycle {
+        cycle: cycle.number,
+        minimum: minimum_of(cycle),
+        grace_amount: grace_of(cycle),
+        has_due_payment,
+    }
+}
+
+// A closed cycle as its due date sees it.
+pub(crate) fn due_cycle(inputs: &Inputs, day: Day, cycle: &Cycle) -> DueCycle
+    requires days { HasItsDays (anchor_of inputs.now.history) cycle.now.number cycle.now }
+    requires number { 1 ≤ cycle.now.number }
+    requires last { cycle.now.due ≤ 48_576 }
+    ensures { result ≡ due_cycle_of (seen_in inputs.now day) cycle.now }
+{
+    let anchor = inputs.anchor();
+    let issued = issue_day(inputs.issued_for(cycle.number));
+    with_due_payment(cycle, has_due_payment(&anchor, cycle.number, issued, day))
+}
+
+// The penalty fees that an issued statement has.
+fn fees_of(issued: Option<&Issued>) -> Option<&[Fee]>
+    ensures { option_copied result ≡ issued_fees (option_copied issued.entry) }
+{
+    match issued {
+        Some(row) => Some(row.statement.cycle.fees.items()),
+        None => None,
+    }
+}
+
+// The late fee for the due date of the last closed cycle, on the day after it.
+fn late_fee(inputs: &Inputs, day: Day, fees: &[Fee], cycle: &Cycle) -> Option<Fee>
+    requires opened { opened_in inputs.now ≤ day }
+    requires last { day ≤ 47_481 }
+    requires cycle { last_cycle (before inputs.now day).cycles ≡ Some cycle.now }
+    requires due { day ≡ cycle.now.due + 1 }
+    requires fees { fees.now ≡ (before inputs.now day).fees }
+    ensures { result ≡ model.late_fee (row_in inputs.now (day - opened_in inputs.now)) (seen_in inputs.now day) (before inputs.now day) cycle.now }
+{
+    let anchor = inputs.anchor();
+    let due = due_cycle(inputs, day, cycle);
+    let issued = fees_of(inputs.issued_for(cycle.number + 1));
+    due_fee(inputs.fees(), fees, inputs.posts(), &anchor, &due, issued)
+}
+
+fn is_day_after(due: Day, day: Day) -> bool
+    ensures { result ≡ (day == due + 1) }
+{
+    day.number() == due.number() + 1
+}
+
+// The late fee that a day begins with.
+#[tactic(auto, unfolding(crate::specs::Due::fee_due))]
+fn fee_due(inputs: &Inputs, day: Day, fees: &[Fee], last: Option<&Cycle>) -> Option<Fee>
+    requires opened { opened_in inputs.now ≤ day }
+    requires last_day { day ≤ 47_481 }
+    requires last { option_copied last ≡ last_cycle (before inputs.now day).cycles }
+    requires fees { fees.now ≡ (before inputs.now day).fees }
+    ensures { result ≡ spec.fee_due inputs.now day }
+{
+    match last {
+        Some(cycle) => {
+            if is_day_after(cycle.due, day) {
+                late_fee(inputs, day, fees, cycle)
+            } else {
+                None
+            }
+        }
+        None => None,
+    }
+}
+
+// Charges the fee that a day begins with.
+fn charge(day: Day, late: Fee, state: &mut State, track: &mut Track) -> Result<(), NoMemory>
+    requires rated { AreRated state.old.segments.segments state.old.rates }
+    requires low { pos 0 ≤ℤ late.cents }
+    requires high { late.cents ≤ℤ pos 1_000_000_000_000_000 }
+    requires small { AreWithin 1_000_000_000_000_000 state.old.segments.balances }
+    ensures stands { OnOk result ((a : Account) (seen : Seen) (b : Book) → StandsAt a seen b state.old.rates state.old.segments.balances track.old.entries.items → day ≡ seen.day → StandsAt a seen (with_fee a seen 0 (Some late) b) state.new.rates state.new.segments.balances track.new.entries.items) }
+    ensures segments { OnOk result (state.new.segments.segments ≡ state.old.segments.segments) }
+    ensures fees { OnOk result (state.new.fees.items ≡ state.old.fees.items ++ late ∷ []) }
+    ensures rates { OnOk result (state.new.rates ≡ state.old.rates) }
+    ensures rows { OnOk result (state.new.rows.items ≡ state.old.rows.items) }
+    ensures accruals { OnOk result (state.new.accruals.items ≡ state.old.accruals.items) }
+    ensures cycles { track.new.cycles.items ≡ track.old.cycles.items }
+    ensures err { OnErr result (track.new.entries.items ≡ track.old.entries.items) }
+{
+    state.fees.reserve(1)?;
+    fee(
+        &mut state.segments,
+        &state.rates,
+        day,
+        0,
+        &late,
+        &mut track.entries,
+    )?;
+    push_fee(&mut state.fees, late);
+    Ok(())
+}
+
+/// On the day after the last cycle's due date, charges the late fee where it wasn't met (12 CFR 1026.52(b)(1)(ii)); on other
+/// days it does nothing. The day isn't before the opening day and at most 2099-12-31, and the days before it are folded. After
+/// want of memory state and track are of no use, but that the track begins with what it held.
+pub fn due_day(
+    inputs: &Inputs,
+    day: Day,
+    state: &mut State,
+    track: &mut Track,
+) -> Result<(), NoMemory>
+    requires opened { opened_in inputs.now ≤ day }
+    requires last { day ≤ 47_481 }
+    requires before { AreBefore inputs.now day state.old track.old }
+    ensures amid { OnOk result (AreAmid inputs.now day [] state.new track.new) }
+    ensures begins { Begins track.old track.new }
+{
+    let _anchor = inputs.anchor();
+    if let Some(late) = fee_due(inputs, day, &state.fees, track.cycles.last()) {
+        charge(day, late, state, track)?;
+    }
+    Ok(())
+}
+
+// One more, for which room was made.
+fn push_fee(list: &mut Vec<Fee>, fee: Fee)
+    requires { vec_len list.old < vec_capacity list.old }
+    ensures { list.new.items ≡ list.old.items ++ fee ∷ [] }
+{
+    let _ = list.push(fee);
+}

@@ -1,0 +1,156 @@
+ghost use Rattle.std.specs.Prelude.{◌≡◌, ◌≤◌, option_copied};
+ghost use Rattle.card_days.specs.Billing.{IsCloseDay};
+ghost use Rattle.card_events.specs.History.{anchor_of, opening_in, terms_in, terms_of};
+ghost use Rattle.card_model.specs.Caps.{row_for};
+ghost use Rattle.card_model.specs.CycleDays.{IsOpening};
+
+use crate::Issued;
+use card_days::{Anchor, Calendar};
+use card_events::{Post, Terms};
+use card_fees::FeeTable;
+use card_posts::Posts;
+use std::marker::Model;
+
+// The opening day of an Open, and the day of the month on which its cycles close.
+fn opening(post: &Post) -> Anchor
+    requires first { 14_975 ≤ opening_in post.now }
+    requires close_day { IsCloseDay (terms_in post.now).close }
+    ensures { result ≡ record { opened = opening_in post.now; close_day = (terms_in post.now).close } }
+{
+    match post {
+        Post::Open { day, terms } => Anchor {
+            opened: *day,
+            close_day: terms.close.get() as u8,
+        },
+        _ => unreachable!(),
+    }
+}
+
+// Those of the first post.
+fn anchor_in(posts: &Posts) -> Anchor
+    requires { IsOpening (anchor_of posts.now.history) }
+    ensures { result ≡ anchor_of posts.now.history }
+{
+    match posts.get(1) {
+        Some(kept) => opening(&kept.post),
+        None => unreachable!(),
+    }
+}
+
+// The terms of an Open.
+fn terms(post: &Post) -> Terms
+    requires { IsCloseDay (terms_in post.now).close }
+    ensures { result ≡ terms_in post.now }
+{
+    match post {
+        Post::Open { terms, .. } => *terms,
+        _ => unreachable!(),
+    }
+}
+
+// Those of the first post.
+fn terms_of_first(posts: &Posts) -> Terms
+    requires { IsOpening (anchor_of posts.now.history) }
+    ensures { result ≡ terms_of posts.now.history }
+{
+    match posts.get(1) {
+        Some(kept) => terms(&kept.post),
+        None => unreachable!(),
+    }
+}
+
+// The issued statement of a cycle.
+fn find(issued: &[Issued], cycle: u32) -> Option<&Issued>
+    ensures { option_copied result ≡ row_for cycle issued.now }
+{
+    for row in issued {
+        if row.cycle == cycle {
+            return Some(row);
+        }
+    }
+    None
+}
+
+/// What the fold of an account reads: its posts, its issued statements, and what all accounts share.
+#[derive(Drop)]
+pub struct Inputs<'a> {
+    posts: &'a Posts,
+    issued: &'a [Issued],
+    calendar: &'a Calendar,
+    fees: &'a FeeTable,
+}
+
+impl<'a> Model for Inputs<'a> {
+    ghost use Rattle.card_daily.specs.Given.{Given, IsSound};
+    ghost use Rattle.card_posts.specs.Posted.{StandsFor};
+
+    ghost Value = { Given };
+
+    ghost view = { λ i. record { history = i.posts.now.history; issued = i.issued.now; shared = record { holidays = i.calendar.now; fees = i.fees.now } } };
+
+    ghost invariant = { λ i. StandsFor i.calendar.now i.posts.now × IsSound (record { history = i.posts.now.history; issued = i.issued.now; shared = record { holidays = i.calendar.now; fees = i.fees.now } }) };
+}
+
+impl<'a> Inputs<'a> {
+    ghost use Rattle.std.specs.Prelude.{◌≡◌, option_copied};
+    ghost use Rattle.card_events.specs.History.{anchor_of, terms_of};
+    ghost use Rattle.card_model.specs.Caps.{row_for};
+    ghost use Rattle.card_daily.specs.Given.{Given, IsSound};
+    ghost use Rattle.card_posts.specs.Posted.{StandsFor};
+
+    /// The inputs of an account.
+    pub fn new(
+        posts: &'a Posts,
+        issued: &'a [Issued],
+        calendar: &'a Calendar,
+        fees: &'a FeeTable,
+    ) -> Inputs<'a>
+        requires stands { StandsFor calendar.now posts.now }
+        requires sound { IsSound (record { history = posts.now.history; issued = issued.now; shared = record { holidays = calendar.now; fees = fees.now } }) }
+        ensures { result ≡ record { history = posts.now.history; issued = issued.now; shared = record { holidays = calendar.now; fees = fees.now } } }
+    {
+        Inputs {
+            posts,
+            issued,
+            calendar,
+            fees,
+        }
+    }
+
+    /// The opening day, and the day of the month on which cycles close.
+    pub(crate) fn anchor(&self) -> Anchor
+        ensures value { result ≡ anchor_of self.now.history }
+        ensures sound { IsSound self.now }
+    {
+        anchor_in(self.posts)
+    }
+
+    /// The terms of the account.
+    pub(crate) fn terms(&self) -> Terms
+        ensures value { result ≡ terms_of self.now.history }
+    {
+        terms_of_first(self.posts)
+    }
+
+    /// The accepted posts.
+    pub(crate) fn posts(&self) -> &Posts
+        ensures history { result.now.history ≡ self.now.history }
+        ensures stands { StandsFor self.now.shared.holidays result.now }
+    {
+        self.posts
+    }
+
+    /// The fee table.
+    pub(crate) fn fees(&self) -> &FeeTable
+        ensures { result.now ≡ self.now.shared.fees }
+    {
+        self.fees
+    }
+
+    /// The issued statement of a cycle.
+    pub(crate) fn issued_for(&self, cycle: u32) -> Option<&Issued>
+        ensures { option_copied result ≡ row_for cycle self.now.issued }
+    {
+        find(self.issued, cycle)
+    }
+}

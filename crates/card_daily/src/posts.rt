@@ -1,0 +1,270 @@
+// The posts of a day, in turn.
+ghost use Rattle.std.specs.Prelude.{◌≡◌, ◌+◌, ◌-◌, ◌<◌, ◌≤◌, ℕ, false, List, [], length, min, Option, OnOk, OnErr, option_copied, pos, ◌≤ℤ◌, unsigned_abs};
+ghost use Rattle.card_days.specs.Billing.{IsCloseDay};
+ghost use Rattle.card_days.specs.declared.anchor.Channel.{Channel};
+ghost use Rattle.card_effects.specs.Standing.{AreRated, IsSlotOf, StandsAt};
+ghost use Rattle.card_events.specs.History.{CorrectedPost, anchor_of};
+ghost use Rattle.card_events.specs.declared.post.Post.TheVariants as post;
+ghost use Rattle.card_grace.specs.Rows.{Rows};
+ghost use Rattle.card_model.specs.Books.{Account, Book};
+ghost use Rattle.card_model.specs.CycleDays.{IsOpening};
+ghost use Rattle.card_model.specs.Cycles.{Cycle, IssuedRow, Seen, last_cycle};
+ghost use Rattle.card_model.specs.Effects.{effect, second_closing};
+ghost use Rattle.card_model.specs.Payments as model;
+ghost use Rattle.card_model.specs.Segments.{SegmentTerms};
+ghost use Rattle.card_segments.specs.Balances.{AreWithin};
+ghost use Rattle.card_slots.specs.Days.{day_post};
+ghost use Rattle.card_daily.specs.Given.{account_in, is_to_come, opened_in, seen_in};
+ghost use Rattle.card_daily.specs.Posts.{IsRestKept, StandWith, done_by, place_in};
+ghost use Rattle.card_daily.specs.Stands.{AreAmid, Begins, before, posts_of};
+
+use crate::due::due_cycle;
+use crate::{Inputs, State, Track};
+use card_closing::Cycle;
+use card_days::{Anchor, Day, closing, cycle_of};
+use card_due::minimum_left;
+use card_effects::{charge, credit, payment, refund, repay};
+use card_events::{Place, Post, Slot};
+use card_slots::{DayPost, end_place, first_place, folded_at};
+use card_units::{Cents, NoMemory};
+use std::alloc::Global;
+
+// The closing after that of a day's cycle.
+fn following_closing(anchor: &Anchor, day: Day) -> Day
+    requires anchor { IsOpening anchor.now }
+    requires opened { anchor.now.opened ≤ day }
+    requires last { day ≤ 47_481 }
+    ensures { (a : Account) → a.anchor ≡ anchor.now → result ≡ second_closing a day }
+{
+    closing(*anchor, cycle_of(*anchor, day) + 1).unwrap()
+}
+
+// The lesser of two amounts.
+fn lesser(cents: Cents, left: Cents) -> Cents
+    requires low { pos 0 ≤ℤ cents }
+    requires left { pos 0 ≤ℤ left }
+    ensures value { result ≡ pos (min (unsigned_abs cents) (unsigned_abs left)) }
+    ensures low { pos 0 ≤ℤ result }
+    ensures within { result ≤ℤ cents }
+{
+    if cents < left { cents } else { left }
+}
+
+// What is left of the minimum payment of the last closed cycle for the payment of a day with this number.
+fn left_of(inputs: &Inputs, day: Day, number: u32, cycle: &Cycle) -> Cents
+    requires opened { opened_in inputs.now ≤ day }
+    requires last { day ≤ 47_481 }
+    requires cycle { last_cycle (before inputs.now day).cycles ≡ Some cycle.now }
+    ensures value { (p : CorrectedPost) → p.day ≡ day → p.number ≡ number → result ≡ pos (model.minimum_left (seen_in inputs.now day) p (Some cycle.now)) }
+    ensures low { pos 0 ≤ℤ result }
+{
+    let anchor = inputs.anchor();
+    let due = due_cycle(inputs, day, cycle);
+    minimum_left(inputs.posts(), &anchor, &due, day, number)
+}
+
+// The same, 0 where no cycle is closed.
+fn left_if_any(inputs: &Inputs, day: Day, number: u32, last: Option<&Cycle>) -> Cents
+    requires opened { opened_in inputs.now ≤ day }
+    requires last_day { day ≤ 47_481 }
+    requires last { option_copied last ≡ last_cycle (before inputs.now day).cycles }
+    ensures value { (p : CorrectedPost) → p.day ≡ day → p.number ≡ number → result ≡ pos (model.minimum_left (seen_in inputs.now day) p (last_cycle (before inputs.now day).cycles)) }
+    ensures low { pos 0 ≤ℤ result }
+{
+    match last {
+        Some(cycle) => left_of(inputs, day, number, cycle),
+        None => 0,
+    }
+}
+
+// Enters a charge.
+fn enter_charge(
+    slot: &Slot,
+    place: &Place,
+    state: &mut State,
+    track: &mut Track,
+) -> Result<(), NoMemory>
+    requires rated { AreRated state.old.segments.segments state.old.rates }
+    requires amount { pos 0 ≤ℤ slot.now.cents }
+    requires limit { slot.now.cents ≤ℤ pos 1_000_000_000_000_000 }
+    requires small { AreWithin 1_000_000_000_000_000 state.old.segments.balances }
+    ensures stands { OnOk result ((issued : Option IssuedRow) (a : Account) (seen : Seen) (first : ℕ) (rows : SegmentTerms → Rows) (p : CorrectedPost) (b : Book) (on cents : ℕ) → IsSlotOf seen p slot.now → StandWith a seen first rows b state.old track.old → StandWith a seen first rows (effect issued a seen p (post.Charge on place.now cents) b) state.new track.new) }
+    ensures rest { IsRestKept state.old state.new track.old track.new }
+    ensures err { OnErr result (Begins track.old track.new) }
+{
+    charge(
+        &mut state.segments,
+        &state.rates,
+        slot,
+        place,
+        &mut track.entries,
+    )
+}
+
+// Enters a refund.
+fn enter_refund(slot: &Slot, state: &mut State, track: &mut Track) -> Result<(), NoMemory>
+    requires rated { AreRated state.old.segments.segments state.old.rates }
+    requires amount { pos 0 ≤ℤ slot.now.cents }
+    requires limit { slot.now.cents ≤ℤ pos 1_000_000_000_000_000 }
+    requires small { AreWithin 1_000_000_000_000_000 state.old.segments.balances }
+    ensures stands { OnOk result ((issued : Option IssuedRow) (a : Account) (seen : Seen) (first : ℕ) (rows : SegmentTerms → Rows) (p : CorrectedPost) (b : Book) (cents : ℕ) → IsSlotOf seen p slot.now → StandWith a seen first rows b state.old track.old → StandWith a seen first rows (effect issued a seen p (post.Refund cents) b) state.new track.new) }
+    ensures rest { IsRestKept state.old state.new track.old track.new }
+    ensures err { OnErr result (Begins track.old track.new) }
+{
+    refund(&mut state.segments, &state.rates, slot, &mut track.entries)
+}
+
+// Enters a payment. Its parts count as repaid.
+fn enter_payment(
+    alloc: Global,
+    inputs: &Inputs,
+    slot: &Slot,
+    state: &mut State,
+    track: &mut Track,
+) -> Result<(), NoMemory>
+    requires opened { opened_in inputs.now ≤ slot.now.day }
+    requires last { slot.now.day ≤ 47_481 }
+    requires cycles { track.old.cycles.items ≡ (before inputs.now slot.now.day).cycles }
+    requires rated { AreRated state.old.segments.segments state.old.rates }
+    requires amount { pos 0 ≤ℤ slot.now.cents }
+    requires limit { slot.now.cents ≤ℤ pos 1_000_000_000_000_000 }
+    requires small { AreWithin 1_000_000_000_000_000 state.old.segments.balances }
+    requires rows { length state.old.rows.items + 2 ≡ length state.old.segments.balances }
+    ensures stands { OnOk result ((issued : Option IssuedRow) (first : ℕ) (rows : SegmentTerms → Rows) (p : CorrectedPost) (b : Book) (on minute cents : ℕ) (by : Channel) → first ≤ slot.now.day → b.cycles ≡ (before inputs.now slot.now.day).cycles → IsSlotOf (seen_in inputs.now slot.now.day) p slot.now → StandWith (account_in inputs.now) (seen_in inputs.now slot.now.day) first rows b state.old track.old → StandWith (account_in inputs.now) (seen_in inputs.now slot.now.day) first rows (effect issued (account_in inputs.now) (seen_in inputs.now slot.now.day) p (post.Payment on minute by cents) b) state.new track.new) }
+    ensures rest { IsRestKept state.old state.new track.old track.new }
+    ensures err { OnErr result (Begins track.old track.new) }
+{
+    let anchor = inputs.anchor();
+    let left = left_if_any(inputs, slot.day, slot.number, track.cycles.last());
+    let parts = payment(
+        alloc,
+        &mut state.segments,
+        &state.rates,
+        slot,
+        lesser(slot.cents, left),
+        following_closing(&anchor, slot.day),
+        &mut track.entries,
+    )?;
+    repay(&mut state.rows, &parts, slot)?;
+    Ok(())
+}
+
+// Enters a merchant's credit. Its parts count as repaid.
+fn enter_credit(
+    alloc: Global,
+    inputs: &Inputs,
+    slot: &Slot,
+    place: &Place,
+    state: &mut State,
+    track: &mut Track,
+) -> Result<(), NoMemory>
+    requires opened { opened_in inputs.now ≤ slot.now.day }
+    requires last { slot.now.day ≤ 47_481 }
+    requires rated { AreRated state.old.segments.segments state.old.rates }
+    requires amount { pos 0 ≤ℤ slot.now.cents }
+    requires limit { slot.now.cents ≤ℤ pos 1_000_000_000_000_000 }
+    requires small { AreWithin 1_000_000_000_000_000 state.old.segments.balances }
+    requires rows { length state.old.rows.items + 2 ≡ length state.old.segments.balances }
+    ensures stands { OnOk result ((issued : Option IssuedRow) (first : ℕ) (rows : SegmentTerms → Rows) (p : CorrectedPost) (b : Book) (on cents : ℕ) → first ≤ slot.now.day → IsSlotOf (seen_in inputs.now slot.now.day) p slot.now → StandWith (account_in inputs.now) (seen_in inputs.now slot.now.day) first rows b state.old track.old → StandWith (account_in inputs.now) (seen_in inputs.now slot.now.day) first rows (effect issued (account_in inputs.now) (seen_in inputs.now slot.now.day) p (post.Credit on place.now cents) b) state.new track.new) }
+    ensures rest { IsRestKept state.old state.new track.old track.new }
+    ensures err { OnErr result (Begins track.old track.new) }
+{
+    let anchor = inputs.anchor();
+    let parts = credit(
+        alloc,
+        &mut state.segments,
+        &state.rates,
+        slot,
+        place,
+        following_closing(&anchor, slot.day),
+        &mut track.entries,
+    )?;
+    repay(&mut state.rows, &parts, slot)?;
+    Ok(())
+}
+
+// Enters a post of its day. The kinds that aren't named change nothing.
+fn enter_post(
+    alloc: Global,
+    inputs: &Inputs,
+    post: &DayPost,
+    state: &mut State,
+    track: &mut Track,
+) -> Result<(), NoMemory>
+    requires opened { opened_in inputs.now ≤ post.now.day }
+    requires last { post.now.day ≤ 47_481 }
+    requires cycles { track.old.cycles.items ≡ (before inputs.now post.now.day).cycles }
+    requires rated { AreRated state.old.segments.segments state.old.rates }
+    requires amount { pos 0 ≤ℤ post.now.cents }
+    requires limit { post.now.cents ≤ℤ pos 1_000_000_000_000_000 }
+    requires small { AreWithin 1_000_000_000_000_000 state.old.segments.balances }
+    requires rows { length state.old.rows.items + 2 ≡ length state.old.segments.balances }
+    requires kind { is_to_come post.now.post ≡ false }
+    ensures stands { OnOk result ((issued : Option IssuedRow) (first : ℕ) (rows : SegmentTerms → Rows) (p : CorrectedPost) (b : Book) → first ≤ post.now.day → b.cycles ≡ (before inputs.now post.now.day).cycles → post.now ≡ day_post p → StandWith (account_in inputs.now) (seen_in inputs.now post.now.day) first rows b state.old track.old → StandWith (account_in inputs.now) (seen_in inputs.now post.now.day) first rows (effect issued (account_in inputs.now) (seen_in inputs.now post.now.day) p p.post b) state.new track.new) }
+    ensures rest { IsRestKept state.old state.new track.old track.new }
+    ensures err { OnErr result (Begins track.old track.new) }
+{
+    let slot = Slot {
+        day: post.day,
+        number: post.number,
+        cents: post.cents,
+    };
+    match &post.post {
+        Post::Charge { place, .. } => enter_charge(&slot, place, state, track),
+        Post::Credit { place, .. } => enter_credit(alloc, inputs, &slot, place, state, track),
+        Post::Payment { .. } => enter_payment(alloc, inputs, &slot, state, track),
+        Post::Refund { .. } => enter_refund(&slot, state, track),
+        _ => Ok(()),
+    }
+}
+
+// Enters the post at a place of a day, where its kind is folded.
+fn enter(
+    alloc: Global,
+    inputs: &Inputs,
+    day: Day,
+    place: usize,
+    state: &mut State,
+    track: &mut Track,
+) -> Result<(), NoMemory>
+    requires opened { opened_in inputs.now ≤ day }
+    requires last { day ≤ 47_481 }
+    requires from { place_in inputs.now day ≤ place }
+    requires within { place < place_in inputs.now day + length (posts_of inputs.now day) }
+    requires amid { AreAmid inputs.now day (done_by inputs.now day place) state.old track.old }
+    ensures amid { OnOk result (AreAmid inputs.now day (done_by inputs.now day (place + 1)) state.new track.new) }
+    ensures begins { Begins track.old track.new }
+{
+    let _anchor = inputs.anchor();
+    let _count = state.segments.len();
+    match folded_at(inputs.posts(), place) {
+        Some(post) => enter_post(alloc, inputs, &post, state, track),
+        None => Ok(()),
+    }
+}
+
+/// Enters the posts of a day, in order of number: charges, refunds, payments and merchants' credits (12 CFR 1026.10, .11(a),
+/// .53), and the kinds that change no balance. The day isn't before the opening day and at most 2099-12-31; the days before
+/// it are folded, and what its due date brought. After want of memory state and track are of no use, but that the track
+/// begins with what it held.
+pub fn post_day(
+    alloc: Global,
+    inputs: &Inputs,
+    day: Day,
+    state: &mut State,
+    track: &mut Track,
+) -> Result<(), NoMemory>
+    requires opened { opened_in inputs.now ≤ day }
+    requires last { day ≤ 47_481 }
+    requires amid { AreAmid inputs.now day [] state.old track.old }
+    ensures posted { OnOk result (AreAmid inputs.now day (posts_of inputs.now day) state.new track.new) }
+    ensures begins { Begins track.old track.new }
+{
+    let posts = inputs.posts();
+    let first = first_place(posts, day);
+    let end = end_place(posts, day);
+    for place in first..end {
+        enter(alloc, inputs, day, place, state, track)?;
+    }
+    Ok(())
+}

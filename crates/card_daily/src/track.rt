@@ -1,0 +1,50 @@
+use card_closing::{Cycle, Entry};
+use card_days::Day;
+use card_units::NoMemory;
+use std::alloc::Global;
+use std::marker::Model;
+
+/// What is recorded of an account: its entries and its closed cycles, each in order.
+#[derive(Drop)]
+pub struct Track {
+    pub entries: Vec<Entry>,
+    pub cycles: Vec<Cycle>,
+}
+
+/// The statement of a closed cycle, and the day on which it is issued (12 CFR 1026.5(b)(2), .7(b)).
+#[derive(Drop)]
+pub struct Statement {
+    pub cycle: Cycle,
+    pub issue: Day,
+}
+
+/// An issued statement: its cycle, the number of the Bill that issued it, the day of that Bill, and what it said.
+#[derive(Drop)]
+pub struct Issued {
+    pub cycle: u32,
+    pub bill: u32,
+    pub day: Day,
+    pub statement: Statement,
+}
+
+impl Model for Issued {
+    ghost use Rattle.card_model.specs.Cycles.{IssuedRow};
+
+    ghost Value = { IssuedRow };
+
+    ghost view = { λ i. record { cycle = i.cycle; bill = i.bill; day = i.day; statement = i.statement.cycle } };
+}
+
+impl Statement {
+    ghost use Rattle.std.specs.Prelude.{◌≡◌, IfOk};
+
+    /// The same statement in memory of its own.
+    pub fn copy(&self, alloc: Global) -> Result<Statement, NoMemory>
+        ensures { IfOk result (λ s. s ≡ self.now) }
+    {
+        Ok(Statement {
+            cycle: self.cycle.copy(alloc)?,
+            issue: self.issue,
+        })
+    }
+}
