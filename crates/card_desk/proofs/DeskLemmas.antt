@@ -9,12 +9,13 @@ use Rattle.card_model.specs.Machine.{State, NamedAccount, lists_of, with_lists, 
 use Rattle.card_model.specs.Refusals.{Lists}
 use Rattle.card_desk.specs.Kept.{accepted_count, posts_in}
 use Rattle.card_desk.specs.Places.{place_from, IsIndex, IsPlace}
-use Rattle.card_desk.specs.Views.{shown}
-use Rattle.card_desk.specs.Verdicts.{verdict_of}
-use Rattle.card_desk.specs.declared.verdict.Verdict.{Verdict}
-use Rattle.card_desk.specs.declared.view.View.TheVariants as view
+use Rattle.card_account.specs.Verdicts.{verdict_of}
+use Rattle.card_account.specs.declared.verdict.Verdict.{Verdict}
 use Rattle.card_desk.proofs.CountLemmas.{sum_pushed, sum_set}
-use Rattle.card_desk.proofs.OutcomeLemmas.{known_outcome, now_of}
+use Rattle.card_desk.proofs.OutcomeLemmas.{known_outcome}
+use Rattle.card_account.specs.Accounts.{OpenAccount, present_of}
+use Rattle.card_desk.specs.Desks.{named_all, now_of}
+use Rattle.std.proofs.lemmas.List.{get_or-map, length-map}
 use Rattle.card_desk.proofs.PlaceLemmas.{is_place, no_place}
 
 -- the place that the index gives
@@ -46,10 +47,6 @@ count_added s t i a d shared accounts low more =
     let rows = ap (λ (l : List Shared). length l) shared in
     omega (arith, sum, rows)
 
--- an account that isn't there is shown as such
-pub shown_none : (today : ℕ) (name : List ℕ) (accounts : List NamedAccount) → place_from name 0 accounts ≡ None → view.NoAccount ≡ shown today (lists_of name accounts)
-shown_none today name accounts absent = ap (shown today) (sym (no_place name 0 accounts absent).0)
-
 -- what is read at a place doesn't depend on what stands for no place
 pub same_read : (xs : List NamedAccount) (i : ℕ) (d e : NamedAccount) → i < length xs → get_or xs i d ≡ get_or xs i e
 same_read [] i d e low = absurd (omega arith)
@@ -57,25 +54,29 @@ same_read (x ∷ xs) zero d e low = refl
 same_read (x ∷ xs) (suc i) d e low = same_read xs i d e (omega arith)
 
 -- the account that was read is the one at its place
-pub read_at : (xs ys : List NamedAccount) (i : ℕ) (a d : NamedAccount) → a ≡ get_or xs i a → xs ≡ ys → i < length ys → a ≡ get_or ys i d
-read_at xs ys i a d is same low = is ∙ ap (λ l. get_or l i a) same ∙ same_read ys i a d low
+pub read_at : (xs : List OpenAccount) (ys : List NamedAccount) (i : ℕ) (a : OpenAccount) (d : NamedAccount) → a ≡ get_or xs i a → named_all xs ≡ ys → i < length ys → a.named ≡ get_or ys i d
+read_at xs ys i a d is same low =
+    let long : length xs ≡ length ys = sym (length-map xs (λ (x : OpenAccount). x.named)) ∙ ap (λ (l : List NamedAccount). length l) same in
+    ap (λ (x : OpenAccount). x.named) is ∙ sym (get_or-map (λ (x : OpenAccount). x.named) xs i a d (omega (arith, low, long))) ∙ ap (λ (l : List NamedAccount). get_or l i d) same
 
--- the verdict on the account that was read
-pub verdict_at : (s : State) (today : ℕ) (a b : NamedAccount) (key : List ℕ) (p : Post) (v : Verdict) → today ≡ s.today → a ≡ b
-    → v ≡ verdict_of (at_key (record { today = today; shared = shared_rows s.shared; lists = a.lists }) key p (with_key key a.lists.posts))
-    → v ≡ verdict_of (at_key (now_of s b.lists) key p (with_key key b.lists.posts))
-verdict_at s today a b key p v now same is =
-    is ∙ ap (λ (n : ℕ). verdict_of (at_key (record { today = n; shared = shared_rows s.shared; lists = a.lists }) key p (with_key key a.lists.posts))) now
-    ∙ ap (λ (x : NamedAccount). verdict_of (at_key (now_of s x.lists) key p (with_key key x.lists.posts))) same
+-- its lists are those of its name
+pub there_at : (xs : List OpenAccount) (name : List ℕ) (i : ℕ) (a : OpenAccount) → IsPlace name (named_all xs) i → a ≡ get_or xs i a → Some a.named.lists ≡ lists_of name (named_all xs)
+there_at xs name i a place is = ap (λ (x : NamedAccount). Some x.lists) (read_at xs (named_all xs) i a a.named is refl place.bound) ∙ sym (place.there a.named)
 
--- what a post of the account at a place comes to, by its verdict
-pub outcome_at : (s : State) (name key : List ℕ) (p : Post) (i today : ℕ) (a d : NamedAccount) (v : Verdict) → IsPlace name s.accounts i → today ≡ s.today → a ≡ get_or s.accounts i d
-    → ((shared : SharedRows) → v ≡ verdict_of (at_key (record { today = today; shared = shared; lists = a.lists }) key p (with_key key a.lists.posts)))
+-- what a post of the account at a place comes to, by its verdict on the account that was read
+pub verdict_at : (s : State) (key : List ℕ) (p : Post) (today : ℕ) (a b : NamedAccount) (v : Verdict) → today ≡ s.today → a ≡ b
+    → ((shared : SharedRows) → v ≡ verdict_of (at_key (present_of today shared a.lists) key p (with_key key a.lists.posts)))
+    → (shared : SharedRows) → v ≡ verdict_of (at_key (present_of s.today shared b.lists) key p (with_key key b.lists.posts))
+verdict_at s key p today a b v now same is shared =
+    is shared ∙ ap (λ (n : ℕ). verdict_of (at_key (present_of n shared a.lists) key p (with_key key a.lists.posts))) now
+    ∙ ap (λ (x : NamedAccount). verdict_of (at_key (present_of s.today shared x.lists) key p (with_key key x.lists.posts))) same
+
+pub outcome_at : (s : State) (name key : List ℕ) (p : Post) (i : ℕ) (d : NamedAccount) (v : Verdict) → IsPlace name s.accounts i
+    → ((shared : SharedRows) → v ≡ verdict_of (at_key (present_of s.today shared (get_or s.accounts i d).lists) key p (with_key key (get_or s.accounts i d).lists.posts)))
     → (v ≡ verdict_of (outcome_in s name key p)) × (outcome_in s name key p ≡ at_key (now_of s (get_or s.accounts i d).lists) key p (with_key key (get_or s.accounts i d).lists.posts))
-outcome_at s name key p i today a d v place now read is =
-    let b = get_or s.accounts i d in
-    let known = known_outcome s name key p b.lists (place.there d) in
-    (verdict_at s today a b key p v now read (is (shared_rows s.shared)) ∙ ap verdict_of (sym known), known)
+outcome_at s name key p i d v place is =
+    let known = known_outcome s name key p (get_or s.accounts i d).lists (place.there d) in
+    (is (shared_rows s.shared) ∙ ap verdict_of (sym known), known)
 
 -- the state after an account was opened
 pub opened_state : (s t : State) (name : List ℕ) (l : Lists) (a : NamedAccount) → t.today ≡ s.today → t.shared ≡ s.shared → t.accounts ≡ s.accounts ++ a ∷ [] → a ≡ record { name = name; lists = l } → place_from name 0 s.accounts ≡ None

@@ -1,8 +1,9 @@
 -- The index of accounts, as accounts come and change.
-use Rattle.std.proofs.Common.{◌≡◌, ℕ, ◌+◌, Bool, cond, List, [], ◌∷◌, ◌++◌, length, get_or, set, Option, Some, None, ap, sym, ◌∙◌, arith}
+use Rattle.std.proofs.Common.{◌≡◌, ℕ, ◌+◌, Bool, true, false, cond, refl, List, [], ◌∷◌, ◌++◌, length, get_or, set, Option, Some, None, ap, sym, ◌∙◌, arith}
 use Rattle.std.specs.Str.{bytes_eq}
 use Rattle.std.specs.Cmp.Lexicographic.{nat_list_eq_equiv}
 use Rattle.card_index.specs.Places.{place_of, Places}
+use Rattle.card_index.proofs.MapLemmas.{same_bytes}
 use Rattle.card_model.specs.Machine.{NamedAccount}
 use Rattle.card_desk.specs.Places.{place_from, IsIndex}
 use Rattle.card_desk.proofs.PlaceLemmas.{place_pushed, place_set}
@@ -20,3 +21,12 @@ index_pushed index new accounts a name place is given here named absent q =
 -- other lists for one of the accounts
 pub index_set : (index : List (List ℕ × ℕ)) (accounts : List NamedAccount) (i : ℕ) (a d : NamedAccount) → IsIndex index accounts → a.name ≡ (get_or accounts i d).name → IsIndex index (set accounts i a)
 index_set index accounts i a d is same q = is q ∙ sym (place_set q 0 accounts i a d same)
+
+-- a name that was given a place and lost it again
+pub index_back : (index more less : List (List ℕ × ℕ)) (accounts : List NamedAccount) (name : List ℕ) (place : ℕ)
+    → IsIndex index accounts → Places index more name (Some place) → Places more less name None → place_from name 0 accounts ≡ None → IsIndex less accounts
+index_back index more less accounts name place is given lost absent q = lost q ∙ ap (λ (o : Option ℕ). cond (bytes_eq q name) None o) (given q) ∙ by (bytes_eq q name) refl
+  where
+    by : (b : Bool) → bytes_eq q name ≡ b → cond b None (cond b (Some place) (place_of q index)) ≡ place_from q 0 accounts
+    by true e = sym (ap (λ (n : List ℕ). place_from n 0 accounts) (same_bytes q name e) ∙ absent)
+    by false e = is q

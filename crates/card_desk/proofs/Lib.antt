@@ -1,13 +1,12 @@
-pub mod AcceptLemmas
 pub mod CountLemmas
 pub mod DeskLemmas
+pub mod FoldLemmas
 pub mod IndexLemmas
-pub mod JudgeLemmas
+pub mod KeptLemmas
 pub mod LawLemmas
 pub mod LoadLemmas
 pub mod OutcomeLemmas
 pub mod PlaceLemmas
-pub mod ReasonLemmas
 pub mod RowLemmas
 pub mod RunLemmas
 pub mod SoundLemmas

@@ -1,23 +1,18 @@
 -- What a post comes to, for an account that is there and for one that isn't.
-use Rattle.std.proofs.Common.{◌≡◌, ℕ, ◌+◌, Bool, true, false, List, [], ◌∷◌, ◌++◌, length, Option, Some, None, refl, ap, ◌∙◌, append-nil}
+use Rattle.std.proofs.Common.{◌≡◌, ℕ, Bool, true, false, List, [], ◌∷◌, length, Option, Some, None, refl, ap, ◌∙◌}
 use Rattle.std.specs.Prelude.{if◌then◌else◌}
-use Rattle.card_desk.specs.Built.{is_built_post}
+use Rattle.card_desk.specs.Desks.{now_of}
 use Rattle.card_events.specs.Keys.{with_key}
-use Rattle.card_events.specs.SharedRows.{shared_rows}
 use Rattle.card_events.specs.declared.post.Post.{Post}
 use Rattle.card_events.specs.declared.post.Post.TheVariants as post
 use Rattle.card_events.specs.declared.post.Terms.{Terms}
 use Rattle.card_events.specs.declared.reply.Refusal.{Refusal}
 use Rattle.card_events.specs.declared.reply.Refusal.TheVariants as refusal
-use Rattle.card_model.specs.Machine.{State, Outcome, Refuses, Repeats, Accepts, lists_of, outcome, outcome_in, at_key, judged, accepted, issues, kept_as, is_open, is_repeat_of, opened}
+use Rattle.card_model.specs.Machine.{State, Outcome, Refuses, Repeats, Accepts, lists_of, outcome, outcome_in, at_key, judged, accepted, kept_as, is_open, is_repeat_of, opened}
 use Rattle.card_model.specs.Refusals.{Lists, Present, reason_against, reason_to_open}
 use Rattle.card_events.specs.History.{at_number}
-use Rattle.card_desk.specs.Verdicts.{verdict_of}
-use Rattle.card_desk.specs.declared.verdict.Verdict.TheVariants as verdict
-
--- what a post of an account is judged by
-abbrev pub now_of : State → Lists → Present
-now_of s lists = record { today = s.today; shared = shared_rows s.shared; lists = lists }
+use Rattle.card_account.specs.Verdicts.{verdict_of}
+use Rattle.card_account.specs.declared.verdict.Verdict.TheVariants as verdict
 
 pub known_outcome : (s : State) (name key : List ℕ) (p : Post) (lists : Lists) → lists_of name s.accounts ≡ Some lists
     → outcome_in s name key p ≡ at_key (now_of s lists) key p (with_key key lists.posts)
@@ -69,14 +64,19 @@ pub new_at_key : (now : Present) (key : List ℕ) (p : Post) (k : Option ℕ) �
 new_at_key now key p None is = new_by_open now key p (is_open p) (judged now key p (reason_against now p)) (new_by_reason now key p (reason_against now p)) is
 new_at_key now key p (Some n) is = old_by_repeat n (is_repeat_of p (at_number n now.lists.posts)) (Accepts (accepted now key p)) is
 
-no_issue : (now : Present) (p : Post) → is_built_post p ≡ true → issues now p ≡ []
-no_issue now (post.Bill cycle) built = absurd (cc)
-no_issue now _ built = refl
+-- and nothing is against it
+none_by_reason : (now : Present) (key : List ℕ) (p : Post) (r : Option Refusal) → verdict.New ≡ verdict_of (judged now key p r) → r ≡ None
+none_by_reason now key p None is = refl
+none_by_reason now key p (Some r) is = absurd (cc)
 
--- a post that is accepted goes to the end, and issues nothing
-pub accepted_is : (now : Present) (key : List ℕ) (p : Post) → is_built_post p ≡ true
-    → accepted now key p ≡ record { posts = now.lists.posts ++ kept_as (length now.lists.posts + 1) key now.today p ∷ []; issued = now.lists.issued }
-unfolding accepted
-accepted_is now key p built =
-    ap (λ l. record { posts = now.lists.posts ++ kept_as (length now.lists.posts + 1) key now.today p ∷ []; issued = l })
-    (ap (λ l. now.lists.issued ++ l) (no_issue now p built) ∙ append-nil now.lists.issued)
+none_by_open : (now : Present) (key : List ℕ) (p : Post) (b : Bool) → verdict.New ≡ verdict_of (if b then Refuses refusal.AccountExists else judged now key p (reason_against now p)) → reason_against now p ≡ None
+none_by_open now key p true is = absurd (cc)
+none_by_open now key p false is = none_by_reason now key p (reason_against now p) is
+
+none_by_repeat : (n : ℕ) (b : Bool) (o : Option Refusal) → verdict.New ≡ verdict_of (if b then Repeats n else Refuses (refusal.KeyReused n)) → o ≡ None
+none_by_repeat n true o is = absurd (cc)
+none_by_repeat n false o is = absurd (cc)
+
+pub none_against : (now : Present) (key : List ℕ) (p : Post) (k : Option ℕ) → verdict.New ≡ verdict_of (at_key now key p k) → reason_against now p ≡ None
+none_against now key p None is = none_by_open now key p (is_open p) is
+none_against now key p (Some n) is = none_by_repeat n (is_repeat_of p (at_number n now.lists.posts)) (reason_against now p) is

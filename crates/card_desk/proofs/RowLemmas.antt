@@ -50,13 +50,13 @@ pub fits_result : {E : Type 0} (old new : Option (List Row)) (given : List Row) 
 fits_result old new given (Ok s) kept told gives is = fits_told old new given s kept told gives is
 fits_result old new given (Err e) kept told gives is = tt
 
-dated_roll : (day : ℕ) → is_dated (request.Shared (shared.Roll day)) ≡ true → day ≤ 47481
+dated_holiday : (day : ℕ) → is_dated (request.Shared (shared.Holiday day)) ≡ true → day ≤ 47481
 unfolding is_dated is_dated_shared
-dated_roll day is = leb-true _ _ is
+dated_holiday day is = leb-true _ _ is
 
--- the day of a Roll is a day of requests
-pub roll_day : (day : ℕ) (r : Request) → r ≡ request.Shared (shared.Roll day) → is_dated r ≡ true → day ≤ 47481
-roll_day day r is dated = dated_roll day (ap is_dated (sym is) ∙ dated)
+-- the day of a Holiday is a day of requests
+pub holiday_day : (day : ℕ) (r : Request) → r ≡ request.Shared (shared.Holiday day) → is_dated r ≡ true → day ≤ 47481
+holiday_day day r is dated = dated_holiday day (ap is_dated (sym is) ∙ dated)
 
 -- the row that a Damaged tells
 pub told_number : (found : Result State LoadFault) (m n : ℕ) → found ≡ Err (fault.Damaged m) → found ≡ Err (fault.Damaged n) → m ≡ n

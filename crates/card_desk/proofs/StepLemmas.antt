@@ -14,8 +14,8 @@ use Rattle.card_model.specs.Machine.{State, Outcome, Refuses, Repeats, Accepts, 
 use Rattle.card_model.specs.Refusals.{Lists}
 use Rattle.card_desk.specs.Applied.{Steps}
 use Rattle.card_desk.specs.Kept.{new_rows, row_of, Fits, accepted_count}
-use Rattle.card_desk.specs.Verdicts.{verdict_of}
-use Rattle.card_desk.specs.declared.verdict.Verdict.TheVariants as verdict
+use Rattle.card_account.specs.Verdicts.{verdict_of}
+use Rattle.card_account.specs.declared.verdict.Verdict.TheVariants as verdict
 
 -- ---- rows
 pub adds_none : (rows : Option (List Row)) → AddsRows rows rows []
@@ -64,7 +64,7 @@ goes old new s t r a row told adds is next fresh count =
     }
 
 -- ---- posts
-post_step : (s : State) (name key : List ℕ) (p : Post) (o : Outcome) → outcome_in s name key p ≡ o → step s (request.Post name key p) ≡ with_outcome s name o
+pub post_step : (s : State) (name key : List ℕ) (p : Post) (o : Outcome) → outcome_in s name key p ≡ o → step s (request.Post name key p) ≡ with_outcome s name o
 unfolding step
 post_step s name key p o is = ap (with_outcome s name) is
 

@@ -1,23 +1,25 @@
 // All accounts.
-ghost use Rattle.std.specs.Prelude.{◌≡◌, ◌<◌, ◌++◌, [], ◌∷◌, vec_len, vec_capacity};
+ghost use Rattle.std.specs.Prelude.{◌≡◌, ◌<◌, ◌≤◌, ◌++◌, [], ◌∷◌, IfOk, vec_len, vec_capacity};
+ghost use Rattle.card_days.specs.Business.{with_holiday};
+ghost use Rattle.card_desk.specs.Views.{stated};
+ghost use Rattle.card_account.specs.Accounts.{OpenAccount};
 ghost use Rattle.card_desk.specs.Kept as spec;
 
-use crate::account::Account;
-use crate::fault::Fault;
-use crate::keep::keep;
-use crate::reason::{open_reason, roll_reason};
+use crate::reason::{fees_reason, holiday_reason, roll_reason};
 use crate::row::row_of;
-use crate::verdict::Verdict;
 use crate::{Ask, View};
+use card_account::{Account, Fault, Owing, Statement, Verdict, keep_row, open_reason};
 use card_days::{Calendar, Day};
-use card_events::{Name, Post, Refusal, Reply, Request, Shared};
+use card_events::{Name, Num, Post, Refusal, Reply, Request, Shared};
+use card_fees::FeeTable;
 use card_index::NameIndex;
 use card_keeper::{Keeper, Row};
 use card_units::NoMemory;
 use std::alloc::Global;
 use std::marker::Model;
 
-/// Today, the accepted shared requests, and all accounts in the order of their opening.
+/// Today, the accepted shared requests with the holidays and the fee rows in them, and all accounts in the order of their
+/// opening.
 #[derive(Drop)]
 pub struct Desk {
     today: Day,
@@ -25,38 +27,41 @@ pub struct Desk {
     accounts: Vec<Account>,
     index: NameIndex,
     calendar: Calendar,
+    fees: FeeTable,
     count: u64,
 }
 
 impl Model for Desk {
-    ghost use Rattle.std.specs.Prelude.{◌≡◌, ◌≤◌, [], true, length};
+    ghost use Rattle.card_desk.specs.Desks.{IsDesk, state_of};
     ghost use Rattle.card_model.specs.Machine.{State};
-    ghost use Rattle.card_desk.specs.Applied.{are_short};
-    ghost use Rattle.card_desk.specs.Kept.{accepted_count};
-    ghost use Rattle.card_desk.specs.Places.{IsIndex};
 
     ghost Value = { State };
 
-    ghost view = { λ d. record { today = d.today; shared = d.shared.items; accounts = d.accounts.items } };
+    ghost view = { λ d. state_of d.today d.shared.items d.accounts.items };
 
-    ghost invariant = { λ d. IsIndex d.index d.accounts.items × (length d.accounts.items ≤ 1_000_000) × (are_short d.accounts.items ≡ true) × (d.today ≤ 47_481) × (d.calendar ≡ []) × (d.count ≡ accepted_count (record { today = d.today; shared = d.shared.items; accounts = d.accounts.items })) };
+    ghost invariant = { λ d. IsDesk d.index d.calendar d.fees d.count d.today d.shared.items d.accounts.items };
 }
 
 impl Desk {
     ghost use Rattle.std.specs.Prelude.{◌≡◌, ◌≤◌, ◌<◌, ◌+◌, ◌++◌, [], ◌∷◌, true, Some, None, length, slice_index_or, IfOk, OnOk, OnErr, IsErrOf};
-    ghost use Rattle.card_desk.specs.Built.{is_built, is_built_post, is_built_shared};
+    ghost use Rattle.card_account.specs.Accounts.{present_of};
+    ghost use Rattle.card_account.specs.Built.{is_built_post};
+    ghost use Rattle.card_desk.specs.Built.{is_built};
+    ghost use Rattle.card_events.specs.SharedRows.{SharedRows};
+    ghost use Rattle.card_rows.specs.Held.{is_request};
+    ghost use Rattle.card_desk.specs.Desks.{now_of};
     ghost use Rattle.card_days.specs.Billing.{IsCloseDay};
     ghost use Rattle.card_events.specs.Dated.{is_dated};
     ghost use Rattle.card_events.specs.History.{terms_in};
     ghost use Rattle.card_keeper.specs.Rows.{KeepsRows, SameRowsTold};
-    ghost use Rattle.card_model.specs.Machine.{NamedAccount, start, lists_of, outcome_in, Accepts, kept_as, shared_reason, has_accounts};
-    ghost use Rattle.card_model.specs.Refusals.{reason_to_open};
+    ghost use Rattle.card_model.specs.Machine.{NamedAccount, start, lists_of, outcome_in, Accepts, accepted, shared_reason, has_accounts};
+    ghost use Rattle.card_model.specs.Refusals.{reason_against, reason_to_open};
     ghost use Rattle.card_ports.specs.Counts.{Rose};
     ghost use Rattle.card_posts.specs.Posted.{opens};
     ghost use Rattle.card_desk.specs.Applied.{Steps};
     ghost use Rattle.card_desk.specs.Kept.{Fits, accepted_count};
     ghost use Rattle.card_desk.specs.Places.{IsPlace, place_from};
-    ghost use Rattle.card_desk.specs.Views.{seen, shown};
+    ghost use Rattle.card_desk.specs.Views.{issued, restated, seen, shown};
 
     /// 2011-01-01 for today, and nothing else.
     pub fn new(alloc: Global) -> Desk
@@ -68,6 +73,7 @@ impl Desk {
             accounts: Vec::new(alloc),
             index: NameIndex::new(alloc),
             calendar: Calendar::new(alloc),
+            fees: FeeTable::new(alloc),
             count: 0,
         }
     }
@@ -89,7 +95,8 @@ impl Desk {
     // The row of the next accepted request.
     fn next_row(&self, alloc: Global, request: &Request) -> Result<Row, NoMemory>
         requires { is_dated request.now ≡ true }
-        ensures { IfOk result (λ row. row ≡ spec.row_of (accepted_count self.now + 1) request.now) }
+        ensures value { IfOk result (λ row. row ≡ spec.row_of (accepted_count self.now + 1) request.now) }
+        ensures held { OnOk result (is_request request.now ≡ true) }
     {
         row_of(alloc, self.count + 1, request)
     }
@@ -115,11 +122,145 @@ impl Desk {
     {
         let row = self.next_row(alloc, request)?;
         self.shared.reserve(1)?;
-        keep(alloc, keeper, row)?;
+        keep_row(alloc, keeper, row)?;
         push_shared(&mut self.shared, Shared::Roll(day));
         self.today = day;
         self.count += 1;
         Ok(Reply::Done)
+    }
+
+    // Keeps the row of a Holiday, and loads it.
+    fn keep_holiday<K: Keeper>(
+        &mut self,
+        alloc: Global,
+        keeper: &mut K,
+        request: &Request,
+        day: Day,
+    ) -> Result<Reply, Fault>
+        requires request { request.now ≡ Request.Shared (Shared.Holiday day) }
+        requires dated { is_dated request.now ≡ true }
+        requires fits { Fits (K.rows keeper.old) self.old }
+        requires no_reason { shared_reason self.old.today (has_accounts self.old) (Shared.Holiday day) ≡ None }
+        ensures ok { IfOk result (Steps (K.rows keeper.old) (K.rows keeper.new) self.old request.now self.new) }
+        ensures err { OnErr result (self.new ≡ self.old) }
+        ensures rows_stay { OnErr result (KeepsRows (K.rows keeper.old) (K.rows keeper.new)) }
+        ensures told { SameRowsTold (K.rows keeper.old) (K.rows keeper.new) }
+        ensures count { K.faults keeper.old ≤ K.faults keeper.new }
+        ensures cause { IsErrOf result Fault.Keeper → Rose (K.faults keeper.old) (K.faults keeper.new) }
+    {
+        let row = self.next_row(alloc, request)?;
+        self.shared.reserve(1)?;
+        let calendar = with_holiday(alloc, &self.calendar, day)?;
+        keep_row(alloc, keeper, row)?;
+        push_shared(&mut self.shared, Shared::Holiday(day));
+        self.calendar = calendar;
+        self.count += 1;
+        Ok(Reply::Done)
+    }
+
+    // Keeps the row of a fee row, and adds it to the table.
+    fn keep_fees<K: Keeper>(
+        &mut self,
+        alloc: Global,
+        keeper: &mut K,
+        request: &Request,
+        day: Day,
+        first: Num,
+        repeat: Num,
+    ) -> Result<Reply, Fault>
+        requires request { request.now ≡ Request.Shared (Shared.FeeRow day first repeat) }
+        requires dated { is_dated request.now ≡ true }
+        requires fits { Fits (K.rows keeper.old) self.old }
+        requires no_reason { shared_reason self.old.today (has_accounts self.old) (Shared.FeeRow day first repeat) ≡ None }
+        ensures ok { IfOk result (Steps (K.rows keeper.old) (K.rows keeper.new) self.old request.now self.new) }
+        ensures err { OnErr result (self.new ≡ self.old) }
+        ensures rows_stay { OnErr result (KeepsRows (K.rows keeper.old) (K.rows keeper.new)) }
+        ensures told { SameRowsTold (K.rows keeper.old) (K.rows keeper.new) }
+        ensures count { K.faults keeper.old ≤ K.faults keeper.new }
+        ensures cause { IsErrOf result Fault.Keeper → Rose (K.faults keeper.old) (K.faults keeper.new) }
+    {
+        let row = self.next_row(alloc, request)?;
+        self.shared.reserve(1)?;
+        let fees = with_fees(alloc, &self.fees, day, first, repeat)?;
+        keep_row(alloc, keeper, row)?;
+        push_shared(&mut self.shared, Shared::FeeRow { day, first, repeat });
+        self.fees = fees;
+        self.count += 1;
+        Ok(Reply::Done)
+    }
+
+    // A Roll.
+    fn roll<K: Keeper>(
+        &mut self,
+        alloc: Global,
+        keeper: &mut K,
+        request: &Request,
+        day: Day,
+    ) -> Result<Reply, Fault>
+        requires request { request.now ≡ Request.Shared (Shared.Roll day) }
+        requires dated { is_dated request.now ≡ true }
+        requires fits { Fits (K.rows keeper.old) self.old }
+        ensures ok { IfOk result (Steps (K.rows keeper.old) (K.rows keeper.new) self.old request.now self.new) }
+        ensures err { OnErr result (self.new ≡ self.old) }
+        ensures rows_stay { OnErr result (KeepsRows (K.rows keeper.old) (K.rows keeper.new)) }
+        ensures told { SameRowsTold (K.rows keeper.old) (K.rows keeper.new) }
+        ensures count { K.faults keeper.old ≤ K.faults keeper.new }
+        ensures cause { IsErrOf result Fault.Keeper → Rose (K.faults keeper.old) (K.faults keeper.new) }
+    {
+        match roll_reason(self.today, self.accounts.len(), day) {
+            Some(refusal) => Ok(Reply::Refused(refusal)),
+            None => self.keep_roll(alloc, keeper, request, day),
+        }
+    }
+
+    // A Holiday.
+    fn holiday<K: Keeper>(
+        &mut self,
+        alloc: Global,
+        keeper: &mut K,
+        request: &Request,
+        day: Day,
+    ) -> Result<Reply, Fault>
+        requires request { request.now ≡ Request.Shared (Shared.Holiday day) }
+        requires dated { is_dated request.now ≡ true }
+        requires fits { Fits (K.rows keeper.old) self.old }
+        ensures ok { IfOk result (Steps (K.rows keeper.old) (K.rows keeper.new) self.old request.now self.new) }
+        ensures err { OnErr result (self.new ≡ self.old) }
+        ensures rows_stay { OnErr result (KeepsRows (K.rows keeper.old) (K.rows keeper.new)) }
+        ensures told { SameRowsTold (K.rows keeper.old) (K.rows keeper.new) }
+        ensures count { K.faults keeper.old ≤ K.faults keeper.new }
+        ensures cause { IsErrOf result Fault.Keeper → Rose (K.faults keeper.old) (K.faults keeper.new) }
+    {
+        match holiday_reason(self.today, day) {
+            Some(refusal) => Ok(Reply::Refused(refusal)),
+            None => self.keep_holiday(alloc, keeper, request, day),
+        }
+    }
+
+    // A fee row.
+    fn fee_row<K: Keeper>(
+        &mut self,
+        alloc: Global,
+        keeper: &mut K,
+        request: &Request,
+        day: Day,
+        first: Num,
+        repeat: Num,
+    ) -> Result<Reply, Fault>
+        requires request { request.now ≡ Request.Shared (Shared.FeeRow day first repeat) }
+        requires dated { is_dated request.now ≡ true }
+        requires fits { Fits (K.rows keeper.old) self.old }
+        ensures ok { IfOk result (Steps (K.rows keeper.old) (K.rows keeper.new) self.old request.now self.new) }
+        ensures err { OnErr result (self.new ≡ self.old) }
+        ensures rows_stay { OnErr result (KeepsRows (K.rows keeper.old) (K.rows keeper.new)) }
+        ensures told { SameRowsTold (K.rows keeper.old) (K.rows keeper.new) }
+        ensures count { K.faults keeper.old ≤ K.faults keeper.new }
+        ensures cause { IsErrOf result Fault.Keeper → Rose (K.faults keeper.old) (K.faults keeper.new) }
+    {
+        match fees_reason(self.today, day, first, repeat) {
+            Some(refusal) => Ok(Reply::Refused(refusal)),
+            None => self.keep_fees(alloc, keeper, request, day, first, repeat),
+        }
     }
 
     fn share<K: Keeper>(
@@ -130,7 +271,6 @@ impl Desk {
         shared: &Shared,
     ) -> Result<Reply, Fault>
         requires request { request.now ≡ Request.Shared shared.now }
-        requires built { is_built_shared shared.now ≡ true }
         requires dated { is_dated request.now ≡ true }
         requires fits { Fits (K.rows keeper.old) self.old }
         ensures ok { IfOk result (Steps (K.rows keeper.old) (K.rows keeper.new) self.old request.now self.new) }
@@ -141,11 +281,11 @@ impl Desk {
         ensures cause { IsErrOf result Fault.Keeper → Rose (K.faults keeper.old) (K.faults keeper.new) }
     {
         match shared {
-            Shared::Roll(day) => match roll_reason(self.today, self.accounts.len(), *day) {
-                Some(refusal) => Ok(Reply::Refused(refusal)),
-                None => self.keep_roll(alloc, keeper, request, *day),
-            },
-            _ => unreachable!(),
+            Shared::Roll(day) => self.roll(alloc, keeper, request, *day),
+            Shared::Holiday(day) => self.holiday(alloc, keeper, request, *day),
+            Shared::FeeRow { day, first, repeat } => {
+                self.fee_row(alloc, keeper, request, *day, *first, *repeat)
+            }
         }
     }
 
@@ -180,7 +320,7 @@ impl Desk {
         self.accounts.reserve(1)?;
         let place = self.accounts.len() as u32;
         self.index.insert(alloc, account.bytes(), place)?;
-        match keep(alloc, keeper, row) {
+        match keep_row(alloc, keeper, row) {
             Ok(()) => {
                 push_account(&mut self.accounts, made);
                 self.count += 1;
@@ -241,8 +381,8 @@ impl Desk {
         requires dated { is_dated request.now ≡ true }
         requires fits { Fits (K.rows keeper.old) self.old }
         requires place { IsPlace account.now self.old.accounts at }
-        requires few { (d : NamedAccount) → length (slice_index_or self.old.accounts at d).lists.posts < 10_000 }
-        requires accepted { (d : NamedAccount) → outcome_in self.old account.now key.now post.now ≡ Accepts (record { posts = (slice_index_or self.old.accounts at d).lists.posts ++ kept_as (length (slice_index_or self.old.accounts at d).lists.posts + 1) key.now self.old.today post.now ∷ []; issued = (slice_index_or self.old.accounts at d).lists.issued }) }
+        requires no_reason { (shared : SharedRows) (d : NamedAccount) → reason_against (present_of self.old.today shared (slice_index_or self.old.accounts at d).lists) post.now ≡ None }
+        requires accepted { (d : NamedAccount) → outcome_in self.old account.now key.now post.now ≡ Accepts (accepted (now_of self.old (slice_index_or self.old.accounts at d).lists) key.now post.now) }
         ensures ok { IfOk result (Steps (K.rows keeper.old) (K.rows keeper.new) self.old request.now self.new) }
         ensures err { OnErr result (self.new ≡ self.old) }
         ensures rows_stay { OnErr result (KeepsRows (K.rows keeper.old) (K.rows keeper.new)) }
@@ -253,7 +393,16 @@ impl Desk {
         let row = self.next_row(alloc, request)?;
         let key = key.copy(alloc)?;
         let account = &mut self.accounts[at];
-        let number = account.accept(alloc, keeper, row, key, self.today, post, &self.calendar)?;
+        let number = account.accept(
+            alloc,
+            keeper,
+            row,
+            key,
+            self.today,
+            post,
+            &self.calendar,
+            &self.fees,
+        )?;
         self.count += 1;
         Ok(Reply::Accepted(number))
     }
@@ -345,24 +494,125 @@ impl Desk {
     }
 
     /// What is owed on an account today, in cents, or that it isn't there.
-    pub fn show(&self, account: &Name) -> View
-        ensures { result ≡ shown self.now.today (lists_of account.now self.now.accounts) }
+    pub fn show(&self, alloc: Global, account: &Name) -> Result<View, NoMemory>
+        ensures { IfOk result (λ view. view ≡ shown self.now (lists_of account.now self.now.accounts)) }
     {
         match self.index.find(account.bytes()) {
-            None => View::NoAccount,
-            Some(at) => self.accounts[at as usize].show(self.today),
+            None => Ok(View::NoAccount),
+            Some(at) => {
+                let account = &self.accounts[at as usize];
+                let owing = account.show(alloc, self.today, &self.calendar, &self.fees)?;
+                Ok(shown(self.today, owing))
+            }
         }
     }
 
-    /// The answer to what is asked.
-    #[tactic(auto, unfolding(crate::specs::Views::seen))]
-    pub fn see(&self, ask: &Ask) -> View
-        ensures { result ≡ seen self.now ask.now }
+    // The statement of a cycle of an account as it was issued.
+    fn issued(&self, alloc: Global, account: &Name, cycle: Num) -> Result<View, NoMemory>
+        ensures { IfOk result (λ view. view ≡ issued cycle (lists_of account.now self.now.accounts)) }
     {
-        match ask {
-            Ask::Show(account) => self.show(account),
+        match self.index.find(account.bytes()) {
+            None => Ok(View::NoAccount),
+            Some(at) => {
+                let account = &self.accounts[at as usize];
+                let statement = account.issued(alloc, cycle)?;
+                Ok(stated(statement))
+            }
         }
     }
+
+    // The statement of a cycle of an account as the book of today has it.
+    fn restated(&self, alloc: Global, account: &Name, cycle: Num) -> Result<View, NoMemory>
+        ensures { IfOk result (λ view. view ≡ restated self.now cycle (lists_of account.now self.now.accounts)) }
+    {
+        match self.index.find(account.bytes()) {
+            None => Ok(View::NoAccount),
+            Some(at) => {
+                let account = &self.accounts[at as usize];
+                let statement = account.restated(
+                    alloc,
+                    self.today,
+                    cycle,
+                    &self.calendar,
+                    &self.fees,
+                )?;
+                Ok(stated(statement))
+            }
+        }
+    }
+
+    /// The answer to what is asked, or want of memory.
+    #[tactic(auto, unfolding(crate::specs::Views::seen))]
+    pub fn see(&self, alloc: Global, ask: &Ask) -> Result<View, NoMemory>
+        ensures { IfOk result (λ view. view ≡ seen self.now ask.now) }
+    {
+        match ask {
+            Ask::Show(account) => self.show(alloc, account),
+            Ask::Issued(account, cycle) => self.issued(alloc, account, *cycle),
+            Ask::Restated(account, cycle) => self.restated(alloc, account, *cycle),
+        }
+    }
+}
+
+// What is shown of an account.
+fn shown(day: Day, owing: Owing) -> View
+    ensures { result ≡ View.Show day owing.owed owing.credit owing.held }
+{
+    View::Show {
+        day,
+        owed: owing.owed,
+        credit: owing.credit,
+        held: owing.held,
+    }
+}
+
+// A statement, or that it isn't there.
+fn stated(statement: Option<Statement>) -> View
+    ensures { result ≡ stated statement }
+{
+    match statement {
+        Some(statement) => View::Statement(statement),
+        None => View::NoStatement,
+    }
+}
+
+// The same holidays in memory of their own.
+fn copy_of(alloc: Global, calendar: &Calendar) -> Result<Calendar, NoMemory>
+    ensures { IfOk result (λ copy. copy ≡ calendar.now) }
+{
+    match calendar.copy(alloc) {
+        Ok(copy) => Ok(copy),
+        Err(_) => Err(NoMemory),
+    }
+}
+
+// The holidays with one more, in memory of their own.
+fn with_holiday(alloc: Global, calendar: &Calendar, day: Day) -> Result<Calendar, NoMemory>
+    requires { day ≤ 47_481 }
+    ensures { IfOk result (λ more. more ≡ with_holiday day calendar.now) }
+{
+    let mut more = copy_of(alloc, calendar)?;
+    match more.add(day) {
+        Ok(()) => Ok(more),
+        Err(_) => Err(NoMemory),
+    }
+}
+
+// The fee rows with one more, in memory of their own.
+fn with_fees(
+    alloc: Global,
+    fees: &FeeTable,
+    day: Day,
+    first: Num,
+    repeat: Num,
+) -> Result<FeeTable, NoMemory>
+    requires first { first ≤ 100_000 }
+    requires repeat { repeat ≤ 100_000 }
+    ensures { IfOk result (λ more. more ≡ fees.now ++ record { day = day; first = first; repeat = repeat } ∷ []) }
+{
+    let mut more = fees.copy(alloc)?;
+    more.add(day, first.get() as i64, repeat.get() as i64)?;
+    Ok(more)
 }
 
 // One more, for which room was made.

@@ -11,7 +11,8 @@ ghost use Rattle.card_desk.specs.Loads.{GoesOn};
 
 use crate::Desk;
 use crate::built::is_built;
-use crate::fault::{Fault, LoadFault};
+use crate::fault::LoadFault;
+use card_account::Fault;
 use card_events::Request;
 use card_keeper::{Keeper, KeeperFault, Row};
 use card_rows::decode;

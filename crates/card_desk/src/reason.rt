@@ -1,84 +1,10 @@
-// Why posts aren't accepted: the first reason in order.
-ghost use Rattle.std.specs.Prelude.{◌≡◌, ◌<◌, None, ℕ, nat_lt, nat_le, [], ◌∷◌};
-ghost use Rattle.card_days.specs.Billing.{IsCloseDay};
-ghost use Rattle.card_events.specs.declared.post.Post.TheVariants as post;
+// Why shared requests aren't accepted: the first reason in order.
+ghost use Rattle.std.specs.Prelude.{◌≡◌, ◌≤◌, ◌||◌, None, nat_lt, Bool};
 ghost use Rattle.card_events.specs.declared.request.Shared.TheVariants as shared;
 ghost use Rattle.card_model.specs.Machine.{shared_reason};
-ghost use Rattle.card_model.specs.Refusals.{bad_terms, reason_to_open, first_reason, where_true};
-ghost use Rattle.card_model.specs.Refusals as spec;
-ghost use Rattle.card_desk.specs.Reasons as reasons;
 
 use card_days::Day;
-use card_events::{Num, Refusal, Terms};
-
-/// The first term that is out of its range: the closing day is 1 to 28, rates are at most 9,999 basis points, the floor is
-/// at most 1,000,000 cents, the part at most 10,000 basis points.
-fn bad_term(terms: &Terms) -> Option<Refusal>
-    ensures close_day { result ≡ None → IsCloseDay terms.now.close }
-    ensures value { (day : ℕ) → result ≡ bad_terms (post.Open day terms.now) }
-{
-    if terms.close.get() == 0 || terms.close.get() > 28 {
-        Some(Refusal::BadTerms(1))
-    } else if terms.purchase.get() > 9_999 {
-        Some(Refusal::BadTerms(2))
-    } else if terms.cash.get() > 9_999 {
-        Some(Refusal::BadTerms(3))
-    } else if terms.transfer.get() > 9_999 {
-        Some(Refusal::BadTerms(4))
-    } else if terms.penalty.get() > 9_999 {
-        Some(Refusal::BadTerms(5))
-    } else if terms.floor.get() > 1_000_000 {
-        Some(Refusal::BadTerms(6))
-    } else if terms.pct.get() > 10_000 {
-        Some(Refusal::BadTerms(7))
-    } else {
-        None
-    }
-}
-
-/// Why an Open isn't accepted today, where so many accounts exist.
-pub fn open_reason(today: Day, accounts: usize, day: Day, terms: &Terms) -> Option<Refusal>
-    ensures value { result ≡ reason_to_open today accounts (post.Open day terms.now) }
-    ensures room { result ≡ None → accounts < 1_000_000 }
-    ensures close_day { result ≡ None → IsCloseDay terms.now.close }
-{
-    match bad_term(terms) {
-        Some(refusal) => Some(refusal),
-        None => later_open_reason(today, accounts, day),
-    }
-}
-
-fn later_open_reason(today: Day, accounts: usize, day: Day) -> Option<Refusal>
-    ensures room { result ≡ None → accounts < 1_000_000 }
-    ensures value { result ≡ first_reason (where_true (nat_lt today day) Refusal.DayAhead ∷ where_true (nat_le 1000000 accounts) Refusal.LedgerFull ∷ []) }
-{
-    if today < day {
-        Some(Refusal::DayAhead)
-    } else if accounts >= 1_000_000 {
-        Some(Refusal::LedgerFull)
-    } else {
-        None
-    }
-}
-
-/// Why a charge on purchase isn't accepted today, in an account that was opened on a day and has so many posts.
-#[tactic(auto, unfolding(crate::specs::Reasons::charge_reason))]
-pub fn charge_reason(today: Day, opened: Day, count: u32, day: Day, cents: Num) -> Option<Refusal>
-    ensures value { result ≡ reasons.charge_reason today opened count day cents }
-    ensures few { result ≡ None → count < 10_000 }
-{
-    if is_no_amount(cents) {
-        Some(Refusal::AmountRange)
-    } else if today < day {
-        Some(Refusal::DayAhead)
-    } else if day < opened {
-        Some(Refusal::DayBeforeOpen)
-    } else if count >= 10_000 {
-        Some(Refusal::AccountFull)
-    } else {
-        None
-    }
-}
+use card_events::{Num, Refusal};
 
 /// Why a Roll isn't accepted today, where so many accounts exist.
 #[tactic(auto, unfolding(card_model::specs::Machine::shared_reason))]
@@ -94,9 +20,34 @@ pub fn roll_reason(today: Day, accounts: usize, day: Day) -> Option<Refusal>
     }
 }
 
-fn is_no_amount(cents: Num) -> bool
-    ensures { result ≡ spec.is_no_amount cents }
+/// Why a Holiday isn't accepted today.
+#[tactic(auto, unfolding(card_model::specs::Machine::shared_reason))]
+pub fn holiday_reason(today: Day, holiday: Day) -> Option<Refusal>
+    ensures { (any : Bool) → result ≡ shared_reason today any (shared.Holiday holiday) }
 {
-    let cents = cents.get();
-    cents == 0 || cents > 1_000_000_000
+    if holiday <= today {
+        Some(Refusal::PastRow(today))
+    } else {
+        None
+    }
+}
+
+/// Why a fee row isn't accepted today. Its amounts are at most 100,000 cents, and the first is at most the repeated one.
+#[tactic(auto, unfolding(card_model::specs::Machine::shared_reason))]
+pub fn fees_reason(today: Day, day: Day, first: Num, repeat: Num) -> Option<Refusal>
+    ensures { (any : Bool) → result ≡ shared_reason today any (shared.FeeRow day first repeat) }
+{
+    if are_no_fees(first, repeat) {
+        Some(Refusal::AmountRange)
+    } else if day <= today {
+        Some(Refusal::PastRow(today))
+    } else {
+        None
+    }
+}
+
+fn are_no_fees(first: Num, repeat: Num) -> bool
+    ensures { result ≡ (nat_lt 100000 first || nat_lt 100000 repeat || nat_lt repeat first) }
+{
+    first.get() > 100_000 || repeat.get() > 100_000 || repeat.get() < first.get()
 }

@@ -1,7 +1,8 @@
 // The rows of requests.
-ghost use Rattle.std.specs.Prelude.{◌≡◌, true, IfOk};
+ghost use Rattle.std.specs.Prelude.{◌≡◌, true, IfOk, OnOk};
 ghost use Rattle.card_events.specs.Dated.{is_dated};
 ghost use Rattle.card_desk.specs.Kept as spec;
+ghost use Rattle.card_rows.specs.Held.{is_request};
 
 use card_events::Request;
 use card_keeper::{Body, Row};
@@ -12,7 +13,8 @@ use std::alloc::Global;
 /// The row of a request, under a number.
 pub fn row_of(alloc: Global, seq: u64, request: &Request) -> Result<Row, NoMemory>
     requires { is_dated request.now ≡ true }
-    ensures { IfOk result (λ row. row ≡ spec.row_of seq request.now) }
+    ensures value { IfOk result (λ row. row ≡ spec.row_of seq request.now) }
+    ensures held { OnOk result (is_request request.now ≡ true) }
 {
     let body = encode(alloc, request)?;
     Ok(Row {

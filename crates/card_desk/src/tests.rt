@@ -1,7 +1,8 @@
 use crate::{Ask, Desk, Fault, LoadFault, View, is_built};
-use card_days::Day;
+use card_days::{Channel, Day};
 use card_events::{Name, Num, Place, Post, Refusal, Reply, Request, Shared, Terms};
 use card_keeper::{Body, FailingKeeper, Keeper, MemoryKeeper, Row};
+use card_units::Cents;
 use std::alloc::Global;
 use std::test::Fail;
 
@@ -17,6 +18,8 @@ const CUT_CHARGE: &[u8] = b"\x01\x05\x01a\x02c1\x00\x00\x4d\x47\x00\x00\x00\x00\
 const OTHER_FORMAT: &[u8] = b"\x03\x01\x00\x00\x4d\x48";
 
 const HOLIDAY: &[u8] = b"\x01\x02\x00\x00\x4d\x48";
+
+const PAST_HOLIDAY: &[u8] = b"\x01\x02\x00\x00\x4d\x47";
 
 fn number(n: u64) -> Result<Num, Fail> {
     Ok(Num::new(n).ok_or("a number is too large")?)
@@ -65,6 +68,33 @@ fn charge(alloc: Global, key: &str, cents: u64) -> Result<Request, Fail> {
     })
 }
 
+// The Bill of the first cycle of the account `a`.
+fn bill(alloc: Global) -> Result<Request, Fail> {
+    Ok(Request::Post {
+        account: name(alloc, "a")?,
+        key: name(alloc, "b1")?,
+        post: Post::Bill { cycle: number(1)? },
+    })
+}
+
+// A payment of 50.00 to the account `a` on 2024-03-29, at 10 o'clock.
+fn payment(alloc: Global) -> Result<Request, Fail> {
+    let day = day(2024, 3, 29)?;
+    let minute = number(600)?;
+    let cents = number(5000)?;
+    let channel = Channel::Online;
+    Ok(Request::Post {
+        account: name(alloc, "a")?,
+        key: name(alloc, "p1")?,
+        post: Post::Payment {
+            day,
+            minute,
+            channel,
+            cents,
+        },
+    })
+}
+
 // What the desk that the kept rows give answers to a request.
 fn answer<K: Keeper>(
     alloc: Global,
@@ -105,18 +135,76 @@ fn keeps_the_first_day(rt: HostRuntime) -> Result<(), Fail> {
     let desk = Desk::load(rt.alloc(), &mut keeper)?;
     assert_eq!(rt; desk.today(), day(2024, 3, 1)?);
     assert_eq!(rt; desk.count(), 3);
-    let view = desk.see(&Ask::Show(name(rt.alloc(), "a")?));
-    assert!(rt;
-        matches!(
-            view,
-            View::Show {
-                owed: 1100,
-                credit: 0,
-                held: 0,
-                ..
-            }
-        )
-    );
+    let view = desk.see(rt.alloc(), &Ask::Show(name(rt.alloc(), "a")?))?;
+    assert_eq!(rt; shown(&view), Some((1100, 0, 0)));
+    Ok(())
+}
+
+// The new balance and the minimum payment of a statement.
+fn amounts(view: &View) -> Option<(Cents, Cents)> {
+    match view {
+        View::Statement(statement) => {
+            Some((statement.cycle.new_balance, statement.cycle.minimum))
+        }
+        _ => None,
+    }
+}
+
+// What is owed on the account `a`, its credit balance, and what is held.
+fn shown(view: &View) -> Option<(Cents, Cents, Cents)> {
+    match view {
+        View::Show {
+            owed,
+            credit,
+            held,
+            ..
+        } => Some((*owed, *credit, *held)),
+        _ => None,
+    }
+}
+
+// Issues the statement of the first day's cycle on 2024-03-29, and then takes a charge of 25.00 on a day of that cycle.
+fn billed(alloc: Global, keeper: &mut MemoryKeeper) -> Result<(), Fail> {
+    first_day(alloc, keeper)?;
+    accept(alloc, keeper, &roll(day(2024, 3, 29)?))?;
+    accept(alloc, keeper, &bill(alloc)?)?;
+    accept(alloc, keeper, &charge(alloc, "c2", 2500)?)?;
+    Ok(())
+}
+
+// What the desk that the kept rows give says of a question.
+fn seen(alloc: Global, keeper: &mut MemoryKeeper, ask: &Ask) -> Result<View, Fail> {
+    let desk = Desk::load(alloc, keeper)?;
+    Ok(desk.see(alloc, ask)?)
+}
+
+// The statement stays as it was issued. The restated cycle has the later charge, and no greater minimum payment than was
+// issued.
+#[test]
+fn sees_statements(rt: HostRuntime) -> Result<(), Fail> {
+    let alloc = rt.alloc();
+    let mut keeper = MemoryKeeper::new(alloc);
+    billed(alloc, &mut keeper)?;
+    let first = Ask::Issued(name(alloc, "a")?, number(1)?);
+    let issued = seen(alloc, &mut keeper, &first)?;
+    assert_eq!(rt; amounts(&issued), Some((1100, 1100)));
+    let first = Ask::Restated(name(alloc, "a")?, number(1)?);
+    let restated = seen(alloc, &mut keeper, &first)?;
+    assert_eq!(rt; amounts(&restated), Some((3600, 1100)));
+    Ok(())
+}
+
+#[test]
+fn sees_what_is_owed(rt: HostRuntime) -> Result<(), Fail> {
+    let alloc = rt.alloc();
+    let mut keeper = MemoryKeeper::new(alloc);
+    billed(alloc, &mut keeper)?;
+    accept(alloc, &mut keeper, &payment(alloc)?)?;
+    let view = seen(alloc, &mut keeper, &Ask::Show(name(alloc, "a")?))?;
+    assert_eq!(rt; shown(&view), Some((-1400, 1400, 0)));
+    let second = Ask::Restated(name(alloc, "a")?, number(2)?);
+    let unclosed = seen(alloc, &mut keeper, &second)?;
+    assert!(rt; matches!(unclosed, View::NoStatement));
     Ok(())
 }
 
@@ -136,6 +224,8 @@ fn answers_repeats_and_refusals(rt: HostRuntime) -> Result<(), Fail> {
     assert_eq!(rt; charged, Ok(Reply::Accepted(2)));
     let reused = answer(alloc, &mut keeper, &charge(alloc, "c1", 9)?)?;
     assert_eq!(rt; reused, Ok(Reply::Refused(Refusal::KeyReused(2))));
+    let past = answer(alloc, &mut keeper, &Request::Shared(Shared::Holiday(today)))?;
+    assert_eq!(rt; past, Ok(Reply::Refused(Refusal::PastRow(today))));
     let bad = answer(alloc, &mut keeper, &open(alloc, "z", 29)?)?;
     assert_eq!(rt; bad, Ok(Reply::Refused(Refusal::BadTerms(1))));
     assert_eq!(rt; keeper.rows().len(), 3);
@@ -173,6 +263,7 @@ fn load_of(alloc: Global, rows: [(u64, &[u8]); 3]) -> Result<Result<u64, LoadFau
 fn damaged_rows_are_told(rt: HostRuntime) -> Result<(), Fail> {
     for (rows, loaded) in [
         ([(1, ROLL), (2, OPEN), (3, CHARGE)], Ok(3)),
+        ([(1, ROLL), (2, HOLIDAY), (3, OPEN)], Ok(3)),
         (
             [(1, ROLL), (2, OPEN), (4, CHARGE)],
             Err(LoadFault::Damaged(3)),
@@ -190,7 +281,7 @@ fn damaged_rows_are_told(rt: HostRuntime) -> Result<(), Fail> {
             Err(LoadFault::Damaged(2)),
         ),
         (
-            [(1, ROLL), (2, HOLIDAY), (3, OPEN)],
+            [(1, ROLL), (2, PAST_HOLIDAY), (3, OPEN)],
             Err(LoadFault::Damaged(2)),
         ),
         (

@@ -1,5 +1,6 @@
+use card_account::Statement;
 use card_days::Day;
-use card_events::Name;
+use card_events::{Name, Num};
 use card_units::Cents;
 
 /// What can be asked of a desk.
@@ -7,13 +8,19 @@ use card_units::Cents;
 pub enum Ask {
     /// What is owed on the account today.
     Show(Name),
+    /// The statement of the account's cycle of this number, as it was issued.
+    Issued(Name, Num),
+    /// The statement of the account's cycle of this number, as the book of today has it.
+    Restated(Name, Num),
 }
 
 /// The answer to what is asked. Cents are signed; a credit balance is told as a number of at least 0.
-#[derive(Clone, Copy, Debug)]
+#[derive(Drop)]
 pub enum View {
     /// The account isn't there.
     NoAccount,
+    /// No Bill has issued the cycle, or it isn't closed before today.
+    NoStatement,
     /// Today, what is owed, the credit balance, and the amount held in dispute.
     Show {
         day: Day,
@@ -21,4 +28,6 @@ pub enum View {
         credit: Cents,
         held: Cents,
     },
+    /// The statement of the cycle.
+    Statement(Statement),
 }

@@ -1,63 +1,89 @@
-use Rattle.std.proofs.Common.{◌≡◌, ℕ, ◌+◌, ◌<◌, List, [], ◌∷◌, ◌++◌, length, None, refl, sym, ap, subst, ◌∙◌, arith, length-append}
+use Rattle.std.proofs.Common.{◌≡◌, ℕ, true, ◌+◌, ◌<◌, List, [], ◌∷◌, ◌++◌, length, None, refl, sym, ap, subst, ◌∙◌, arith}
+use Rattle.std.proofs.lemmas.Bool.{and_from}
+use Rattle.std.proofs.lemmas.List.{length-map, map-append}
+use Rattle.card_account.specs.Accounts.{OpenAccount}
+use Rattle.card_account.specs.Built.{is_built_post}
 use Rattle.card_events.specs.declared.reply.Reply.TheVariants as reply
 use Rattle.card_events.specs.declared.request.Request.{Request}
+use Rattle.card_events.specs.declared.request.Request.TheVariants as request
 use Rattle.card_model.specs.Machine.{State, NamedAccount, kept_as}
-use Rattle.card_model.specs.Refusals.{Lists}
-use Rattle.card_desk.specs.Applied.{Steps, are_short}
-use Rattle.card_desk.specs.Kept.{row_of, accepted_count, posts_in}
-use Rattle.card_desk.specs.Places.{IsIndex, place_from}
-use Rattle.card_desk.proofs.CountLemmas.{short_pushed, sum_pushed}
+use Rattle.card_model.specs.Refusals.{Lists, reason_to_open}
+use Rattle.card_desk.specs.Applied.{Steps}
+use Rattle.card_desk.specs.Desks.{IsDesk, named_all, state_of}
+use Rattle.card_desk.specs.Kept.{row_of, accepted_count, is_taken}
+use Rattle.card_desk.specs.Places.{place_from}
 use Rattle.card_desk.proofs.DeskLemmas.{count_opened, opened_state}
-use Rattle.card_desk.proofs.IndexLemmas.{index_pushed}
+use Rattle.card_desk.proofs.IndexLemmas.{index_back, index_pushed}
+use Rattle.card_index.specs.Places.{Places}
+use Rattle.card_desk.proofs.KeptLemmas.{index_desk, opened_desk, opens_built}
 use Rattle.card_desk.proofs.OutcomeLemmas.{open_accepted}
 use Rattle.card_desk.proofs.PlaceLemmas.{no_place}
 use Rattle.card_desk.proofs.StepLemmas.{goes_on, post_accepted}
+use Rattle.card_rows.specs.Held.{is_request}
 use Rattle.card_desk.proofs.desk.Desk.keep_open.Goals as goal
 
-pub keep-requires : goal.keep-requires
-keep-requires g c = goes_on _ c.args.self.now c.args.request.now c.in_ok-row.row c.requires.fits c.in_ok-row.ensures
+pub keep_row-requires : goal.keep_row-requires
+keep_row-requires g c = goes_on _ c.args.self.now c.args.request.now c.in_ok-row.row c.requires.fits c.in_ok-row.ensures.value
 
 pub invariant_of-self-in-Ok : goal.invariant_of-self-in-Ok
 invariant_of-self-in-Ok g c =
+    let d = c.self.inside in
     let made = c.in_ok-made.made in
-    let items = c.self.inside.accounts.items in
-    let accounts = c.push_account.ensures ∙ ap (λ l. l ++ made ∷ []) c.in_ok-reserve.ensures.items in
-    let name_is : made.name ≡ c.args.account.now = ap (λ (a : NamedAccount). a.name) c.in_ok-made.ensures ∙ c.in_ok-name.ensures in
-    let named : c.bytes.result.now ≡ made.name = c.bytes.ensures.value ∙ sym name_is in
-    let one : length made.lists.posts ≡ 1 = ap (λ (a : NamedAccount). length a.lists.posts) c.in_ok-made.ensures in
-    let absent : place_from made.name 0 items ≡ None =
-    ap (λ (n : List ℕ). place_from n 0 items) name_is ∙ ap (λ (x : State). place_from c.args.account.now 0 x.accounts) c.self.view_is ∙ c.requires.absent in
-    let place : c.len-place.result ≡ length items = c.len-place.ensures ∙ c.reserve.new.self.ok.0 ∙ ap (λ l. length l) c.in_ok-reserve.ensures.items in
-    let many : length items < 1000000 = omega (arith, c.requires.room, ap (λ (x : State). length x.accounts) c.self.view_is) in
-    let sum = ap posts_in accounts ∙ sum_pushed items made in (
-      subst (λ (l : List NamedAccount). IsIndex c.insert.new.self l) (sym accounts)
-          (index_pushed c.self.inside.index c.insert.new.self items made c.bytes.result.now c.len-place.result c.self.invariant.0 c.in_ok-insert.ensures.ok place named absent),
-      omega (arith, many, ap (λ l. length l) accounts, length-append items (made ∷ [])),
-      ap are_short accounts ∙ short_pushed items made c.self.invariant.2 (omega (arith, one)),
-      c.self.invariant.3,
-      c.self.invariant.4,
-      omega (arith, c.self.invariant.5, sum, one),
-    )
+    let items = d.accounts.items in
+    let name = c.args.account.now in
+    let key = c.args.key.now in
+    let p = c.args.post.now in
+    let accounts : c.push_account.new.list.items ≡ items ++ made ∷ [] = c.push_account.ensures ∙ ap (λ l. l ++ made ∷ []) c.in_ok-reserve.ensures.items in
+    let made_is : made.named ≡ record { name = name; lists = record { posts = kept_as 1 key d.today p ∷ []; issued = [] } } =
+    c.in_ok-made.ensures.lists ∙ ap (λ (n : List ℕ). record { name = n; lists = record { posts = kept_as 1 key d.today p ∷ []; issued = [] } }) c.in_ok-name.ensures in
+    let name_is : made.named.name ≡ name = ap (λ (a : NamedAccount). a.name) made_is in
+    let absent : place_from name 0 (named_all items) ≡ None = ap (λ (x : State). place_from name 0 x.accounts) c.self.view_is ∙ c.requires.absent in
+    let none = ap (λ (x : State). reason_to_open x.today (length x.accounts) p) c.self.view_is ∙ c.requires.no_reason in
+    let long : length (named_all items) ≡ length items = length-map items (λ (x : OpenAccount). x.named) in
+    let place : c.len-place.result ≡ length (named_all items) = c.len-place.ensures ∙ c.reserve.new.self.ok.0 ∙ ap (λ l. length l) c.in_ok-reserve.ensures.items ∙ sym long in
+    let room : length items < 1000000 = omega (arith, c.requires.room, ap (λ (x : State). length x.accounts) c.self.view_is, long) in
+    let index = index_pushed d.index c.insert.new.self (named_all items) made.named c.bytes.result.now c.len-place.result c.self.invariant.index c.in_ok-insert.ensures.ok place (c.bytes.ensures.value ∙ sym name_is)
+    (ap (λ (n : List ℕ). place_from n 0 (named_all items)) name_is ∙ absent) in
+    let held = ap is_request (sym c.requires.request) ∙ c.in_ok-row.ensures.held in
+    let taken : is_taken (request.Post name key p) ≡ true = and_from (is_request (request.Post name key p)) (is_built_post p) held (opens_built p c.requires.open) in
+    subst (λ (l : List OpenAccount). IsDesk c.insert.new.self d.calendar d.fees (d.count + 1) d.today d.shared.items l) (sym accounts)
+    (opened_desk d.index c.insert.new.self d.calendar d.fees d.count d.today d.shared.items items made name key p c.self.invariant taken absent c.requires.open none made_is index room
+    (c.in_ok-made.ensures.stands d.calendar))
 
 pub returns-in-Ok-clause-ok : goal.returns-in-Ok-clause-ok
 returns-in-Ok-clause-ok g c =
     let s = c.args.self.now in
+    let d = c.self.inside in
     let name = c.args.account.now in
     let key = c.args.key.now in
     let p = c.args.post.now in
     let made = c.in_ok-made.made in
     let rows = g.K.Keeper.rows c.args.keeper.now in
-    let grown = g.K.Keeper.rows c.keep.new.keeper in
+    let grown = g.K.Keeper.rows c.keep_row.new.keeper in
     let l : Lists = record { posts = kept_as 1 key s.today p ∷ []; issued = [] } in
-    let t : State = record { today = c.self.inside.today; shared = c.self.inside.shared.items; accounts = c.push_account.new.list.items } in
+    let t : State = state_of d.today d.shared.items c.push_account.new.list.items in
     let today = ap (λ (x : State). x.today) c.self.view_is in
-    let accounts = c.push_account.ensures ∙ ap (λ l. l ++ made ∷ []) (c.in_ok-reserve.ensures.items ∙ ap (λ (x : State). x.accounts) c.self.view_is) in
-    let made_is : made ≡ record { name = name; lists = l } =
-    c.in_ok-made.ensures ∙ ap (λ (n : List ℕ). record { name = n; lists = record { posts = kept_as 1 key c.self.inside.today p ∷ []; issued = [] } }) c.in_ok-name.ensures
+    let items : c.push_account.new.list.items ≡ d.accounts.items ++ made ∷ [] = c.push_account.ensures ∙ ap (λ l. l ++ made ∷ []) c.in_ok-reserve.ensures.items in
+    let accounts : t.accounts ≡ s.accounts ++ made.named ∷ [] =
+    ap named_all items ∙ map-append (λ (x : OpenAccount). x.named) d.accounts.items (made ∷ []) ∙ ap (λ (x : State). x.accounts ++ made.named ∷ []) c.self.view_is in
+    let made_is : made.named ≡ record { name = name; lists = l } =
+    c.in_ok-made.ensures.lists ∙ ap (λ (n : List ℕ). record { name = n; lists = record { posts = kept_as 1 key d.today p ∷ []; issued = [] } }) c.in_ok-name.ensures
     ∙ ap (λ (n : ℕ). record { name = name; lists = record { posts = kept_as 1 key n p ∷ []; issued = [] } }) today in
-    let state = opened_state s t name l made today (ap (λ (x : State). x.shared) c.self.view_is) accounts made_is c.requires.absent in
-    let one : length made.lists.posts ≡ 1 = ap (λ (a : NamedAccount). length a.lists.posts) made_is in
+    let state = opened_state s t name l made.named today (ap (λ (x : State). x.shared) c.self.view_is) accounts made_is c.requires.absent in
+    let one : length made.named.lists.posts ≡ 1 = ap (λ (a : NamedAccount). length a.lists.posts) made_is in
     let outcome = open_accepted s name key p (no_place name 0 s.accounts c.requires.absent).0 c.requires.open c.requires.no_reason in
     subst (λ (x : Request). Steps rows grown s x t (reply.Accepted 1)) (sym c.requires.request)
-    (post_accepted rows grown s t name key p l 1 c.in_ok-row.row c.keep.ensures.told c.in-Ok.ensures.ok (c.in_ok-row.ensures ∙ ap (λ (x : Request). row_of (accepted_count s + 1) x) c.requires.request)
-    outcome state refl (count_opened s t made (ap (λ (x : State). x.shared) c.self.view_is) accounts one))
+    (post_accepted rows grown s t name key p l 1 c.in_ok-row.row c.keep_row.ensures.told c.in-Ok.ensures.ok (c.in_ok-row.ensures.value ∙ ap (λ (x : Request). row_of (accepted_count s + 1) x) c.requires.request)
+    outcome state refl (count_opened s t made.named (ap (λ (x : State). x.shared) c.self.view_is) accounts one))
+
+pub invariant_of-self-in-Err-1 : goal.invariant_of-self-in-Err-1
+invariant_of-self-in-Err-1 g c =
+    let d = c.self.inside in
+    let items = d.accounts.items in
+    let name = c.bytes.result.now in
+    let absent : place_from name 0 (named_all items) ≡ None =
+    ap (λ (n : List ℕ). place_from n 0 (named_all items)) c.bytes.ensures.value ∙ ap (λ (x : State). place_from c.args.account.now 0 x.accounts) c.self.view_is ∙ c.requires.absent in
+    let lost = subst (λ (n : List ℕ). Places c.insert.new.self c.remove.new.self n None) (c.bytes-in-Err.ensures.value ∙ sym c.bytes.ensures.value) c.remove.ensures in
+    let index = index_back d.index c.insert.new.self c.remove.new.self (named_all items) name c.len-place.result c.self.invariant.index c.in_ok-insert.ensures.ok lost absent in
+    subst (λ (l : List OpenAccount). IsDesk c.remove.new.self d.calendar d.fees d.count d.today d.shared.items l) (sym c.in_ok-reserve.ensures.items)
+    (index_desk d.index c.remove.new.self d.calendar d.fees d.count d.today d.shared.items items c.self.invariant index)

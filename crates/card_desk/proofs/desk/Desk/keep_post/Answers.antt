@@ -1,43 +1,80 @@
-use Rattle.std.proofs.Common.{◌≡◌, ℕ, ◌+◌, ◌<◌, List, [], ◌∷◌, ◌++◌, length, get_or, set, sym, ap, subst, ◌∙◌, arith, length-append}
-use Rattle.std.proofs.lemmas.List.{length-set}
+use Rattle.std.proofs.Common.{◌≡◌, ℕ, true, ◌+◌, ◌<◌, ◌≤◌, List, length, get_or, set, refl, sym, ap, subst, ◌∙◌, arith}
+use Rattle.std.proofs.lemmas.Bool.{and_from}
+use Rattle.std.proofs.lemmas.List.{length-map, map-set}
+use Rattle.card_account.specs.Accounts.{MayBeFolded, OpenAccount, present_of, shared_by}
+use Rattle.card_account.specs.Built.{is_built_post}
+use Rattle.card_account.proofs.ReasonLemmas.{few}
 use Rattle.card_events.specs.declared.reply.Reply.TheVariants as reply
 use Rattle.card_events.specs.declared.request.Request.{Request}
-use Rattle.card_model.specs.Machine.{State, NamedAccount, kept_as}
-use Rattle.card_model.specs.Refusals.{Lists}
+use Rattle.card_events.specs.declared.request.Request.TheVariants as request
+use Rattle.card_model.specs.Machine.{Accepts, State, NamedAccount, accepted, outcome_in}
+use Rattle.card_model.specs.Refusals.{Lists, reason_against}
 use Rattle.card_desk.specs.Applied.{Steps}
-use Rattle.card_desk.specs.Kept.{row_of, accepted_count}
-use Rattle.card_desk.proofs.CountLemmas.{short_set, sum_set}
+use Rattle.card_desk.specs.Desks.{now_of, state_of}
+use Rattle.card_desk.specs.Kept.{row_of, accepted_count, is_taken}
+use Rattle.card_desk.specs.Places.{IsPlace}
 use Rattle.card_desk.proofs.DeskLemmas.{count_added, changed_state, read_at}
-use Rattle.card_desk.proofs.IndexLemmas.{index_set}
+use Rattle.card_desk.proofs.FoldLemmas.{accepted_in, may_be_folded}
+use Rattle.card_desk.proofs.KeptLemmas.{longer, posted_desk}
 use Rattle.card_desk.proofs.StepLemmas.{goes_on, post_accepted}
+use Rattle.card_rows.specs.Held.{is_request}
 use Rattle.card_desk.proofs.desk.Desk.keep_post.Goals as goal
 
 pub accept-requires-clause-rows : goal.accept-requires-clause-rows
-accept-requires-clause-rows g c = goes_on _ c.args.self.now c.args.request.now c.in_ok-row.row c.requires.fits c.in_ok-row.ensures
+accept-requires-clause-rows g c = goes_on _ c.args.self.now c.args.request.now c.in_ok-row.row c.requires.fits c.in_ok-row.ensures.value
+
+pub accept-requires-clause-no_reason : goal.accept-requires-clause-no_reason
+accept-requires-clause-no_reason g c =
+    let s = c.args.self.now in
+    let d = c.self.inside in
+    let b = c.index_mut-account.result.now in
+    let shared = shared_by d.calendar d.fees in
+    let p = c.args.post.now in
+    let read = read_at d.accounts.items s.accounts c.args.at b b.named c.index_mut-account.ensures.value (ap (λ (x : State). x.accounts) c.self.view_is) c.requires.place.bound in
+    ap (λ (n : ℕ). reason_against (present_of n shared b.named.lists) p) (ap (λ (x : State). x.today) c.self.view_is)
+    ∙ ap (λ (x : NamedAccount). reason_against (present_of s.today shared x.lists) p) read ∙ c.requires.no_reason shared b.named
+
+pub accept-requires-clause-folded : goal.accept-requires-clause-folded
+accept-requires-clause-folded g c =
+    let d = c.self.inside in
+    let items = d.accounts.items in
+    let b = c.index_mut-account.result.now in
+    let low : c.args.at < length items = omega (arith, c.requires.place.bound, ap (λ (x : State). length x.accounts) c.self.view_is, length-map items (λ (x : OpenAccount). x.named)) in
+    subst (λ (x : OpenAccount). MayBeFolded d.today d.calendar d.fees x) (sym c.index_mut-account.ensures.value)
+    (may_be_folded d.index d.calendar d.fees d.count d.today d.shared.items items c.args.at b c.self.invariant low)
 
 pub invariant_of-self-2 : goal.invariant_of-self-2
 invariant_of-self-2 g c =
-    let items = c.self.inside.accounts.items in
+    let d = c.self.inside in
+    let items = d.accounts.items in
+    let s = state_of d.today d.shared.items items in
     let at = c.args.at in
+    let name = c.args.account.now in
+    let key = c.args.key.now in
+    let p = c.args.post.now in
     let b = c.index_mut-account.result.now in
     let a = c.accept.new.self in
-    let low : at < length items = omega (arith, c.requires.place.bound, ap (λ (x : State). length x.accounts) c.self.view_is) in
-    let named : a.name ≡ (get_or items at b).name = c.in_ok-number.ensures.name ∙ ap (λ (x : NamedAccount). x.name) c.index_mut-account.ensures.value in
-    let longer : length a.lists.posts ≡ length b.lists.posts + 1 = ap (λ (l : Lists). length l.posts) c.in_ok-number.ensures.ok ∙ length-append b.lists.posts _ in
-    let read : b ≡ get_or c.args.self.now.accounts at b = read_at items c.args.self.now.accounts at b b c.index_mut-account.ensures.value (ap (λ (x : State). x.accounts) c.self.view_is) c.requires.place.bound in
-    let few : length b.lists.posts < 10000 = omega (arith, c.requires.few b, ap (λ (x : NamedAccount). length x.lists.posts) read) in
-    let more : length a.lists.posts ≡ length (get_or items at b).lists.posts + 1 = omega (arith, longer, ap (λ (x : NamedAccount). length x.lists.posts) c.index_mut-account.ensures.value) in (
-      index_set c.self.inside.index items at a b c.self.invariant.0 named,
-      omega (arith, length-set items at a, c.self.invariant.1),
-      short_set items at a c.self.invariant.2 (omega (arith, longer, few)),
-      c.self.invariant.3,
-      c.self.invariant.4,
-      omega (arith, c.self.invariant.5, sum_set items at a b low more),
-    )
+    let low : at < length items = omega (arith, c.requires.place.bound, ap (λ (x : State). length x.accounts) c.self.view_is, length-map items (λ (x : OpenAccount). x.named)) in
+    let named : a.named.name ≡ (get_or items at b).named.name = c.in_ok-number.ensures.name ∙ ap (λ (x : OpenAccount). x.named.name) c.index_mut-account.ensures.value in
+    let place : IsPlace name s.accounts at = subst (λ (x : State). IsPlace name x.accounts at) (sym c.self.view_is) c.requires.place in
+    let allowed = subst (λ (x : State). (e : NamedAccount) → outcome_in x name key p ≡ Accepts (accepted (now_of x (get_or x.accounts at e).lists) key p)) (sym c.self.view_is) c.requires.accepted in
+    let lists : a.named.lists ≡ accepted (present_of d.today (shared_by d.calendar d.fees) b.named.lists) key p =
+    c.in_ok-number.ensures.ok ∙ ap (λ (k : List ℕ). accepted (present_of d.today (shared_by d.calendar d.fees) b.named.lists) k p) c.in_ok-key.ensures in
+    let outcome = accepted_in d.index d.calendar d.fees d.count d.today d.shared.items items at a b name key p c.self.invariant low c.index_mut-account.ensures.value lists allowed in
+    let more : length a.named.lists.posts ≡ length b.named.lists.posts + 1 = ap (λ (l : Lists). length l.posts) lists ∙ longer (present_of d.today (shared_by d.calendar d.fees) b.named.lists) key p in
+    let read = read_at items c.args.self.now.accounts at b b.named c.index_mut-account.ensures.value (ap (λ (x : State). x.accounts) c.self.view_is) c.requires.place.bound in
+    let room = few (present_of c.args.self.now.today (shared_by d.calendar d.fees) (get_or c.args.self.now.accounts at b.named).lists) p (c.requires.no_reason (shared_by d.calendar d.fees) b.named) in
+    let short : length a.named.lists.posts ≤ 10000 = omega (arith, more, room, ap (λ (x : NamedAccount). length x.lists.posts) read) in
+    let held = ap is_request (sym c.requires.request) ∙ c.in_ok-row.ensures.held in
+    let taken : is_taken (request.Post name key p) ≡ true = and_from (is_request (request.Post name key p)) (is_built_post p) held c.requires.built in
+    posted_desk d.index d.calendar d.fees d.count d.today d.shared.items items at a b name key p c.self.invariant taken place low named outcome
+    (more ∙ ap (λ (x : OpenAccount). length x.named.lists.posts + 1) c.index_mut-account.ensures.value) short c.in_ok-number.ensures.stands
 
 pub returns-clause-ok : goal.returns-clause-ok
 returns-clause-ok g c =
     let s = c.args.self.now in
+    let d = c.self.inside in
+    let items = d.accounts.items in
     let at = c.args.at in
     let name = c.args.account.now in
     let key = c.args.key.now in
@@ -48,17 +85,21 @@ returns-clause-ok g c =
     let grown = g.K.Keeper.rows c.accept.new.keeper in
     let today = ap (λ (x : State). x.today) c.self.view_is in
     let shared = ap (λ (x : State). x.shared) c.self.view_is in
-    let t : State = record { today = c.self.inside.today; shared = c.self.inside.shared.items; accounts = set c.self.inside.accounts.items at a } in
-    let accounts : t.accounts ≡ set s.accounts at a = ap (λ (x : State). set x.accounts at a) c.self.view_is in
-    let read : b ≡ get_or s.accounts at b = read_at c.self.inside.accounts.items s.accounts at b b c.index_mut-account.ensures.value (ap (λ (x : State). x.accounts) c.self.view_is) c.requires.place.bound in
-    let l : Lists = record { posts = (get_or s.accounts at b).lists.posts ++ kept_as (length (get_or s.accounts at b).lists.posts + 1) key s.today p ∷ []; issued = (get_or s.accounts at b).lists.issued } in
-    let named : a.name ≡ (get_or s.accounts at b).name = c.in_ok-number.ensures.name ∙ ap (λ (x : NamedAccount). x.name) read in
-    let added : (x : NamedAccount) (n : ℕ) (k : List ℕ) → Lists = λ x n k. record { posts = x.lists.posts ++ kept_as (length x.lists.posts + 1) k n p ∷ []; issued = x.lists.issued } in
-    let lists : a.lists ≡ l = c.in_ok-number.ensures.ok ∙ ap (λ (k : List ℕ). added b c.self.inside.today k) c.in_ok-key.ensures ∙ ap (λ (n : ℕ). added b n key) today ∙ ap (λ (x : NamedAccount). added x s.today key) read in
-    let state = changed_state s t name l at a b c.requires.place today shared accounts named lists in
-    let more : length a.lists.posts ≡ length (get_or s.accounts at b).lists.posts + 1 = ap (λ (x : Lists). length x.posts) lists ∙ length-append (get_or s.accounts at b).lists.posts _ in
-    let number : c.in_ok-number.number ≡ length l.posts = c.in_ok-number.ensures.number ∙ ap (λ (x : NamedAccount). length x.lists.posts + 1) read ∙ sym (length-append (get_or s.accounts at b).lists.posts _) in
+    let low : at < length items = omega (arith, c.requires.place.bound, ap (λ (x : State). length x.accounts) c.self.view_is, length-map items (λ (x : OpenAccount). x.named)) in
+    let t : State = state_of d.today d.shared.items (set items at a) in
+    let accounts : t.accounts ≡ set s.accounts at a.named = map-set (λ (x : OpenAccount). x.named) items at a ∙ ap (λ (x : State). set x.accounts at a.named) c.self.view_is in
+    let read = read_at items s.accounts at b b.named c.index_mut-account.ensures.value (ap (λ (x : State). x.accounts) c.self.view_is) c.requires.place.bound in
+    let named : a.named.name ≡ (get_or s.accounts at b.named).name = c.in_ok-number.ensures.name ∙ ap (λ (x : NamedAccount). x.name) read in
+    let allowed = subst (λ (x : State). (e : NamedAccount) → outcome_in x name key p ≡ Accepts (accepted (now_of x (get_or x.accounts at e).lists) key p)) (sym c.self.view_is) c.requires.accepted in
+    let lists : a.named.lists ≡ accepted (present_of d.today (shared_by d.calendar d.fees) b.named.lists) key p =
+    c.in_ok-number.ensures.ok ∙ ap (λ (k : List ℕ). accepted (present_of d.today (shared_by d.calendar d.fees) b.named.lists) k p) c.in_ok-key.ensures in
+    let outcome = accepted_in d.index d.calendar d.fees d.count d.today d.shared.items items at a b name key p c.self.invariant low c.index_mut-account.ensures.value lists allowed in
+    let allows = ap (λ (x : State). outcome_in x name key p) (sym c.self.view_is) ∙ outcome in
+    let state = changed_state s t name a.named.lists at a.named b.named c.requires.place today shared accounts named refl in
+    let grew : length a.named.lists.posts ≡ length b.named.lists.posts + 1 = ap (λ (l : Lists). length l.posts) lists ∙ longer (present_of d.today (shared_by d.calendar d.fees) b.named.lists) key p in
+    let more : length a.named.lists.posts ≡ length (get_or s.accounts at b.named).lists.posts + 1 = grew ∙ ap (λ (x : NamedAccount). length x.lists.posts + 1) read in
+    let number : c.in_ok-number.number ≡ length a.named.lists.posts = c.in_ok-number.ensures.number ∙ sym grew in
     subst (λ (x : Request). Steps rows grown s x t (reply.Accepted c.in_ok-number.number)) (sym c.requires.request)
-    (post_accepted rows grown s t name key p l c.in_ok-number.number c.in_ok-row.row c.accept.ensures.told c.in_ok-number.ensures.kept
-    (c.in_ok-row.ensures ∙ ap (λ (x : Request). row_of (accepted_count s + 1) x) c.requires.request)
-    (c.requires.accepted b) state number (count_added s t at a b shared accounts c.requires.place.bound more))
+    (post_accepted rows grown s t name key p a.named.lists c.in_ok-number.number c.in_ok-row.row c.accept.ensures.told c.in_ok-number.ensures.kept
+    (c.in_ok-row.ensures.value ∙ ap (λ (x : Request). row_of (accepted_count s + 1) x) c.requires.request)
+    allows state number (count_added s t at a.named b.named shared accounts c.requires.place.bound more))

@@ -1,23 +1,50 @@
-use Rattle.std.proofs.Common.{ap, sym, ◌∙◌, arith, Some}
-use Rattle.card_model.specs.Machine.{State, NamedAccount, lists_of}
-use Rattle.card_desk.specs.Views.{shown}
-use Rattle.card_desk.proofs.DeskLemmas.{found_at, found_none, shown_none}
+use Rattle.std.proofs.Common.{◌<◌, Option, length, ap, sym, subst, ◌∙◌, arith}
+use Rattle.std.proofs.lemmas.List.{length-map}
+use Rattle.card_account.specs.Accounts.{MayBeFolded, OpenAccount}
+use Rattle.card_account.specs.declared.owing.Owing.{Owing}
+use Rattle.card_model.specs.Books.{Book}
+use Rattle.card_model.specs.Machine.{State, lists_of}
+use Rattle.card_model.specs.Refusals.{Lists}
+use Rattle.card_desk.specs.Desks.{named_all, state_of}
+use Rattle.card_desk.specs.Views.{shown, shown_of}
+use Rattle.card_desk.specs.declared.view.View.TheVariants as view
+use Rattle.card_desk.proofs.DeskLemmas.{found_at, found_none, there_at}
+use Rattle.card_desk.proofs.FoldLemmas.{book_at, may_be_folded}
+use Rattle.card_desk.proofs.PlaceLemmas.{no_place}
 use Rattle.card_desk.proofs.desk.Desk.show.Goals as goal
 
-pub index-requires : goal.index-requires
-index-requires c =
-    let place = found_at c.self.inside.index c.self.inside.accounts.items c.args.account.now c.bytes.result.now c.in-Some.at c.self.invariant.0 c.bytes.ensures.value c.in-Some.ensures in
-    omega (arith, place.bound, c.self.inside.accounts.ok.0)
+pub index-account-requires : goal.index-account-requires
+index-account-requires c =
+    let place = found_at c.self.inside.index (named_all c.self.inside.accounts.items) c.args.account.now c.bytes.result.now c.in-Some.at c.self.invariant.index c.bytes.ensures.value c.in-Some.ensures in
+    omega (arith, place.bound, c.self.inside.accounts.ok.0, length-map c.self.inside.accounts.items (λ (x : OpenAccount). x.named))
+
+pub show-requires : goal.show-requires
+show-requires c =
+    let d = c.self.inside in
+    let items = d.accounts.items in
+    let a = c.index-account.result.now in
+    let place = found_at d.index (named_all items) c.args.account.now c.bytes.result.now c.in-Some.at c.self.invariant.index c.bytes.ensures.value c.in-Some.ensures in
+    let low : c.in-Some.at < length items = omega (arith, place.bound, length-map items (λ (x : OpenAccount). x.named)) in
+    subst (λ (x : OpenAccount). MayBeFolded d.today d.calendar d.fees x) (sym c.index-account.ensures)
+    (may_be_folded d.index d.calendar d.fees d.count d.today d.shared.items items c.in-Some.at a c.self.invariant low)
 
 pub returns-in-None : goal.returns-in-None
 returns-in-None c =
-    let absent = found_none c.self.inside.index c.self.inside.accounts.items c.args.account.now c.bytes.result.now c.self.invariant.0 c.bytes.ensures.value c.in-None.ensures in
-    shown_none c.self.inside.today c.args.account.now c.self.inside.accounts.items absent
-    ∙ ap (λ (s : State). shown s.today (lists_of c.args.account.now s.accounts)) c.self.view_is
+    let d = c.self.inside in
+    let absent = found_none d.index (named_all d.accounts.items) c.args.account.now c.bytes.result.now c.self.invariant.index c.bytes.ensures.value c.in-None.ensures in
+    ap (λ (o : Option Lists). shown (state_of d.today d.shared.items d.accounts.items) o) (sym (no_place c.args.account.now 0 (named_all d.accounts.items) absent).0)
+    ∙ ap (λ (s : State). shown s (lists_of c.args.account.now s.accounts)) c.self.view_is
 
-pub returns-in-Some : goal.returns-in-Some
-returns-in-Some c =
-    let place = found_at c.self.inside.index c.self.inside.accounts.items c.args.account.now c.bytes.result.now c.in-Some.at c.self.invariant.0 c.bytes.ensures.value c.in-Some.ensures in
-    let a = c.index.result.now in
-    c.show.ensures ∙ ap (λ (x : NamedAccount). shown c.self.inside.today (Some x.lists)) c.index.ensures
-    ∙ ap (shown c.self.inside.today) (sym (place.there a)) ∙ ap (λ (s : State). shown s.today (lists_of c.args.account.now s.accounts)) c.self.view_is
+pub returns-in_ok-owing-in-Some : goal.returns-in_ok-owing-in-Some
+returns-in_ok-owing-in-Some c =
+    let d = c.self.inside in
+    let items = d.accounts.items in
+    let name = c.args.account.now in
+    let a = c.index-account.result.now in
+    let place = found_at d.index (named_all items) name c.bytes.result.now c.in-Some.at c.self.invariant.index c.bytes.ensures.value c.in-Some.ensures in
+    let low : c.in-Some.at < length items = omega (arith, place.bound, length-map items (λ (x : OpenAccount). x.named)) in
+    let here = there_at items name c.in-Some.at a place c.index-account.ensures in
+    let s = state_of d.today d.shared.items items in
+    let same = book_at d.index d.calendar d.fees d.count d.today d.shared.items items c.in-Some.at a c.self.invariant low c.index-account.ensures in
+    c.shown.ensures ∙ ap (λ (o : Owing). view.Show d.today o.owed o.credit o.held) c.in_ok-owing-in-Some.ensures ∙ ap (λ (b : Book). shown_of d.today b) same
+    ∙ ap (λ (o : Option Lists). shown s o) here ∙ ap (λ (x : State). shown x (lists_of name x.accounts)) c.self.view_is

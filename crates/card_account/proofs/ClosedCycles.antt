@@ -1,0 +1,89 @@
+-- A cycle that is closed before today is in the book of today.
+use Rattle.std.proofs.Common.{◌≡◌, ℕ, zero, suc, ◌+◌, ◌<◌, ◌≤◌, ◌⊎◌, inl, inr, Bool, true, false, List, [], ◌∷◌, length, Option, Some, None, refl, ap, arith}
+use Rattle.std.specs.Prelude.{IsSomeAnd, is_some, if◌then◌else◌, nat_lt, not, ◌==◌, slice_get}
+use Rattle.std.specs.Option.{option_map}
+use Rattle.std.proofs.lemmas.Bool.{and_parts, cases_lt, ltb-true}
+use Rattle.card_account.specs.Accounts.{is_closed, present_of, restated_as, restated_statement, shared_by}
+use Rattle.card_account.specs.Closed.{ClosedCyclesAreInTheBook}
+use Rattle.card_days.specs.Billing.{closing}
+use Rattle.card_days.specs.declared.anchor.Anchor.{Anchor}
+use Rattle.card_days.proofs.Cycles.{closing_grows, cycle_around}
+use Rattle.card_events.specs.History.{anchor_of}
+use Rattle.card_model.specs.Caps.{row_for}
+use Rattle.card_model.specs.CycleDays.{HasItsDays, IsOpening}
+use Rattle.card_model.specs.Cycles.{Cycle, IssuedRow}
+use Rattle.card_model.specs.Folds.{book, cycle_at}
+use Rattle.card_model.specs.Refusals.{Present, book_today}
+use Rattle.card_model.proofs.Calendar.{cycles_are_of_the_calendar, is-anchor}
+
+-- ---- closings come in the order of their numbers
+in_turn : (a : Anchor) (i j : ℕ) → i ≤ j → closing a i ≤ closing a j
+in_turn a i zero l = let none : i ≡ zero = omega arith in let same = ap (closing a) none in omega (arith, same)
+in_turn a i (suc j) l = by (cases_lt i (suc j)) (in_turn a i j)
+  where
+    by : (i < suc j) ⊎ (suc j ≤ i) → (i ≤ j → closing a i ≤ closing a j) → closing a i ≤ closing a (suc j)
+    by (inl less) before = let to = before (omega arith) in let more = closing_grows a j in omega (arith, to, more)
+    by (inr more) before = let here : i ≡ suc j = omega arith in let same = ap (closing a) here in omega (arith, same)
+
+-- so a cycle that closes before another has a smaller number
+earlier : (a : Anchor) (i j : ℕ) → closing a i < closing a j → i < j
+earlier a i j l = by (cases_lt i j)
+  where
+    by : (i < j) ⊎ (j ≤ i) → i < j
+    by (inl less) = less
+    by (inr more) = let turn = in_turn a j i more in absurd (omega (arith, l, turn))
+
+-- ---- a list of cycles has those with numbers from 1 to their count
+from_one : (k : ℕ) → not (k == 0) ≡ true → 1 ≤ k
+from_one zero e = cc
+from_one (suc k) e = omega arith
+
+in_place : (P : Cycle → Type 0) (i : ℕ) (cs : List Cycle) → ((c : Cycle) → slice_get cs i ≡ Some c → P c) → i < length cs → IsSomeAnd (slice_get cs i) P
+in_place P i [] each l = absurd (omega (arith, l))
+in_place P zero (c ∷ cs) each l = each c refl
+in_place P (suc i) (c ∷ cs) each l = in_place P i cs each (omega arith)
+
+in_list : (P : Cycle → Type 0) (k : ℕ) (cs : List Cycle) → ((c : Cycle) → cycle_at k cs ≡ Some c → P c) → 1 ≤ k → k ≤ length cs → IsSomeAnd (cycle_at k cs) P
+in_list P zero cs each low high = absurd (omega (arith, low))
+in_list P (suc k) cs each low high = in_place P k cs each (omega (arith, high))
+
+-- ---- the book of today
+in_book : (now : Present) (cycle : ℕ) → IsOpening (anchor_of now.lists.posts) → (anchor_of now.lists.posts).opened ≤ now.today → now.today ≤ 47481
+    → is_closed now.today now.lists cycle ≡ true → IsSomeAnd (cycle_at cycle (book_today now).cycles) (HasItsDays (anchor_of now.lists.posts) cycle)
+unfolding book_today
+in_book now cycle open' low dated e =
+    let a = anchor_of now.lists.posts in
+    let b = book now.lists.posts now.lists.issued now.shared now.today in
+    let parts = and_parts (not (cycle == 0)) (nat_lt (closing a cycle) now.today) e in
+    let shut = ltb-true (closing a cycle) now.today parts.1 in
+    let count = cycles_are_of_the_calendar.count now.lists.posts now.lists.issued now.shared now.today in
+    let around = cycle_around a (is-anchor a open') (now.today + 1) (length b.cycles + 1) (omega (arith, low)) (omega (arith, dated)) count in
+    let next = around.1 in
+    let less = earlier a cycle (length b.cycles + 1) (omega (arith, shut, next)) in
+    in_list (HasItsDays a cycle) cycle b.cycles
+    (λ c is. cycles_are_of_the_calendar.days now.lists.posts now.lists.issued now.shared now.today cycle c open' (omega (arith, dated)) is)
+    (from_one cycle parts.0) (omega (arith, less))
+
+-- ---- the restated statement
+some_of : (P : Cycle → Type 0) (o : Option Cycle) → IsSomeAnd o P → is_some o ≡ true
+some_of P None there = absurd there
+some_of P (Some c) there = refl
+
+some_where : (issued : Option IssuedRow) (o : Option Cycle) (t : Bool) → (t ≡ true → is_some o ≡ true) → is_some (if t then option_map (restated_as issued) o else None) ≡ t
+some_where issued o false there = refl
+some_where issued None true there = there refl
+some_where issued (Some c) true there = refl
+
+restated_there : (now : Present) (cycle : ℕ) → (is_closed now.today now.lists cycle ≡ true → is_some (cycle_at cycle (book_today now).cycles) ≡ true)
+    → is_some (restated_statement now cycle) ≡ is_closed now.today now.lists cycle
+unfolding restated_statement
+restated_there now cycle there = some_where (row_for cycle now.lists.issued) (cycle_at cycle (book_today now).cycles) (is_closed now.today now.lists cycle) there
+
+pub closed_cycles_are_in_the_book : ClosedCyclesAreInTheBook
+closed_cycles_are_in_the_book today holidays fees a may =
+    let now = present_of today (shared_by holidays fees) a.named.lists in
+    record {
+      there = λ cycle e. in_book now cycle may.sound.opening may.opened may.dated e;
+      restated = λ cycle. restated_there now cycle
+          (λ e. some_of (HasItsDays (anchor_of now.lists.posts) cycle) (cycle_at cycle (book_today now).cycles) (in_book now cycle may.sound.opening may.opened may.dated e));
+    }

@@ -1,0 +1,7 @@
+pub mod BillLemmas
+pub mod ClosedCycles
+pub mod ClosingLemmas
+pub mod Held
+pub mod ReasonLemmas
+pub mod RowLemmas
+pub mod Runs

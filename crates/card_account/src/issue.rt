@@ -1,0 +1,82 @@
+// What a Bill issues.
+ghost use Rattle.std.specs.Prelude.{◌≡◌, ◌≤◌, ◌<◌, ◌++◌, [], ◌∷◌, List, None, IfOk, length, vec_len, vec_capacity};
+ghost use Rattle.card_account.specs.Accounts.{given_of, issued_as, present_of, shared_by};
+ghost use Rattle.card_daily.specs.Given.{IsSound, opened_in};
+ghost use Rattle.card_model.specs.Folds.{rows_issued};
+ghost use Rattle.card_model.specs.Machine.{issues};
+ghost use Rattle.card_model.specs.Refusals.{reason_against};
+ghost use Rattle.card_posts.specs.Posted.{StandsFor};
+
+use crate::closings::closed_cycle;
+use card_book::{Folded, Issued, Statement, fold};
+use card_days::{Calendar, Day};
+use card_events::{Num, Post};
+use card_fees::FeeTable;
+use card_posts::Posts;
+use card_units::NoMemory;
+use std::alloc::Global;
+
+/// The row that a post issues today, where it is a Bill that may be accepted.
+#[tactic(auto, unfolding(card_model::specs::Refusals::book_today))]
+pub fn issued_by(
+    alloc: Global,
+    posts: &Posts,
+    issued: &[Issued],
+    today: Day,
+    post: &Post,
+    calendar: &Calendar,
+    fees: &FeeTable,
+) -> Result<Option<Issued>, NoMemory>
+    requires no_reason { reason_against (present_of today (shared_by calendar.now fees.now) (record { posts = posts.now.history; issued = issued.now })) post.now ≡ None }
+    requires stands { StandsFor calendar.now posts.now }
+    requires sound { IsSound (record { history = posts.now.history; issued = issued.now; shared = record { holidays = calendar.now; fees = fees.now } }) }
+    requires opened { opened_in (record { history = posts.now.history; issued = issued.now; shared = record { holidays = calendar.now; fees = fees.now } }) ≤ today }
+    requires dated { today ≤ 47_481 }
+    ensures { IfOk result (λ made. issued_as made ≡ issues (present_of today (shared_by calendar.now fees.now) (record { posts = posts.now.history; issued = issued.now })) post.now) }
+{
+    match post {
+        Post::Bill { cycle } => {
+            let folded = fold(alloc, posts, issued, calendar, fees, today)?;
+            row_of(alloc, &folded, *cycle, posts.len() + 1, today)
+        }
+        _ => Ok(None),
+    }
+}
+
+// The row of a closed cycle that a Bill with a number issues today, none where the cycle isn't closed.
+fn row_of(
+    alloc: Global,
+    folded: &Folded,
+    cycle: Num,
+    bill: u32,
+    today: Day,
+) -> Result<Option<Issued>, NoMemory>
+    requires { cycle ≤ 48_576 }
+    ensures { IfOk result (λ made. issued_as made ≡ rows_issued cycle bill today folded.now) }
+{
+    match closed_cycle(folded, cycle) {
+        Some(closed) => {
+            let statement = Statement {
+                cycle: closed.copy(alloc)?,
+                issue: today,
+            };
+            Ok(Some(Issued {
+                cycle: cycle.get() as u32,
+                bill,
+                day: today,
+                statement,
+            }))
+        }
+        None => Ok(None),
+    }
+}
+
+/// Adds what was issued, with room for one more.
+pub fn push_issued(list: &mut Vec<Issued>, made: Option<Issued>)
+    requires { vec_len list.old < vec_capacity list.old }
+    ensures { list.new.items ≡ list.old.items ++ issued_as made }
+{
+    if let Some(row) = made {
+        let _ = list.push(row);
+    }
+}

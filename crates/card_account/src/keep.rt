@@ -1,0 +1,24 @@
+// Keeping one row.
+ghost use Rattle.std.specs.Prelude.{◌≡◌, ◌≤◌, [], ◌∷◌, OnOk, OnErr, IsErrOf};
+ghost use Rattle.card_keeper.specs.Rows.{GoOn, KeepsRows, AddsRows, SameRowsTold};
+ghost use Rattle.card_ports.specs.Counts.{Rose};
+
+use crate::Fault;
+use card_keeper::{Keeper, KeeperFault, Row};
+use std::alloc::Global;
+
+/// Adds the row at the end, or leaves the rows as they are.
+pub fn keep_row<K: Keeper>(alloc: Global, keeper: &mut K, row: Row) -> Result<(), Fault>
+    requires { GoOn (K.rows keeper.old) (row ∷ []) }
+    ensures ok { OnOk result (AddsRows (K.rows keeper.old) (K.rows keeper.new) (row ∷ [])) }
+    ensures err { OnErr result (KeepsRows (K.rows keeper.old) (K.rows keeper.new)) }
+    ensures told { SameRowsTold (K.rows keeper.old) (K.rows keeper.new) }
+    ensures count { K.faults keeper.old ≤ K.faults keeper.new }
+    ensures cause { IsErrOf result Fault.Keeper → Rose (K.faults keeper.old) (K.faults keeper.new) }
+{
+    match keeper.append(alloc, &[row]) {
+        Ok(()) => Ok(()),
+        Err(KeeperFault::Failed) => Err(Fault::Keeper),
+        Err(KeeperFault::Memory) => Err(Fault::Memory),
+    }
+}

@@ -1,0 +1,51 @@
+-- A desk, by its parts.
+use Rattle.std.specs.Prelude.{◌≡◌, ◌≤◌, ℕ, true, map, length, List}
+use Rattle.std.specs.List.{All, list_all}
+use Rattle.card_account.specs.Accounts.{IsCorrected, OpenAccount}
+use Rattle.card_days.specs.Business.{is_holiday}
+use Rattle.card_desk.specs.Applied.{are_short}
+use Rattle.card_desk.specs.Kept.{accepted_count, is_taken}
+use Rattle.card_desk.specs.Places.{IsIndex}
+use Rattle.card_events.specs.SharedRows.{FeeRow, shared_rows}
+use Rattle.card_events.specs.declared.request.Request.{Request}
+use Rattle.card_events.specs.declared.request.Shared.{Shared}
+use Rattle.card_model.specs.Machine.{NamedAccount, State, run}
+use Rattle.card_model.specs.Refusals.{Lists, Present}
+
+-- the accounts as the machine has them
+abbrev pub named_all : List OpenAccount → List NamedAccount
+named_all accounts = map (λ a. a.named) accounts
+
+-- the state that a desk stands for
+abbrev pub state_of : ℕ → List Shared → List OpenAccount → State
+state_of today rows accounts = record { today = today; shared = rows; accounts = named_all accounts }
+
+-- what an account with these lists is judged and shown by, in a state
+abbrev pub now_of : State → Lists → Present
+now_of s lists = record { today = s.today; shared = shared_rows s.shared; lists = lists }
+
+-- some requests of the kinds that the ledger takes so far lead to the state
+pub record IsRun (s : State) : Type 0 where
+  pub requests : List Request
+  pub taken : list_all is_taken requests ≡ true
+  pub state_is : s ≡ run requests
+
+-- the same days are holidays
+abbrev pub AreSameHolidays : List ℕ → List ℕ → Type 0
+AreSameHolidays these those = (x : ℕ) → is_holiday these x ≡ is_holiday those x
+
+-- each corrected list is that of the account's posts under these holidays
+abbrev pub AreCorrected : List ℕ → List OpenAccount → Type 0
+AreCorrected holidays accounts = All (IsCorrected holidays) accounts
+
+-- what is kept stands for the state
+pub record IsDesk (places : List (List ℕ × ℕ)) (calendar : List ℕ) (fees : List FeeRow) (count today : ℕ) (rows : List Shared) (accounts : List OpenAccount) : Type 0 where
+  pub index : IsIndex places (named_all accounts)
+  pub few : length accounts ≤ 1_000_000
+  pub short : are_short (named_all accounts) ≡ true
+  pub dated : today ≤ 47_481
+  pub holidays : AreSameHolidays calendar (shared_rows rows).holidays
+  pub table : fees ≡ (shared_rows rows).fees
+  pub corrected : AreCorrected calendar accounts
+  pub counted : count ≡ accepted_count (state_of today rows accounts)
+  pub ran : IsRun (state_of today rows accounts)
