@@ -1,8 +1,11 @@
 #!/bin/sh
 # How long `apply` takes over generated lines, and how long their rows take to load: for 50,000 and 200,000 lines over 1,000
-# accounts, or for the numbers of lines that are given. It isn't part of the gate. The program is built in a copy.
+# accounts, or for the numbers of lines that are given; with the word `bills`, for 100 and 1,000 accounts, or for the numbers
+# of accounts that are given, over two years with a charge, a bill and a payment a month for each. It isn't part of the gate.
+# The program is built in a copy.
 #
 #     bench/kept-rows.sh [LINES..]
+#     bench/kept-rows.sh bills [ACCOUNTS..]
 set -e
 top=$(cd "$(dirname "$0")/.." && pwd)
 work=$(mktemp -d)
@@ -80,6 +83,29 @@ lines() {
     }'
 }
 
+# So many accounts over 24 months: on the 4th of each a charge, on the 6th the bill of the cycle that closed on the 5th, and on
+# the 20th a payment, for each account.
+months() {
+    awk -v accounts="$1" 'BEGIN {
+        print "feerow 2011-01-02 3000 4100"
+        print "roll 2024-01-02"
+        for (a = 0; a < accounts; a++)
+            printf "open a%04d o 2024-01-02 5 1999 2499 2199 2999 2500 100\n", a
+        for (m = 0; m < 24; m++) {
+            month = sprintf("%d-%02d", 2024 + int(m / 12), m % 12 + 1)
+            print "roll " month "-04"
+            for (a = 0; a < accounts; a++)
+                printf "charge a%04d c%d %s-04 purchase %d\n", a, m, month, 5000 + (a + m) % 90 * 100
+            print "roll " month "-06"
+            for (a = 0; a < accounts; a++)
+                printf "bill a%04d b%d %d\n", a, m, m + 1
+            print "roll " month "-20"
+            for (a = 0; a < accounts; a++)
+                printf "payment a%04d p%d %s-20 600 online %d\n", a, m, month, 2500 + (a * 7 + m) % 60 * 100
+        }
+    }'
+}
+
 # Seconds of a run, to the hundredth: the least of five.
 seconds() {
     for try in 1 2 3 4 5; do
@@ -91,10 +117,17 @@ seconds() {
 }
 
 echo "cores $(nproc)"
+form=lines
+if [ "$1" = bills ]; then
+    form=months
+    shift
+    [ $# -gt 0 ] || set -- 100 1000
+fi
 [ $# -gt 0 ] || set -- 50000 200000
 for n in "$@"; do
-    lines "$n" >"$work/lines"
+    "$form" "$n" >"$work/lines"
     apply=$(seconds "" "$work/lines")
     both=$(seconds load "$work/lines")
-    echo "lines $n accepted $(grep -c '^ok' "$work/replies") apply ${apply}s apply and load ${both}s"
+    count=$(wc -l <"$work/lines")
+    echo "$form $n lines $count accepted $(grep -c '^ok' "$work/replies") apply ${apply}s apply and load ${both}s"
 done

@@ -15,14 +15,15 @@ use Rattle.card_text.specs.declared.line.Line.{Line}
 use Rattle.card_text.specs.declared.line.Line.TheVariants as line
 use Rattle.card_text.specs.Replies.{reply_text, refusal_text, bad_text, show_text}
 
--- the show line of an account, or the refusal of one that isn't there
+-- the show line of an account, or the refusal of one that isn't there; a `show` line comes to nothing else
 unfoldable pub view_text : List ℕ → View → List ℕ
 view_text account view.NoAccount = refusal_text refusal.UnknownAccount
 view_text account (view.Show day owed credit held) = show_text account day owed credit held
+view_text account _ = []
 
 abbrev pub is_no_account : View → Bool
 is_no_account view.NoAccount = true
-is_no_account (view.Show day owed credit held) = false
+is_no_account _ = false
 
 abbrev pub is_refusal : Reply → Bool
 is_refusal reply.Done = false

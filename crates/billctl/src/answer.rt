@@ -85,7 +85,7 @@ fn answer_show(alloc: Global, desk: &Desk, account: &Name) -> Result<(String, bo
     ensures text { IfOk result (λ a. string_bytes a.0 ≡ spec.view_text account.now (seen desk.now (ask.Show account.now))) }
     ensures refused { IfOk result (λ a. a.1 ≡ spec.is_no_account (seen desk.now (ask.Show account.now))) }
 {
-    let view = desk.show(account);
+    let view = desk.show(alloc, account)?;
     Ok((view_text(alloc, account, &view)?, is_no_account(&view)))
 }
 
@@ -101,6 +101,7 @@ fn view_text(alloc: Global, account: &Name, view: &View) -> Result<String, NoMem
             credit,
             held,
         } => show_text(alloc, account, *day, *owed, *credit, *held),
+        View::NoStatement | View::Statement(_) => Ok(String::new(alloc)),
     }
 }
 

@@ -139,7 +139,7 @@ fn refusals_and_bad_lines_harm_no_other_line(rt: HostRuntime) -> Result<(), Fail
             1,
         ),
         (
-            b"charge a c2 2024-03-01 cash 5\nholiday 2024-03-05\npenalty a q\n",
+            b"refund a f 5\nlower a l 2024-03-01 cash 5\npenalty a q\n",
             "bad 5 1\nbad 6 1\nbad 7 1\n",
             1,
         ),
