@@ -9,6 +9,7 @@ pub mod OnSegments
 pub mod Owned
 pub mod Points
 pub mod RateBounds
+pub mod Reached
 pub mod Steps
 pub mod Totals
 pub mod Whole

@@ -113,7 +113,7 @@ charged-small issued (Some f) h g e =
 penalty-small : (issued : Option IssuedRow) (seen : Seen) (b : Book) (k : FeeKind) (c : Cycle) → Limits seen → (g : Fee) → penalty_fee issued seen b k c ≡ Some g → fee_cents g ≤ 100000
 penalty-small issued seen b k c l g e = charged-small issued _ (fee_for-small seen b.cycles b.fees (present_cycle b) k c l) g e
 
-returned-small : (issued : Option IssuedRow) (seen : Seen) (b : Book) (c : Option Cycle) → Limits seen → (g : Fee) → returned_fee issued seen b c ≡ Some g → fee_cents g ≤ 100000
+pub returned-small : (issued : Option IssuedRow) (seen : Seen) (b : Book) (c : Option Cycle) → Limits seen → (g : Fee) → returned_fee issued seen b c ≡ Some g → fee_cents g ≤ 100000
 returned-small issued seen b None l g e = cc
 returned-small issued seen b (Some c) l g e = penalty-small issued seen b fee.Returned c l g e
 

@@ -1,6 +1,7 @@
 //! Bounds from the limits on posts, cents, fees and days alone; on which segments and days entries lie.
 ghost use Rattle.card_bounds.specs.Bounds.{BalancesBounded, BalancesSmall, CyclesHaveTheirInterest, HeldIsNeverBelow, RatesSmall, RowsOfPastDays, RowsSmall, SmallAtEachStep, SumsSmall};
 ghost use Rattle.card_bounds.specs.Places.{CyclesBeginInTurn, EntriesHaveDays, EntriesHaveSegments};
+ghost use Rattle.card_bounds.specs.Reached.{PaymentsReach};
 
 /// Every balance lies within what was moved, interest apart, and 10^13 cents.
 pub fn balances_bounded()
@@ -62,4 +63,11 @@ pub fn entries_have_days()
 /// The cycle that a book is in begins on the day after the last closing before the next day.
 pub fn cycles_begin_in_turn()
     ensures { CyclesBeginInTurn }
+{}
+
+/// After each front of a day's posts: an entry of a payment lowers what is owed and isn't on Held; those of one payment are of
+/// ascending segments, and together at most 10^9 cents. An entry of kind credit has the number of no post that isn't a
+/// merchant's credit.
+pub fn payments_reach()
+    ensures { PaymentsReach }
 {}

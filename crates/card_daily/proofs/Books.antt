@@ -17,7 +17,7 @@ use Rattle.card_model.specs.Caps.{row_for}
 use Rattle.card_model.specs.Closing.{close}
 use Rattle.card_model.specs.Cycles.{Cycle, IssuedRow, Seen, last_cycle, posts_on}
 use Rattle.card_model.specs.DueDates.{after_due_date, cured_by, on_due}
-use Rattle.card_model.specs.Effects.{after_posts, effect}
+use Rattle.card_model.specs.Effects.{after_posts, effect, meant_for, payment_at, returned, returned_fee}
 use Rattle.card_model.specs.Folds.{book, book_after, day_after}
 use Rattle.card_model.specs.declared.fee.Fee.{Fee}
 use Rattle.card_daily.specs.Given.{Given, IsSound, account_in, book_in, book_on, is_to_come, opened_in, row_in, seen_in}
@@ -57,10 +57,8 @@ effect-none issued a seen s post.Penalty b e h = absurd (no e)
   where
     no : true ≡ false → ⊥
     no e = cc
-effect-none issued a seen s (post.Return d target) b e h = absurd (no e)
-  where
-    no : true ≡ false → ⊥
-    no e = cc
+effect-none issued a seen s (post.Return d target) b e h =
+    fee-none a seen s.number (returned_fee issued seen b (meant_for b.cycles (payment_at target seen.posts))) (returned a seen s.number target b) h
 effect-none issued a seen s (post.Charge d p n) b e h = h
 effect-none issued a seen s (post.Payment d m c n) b e h = h
 effect-none issued a seen s (post.Credit d p n) b e h = h

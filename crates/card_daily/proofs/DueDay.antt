@@ -19,17 +19,18 @@ use Rattle.card_model.specs.DueDates.{after_due_date, cured_by, late_fee, on_due
 use Rattle.card_model.specs.Effects.{after_posts}
 use Rattle.card_model.specs.Entries.{AreBalances, at_least_zero, credit_balance, debit}
 use Rattle.card_model.specs.Fees.{fee_cents, fee_for}
-use Rattle.card_model.specs.Payments.{met}
+use Rattle.card_model.specs.Payments.{is_returned, met}
 use Rattle.card_model.specs.Segments.{SegmentTerms}
 use Rattle.card_model.specs.declared.entry.EntryKind.TheVariants as kind
 use Rattle.card_model.specs.declared.fee.Fee.{Fee}
 use Rattle.card_model.specs.declared.segment.Interval.{Interval}
-use Rattle.card_daily.proofs.Books.{HasNone, before-none, day-is, seen-all}
-use Rattle.card_daily.proofs.Repaying.{IsOther, nothing, others-bring, repaid-now}
+use Rattle.card_daily.proofs.Books.{HasNone, before-none, day-is}
+use Rattle.card_daily.proofs.Repaying.{IsOther, others-bring, same-brought}
+use Rattle.card_daily.proofs.Returning.{returned-start}
 use Rattle.card_daily.proofs.Standing.{begins-with}
 use Rattle.card_daily.specs.Due.{fee_after, fee_due}
 use Rattle.card_daily.specs.Given.{Given, IsSound, account_in, opened_in, row_in, seen_in}
-use Rattle.card_daily.specs.Stands.{AreAmid, AreBefore, StandFor, amid, before, first_in, rows_amid, rows_through}
+use Rattle.card_daily.specs.Stands.{AreAmid, AreBefore, StandFor, amid, before, first_in, returned_by, rows_amid, rows_through}
 use Rattle.card_daily.specs.declared.state.State.{State}
 use Rattle.card_daily.specs.declared.track.Track.{Track}
 
@@ -100,22 +101,22 @@ map-each : {X Y : Type 0} (f h : X → Y) → ((x : X) → f x ≡ h x) → (xs 
 map-each f h e [] = refl
 map-each f h e (x ∷ xs) = ap (λ y. y ∷ map f xs) (e x) ∙ ap (λ ys. h x ∷ ys) (map-each f h e xs)
 
-fee-others : (a : Account) (seen : Seen) (n : ℕ) (b : Book) (o : Option Fee) (s first : ℕ) → brought nothing s first (with_fee a seen n o b).entries ≡ brought nothing s first b.entries
-fee-others a seen n b None s first = refl
-fee-others a seen n b (Some f) s first =
-    others-bring s first b.entries _ (all-debit IsOther seen.day n (newest_purchase a seen) (fee_cents f) (credit_balance b.entries) kind.Fee (λ s z. refl))
+fee-others : (f : ℕ → Bool) (a : Account) (seen : Seen) (n : ℕ) (b : Book) (o : Option Fee) (s first : ℕ) → brought f s first (with_fee a seen n o b).entries ≡ brought f s first b.entries
+fee-others f a seen n b None s first = refl
+fee-others f a seen n b (Some x) s first =
+    others-bring f s first b.entries _ (all-debit IsOther seen.day n (newest_purchase a seen) (fee_cents x) (credit_balance b.entries) kind.Fee (λ s z. refl))
 
 -- a day begins with the rows of the days before it
-rows-begin : (g : Given) (day : ℕ) (o : Option Fee) (t : SegmentTerms) → IsSound g
-    → rows_amid g day (with_fee (account_in g) (seen_in g day) 0 o (before g day)) t ≡ rows_through g (first_in g day) (day - 1) (before g day) t
+rows-begin : (g : Given) (day : ℕ) (o : Option Fee) (t : SegmentTerms)
+    → rows_amid g day [] (with_fee (account_in g) (seen_in g day) 0 o (before g day)) t ≡ rows_through g (first_in g day) (day - 1) (before g day) t
 unfolding rows_of
-rows-begin g day o t s =
+rows-begin g day o t =
     let b = before g day in
     let first = first_in g day in
     let b' = with_fee (account_in g) (seen_in g day) 0 o b in
-    let now = repaid-now (seen_in g day) t.id first b'.entries (seen-all g day s) in
-    let earlier = repaid-now (seen_in g (day - 1)) t.id first b.entries (seen-all g (day - 1) s) in
-    ap (λ r. with_repaid r (rows_through g first (day - 1) b t)) (now ∙ (fee-others (account_in g) (seen_in g day) 0 b o t.id first ∙ sym earlier))
+    let earlier : ℕ → Bool = λ (n : ℕ). is_returned (seen_in g (day - 1)).posts (day - 1) n in
+    ap (λ r. with_repaid r (rows_through g first (day - 1) b t))
+    (same-brought t.id first (returned_by g day []) earlier (returned-start g day) b'.entries ∙ fee-others earlier (account_in g) (seen_in g day) 0 b o t.id first)
 
 -- ---- state and track
 fee-cycles : (a : Account) (seen : Seen) (n : ℕ) (o : Option Fee) (b : Book) → (with_fee a seen n o b).cycles ≡ b.cycles
@@ -140,10 +141,10 @@ begun g day o s new t after sound l due h w =
     let is : b' ≡ amid g day [] = sym (amid-is g day sound l ∙ ap (λ (o : Option Fee). with_fee (account_in g) (seen_in g day) 0 o b) due) in
     let rates : new.rates ≡ rates_of g.shared.holidays g.history b'.penalties =
     w.rates ∙ (h.stand.rates ∙ ap (λ ps. rates_of g.shared.holidays g.history ps) (sym (fee-penalties (account_in g) (seen_in g day) 0 o b))) in
-    let rows : new.rows.items ≡ map (rows_amid g day b') new.rates.segments =
-    w.rows ∙ (h.stand.rows ∙ (map-each (rows_through g (first_in g day) (day - 1) b) (rows_amid g day b') (λ x. sym (rows-begin g day o x sound)) s.rates.segments
-    ∙ ap (λ (r : Rates). map (rows_amid g day b') r.segments) (sym w.rates))) in
-    let stand : StandFor g (rows_amid g day b') b' new after = record {
+    let rows : new.rows.items ≡ map (rows_amid g day [] b') new.rates.segments =
+    w.rows ∙ (h.stand.rows ∙ (map-each (rows_through g (first_in g day) (day - 1) b) (rows_amid g day [] b') (λ x. sym (rows-begin g day o x)) s.rates.segments
+    ∙ ap (λ (r : Rates). map (rows_amid g day [] b') r.segments) (sym w.rates))) in
+    let stand : StandFor g (rows_amid g day [] b') b' new after = record {
       entries = w.entries;
       cycles = w.cycles ∙ (h.stand.cycles ∙ sym (fee-cycles (account_in g) (seen_in g day) 0 o b));
       fees = w.fees;
@@ -154,7 +155,7 @@ begun g day o s new t after sound l due h w =
       accruals = ap (λ (xs : List Accrued). length xs) w.accruals ∙ (h.stand.accruals ∙ ap (λ (r : Rates). length r.segments) (sym w.rates));
     } in
     record {
-      stand = subst (λ (b : Book). StandFor g (rows_amid g day b) b new after) is stand;
+      stand = subst (λ (b : Book). StandFor g (rows_amid g day [] b) b new after) is stand;
       accrued = record {
         sums = λ x there deferred over.
             ap (λ (xs : List Accrued). (get_or xs (x.id - 2) nothing_accrued).sum) w.accruals ∙ h.accrued.sums x (subst (λ (r : Rates). Contains r.segments x) w.rates there) deferred over;

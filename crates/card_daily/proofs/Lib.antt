@@ -1,5 +1,6 @@
 pub mod AtClosing
 pub mod Books
+pub mod Charging
 pub mod Closed
 pub mod ClosingDay
 pub mod Cycles
@@ -8,7 +9,10 @@ pub mod DueFee
 pub mod Each
 pub mod Find
 pub mod Following
+pub mod Fronts
+pub mod LastThat
 pub mod Lasts
+pub mod Naming
 pub mod NextDay
 pub mod OfTests
 pub mod Opened
@@ -16,6 +20,7 @@ pub mod Planned
 pub mod PostDay
 pub mod Posting
 pub mod Repaying
+pub mod Returning
 pub mod RowsOfADay
 pub mod Runs
 pub mod Standing

@@ -1,5 +1,5 @@
 -- The accounts of the tests may be folded.
-use Rattle.std.proofs.Common.{◌≡◌, ℕ, ◌≤◌, Bool, true, false, cond, List, [], ◌∷◌, ◌++◌, length, refl, sym, ap, ◌∙◌, subst, arith, Option, Some, None}
+use Rattle.std.proofs.Common.{◌≡◌, ℕ, ◌+◌, ◌≤◌, Bool, true, false, cond, List, [], ◌∷◌, ◌++◌, length, refl, sym, ap, ◌∙◌, subst, arith, Option, Some, None}
 use Rattle.std.proofs.lemmas.Bool.{le-leb}
 use Rattle.std.proofs.lemmas.List.Elements.{All-cons, All-nil, All-push}
 use Rattle.std.proofs.lemmas.List.Sums.{sum_by_push}
@@ -17,7 +17,8 @@ use Rattle.card_model.specs.Cycles.{IssuedRow}
 use Rattle.card_model.specs.Deadlines.{resolves}
 use Rattle.card_model.specs.Refusals.{plan_days}
 use Rattle.card_posts.specs.Posted.{IsReceived, target_of}
-use Rattle.card_daily.specs.Given.{EndsWithAClosing, IsSound, is_to_come}
+use Rattle.card_daily.proofs.Naming.{names-more}
+use Rattle.card_daily.specs.Given.{EndsWithAClosing, IsSound, NamePayments, NamesAPayment, is_to_come}
 use Rattle.card_daily.specs.TestAccount.{IsGood, IsOn, opening}
 
 -- ---- a post that they take
@@ -30,6 +31,7 @@ record IsPlain (p : Post) : Type 0 where
   pub no_plan : plan_days p ≡ None
   pub folded : is_to_come p ≡ false
   pub no_target : target_of p ≡ 0
+  pub no_return : (history : List Kept) (n : ℕ) → NamesAPayment history n p
   pub received : (on : ℕ) → 19819 ≤ on → IsOn on p → IsReceived 19819 on p
 
 dated-on : (day on : ℕ) → day ≡ on → on ≤ 47481 → nat_le day 47481 ≡ true
@@ -46,6 +48,7 @@ plain on (post.Charge day by cents) l h = record {
   no_plan = refl;
   folded = refl;
   no_target = refl;
+  no_return = λ history n. tt;
   received = λ on low h. tt;
 }
 plain on (post.Payment day minute by cents) l h = record {
@@ -57,6 +60,7 @@ plain on (post.Payment day minute by cents) l h = record {
   no_plan = refl;
   folded = refl;
   no_target = refl;
+  no_return = λ history n. tt;
   received = λ on low h. let same = h.0 in ((omega (arith, same, low), omega (arith, same)), h.1);
 }
 plain on p l h = absurd h
@@ -100,6 +104,7 @@ with-one-more (x ∷ xs) k on few l h good =
         opening = old.opening;
         plans = All-push (EndsWithAClosing (anchor_of ks)) ks k old.plans (λ first end e. absurd (no-days _ (first, end) p.no_plan e));
         folded = All-push (λ (k : Kept). is_to_come k.post ≡ false) ks k old.folded p.folded;
+        returns = names-more ks k old.returns (p.no_return ks (1 + length ks));
       };
       opened = good.opened;
     }
@@ -114,7 +119,7 @@ abbrev kept : ℕ → List ℕ → ℕ → Post → Kept
 kept n key accepted p = record { number = n; key = key; accepted = accepted; post = p }
 
 of-opening : (n : ℕ) (key : List ℕ) (accepted : ℕ) → IsGood (kept n key accepted opening ∷ [])
-unfolding is_dated_post
+unfolding is_dated_post NamePayments
 of-opening n key accepted =
     let k = kept n key accepted opening in
     record {
@@ -133,6 +138,7 @@ of-opening n key accepted =
         opening = record { first = omega arith; last = omega arith; close_day = (omega arith, omega arith) };
         plans = All-cons (EndsWithAClosing (anchor_of (k ∷ []))) k [] (λ first end e. absurd (no-days _ (first, end) refl e)) (All-nil (EndsWithAClosing (anchor_of (k ∷ []))));
         folded = All-cons (λ (k : Kept). is_to_come k.post ≡ false) k [] refl (All-nil (λ (k : Kept). is_to_come k.post ≡ false));
+        returns = (tt, tt);
       };
       opened = refl;
     }

@@ -1,26 +1,25 @@
 -- The posts of a day in turn: the book after each, and what stands for it.
-use Rattle.std.proofs.Common.{◌≡◌, ℕ, eqb, ◌+◌, ◌-◌, ◌≤◌, ◌<◌, Bool, true, false, cond, List, [], ◌∷◌, ◌++◌, take, drop, length, refl, sym, ap, ◌∙◌, subst, arith, get_or, Option, Some, None, Result, Ok, Err, pos}
+use Rattle.std.proofs.Common.{◌≡◌, ℕ, eqb, ◌+◌, ◌-◌, ◌≤◌, ◌<◌, Bool, true, false, cond, ◌||◌, List, [], ◌∷◌, ◌++◌, map, take, drop, length, refl, sym, ap, ◌∙◌, subst, arith, get_or, Option, Some, None, Result, Ok, Err, pos}
 use Rattle.std.specs.Prelude.{◌≤ℤ◌, OnOk, OnErr}
 use Rattle.std.specs.List.{All, Contains, filter}
 use Rattle.std.proofs.lemmas.Bool.{eqb-true, false≢true}
 use Rattle.std.proofs.lemmas.Int.{ints}
 use Rattle.std.proofs.lemmas.List.{append_assoc, length-drop, length-map, take-append-drop, take_all}
-use Rattle.std.proofs.lemmas.List.Elements.{All-cons, All-filter, All-get_or, All-head, All-nil, All-tail, filter-append, filter_passes}
+use Rattle.std.proofs.lemmas.List.Elements.{All-cons, All-filter, All-get_or, All-head, All-nil, All-tail, filter_passes}
 use Rattle.card_bounds.proofs.OnDays.{cycles_begin_in_turn}
 use Rattle.card_bounds.proofs.Whole.{folded-few}
-use Rattle.card_bounds.specs.Bounds.{AreSmall}
 use Rattle.card_days.specs.Billing.{closing, cycle_of}
+use Rattle.card_effects.specs.Returned.{AreOfThose}
 use Rattle.card_effects.specs.Standing.{StandsAt}
 use Rattle.card_events.specs.History.{CorrectedPost, anchor_of, corrected, is_folded}
+use Rattle.card_events.specs.declared.post.Post.{Post}
 use Rattle.card_events.specs.declared.post.Post.TheVariants as post
 use Rattle.card_grace.specs.Accruals.{Accrued, nothing_accrued}
-use Rattle.card_grace.specs.BookRows.{brought}
 use Rattle.card_grace.specs.Growth.{with_repaid}
 use Rattle.card_grace.specs.Rows.{Rows}
-use Rattle.card_model.specs.Books.{Account, Book}
-use Rattle.card_model.specs.Cycles.{IssuedRow, Seen, last_cycle, posts_on}
-use Rattle.card_model.specs.DueDates.{on_due}
-use Rattle.card_model.specs.Effects.{after_posts, effect}
+use Rattle.card_model.specs.Books.{Book}
+use Rattle.card_model.specs.Effects.{effect}
+use Rattle.card_model.specs.Payments.{returns}
 use Rattle.card_model.specs.Segments.{SegmentTerms, kept_segment}
 use Rattle.card_model.specs.declared.segment.Segment.{Segment}
 use Rattle.card_posts.specs.Change.{on}
@@ -30,40 +29,21 @@ use Rattle.card_slots.proofs.Places.{of_days}
 use Rattle.card_slots.proofs.Turns.{in_turn, of_a_day}
 use Rattle.card_slots.specs.Days.{day_post, folded_post, place_of}
 use Rattle.card_slots.specs.declared.day.DayPost.{DayPost}
-use Rattle.card_daily.proofs.Books.{IsNow, all-now, amid-small, day-is, seen-all}
+use Rattle.card_daily.proofs.Books.{IsNow, all-now, day-is}
 use Rattle.card_daily.proofs.Following.{begun-by}
-use Rattle.card_daily.proofs.Posting.{IsAdded, begins-more, each-same, effect-adds}
-use Rattle.card_daily.proofs.Repaying.{repaid-now}
+use Rattle.card_daily.proofs.Posting.{IsAdded, begins-more, each-same, effect-adds, same-returned}
+use Rattle.card_daily.proofs.Fronts.{are-those, due_left, no-credit}
+use Rattle.card_daily.proofs.Repaying.{same-brought}
+use Rattle.card_daily.proofs.Returning.{not-returned, returned-next, sees-payment}
 use Rattle.card_daily.proofs.Standing.{amid-lies, begins-with, rated, stands}
 use Rattle.card_daily.specs.Given.{Given, IsSound, account_in, is_to_come, opened_in, row_in, seen_in}
-use Rattle.card_daily.specs.Posts.{IsRestKept, StandWith, done_by, none_returned, place_in}
-use Rattle.card_daily.specs.Stands.{AreAmid, Begins, StandFor, amid, before, first_in, only_folded, posts_of, rows_amid, rows_through}
+use Rattle.card_daily.specs.Posts.{IsRestKept, MayFollow, StandWith, done_by, place_in, returned_after}
+use Rattle.card_daily.specs.Returns.{SeesPayment}
+use Rattle.card_daily.specs.Stands.{AreAmid, Begins, StandFor, amid, before, first_in, posts_of, returned_by, rows_amid, rows_through}
 use Rattle.card_daily.specs.declared.state.State.{State}
 use Rattle.card_daily.specs.declared.track.Track.{Track}
 
 -- ---- the book after a front of the day's posts
-without-idle : (issued : Option IssuedRow) (a : Account) (seen : Seen) (ps : List CorrectedPost) (b : Book) → after_posts issued a seen (only_folded ps) b ≡ after_posts issued a seen ps b
-unfolding after_posts
-without-idle issued a seen [] b = refl
-without-idle issued a seen (p ∷ ps) b = by (is_folded p.post) refl (without-idle issued a seen ps)
-  where
-    by : (t : Bool) → is_folded p.post ≡ t → ((c : Book) → after_posts issued a seen (only_folded ps) c ≡ after_posts issued a seen ps c) → after_posts issued a seen (cond t (p ∷ only_folded ps) (only_folded ps)) b ≡ after_posts issued a seen ps (effect issued a seen p p.post b)
-    by true e ih = ih (effect issued a seen p p.post b)
-    by false e ih = ih b ∙ ap (after_posts issued a seen ps) (sym (of_a_day.idle issued a seen p b e))
-
--- the book that the due date left
-abbrev due_left : Given → ℕ → Book
-due_left g day = on_due (row_in g (day - opened_in g)) (account_in g) (seen_in g (opened_in g + (day - opened_in g))) (before g day) (last_cycle (before g day).cycles)
-
--- every front of the day's posts leaves small balances
-pub front-small : (g : Given) (day i : ℕ) → IsSound g → opened_in g ≤ day → day ≤ 47481 → AreSmall (amid g day (take i (posts_of g day))).entries
-front-small g day i s o l =
-    let ps = posts_of g day in
-    let parts : posts_on (seen_in g day) ≡ only_folded (take i ps) ++ only_folded (drop i ps) =
-    of_a_day.listed g.history g.issued g.shared day ∙ (ap only_folded (sym (take-append-drop i ps)) ∙ filter-append (λ (p : CorrectedPost). is_folded p.post) (take i ps) (drop i ps)) in
-    let same = without-idle (row_in g (day - opened_in g)) (account_in g) (seen_in g (opened_in g + (day - opened_in g))) (take i ps) (due_left g day) in
-    subst (λ (b : Book). AreSmall b.entries) same (amid-small g day (only_folded (take i ps)) (only_folded (drop i ps)) s o l parts)
-
 pub amid-next : (g : Given) (day i : ℕ) (d : CorrectedPost) → opened_in g ≤ day → i < length (posts_of g day)
     → amid g day (take (i + 1) (posts_of g day)) ≡ effect (row_in g (day - opened_in g)) (account_in g) (seen_in g day) (get_or (posts_of g day) i d) (get_or (posts_of g day) i d).post (amid g day (take i (posts_of g day)))
 amid-next g day i d o l =
@@ -145,36 +125,33 @@ none-found q e = by (is_folded q.post) refl e
         no e = cc
 
 -- ---- state and track
-pub with-rows : (g : Given) (day : ℕ) (done : List CorrectedPost) (s : State) (t : Track) → IsSound g → opened_in g ≤ day → AreAmid g day done s t
-    → StandWith (account_in g) (seen_in g day) (first_in g day) (rows_through g (first_in g day) (day - 1) (before g day)) (amid g day done) s t
-with-rows g day done s t sound o h =
+pub with-rows : (g : Given) (day : ℕ) (done : List CorrectedPost) (s : State) (t : Track) → opened_in g ≤ day → AreAmid g day done s t
+    → StandWith (account_in g) (seen_in g day) (first_in g day) (returned_by g day done) (rows_through g (first_in g day) (day - 1) (before g day)) (amid g day done) s t
+with-rows g day done s t o h =
     let b = amid g day done in
     let at = stands g day b s.segments.balances o (amid-lies g day done o) h.stand.sums in
     record {
       at = subst (λ r. StandsAt (account_in g) (seen_in g day) b r s.segments.balances t.entries.items) (sym h.stand.rates)
           (subst (λ es. StandsAt (account_in g) (seen_in g day) b (rates_of g.shared.holidays g.history b.penalties) s.segments.balances es) (sym h.stand.entries) at);
-      rows = h.stand.rows ∙ each-same (rows_amid g day b) (λ x. with_repaid (brought none_returned x.id (first_in g day) b.entries) (rows_through g (first_in g day) (day - 1) (before g day) x))
-          (λ x. ap (λ r. with_repaid r (rows_through g (first_in g day) (day - 1) (before g day) x)) (repaid-now (seen_in g day) x.id (first_in g day) b.entries (seen-all g day sound))) s.rates.segments;
+      fees = h.stand.fees;
+      rows = h.stand.rows;
     }
 
-pub amid-with : (g : Given) (day : ℕ) (done next : List CorrectedPost) (c : Book) (s new : State) (t after : Track) → IsSound g → AreAmid g day done s t → IsRestKept s new t after → IsAdded (amid g day done) c → c ≡ amid g day next
-    → StandWith (account_in g) (seen_in g day) (first_in g day) (rows_through g (first_in g day) (day - 1) (before g day)) c new after → AreAmid g day next new after
-amid-with g day done next c s new t after sound h k adds is w =
-    let first = first_in g day in
-    let held = rows_through g first (day - 1) (before g day) in
-    let stand : StandFor g (rows_amid g day c) c new after = record {
+pub amid-with : (g : Given) (day : ℕ) (done next : List CorrectedPost) (c : Book) (s new : State) (t after : Track) → AreAmid g day done s t → IsRestKept s new t after → IsAdded (amid g day done) c → c ≡ amid g day next
+    → StandWith (account_in g) (seen_in g day) (first_in g day) (returned_by g day next) (rows_through g (first_in g day) (day - 1) (before g day)) c new after → AreAmid g day next new after
+amid-with g day done next c s new t after h k adds is w =
+    let stand : StandFor g (rows_amid g day next c) c new after = record {
       entries = w.at.same;
       cycles = k.cycles ∙ (h.stand.cycles ∙ sym adds.cycles);
-      fees = k.fees ∙ (h.stand.fees ∙ sym adds.fees);
+      fees = w.fees;
       rates = k.rates ∙ (h.stand.rates ∙ ap (λ ps. rates_of g.shared.holidays g.history ps) (sym adds.penalties));
       segments = k.segments ∙ h.stand.segments;
       sums = w.at.sums;
-      rows = w.rows ∙ each-same (λ x. with_repaid (brought none_returned x.id first c.entries) (held x)) (rows_amid g day c)
-          (λ x. ap (λ r. with_repaid r (held x)) (sym (repaid-now (seen_in g day) x.id first c.entries (seen-all g day sound)))) new.rates.segments;
+      rows = w.rows;
       accruals = ap (λ (xs : List Accrued). length xs) k.accruals ∙ (h.stand.accruals ∙ ap (λ (r : Rates). length r.segments) (sym k.rates));
     } in
     record {
-      stand = subst (λ (b : Book). StandFor g (rows_amid g day b) b new after) is stand;
+      stand = subst (λ (b : Book). StandFor g (rows_amid g day next b) b new after) is stand;
       accrued = record {
         sums = λ x there deferred over.
             ap (λ (xs : List Accrued). (get_or xs (x.id - 2) nothing_accrued).sum) k.accruals ∙ h.accrued.sums x (subst (λ (r : Rates). Contains r.segments x) k.rates there) deferred over;
@@ -224,19 +201,20 @@ place-kind g day place x h = ap (λ (d : DayPost). is_to_come d.post) h.same ∙
 pub place-cycles : (g : Given) (day place : ℕ) (x : DayPost) (done : List CorrectedPost) (s : State) (t : Track) → IsAtPlace g day place x → AreAmid g day done s t → t.cycles.items ≡ (before g x.day).cycles
 place-cycles g day place x done s t p h = h.stand.cycles ∙ (cycles-before g day done ∙ ap (λ d. (before g d).cycles) (sym (place-day g day place x p)))
 
--- ---- one post more
--- the same of another day that is this one
-moved : (g : Given) (from day first : ℕ) (held : SegmentTerms → Rows) (row : Option IssuedRow) (q : CorrectedPost) (b : Book) (s new : State) (t after : Track) → from ≡ day
-    → (StandWith (account_in g) (seen_in g from) first held b s t → StandWith (account_in g) (seen_in g from) first held (effect row (account_in g) (seen_in g from) q q.post b) new after)
-    → StandWith (account_in g) (seen_in g day) first held b s t → StandWith (account_in g) (seen_in g day) first held (effect row (account_in g) (seen_in g day) q q.post b) new after
-moved g from day first held row q b s new t after e did =
-    subst (λ d. (StandWith (account_in g) (seen_in g d) first held b s t → StandWith (account_in g) (seen_in g d) first held (effect row (account_in g) (seen_in g d) q q.post b) new after)) e did
+-- a Return names an earlier payment, which the fold of its day sees
+pub place-named : (g : Given) (day place n : ℕ) (x : DayPost) → IsSound g → place_in g day ≤ place → place < place_in g day + length (posts_of g day) → IsAtPlace g day place x → returns n x.post ≡ true
+    → (n ≤ 10_000) × SeesPayment g x.day n
+place-named g day place n x s low high h gives =
+    let there = sees-payment g day (place - place_in g day) n any_post s (omega (arith, low, high)) (ap (λ (d : DayPost). returns n d.post) (sym h.same) ∙ gives) in
+    (there.0, subst (λ d. SeesPayment g d n) (sym (place-day g day place x h)) there.1)
 
+-- ---- one post more
 -- what entering the post of a place makes of state and track
 abbrev pub Enters : Given → DayPost → State → State → Track → Track → Type 0
 Enters g x s new t after =
-    (row : Option IssuedRow) (first : ℕ) (held : SegmentTerms → Rows) (p : CorrectedPost) (b : Book) → first ≤ x.day → b.cycles ≡ (before g x.day).cycles → x ≡ day_post p
-    → StandWith (account_in g) (seen_in g x.day) first held b s t → StandWith (account_in g) (seen_in g x.day) first held (effect row (account_in g) (seen_in g x.day) p p.post b) new after
+    (first : ℕ) (returned : ℕ → Bool) (held : SegmentTerms → Rows) (p : CorrectedPost) (b : Book) → first ≤ x.day → b.cycles ≡ (before g x.day).cycles → MayFollow x.day s.rates returned p b → x ≡ day_post p
+    → StandWith (account_in g) (seen_in g x.day) first returned held b s t
+    → StandWith (account_in g) (seen_in g x.day) first (returned_after returned p.post) held (effect (row_in g (x.day - opened_in g)) (account_in g) (seen_in g x.day) p p.post b) new after
 
 -- the book after the post at a place
 abbrev after_place : Given → ℕ → ℕ → Book
@@ -248,37 +226,107 @@ next-place g day place o low high =
     let next : place - place_in g day + 1 ≡ place + 1 - place_in g day = omega (arith, low) in
     sym (amid-next g day (place - place_in g day) any_post o (omega (arith, low, high))) ∙ ap (λ k. amid g day (take k (posts_of g day))) next
 
-pub after-post : (g : Given) (day place : ℕ) (x : DayPost) (s new : State) (t after : Track) → IsSound g → opened_in g ≤ day → day ≤ 47481 → IsAtPlace g day place x → AreAmid g day (done_by g day place) s t
-    → Enters g x s new t after → StandWith (account_in g) (seen_in g day) (first_in g day) (rows_through g (first_in g day) (day - 1) (before g day)) (after_place g day place) new after
-after-post g day place x s new t after sound o l p h did =
-    let same = place-day g day place x p in
-    let begun = first-by g day sound o l in
-    moved g x.day day (first_in g day) (rows_through g (first_in g day) (day - 1) (before g day)) (row_in g (day - opened_in g)) (post_at_place g day place) (amid g day (done_by g day place)) s new t after same
-    (did (row_in g (day - opened_in g)) (first_in g day) (rows_through g (first_in g day) (day - 1) (before g day)) (post_at_place g day place) (amid g day (done_by g day place)) (omega (arith, begun, same))
-    (cycles-before g day (done_by g day place) ∙ ap (λ d. (before g d).cycles) (sym same)) p.same)
-    (with-rows g day (done_by g day place) s t sound o h)
+-- the payments that are returned after it
+returned-place : (g : Given) (day place n : ℕ) → place_in g day ≤ place → place < place_in g day + length (posts_of g day)
+    → returned_after (returned_by g day (done_by g day place)) (post_at_place g day place).post n ≡ returned_by g day (done_by g day (place + 1)) n
+returned-place g day place n low high =
+    let next : place - place_in g day + 1 ≡ place + 1 - place_in g day = omega (arith, low) in
+    sym (returned-next g day (place - place_in g day) n any_post (omega (arith, low, high))) ∙ ap (λ k. returned_by g day (take k (posts_of g day)) n) next
+
+-- what it may rely on
+pub may-follow : (g : Given) (day place : ℕ) (s : State) (t : Track) → IsSound g → opened_in g ≤ day → place_in g day ≤ place → place < place_in g day + length (posts_of g day) → AreAmid g day (done_by g day place) s t
+    → MayFollow day s.rates (returned_by g day (done_by g day place)) (post_at_place g day place) (amid g day (done_by g day place))
+may-follow g day place s t sound o low high h =
+    let i = place - place_in g day in
+    let within : i < length (posts_of g day) = omega (arith, low, high) in
+    let one = sound.opening.first in
+    record {
+      stands = λ pays. not-returned g day i any_post sound (omega (arith, one, o)) within pays;
+      paid = λ n gives. no-credit g day i n any_post sound o within gives;
+      those = subst (λ (r : Rates). AreOfThose day r (amid g day (done_by g day place)).entries) (sym h.stand.rates) (are-those g day (amid g day (done_by g day place)) o (amid-lies g day (done_by g day place) o));
+    }
+
+-- the same of another day that is this one
+moved : (g : Given) (from day : ℕ) (x : DayPost) (s new : State) (t after : Track) (first : ℕ) (returned : ℕ → Bool) (held : SegmentTerms → Rows) (p : CorrectedPost) (b : Book) → x.day ≡ day → Enters g x s new t after
+    → first ≤ day → b.cycles ≡ (before g day).cycles → MayFollow day s.rates returned p b → x ≡ day_post p → StandWith (account_in g) (seen_in g day) first returned held b s t
+    → StandWith (account_in g) (seen_in g day) first (returned_after returned p.post) held (effect (row_in g (day - opened_in g)) (account_in g) (seen_in g day) p p.post b) new after
+moved g from day x s new t after first returned held p b e did =
+    subst (λ d. first ≤ d → b.cycles ≡ (before g d).cycles → MayFollow d s.rates returned p b → x ≡ day_post p → StandWith (account_in g) (seen_in g d) first returned held b s t
+    → StandWith (account_in g) (seen_in g d) first (returned_after returned p.post) held (effect (row_in g (d - opened_in g)) (account_in g) (seen_in g d) p p.post b) new after) e (did first returned held p b)
+
+pub after-post : (g : Given) (day place : ℕ) (x : DayPost) (s new : State) (t after : Track) → IsSound g → opened_in g ≤ day → day ≤ 47481 → place_in g day ≤ place → place < place_in g day + length (posts_of g day)
+    → IsAtPlace g day place x → AreAmid g day (done_by g day place) s t → Enters g x s new t after
+    → StandWith (account_in g) (seen_in g day) (first_in g day) (returned_by g day (done_by g day (place + 1))) (rows_through g (first_in g day) (day - 1) (before g day)) (after_place g day place) new after
+after-post g day place x s new t after sound o l low high p h did =
+    let q = post_at_place g day place in
+    let done = done_by g day place in
+    let held = rows_through g (first_in g day) (day - 1) (before g day) in
+    same-returned (account_in g) (seen_in g day) (first_in g day) (returned_after (returned_by g day done) q.post) (returned_by g day (done_by g day (place + 1))) held (after_place g day place) new after
+    (λ n. returned-place g day place n low high)
+    (moved g day day x s new t after (first_in g day) (returned_by g day done) held q (amid g day done) (place-day g day place x p) did
+    (first-by g day sound o l) (cycles-before g day done) (may-follow g day place s t sound o low high h) p.same (with-rows g day done s t o h))
 
 pub next-amid : (g : Given) (day place : ℕ) (x : DayPost) (s new : State) (t after : Track) → IsSound g → opened_in g ≤ day → day ≤ 47481 → place_in g day ≤ place → place < place_in g day + length (posts_of g day)
     → IsAtPlace g day place x → AreAmid g day (done_by g day place) s t → IsRestKept s new t after → Enters g x s new t after → AreAmid g day (done_by g day (place + 1)) new after
 next-amid g day place x s new t after sound o l low high p h k did =
     let adds = effect-adds (row_in g (day - opened_in g)) (account_in g) (seen_in g day) (post_at_place g day place) (post_at_place g day place).post (amid g day (done_by g day place)) p.of_day.now in
-    amid-with g day (done_by g day place) (done_by g day (place + 1)) (after_place g day place) s new t after sound h k adds (next-place g day place o low high) (after-post g day place x s new t after sound o l p h did)
+    amid-with g day (done_by g day place) (done_by g day (place + 1)) (after_place g day place) s new t after h k adds (next-place g day place o low high) (after-post g day place x s new t after sound o l low high p h did)
 
-pub next-begins : (g : Given) (day place : ℕ) (x : DayPost) (s new : State) (t after : Track) → IsSound g → opened_in g ≤ day → day ≤ 47481
+pub next-begins : (g : Given) (day place : ℕ) (x : DayPost) (s new : State) (t after : Track) → IsSound g → opened_in g ≤ day → day ≤ 47481 → place_in g day ≤ place → place < place_in g day + length (posts_of g day)
     → IsAtPlace g day place x → AreAmid g day (done_by g day place) s t → IsRestKept s new t after → Enters g x s new t after → Begins t after
-next-begins g day place x s new t after sound o l p h k did =
+next-begins g day place x s new t after sound o l low high p h k did =
     let adds = effect-adds (row_in g (day - opened_in g)) (account_in g) (seen_in g day) (post_at_place g day place) (post_at_place g day place).post (amid g day (done_by g day place)) p.of_day.now in
-    let w = after-post g day place x s new t after sound o l p h did in
+    let w = after-post g day place x s new t after sound o l low high p h did in
     begins-more t after adds.more (w.at.same ∙ (adds.entries ∙ ap (λ es. es ++ adds.more) (sym h.stand.entries))) k.cycles
 
--- a post of a kind that isn't folded
+-- a post of a kind that isn't folded returns nothing
+idle-none : (n : ℕ) (q : Post) → is_folded q ≡ false → returns n q ≡ false
+idle-none n (post.Return d t) e = absurd (cc)
+idle-none n post.Penalty e = refl
+idle-none n (post.Charge d p c) e = refl
+idle-none n (post.Payment d m c x) e = refl
+idle-none n (post.Credit d p c) e = refl
+idle-none n (post.Dispute d t c) e = refl
+idle-none n (post.Resolve d t c) e = refl
+idle-none n (post.Refund c) e = refl
+idle-none n (post.Open d t) e = refl
+idle-none n (post.Plan d k r x f) e = refl
+idle-none n (post.Notice d c r x) e = refl
+idle-none n (post.Lower d c r) e = refl
+idle-none n (post.Review d f) e = refl
+idle-none n (post.Ack d t) e = refl
+idle-none n (post.AskRefund d) e = refl
+idle-none n (post.Amend t d c) e = refl
+idle-none n (post.Bill c) e = refl
+
+or-false : (t : Bool) → (t || false) ≡ t
+or-false true = refl
+or-false false = refl
+
 pub next-idle : (g : Given) (day place : ℕ) (s : State) (t : Track) → opened_in g ≤ day → place_in g day ≤ place → place < place_in g day + length (posts_of g day)
     → is_folded (post_at_place g day place).post ≡ false → AreAmid g day (done_by g day place) s t → AreAmid g day (done_by g day (place + 1)) s t
 next-idle g day place s t o low high idle h =
-    let b = amid g day (done_by g day place) in
-    let same : b ≡ amid g day (done_by g day (place + 1)) =
-    sym (of_a_day.idle (row_in g (day - opened_in g)) (account_in g) (seen_in g day) (post_at_place g day place) b idle) ∙ next-place g day place o low high in
-    record { stand = subst (λ (c : Book). StandFor g (rows_amid g day c) c s t) same h.stand; accrued = h.accrued }
+    let done = done_by g day place in
+    let next = done_by g day (place + 1) in
+    let b = amid g day done in
+    let q = post_at_place g day place in
+    let same : b ≡ amid g day next = sym (of_a_day.idle (row_in g (day - opened_in g)) (account_in g) (seen_in g day) q b idle) ∙ next-place g day place o low high in
+    let returned : (n : ℕ) → returned_by g day done n ≡ returned_by g day next n =
+    λ n. sym (ap (λ u. returned_by g day done n || u) (idle-none n q.post idle) ∙ or-false (returned_by g day done n)) ∙ returned-place g day place n low high in
+    let rows : s.rows.items ≡ map (rows_amid g day next b) s.rates.segments =
+    h.stand.rows ∙ each-same (rows_amid g day done b) (rows_amid g day next b)
+    (λ x. ap (λ r. with_repaid r (rows_through g (first_in g day) (day - 1) (before g day) x)) (same-brought x.id (first_in g day) (returned_by g day done) (returned_by g day next) returned b.entries)) s.rates.segments in
+    let stand : StandFor g (rows_amid g day next b) b s t = record {
+      entries = h.stand.entries;
+      cycles = h.stand.cycles;
+      fees = h.stand.fees;
+      rates = h.stand.rates;
+      segments = h.stand.segments;
+      sums = h.stand.sums;
+      rows = rows;
+      accruals = h.stand.accruals;
+    } in
+    record { stand = subst (λ (c : Book). StandFor g (rows_amid g day next c) c s t) same stand; accrued = h.accrued }
 
 -- ---- rows of each segment but Credit and Held
 pub rows-count : (g : Given) (rows_by : SegmentTerms → Rows) (b : Book) (s : State) (t : Track) → StandFor g rows_by b s t → length s.segments.segments ≡ length s.segments.balances → 5 ≤ length s.segments.balances

@@ -14,12 +14,15 @@ use Rattle.card_effects.specs.Standing.{AreRated}
 use Rattle.card_units.specs.Money.{daily}
 use Rattle.card_grace.specs.Accruals.{Accrued, accrued_in, nothing_accrued}
 use Rattle.card_grace.specs.BookRows.{day_row, rate_of, rows_of}
-use Rattle.card_grace.specs.Rows.{DayRow, Rows, row_of}
+use Rattle.card_grace.specs.Growth.{with_repaid}
+use Rattle.card_grace.specs.Rows.{DayRow, Rows, row_of, with_days}
 use Rattle.card_grace.proofs.Accruing.{accrual_of_a_book}
 use Rattle.card_grace.proofs.Growing.{rows_grow}
 use Rattle.card_model.specs.Books.{Book, rate_in}
 use Rattle.card_model.specs.Entries.{AreBalances, at_least_zero, balance, owing, sum_of}
 use Rattle.card_model.specs.Interest.{is_in_row, row}
+use Rattle.card_events.specs.History.{CorrectedPost}
+use Rattle.card_model.specs.Payments.{is_returned}
 use Rattle.card_model.specs.Rates.{accrual_rate}
 use Rattle.card_model.specs.Segments.{SegmentTerms, is_deferred_on, is_over, is_sort, kept_segment}
 use Rattle.card_model.specs.declared.entry.Entry.{Entry}
@@ -33,11 +36,13 @@ use Rattle.card_rates.proofs.DayLaws.{rates_of_a_day, segments_of_a_day}
 use Rattle.card_segments.specs.Balances.{AreWithin, IsWithin}
 use Rattle.card_daily.specs.Given.{Given, IsSound, account_in, opened_in, row_in, seen_in}
 use Rattle.card_daily.specs.Rows.{each_with, owed_on, with_accrual_at, with_accruals, with_row, with_rows}
-use Rattle.card_daily.specs.Stands.{AreAmid, ArePosted, HaveAccrued, StandFor, before, first_in, posted, posts_of, rows_amid, rows_through}
+use Rattle.card_daily.specs.Stands.{AreAmid, ArePosted, HaveAccrued, StandFor, before, first_in, posted, posts_of, returned_by, rows_amid, rows_through}
 use Rattle.card_daily.specs.declared.state.State.{State}
 use Rattle.card_daily.specs.declared.track.Track.{Track}
 use Rattle.card_daily.proofs.Books.{before-none, day-is}
 use Rattle.card_daily.proofs.Cycles.{amid-added, before-dated, first-by, first-within, posted-folded, posted-none}
+use Rattle.card_daily.proofs.Repaying.{same-brought}
+use Rattle.card_daily.proofs.Returning.{returned-all}
 use Rattle.card_daily.proofs.Each.{each-at, each-length, each-map, no_segment, same-map}
 
 -- ---- rows of earlier days
@@ -115,7 +120,7 @@ today g day t o =
     ∙ ap (λ r. day_row_of day (owing t.id (posted g day).entries) r) (sym (rates_of_a_day.any g.history g.issued g.shared (posted g day) day day t (omega arith)))
 
 pub row-more : (g : Given) (day : ℕ) (t : SegmentTerms) → IsSound g → opened_in g ≤ day → day ≤ 47481
-    → rows_through g (first_in g day) day (posted g day) t ≡ with_row (rates_by g (posted g day).penalties) day t (owing t.id (posted g day).entries) (rows_amid g day (posted g day) t)
+    → rows_through g (first_in g day) day (posted g day) t ≡ with_row (rates_by g (posted g day).penalties) day t (owing t.id (posted g day).entries) (rows_amid g day (posts_of g day) (posted g day) t)
 row-more g day t s o l =
     let owed = owing t.id (posted g day).entries in
     let rate = rate_of owed (rate_in_force (rates_by g (posted g day).penalties) day t) in
@@ -129,11 +134,13 @@ row-more g day t s o l =
       since = λ d m n. let same : day ≡ d = omega arith in
           subst (λ x. day_row (account_in g) (seen_in g day) (posted g day) t x ≡ row_of owed rate x) same (today g day t o);
     })
+    ∙ ap (λ r. with_days 1 owed rate (with_repaid r (rows_through g (first_in g day) (day - 1) (before g day) t)))
+    (same-brought t.id (first_in g day) (λ n. is_returned (seen_in g day).posts day n) (returned_by g day (posts_of g day)) (λ n. returned-all g day n (omega (arith, low))) (posted g day).entries)
 
 -- rows amid a day have room for one more
-pub rows-room : (g : Given) (day : ℕ) (b : Book) (t : SegmentTerms) → IsSound g → opened_in g ≤ day → day ≤ 47481 → length (rows_amid g day b t).days < 31
+pub rows-room : (g : Given) (day : ℕ) (done : List CorrectedPost) (b : Book) (t : SegmentTerms) → IsSound g → opened_in g ≤ day → day ≤ 47481 → length (rows_amid g day done b t).days < 31
 unfolding rows_of
-rows-room g day b t s o l =
+rows-room g day done b t s o l =
     let long = length-map-range_with_len (day_row (account_in g) (seen_in g (day - 1)) (before g day) t) (first_in g day) (day - 1 + 1 - first_in g day) in
     let within = first-within g day s o (omega arith) in
     let low = s.opening.first in
@@ -207,11 +214,11 @@ amid-rated g rows_by b s t h = record {
 abbrev HasRoom : Rows → Type 0
 HasRoom r = length r.days < 31
 
-pub amid-room : (g : Given) (day : ℕ) (b : Book) (s : State) (t : Track) → IsSound g → opened_in g ≤ day → day ≤ 47481 → StandFor g (rows_amid g day b) b s t → All HasRoom s.rows.items
-amid-room g day b s t sound o l h =
+pub amid-room : (g : Given) (day : ℕ) (done : List CorrectedPost) (b : Book) (s : State) (t : Track) → IsSound g → opened_in g ≤ day → day ≤ 47481 → StandFor g (rows_amid g day done b) b s t → All HasRoom s.rows.items
+amid-room g day done b s t sound o l h =
     let ts = s.rates.segments in
     subst (All HasRoom) (sym h.rows)
-    (All-map HasRoom (rows_amid g day b) ts (All-weaker (Contains ts) (λ x. HasRoom (rows_amid g day b x)) (λ x c. rows-room g day b x sound o l) ts (All-contains_itself ts)))
+    (All-map HasRoom (rows_amid g day done b) ts (All-weaker (Contains ts) (λ x. HasRoom (rows_amid g day done b x)) (λ x c. rows-room g day done b x sound o l) ts (All-contains_itself ts)))
 
 deferred-parts : (t : SegmentTerms) (day : ℕ) → is_deferred_on day t ≡ true → (is_sort sort.Deferred t.sort ≡ true) × (leb t.begins day ≡ true) × (is_over t.ends day ≡ false)
 deferred-parts t day e = by (is_sort sort.Deferred t.sort) (leb t.begins day) (is_over t.ends day) e
@@ -249,15 +256,15 @@ rows-after : (g : Given) (day : ℕ) (s : State) (k : Track) → IsSound g → o
 rows-after g day s k sound o l e h =
     let ts = s.rates.segments in
     let balances = s.segments.balances in
-    let numbers = (amid-rated g (rows_amid g day (posted g day)) (posted g day) s k h.stand).numbers in
+    let numbers = (amid-rated g (rows_amid g day (posts_of g day) (posted g day)) (posted g day) s k h.stand).numbers in
     let change : SegmentTerms → Rows → Rows = λ t r. with_row s.rates day t (owed_on balances t) r in
-    let each : (t : SegmentTerms) → Contains ts t → change t (rows_amid g day (posted g day) t) ≡ rows_through g (first_in g day) day (posted g day) t =
-    λ t c. ap (λ (r : Rates). with_row r day t (owed_on balances t) (rows_amid g day (posted g day) t)) h.stand.rates
-    ∙ (ap (λ n. with_row (rates_by g (posted g day).penalties) day t n (rows_amid g day (posted g day) t)) (owed-is (posted g day).entries balances t h.stand.sums (id-known s t numbers e c))
+    let each : (t : SegmentTerms) → Contains ts t → change t (rows_amid g day (posts_of g day) (posted g day) t) ≡ rows_through g (first_in g day) day (posted g day) t =
+    λ t c. ap (λ (r : Rates). with_row r day t (owed_on balances t) (rows_amid g day (posts_of g day) (posted g day) t)) h.stand.rates
+    ∙ (ap (λ n. with_row (rates_by g (posted g day).penalties) day t n (rows_amid g day (posts_of g day) (posted g day) t)) (owed-is (posted g day).entries balances t h.stand.sums (id-known s t numbers e c))
     ∙ sym (row-more g day t sound o l)) in
     ap (each_with change ts) h.stand.rows
-    ∙ (each-map change (rows_amid g day (posted g day)) ts
-    ∙ same-map (λ t. change t (rows_amid g day (posted g day) t)) (rows_through g (first_in g day) day (posted g day)) ts each)
+    ∙ (each-map change (rows_amid g day (posts_of g day) (posted g day)) ts
+    ∙ same-map (λ t. change t (rows_amid g day (posts_of g day) (posted g day) t)) (rows_through g (first_in g day) day (posted g day)) ts each)
 
 -- an accrual's sum after a day depends on the sum before it alone
 sum-after : (r : Option ℕ) (n : ℕ) (x y : Accrued) → x.sum ≡ y.sum → (with_accrual_at r n x).sum ≡ (with_accrual_at r n y).sum
@@ -282,7 +289,7 @@ accruals-after g day s k sound o e h =
     let ts = s.rates.segments in
     let balances = s.segments.balances in
     let old = s.accruals.items in
-    let numbers = (amid-rated g (rows_amid g day (posted g day)) (posted g day) s k h.stand).numbers in
+    let numbers = (amid-rated g (rows_amid g day (posts_of g day) (posted g day)) (posted g day) s k h.stand).numbers in
     let change : SegmentTerms → Accrued → Accrued = λ t x. with_accrual_at (accrual_rate day t) (owed_on balances t) x in
     record {
       sums = λ t c sorted open'.

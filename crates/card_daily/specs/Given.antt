@@ -1,13 +1,14 @@
 -- What the fold of an account is given, and its books from day to day.
-use Rattle.std.specs.Prelude.{ℕ, ◌≡◌, ◌≤◌, false, Bool, List, Option, Some}
+use Rattle.std.specs.Prelude.{ℕ, suc, ◌≡◌, ◌≤◌, ◌<◌, true, false, Bool, List, [], ◌∷◌, Option, Some}
 use Rattle.std.specs.List.{All}
 use Rattle.card_days.specs.Civil.{day_of_month}
 use Rattle.card_days.specs.declared.anchor.Anchor.{Anchor}
-use Rattle.card_events.specs.History.{anchor_of}
+use Rattle.card_events.specs.History.{anchor_of, at_number}
 use Rattle.card_events.specs.SharedRows.{SharedRows}
 use Rattle.card_events.specs.declared.kept.Kept.{Kept}
 use Rattle.card_events.specs.declared.post.Post.{Post}
 use Rattle.card_events.specs.declared.post.Post.TheVariants as post
+use Rattle.card_fees.specs.Counting.{is_payment_at}
 use Rattle.card_model.specs.Accepted.{AreAccepted, HasFewFees}
 use Rattle.card_model.specs.Books.{Account, Book, account_of, present_cycle}
 use Rattle.card_model.specs.Caps.{row_for}
@@ -50,9 +51,8 @@ abbrev pub row_in : Given → ℕ → Option IssuedRow
 row_in g n = row_for (present_cycle (book_in g n)) g.issued
 
 -- ---- what is asked of them
--- a Return, a Dispute, a Resolve or a Penalty, which aren't folded yet
+-- a Dispute, a Resolve or a Penalty, which aren't folded yet
 abbrev pub is_to_come : Post → Bool
-is_to_come (post.Return _ _) = Bool.true
 is_to_come (post.Dispute _ _ _) = Bool.true
 is_to_come (post.Resolve _ _ _) = Bool.true
 is_to_come post.Penalty = Bool.true
@@ -66,6 +66,16 @@ EndsWithAClosing a k = (first end : ℕ) → plan_days k.post ≡ Some (first, e
 abbrev pub ArePlanned : List Kept → Type 0
 ArePlanned history = All (EndsWithAClosing (anchor_of history)) history
 
+-- where post n is a Return, an earlier post is the payment that it names
+abbrev pub NamesAPayment : List Kept → ℕ → Post → Type 0
+NamesAPayment history n (post.Return _ target) = (target < n) × (is_payment_at (at_number target history) ≡ true)
+NamesAPayment history n _ = Unit {0}
+
+-- so it is of each of these posts, the first of which is post n
+unfoldable pub NamePayments : List Kept → ℕ → List Kept → Type 0
+NamePayments history n [] = Unit {0}
+NamePayments history n (k ∷ ks) = NamesAPayment history n k.post × NamePayments history (suc n) ks
+
 -- What every run of the machine leaves in an account, over the kinds that are folded
 pub record IsSound (g : Given) : Type 0 where
   pub accepted : AreAccepted (record { posts = g.history; issued = g.issued })
@@ -75,3 +85,4 @@ pub record IsSound (g : Given) : Type 0 where
   pub opening : IsOpening (anchor_of g.history)
   pub plans : ArePlanned g.history
   pub folded : All (λ k. is_to_come k.post ≡ false) g.history
+  pub returns : NamePayments g.history 1 g.history

@@ -3,6 +3,7 @@ pub mod Due
 pub mod Given
 pub mod Laws
 pub mod Posts
+pub mod Returns
 pub mod Rows
 pub mod Stands
 pub mod TestAccount

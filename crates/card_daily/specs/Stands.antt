@@ -1,16 +1,17 @@
 -- What is kept of an account stands for its book, at the points of a day. Days are day numbers.
-use Rattle.std.specs.Prelude.{ℕ, ◌+◌, ◌-◌, ◌≡◌, ◌≤◌, false, true, map, take, List, length, slice_index_or}
-use Rattle.std.specs.List.{All, Contains, filter}
+use Rattle.std.specs.Prelude.{ℕ, ◌+◌, ◌-◌, ◌≡◌, ◌≤◌, ◌||◌, Bool, false, true, map, take, List, length, slice_index_or}
+use Rattle.std.specs.List.{All, Contains, filter, list_any}
 use Rattle.card_bounds.specs.Bounds.{book_amid}
 use Rattle.card_events.specs.History.{CorrectedPost, is_folded}
 use Rattle.card_grace.specs.Accruals.{Accrued, nothing_accrued}
 use Rattle.card_model.specs.Interest.{accrual}
-use Rattle.card_grace.specs.BookRows.{repayments, rows_of}
+use Rattle.card_grace.specs.BookRows.{brought, rows_of}
 use Rattle.card_grace.specs.Growth.{with_repaid}
 use Rattle.card_grace.specs.Rows.{Rows}
 use Rattle.card_model.specs.Books.{Book}
 use Rattle.card_model.specs.Closing.{first_day_of}
 use Rattle.card_model.specs.Entries.{AreBalances}
+use Rattle.card_model.specs.Payments.{is_returned, returns}
 use Rattle.card_model.specs.Segments.{SegmentTerms, is_over, is_sort}
 use Rattle.card_model.specs.declared.segment.Sort.TheVariants as sort
 use Rattle.card_rates.specs.RateBooks.{rates_of}
@@ -50,10 +51,14 @@ first_in g day = first_day_of (account_in g) (before g day)
 abbrev pub rows_through : Given → ℕ → ℕ → Book → SegmentTerms → Rows
 rows_through g first day b t = rows_of (account_in g) (seen_in g day) b first t
 
--- amid a day: the rows of the days before it, with all that was repaid so far
-abbrev pub rows_amid : Given → ℕ → Book → SegmentTerms → Rows
-rows_amid g day b t =
-    with_repaid (repayments (seen_in g day) t.id (first_in g day) b.entries) (rows_through g (first_in g day) (day - 1) (before g day) t)
+-- a payment that a Return of an earlier day names, or one of these posts
+abbrev pub returned_by : Given → ℕ → List CorrectedPost → ℕ → Bool
+returned_by g day done n = is_returned (seen_in g (day - 1)).posts (day - 1) n || list_any (λ p. returns n p.post) done
+
+-- amid a day: the rows of the days before it, with all that was repaid and not returned so far
+abbrev pub rows_amid : Given → ℕ → List CorrectedPost → Book → SegmentTerms → Rows
+rows_amid g day done b t =
+    with_repaid (brought (returned_by g day done) t.id (first_in g day) b.entries) (rows_through g (first_in g day) (day - 1) (before g day) t)
 
 -- through a day: a Deferred whose period isn't over on it has accrued what a book gives it, and no accrual counts more days than
 -- there were
@@ -82,7 +87,7 @@ pub record AreBefore (g : Given) (day : ℕ) (s : State) (t : Track) : Type 0 wh
 
 -- and of the day the due date and these of its posts
 pub record AreAmid (g : Given) (day : ℕ) (done : List CorrectedPost) (s : State) (t : Track) : Type 0 where
-  pub stand : StandFor g (rows_amid g day (amid g day done)) (amid g day done) s t
+  pub stand : StandFor g (rows_amid g day done (amid g day done)) (amid g day done) s t
   pub accrued : HaveAccrued g (day - 1) (before g day) s.rates.segments s.accruals.items
 
 -- and all its posts, with its row

@@ -119,7 +119,7 @@ fn purchases(inputs: &Inputs, day: Day, cycles: &[Cycle]) -> GraceCase
 }
 
 // What a closed cycle's due date asks for.
-fn asked(due: &DueCycle) -> Cents
+pub(crate) fn asked(due: &DueCycle) -> Cents
     requires { pos 0 ≤ℤ due.now.minimum }
     ensures { result ≡ pos (asks due.now) }
 {

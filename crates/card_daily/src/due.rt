@@ -32,7 +32,7 @@ fn issue_day(issued: Option<&Issued>) -> Option<Day>
 }
 
 // Its minimum payment in cents.
-fn minimum_of(cycle: &Cycle) -> Cents
+pub(crate) fn minimum_of(cycle: &Cycle) -> Cents
     ensures { result ≡ pos cycle.now.minimum }
 {
     cycle.minimum
@@ -70,7 +70,7 @@ pub(crate) fn due_cycle(inputs: &Inputs, day: Day, cycle: &Cycle) -> DueCycle
 }
 
 // The penalty fees that an issued statement has.
-fn fees_of(issued: Option<&Issued>) -> Option<&[Fee]>
+pub(crate) fn fees_of(issued: Option<&Issued>) -> Option<&[Fee]>
     ensures { option_copied result ≡ issued_fees (option_copied issued.entry) }
 {
     match issued {
@@ -172,7 +172,7 @@ pub fn due_day(
 }
 
 // One more, for which room was made.
-fn push_fee(list: &mut Vec<Fee>, fee: Fee)
+pub(crate) fn push_fee(list: &mut Vec<Fee>, fee: Fee)
     requires { vec_len list.old < vec_capacity list.old }
     ensures { list.new.items ≡ list.old.items ++ fee ∷ [] }
 {

@@ -8,6 +8,7 @@ mod due;
 mod inputs;
 pub mod laws;
 mod posts;
+mod returns;
 mod rows;
 mod state;
 mod track;

@@ -1,7 +1,8 @@
 // The posts of a day, in turn.
-ghost use Rattle.std.specs.Prelude.{◌≡◌, ◌+◌, ◌-◌, ◌<◌, ◌≤◌, ℕ, false, List, [], length, min, Option, OnOk, OnErr, option_copied, pos, ◌≤ℤ◌, unsigned_abs};
+ghost use Rattle.std.specs.Prelude.{◌≡◌, ◌+◌, ◌-◌, ◌<◌, ◌≤◌, ℕ, Bool, true, false, List, [], length, min, Option, OnOk, OnErr, option_copied, pos, ◌≤ℤ◌, unsigned_abs};
 ghost use Rattle.card_days.specs.Billing.{IsCloseDay};
 ghost use Rattle.card_days.specs.declared.anchor.Channel.{Channel};
+ghost use Rattle.card_effects.specs.Returned.{AreReturnable, parts_of};
 ghost use Rattle.card_effects.specs.Standing.{AreRated, IsSlotOf, StandsAt};
 ghost use Rattle.card_events.specs.History.{CorrectedPost, anchor_of};
 ghost use Rattle.card_events.specs.declared.post.Post.TheVariants as post;
@@ -11,14 +12,17 @@ ghost use Rattle.card_model.specs.CycleDays.{IsOpening};
 ghost use Rattle.card_model.specs.Cycles.{Cycle, IssuedRow, Seen, last_cycle};
 ghost use Rattle.card_model.specs.Effects.{effect, second_closing};
 ghost use Rattle.card_model.specs.Payments as model;
+ghost use Rattle.card_model.specs.Payments.{returns};
 ghost use Rattle.card_model.specs.Segments.{SegmentTerms};
 ghost use Rattle.card_segments.specs.Balances.{AreWithin};
 ghost use Rattle.card_slots.specs.Days.{day_post};
-ghost use Rattle.card_daily.specs.Given.{account_in, is_to_come, opened_in, seen_in};
-ghost use Rattle.card_daily.specs.Posts.{IsRestKept, StandWith, done_by, place_in};
+ghost use Rattle.card_daily.specs.Given.{account_in, is_to_come, opened_in, row_in, seen_in};
+ghost use Rattle.card_daily.specs.Posts.{IsRestKept, MayFollow, StandWith, done_by, place_in, returned_after};
+ghost use Rattle.card_daily.specs.Returns.{SeesPayment};
 ghost use Rattle.card_daily.specs.Stands.{AreAmid, Begins, before, posts_of};
 
 use crate::due::due_cycle;
+use crate::returns::enter_return;
 use crate::{Inputs, State, Track};
 use card_closing::Cycle;
 use card_days::{Anchor, Day, closing, cycle_of};
@@ -88,7 +92,7 @@ fn enter_charge(
     requires amount { pos 0 ≤ℤ slot.now.cents }
     requires limit { slot.now.cents ≤ℤ pos 1_000_000_000_000_000 }
     requires small { AreWithin 1_000_000_000_000_000 state.old.segments.balances }
-    ensures stands { OnOk result ((issued : Option IssuedRow) (a : Account) (seen : Seen) (first : ℕ) (rows : SegmentTerms → Rows) (p : CorrectedPost) (b : Book) (on cents : ℕ) → IsSlotOf seen p slot.now → StandWith a seen first rows b state.old track.old → StandWith a seen first rows (effect issued a seen p (post.Charge on place.now cents) b) state.new track.new) }
+    ensures stands { OnOk result ((issued : Option IssuedRow) (a : Account) (seen : Seen) (first : ℕ) (returned : ℕ → Bool) (rows : SegmentTerms → Rows) (p : CorrectedPost) (b : Book) (on cents : ℕ) → IsSlotOf seen p slot.now → StandWith a seen first returned rows b state.old track.old → StandWith a seen first returned rows (effect issued a seen p (post.Charge on place.now cents) b) state.new track.new) }
     ensures rest { IsRestKept state.old state.new track.old track.new }
     ensures err { OnErr result (Begins track.old track.new) }
 {
@@ -107,7 +111,7 @@ fn enter_refund(slot: &Slot, state: &mut State, track: &mut Track) -> Result<(),
     requires amount { pos 0 ≤ℤ slot.now.cents }
     requires limit { slot.now.cents ≤ℤ pos 1_000_000_000_000_000 }
     requires small { AreWithin 1_000_000_000_000_000 state.old.segments.balances }
-    ensures stands { OnOk result ((issued : Option IssuedRow) (a : Account) (seen : Seen) (first : ℕ) (rows : SegmentTerms → Rows) (p : CorrectedPost) (b : Book) (cents : ℕ) → IsSlotOf seen p slot.now → StandWith a seen first rows b state.old track.old → StandWith a seen first rows (effect issued a seen p (post.Refund cents) b) state.new track.new) }
+    ensures stands { OnOk result ((issued : Option IssuedRow) (a : Account) (seen : Seen) (first : ℕ) (returned : ℕ → Bool) (rows : SegmentTerms → Rows) (p : CorrectedPost) (b : Book) (cents : ℕ) → IsSlotOf seen p slot.now → StandWith a seen first returned rows b state.old track.old → StandWith a seen first returned rows (effect issued a seen p (post.Refund cents) b) state.new track.new) }
     ensures rest { IsRestKept state.old state.new track.old track.new }
     ensures err { OnErr result (Begins track.old track.new) }
 {
@@ -130,7 +134,7 @@ fn enter_payment(
     requires limit { slot.now.cents ≤ℤ pos 1_000_000_000_000_000 }
     requires small { AreWithin 1_000_000_000_000_000 state.old.segments.balances }
     requires rows { length state.old.rows.items + 2 ≡ length state.old.segments.balances }
-    ensures stands { OnOk result ((issued : Option IssuedRow) (first : ℕ) (rows : SegmentTerms → Rows) (p : CorrectedPost) (b : Book) (on minute cents : ℕ) (by : Channel) → first ≤ slot.now.day → b.cycles ≡ (before inputs.now slot.now.day).cycles → IsSlotOf (seen_in inputs.now slot.now.day) p slot.now → StandWith (account_in inputs.now) (seen_in inputs.now slot.now.day) first rows b state.old track.old → StandWith (account_in inputs.now) (seen_in inputs.now slot.now.day) first rows (effect issued (account_in inputs.now) (seen_in inputs.now slot.now.day) p (post.Payment on minute by cents) b) state.new track.new) }
+    ensures stands { OnOk result ((issued : Option IssuedRow) (first : ℕ) (returned : ℕ → Bool) (rows : SegmentTerms → Rows) (p : CorrectedPost) (b : Book) (on minute cents : ℕ) (by : Channel) → first ≤ slot.now.day → returned p.number ≡ false → b.cycles ≡ (before inputs.now slot.now.day).cycles → IsSlotOf (seen_in inputs.now slot.now.day) p slot.now → StandWith (account_in inputs.now) (seen_in inputs.now slot.now.day) first returned rows b state.old track.old → StandWith (account_in inputs.now) (seen_in inputs.now slot.now.day) first returned rows (effect issued (account_in inputs.now) (seen_in inputs.now slot.now.day) p (post.Payment on minute by cents) b) state.new track.new) }
     ensures rest { IsRestKept state.old state.new track.old track.new }
     ensures err { OnErr result (Begins track.old track.new) }
 {
@@ -165,7 +169,7 @@ fn enter_credit(
     requires limit { slot.now.cents ≤ℤ pos 1_000_000_000_000_000 }
     requires small { AreWithin 1_000_000_000_000_000 state.old.segments.balances }
     requires rows { length state.old.rows.items + 2 ≡ length state.old.segments.balances }
-    ensures stands { OnOk result ((issued : Option IssuedRow) (first : ℕ) (rows : SegmentTerms → Rows) (p : CorrectedPost) (b : Book) (on cents : ℕ) → first ≤ slot.now.day → IsSlotOf (seen_in inputs.now slot.now.day) p slot.now → StandWith (account_in inputs.now) (seen_in inputs.now slot.now.day) first rows b state.old track.old → StandWith (account_in inputs.now) (seen_in inputs.now slot.now.day) first rows (effect issued (account_in inputs.now) (seen_in inputs.now slot.now.day) p (post.Credit on place.now cents) b) state.new track.new) }
+    ensures stands { OnOk result ((issued : Option IssuedRow) (first : ℕ) (returned : ℕ → Bool) (rows : SegmentTerms → Rows) (p : CorrectedPost) (b : Book) (on cents : ℕ) → first ≤ slot.now.day → IsSlotOf (seen_in inputs.now slot.now.day) p slot.now → StandWith (account_in inputs.now) (seen_in inputs.now slot.now.day) first returned rows b state.old track.old → StandWith (account_in inputs.now) (seen_in inputs.now slot.now.day) first returned rows (effect issued (account_in inputs.now) (seen_in inputs.now slot.now.day) p (post.Credit on place.now cents) b) state.new track.new) }
     ensures rest { IsRestKept state.old state.new track.old track.new }
     ensures err { OnErr result (Begins track.old track.new) }
 {
@@ -199,8 +203,10 @@ fn enter_post(
     requires limit { post.now.cents ≤ℤ pos 1_000_000_000_000_000 }
     requires small { AreWithin 1_000_000_000_000_000 state.old.segments.balances }
     requires rows { length state.old.rows.items + 2 ≡ length state.old.segments.balances }
+    requires parts { (n : ℕ) → AreReturnable (length state.old.segments.balances) (parts_of n track.old.entries.items) }
     requires kind { is_to_come post.now.post ≡ false }
-    ensures stands { OnOk result ((issued : Option IssuedRow) (first : ℕ) (rows : SegmentTerms → Rows) (p : CorrectedPost) (b : Book) → first ≤ post.now.day → b.cycles ≡ (before inputs.now post.now.day).cycles → post.now ≡ day_post p → StandWith (account_in inputs.now) (seen_in inputs.now post.now.day) first rows b state.old track.old → StandWith (account_in inputs.now) (seen_in inputs.now post.now.day) first rows (effect issued (account_in inputs.now) (seen_in inputs.now post.now.day) p p.post b) state.new track.new) }
+    requires named { (n : ℕ) → returns n post.now.post ≡ true → (n ≤ 10_000) × SeesPayment inputs.now post.now.day n }
+    ensures stands { OnOk result ((first : ℕ) (returned : ℕ → Bool) (rows : SegmentTerms → Rows) (p : CorrectedPost) (b : Book) → first ≤ post.now.day → b.cycles ≡ (before inputs.now post.now.day).cycles → MayFollow post.now.day state.old.rates returned p b → post.now ≡ day_post p → StandWith (account_in inputs.now) (seen_in inputs.now post.now.day) first returned rows b state.old track.old → StandWith (account_in inputs.now) (seen_in inputs.now post.now.day) first (returned_after returned p.post) rows (effect (row_in inputs.now (post.now.day - opened_in inputs.now)) (account_in inputs.now) (seen_in inputs.now post.now.day) p p.post b) state.new track.new) }
     ensures rest { IsRestKept state.old state.new track.old track.new }
     ensures err { OnErr result (Begins track.old track.new) }
 {
@@ -214,6 +220,9 @@ fn enter_post(
         Post::Credit { place, .. } => enter_credit(alloc, inputs, &slot, place, state, track),
         Post::Payment { .. } => enter_payment(alloc, inputs, &slot, state, track),
         Post::Refund { .. } => enter_refund(&slot, state, track),
+        Post::Return { target, .. } => {
+            enter_return(alloc, inputs, &slot, target.get() as u32, state, track)
+        }
         _ => Ok(()),
     }
 }
@@ -243,8 +252,8 @@ fn enter(
     }
 }
 
-/// Enters the posts of a day, in order of number: charges, refunds, payments and merchants' credits (12 CFR 1026.10, .11(a),
-/// .53), and the kinds that change no balance. The day isn't before the opening day and at most 2099-12-31; the days before
+/// Enters the posts of a day, in order of number: charges, refunds, payments, merchants' credits and returned payments (12 CFR
+/// 1026.10, .11(a), .52(b), .53), and the kinds that change no balance. The day isn't before the opening day and at most 2099-12-31; the days before
 /// it are folded, and what its due date brought. After want of memory state and track are of no use, but that the track
 /// begins with what it held.
 pub fn post_day(

@@ -1,3 +1,4 @@
+pub mod Back
 pub mod Carried
 pub mod DayLaws
 pub mod Empties

@@ -94,7 +94,7 @@ after-entries a seen b c rated bs es more s grown same known there =
 pub credit-is : (a : Account) (seen : Seen) (b : Book) (rated : Rates) (bs : List ℤ) (es : List Entry) → StandsAt a seen b rated bs es → 0 < length bs → credit_in bs ≡ credit_balance b.entries
 credit-is a seen b rated bs es s l = ap (λ z. at_least_zero (neg_ℤ z)) (s.sums.each 0 l)
 
-debit-there : (day : ℕ) (rated : Rates) (note : Note) (g x credit : ℕ) → AreByNumber 2 rated.segments → IsThere day rated g → AreThere day rated (debit note g x credit)
+pub debit-there : (day : ℕ) (rated : Rates) (note : Note) (g x credit : ℕ) → AreByNumber 2 rated.segments → IsThere day rated g → AreThere day rated (debit note g x credit)
 debit-there day rated note g x credit numbers there h c f =
     let high = number-above 2 rated.segments h numbers c in
     let first : eqb 0 h.id ≡ false = ne_eqb 0 h.id (λ e. omega arith) in

@@ -1,4 +1,4 @@
-//! What charges, payments, credits, refunds and penalty fees do on their day (12 CFR 1026.10, .11(a), .52(b), .53).
+//! What charges, payments, credits, refunds, returned payments and penalty fees do on their day (12 CFR 1026.10, .11(a), .52(b), .53).
 #![tactic(auto)]
 
 mod debits;
@@ -6,10 +6,12 @@ pub mod laws;
 mod payments;
 mod place;
 mod ranks;
+mod returns;
 mod rows;
 #[cfg(test)]
 mod tests;
 
 pub use debits::{charge, fee, refund};
 pub use payments::{credit, payment};
+pub use returns::returned;
 pub use rows::{repay, unpay};

@@ -1,7 +1,9 @@
-use Rattle.std.proofs.Common.{◌-◌, sym, ◌∙◌, arith}
-use Rattle.card_daily.proofs.PostDay.{either-way, front-small, next-amid, next-begins, next-idle, none-found, place-cycles, post_at_place, place-day, place-found, place-high, place-kind, place-low, rows-count, told-here}
+use Rattle.std.proofs.Common.{◌-◌, length, sym, ◌∙◌, arith, subst}
+use Rattle.card_daily.proofs.Fronts.{front-small, returnable}
+use Rattle.card_daily.proofs.PostDay.{either-way, next-amid, next-begins, next-idle, none-found, place-cycles, post_at_place, place-day, place-found, place-high, place-kind, place-low, place-named, rows-count, told-here}
 use Rattle.card_daily.proofs.Posting.{on-ok}
 use Rattle.card_daily.proofs.Standing.{rated, within}
+use Rattle.card_effects.specs.Returned.{AreReturnable, parts_of}
 use Rattle.card_daily.specs.Posts.{done_by, place_in}
 use Rattle.card_daily.specs.Stands.{amid}
 use Rattle.card_daily.proofs.posts.enter.Goals as goal
@@ -78,6 +80,23 @@ enter_post-requires-clause-rows c =
     let place = c.args.place in
     rows-count g _ (amid g day (done_by g day place)) c.args.state.now c.args.track.now c.requires.amid.stand (sym c.len-count.ensures.segments ∙ c.len-count.ensures.balances) (let five = c.len-count.ensures.five in omega (arith, five, c.len-count.ensures.balances))
 
+pub enter_post-requires-clause-parts : goal.enter_post-requires-clause-parts
+enter_post-requires-clause-parts c n =
+    let g = c.args.inputs.now in
+    let day = c.args.day in
+    let balances = c.args.state.now.segments.balances in
+    subst (λ es. AreReturnable (length balances) (parts_of n es)) (sym c.requires.amid.stand.entries) (returnable g day (c.args.place - place_in g day) n balances c.anchor-anchor.ensures.sound c.requires.opened c.requires.amid.stand.sums)
+
+pub enter_post-requires-clause-named : goal.enter_post-requires-clause-named
+enter_post-requires-clause-named c n gives =
+    let g = c.args.inputs.now in
+    let day = c.args.day in
+    let place = c.args.place in
+    let x = c.in-Some.post in
+    let sound = c.anchor-anchor.ensures.sound in
+    let here = place-found g day place c.posts.result.now c.folded_at.result x sound c.posts.ensures.stands c.posts.ensures.history c.requires.from c.requires.within c.folded_at.ensures c.in-Some.is in
+    place-named g day place n x sound c.requires.from c.requires.within here gives
+
 pub enter_post-requires-clause-kind : goal.enter_post-requires-clause-kind
 enter_post-requires-clause-kind c =
     let g = c.args.inputs.now in
@@ -106,7 +125,7 @@ returns-in-Some-clause-begins c =
     let x = c.in-Some.post in
     let sound = c.anchor-anchor.ensures.sound in
     let here = place-found g day place c.posts.result.now c.folded_at.result x sound c.posts.ensures.stands c.posts.ensures.history c.requires.from c.requires.within c.folded_at.ensures c.in-Some.is in
-    either-way c.enter_post.result _ (on-ok c.enter_post.result _ _ c.enter_post.ensures.stands (λ did. next-begins g day place x c.args.state.now c.enter_post.new.state c.args.track.now c.enter_post.new.track sound c.requires.opened c.requires.last here c.requires.amid c.enter_post.ensures.rest did)) c.enter_post.ensures.err
+    either-way c.enter_post.result _ (on-ok c.enter_post.result _ _ c.enter_post.ensures.stands (λ did. next-begins g day place x c.args.state.now c.enter_post.new.state c.args.track.now c.enter_post.new.track sound c.requires.opened c.requires.last c.requires.from c.requires.within here c.requires.amid c.enter_post.ensures.rest did)) c.enter_post.ensures.err
 
 pub returns-in-None-clause-amid : goal.returns-in-None-clause-amid
 returns-in-None-clause-amid c =

@@ -1,4 +1,4 @@
-use Rattle.std.proofs.Common.{◌≡◌, ◌-◌, List, length, pos, sym, ap, ◌∙◌, refl, w64, arith}
+use Rattle.std.proofs.Common.{◌≡◌, ◌-◌, not, List, length, pos, sym, ap, ◌∙◌, refl, w64, arith}
 use Rattle.std.proofs.lemmas.Int.{to_z-of_z}
 use Rattle.std.specs.Prelude.{min, slice_get}
 use Rattle.card_events.specs.declared.kept.Slot.{Slot}
@@ -6,7 +6,7 @@ use Rattle.card_model.specs.Cycles.{Cycle, last_cycle}
 use Rattle.card_model.specs.Payments.{minimum_left}
 use Rattle.card_model.specs.declared.entry.EntryKind.TheVariants as kind
 use Rattle.card_daily.proofs.Lasts.{last-get}
-use Rattle.card_daily.proofs.Posting.{handed, lesser-is, repaid-stand}
+use Rattle.card_daily.proofs.Posting.{handed, lesser-is, payment-fees, repaid-stand}
 use Rattle.card_daily.specs.Given.{account_in, seen_in}
 use Rattle.card_daily.specs.Stands.{before}
 use Rattle.card_daily.specs.declared.state.State.{State}
@@ -22,7 +22,7 @@ left_if_any-left-requires-clause-last c =
     c.last.ensures.value ∙ (ap (λ (cs : List Cycle). slice_get cs (length cs - 1)) cycles ∙ last-get (before c.args.inputs.now c.args.slot.now.day).cycles)
 
 pub returns-clause-stands : goal.returns-clause-stands
-returns-clause-stands c issued first rows_by p b on minute cents by l cycles is h =
+returns-clause-stands c issued first returned rows_by p b on minute cents by l none cycles is h =
     let g = c.args.inputs.now in
     let day = c.args.slot.now.day in
     let number : p.number ≡ c.args.slot.now.number = sym (ap (λ (s : Slot). s.number) is.same) in
@@ -34,5 +34,5 @@ returns-clause-stands c issued first rows_by p b on minute cents by l cycles is 
     let at = c.in_ok-parts.ensures.stands issued (account_in g) (seen_in g day) p b on minute cents by h.at is following part in
     let new : State = record { segments = c.payment.new.segments; rates = c.args.state.now.rates; rows = with_items c.args.state.now.rows c.repay.new.rows; accruals = c.args.state.now.accruals; fees = c.args.state.now.fees } in
     let after : Track = record { entries = c.payment.new.out; cycles = c.args.track.now.cycles } in
-    repaid-stand kind.Payment (account_in g) (seen_in g day) first rows_by b _ c.args.state.now new c.args.track.now after c.args.slot.now c.in_ok-parts.parts c.deref_mut.result.now c.repay.new.rows c.requires.rated.numbers l refl h at refl c.in_ok-parts.ensures.entries c.in_ok-repay.ensures.repaid c.deref_mut.ensures.value
+    repaid-stand kind.Payment (account_in g) (seen_in g day) first returned rows_by b _ c.args.state.now new c.args.track.now after c.args.slot.now c.in_ok-parts.parts c.deref_mut.result.now c.repay.new.rows c.requires.rated.numbers l (ap not (ap returned (sym number) ∙ none)) h at refl refl (payment-fees issued (account_in g) (seen_in g day) p b on minute cents by) c.in_ok-parts.ensures.entries c.in_ok-repay.ensures.repaid c.deref_mut.ensures.value
     (with_items_is c.args.state.now.rows c.repay.new.rows (omega (arith, c.repay.auto.rows, ap (λ (rs : List Rows). length rs) c.deref_mut.ensures.value, c.args.state.now.rows.ok.0)))

@@ -1,5 +1,5 @@
 use Rattle.std.proofs.Common.{refl}
-use Rattle.card_daily.specs.Stands.{posted, rows_amid}
+use Rattle.card_daily.specs.Stands.{posted, posts_of, rows_amid}
 use Rattle.card_daily.proofs.Cycles.{posted-small}
 use Rattle.card_daily.proofs.RowsOfADay.{amid-few, amid-rated, amid-room, balances-within, posted-of}
 use Rattle.card_daily.proofs.rows.row_day.Goals as goal
@@ -7,7 +7,7 @@ use Rattle.card_daily.proofs.rows.row_day.Goals as goal
 pub add_rows-requires-clause-rated : goal.add_rows-requires-clause-rated
 add_rows-requires-clause-rated c =
     let h = c.requires.amid in
-    amid-rated h.given (rows_amid h.given c.args.day (posted h.given c.args.day)) (posted h.given c.args.day) c.args.state.now h.track h.amid.stand
+    amid-rated h.given (rows_amid h.given c.args.day (posts_of h.given c.args.day) (posted h.given c.args.day)) (posted h.given c.args.day) c.args.state.now h.track h.amid.stand
 
 pub add_rows-requires-clause-small : goal.add_rows-requires-clause-small
 add_rows-requires-clause-small c =
@@ -17,12 +17,12 @@ add_rows-requires-clause-small c =
 pub add_rows-requires-clause-few : goal.add_rows-requires-clause-few
 add_rows-requires-clause-few c =
     let h = c.requires.amid in
-    amid-room h.given c.args.day (posted h.given c.args.day) c.args.state.now h.track h.sound h.opened c.requires.last h.amid.stand
+    amid-room h.given c.args.day (posts_of h.given c.args.day) (posted h.given c.args.day) c.args.state.now h.track h.sound h.opened c.requires.last h.amid.stand
 
 pub accrue_all-requires-clause-rated : goal.accrue_all-requires-clause-rated
 accrue_all-requires-clause-rated c =
     let h = c.requires.amid in
-    amid-rated h.given (rows_amid h.given c.args.day (posted h.given c.args.day)) (posted h.given c.args.day) c.args.state.now h.track h.amid.stand
+    amid-rated h.given (rows_amid h.given c.args.day (posts_of h.given c.args.day) (posted h.given c.args.day)) (posted h.given c.args.day) c.args.state.now h.track h.amid.stand
 
 pub accrue_all-requires-clause-small : goal.accrue_all-requires-clause-small
 accrue_all-requires-clause-small c =

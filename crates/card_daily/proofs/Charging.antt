@@ -1,0 +1,165 @@
+-- The fee for a payment that is returned.
+use Rattle.std.proofs.Common.{◌≡◌, ℕ, zero, suc, ◌+◌, ◌-◌, ◌<◌, ◌≤◌, Bool, true, false, cond, eqb, List, [], ◌∷◌, map, length, refl, sym, ap, ◌∙◌, subst, arith, Option, Some, None, ℤ, pos, negsuc}
+use Rattle.std.specs.List.{find}
+use Rattle.std.specs.Prelude.{◌≤ℤ◌, nat_lt}
+use Rattle.std.specs.Option.{option_map}
+use Rattle.std.proofs.lemmas.Bool.{eqb-true, ltb-true, ne_eqb}
+use Rattle.std.proofs.lemmas.Int.{ints}
+use Rattle.card_bounds.proofs.Steps.{returned-small}
+use Rattle.card_bounds.proofs.Totals.{Numbers}
+use Rattle.card_bounds.proofs.Whole.{folded-few, limits-on}
+use Rattle.card_days.specs.Billing.{cycle_of}
+use Rattle.card_days.specs.declared.anchor.Anchor.{Anchor}
+use Rattle.card_due.proofs.LateFees.{caps-fold}
+use Rattle.card_due.specs.Charged.{capped_if_any}
+use Rattle.card_due.specs.Laws.{issued_fees}
+use Rattle.card_events.specs.History.{CorrectedPost, anchor_of, slot_of}
+use Rattle.card_events.specs.SharedRows.{FeeRow}
+use Rattle.card_events.specs.declared.kept.Slot.{Slot}
+use Rattle.card_fees.proofs.Charges.{fee-fold}
+use Rattle.card_fees.specs.Charged.{fee_by}
+use Rattle.card_model.proofs.Calendar.{cycles_are_of_the_calendar}
+use Rattle.card_model.specs.Books.{Book, penalty_fee, present_cycle}
+use Rattle.card_model.specs.CycleDays.{HasItsDays}
+use Rattle.card_model.specs.Caps.{capped_by, charged_fee, fee_above, issued_fee, row_for}
+use Rattle.card_model.specs.Cycles.{Cycle, IssuedRow, Seen, post_at}
+use Rattle.card_model.specs.Effects.{returned_fee}
+use Rattle.card_model.specs.Entries.{at_least_zero}
+use Rattle.card_model.specs.Fees.{fee_cents, fee_for, last_due}
+use Rattle.card_model.specs.Folds.{cycle_at}
+use Rattle.card_model.specs.Payments.{asked}
+use Rattle.card_model.specs.declared.fee.Fee.{Fee}
+use Rattle.card_model.specs.declared.fee.FeeKind.TheVariants as kind
+use Rattle.card_posts.specs.Order.{before as stands_before}
+use Rattle.card_posts.specs.Order.{in_order, placed}
+use Rattle.card_posts.specs.Posted.{folding_order}
+use Rattle.card_daily.proofs.Books.{before-is}
+use Rattle.card_daily.proofs.Following.{cycle-few}
+use Rattle.card_daily.proofs.LastThat.{found-at}
+use Rattle.card_daily.specs.Given.{Given, IsSound, opened_in, row_in, seen_in}
+use Rattle.card_daily.specs.Returns.{IsDueBy}
+use Rattle.card_daily.specs.Stands.{before}
+
+-- ---- the slot with a number
+abbrev with-number : ℕ → List Slot → Option Slot
+with-number n slots = find (λ s. eqb s.number n) slots
+
+find-placed : (n : ℕ) (s : Slot) (xs : List Slot) → (eqb s.number n ≡ true → with-number n xs ≡ None) → with-number n (placed s xs) ≡ cond (eqb s.number n) (Some s) (with-number n xs)
+unfolding placed
+find-placed n s [] h = refl
+find-placed n s (y ∷ ys) h = by (stands_before y s) (eqb y.number n) refl (eqb s.number n) refl h (find-placed n s ys)
+  where
+    none-some : {X : Type 0} (x : Slot) → Some x ≡ None → X
+    none-some x e = cc
+
+    ahead : (t u : Bool) → eqb s.number n ≡ u → (eqb s.number n ≡ true → cond t (Some y) (with-number n ys) ≡ None) → ((eqb s.number n ≡ true → with-number n ys ≡ None) → with-number n (placed s ys) ≡ cond (eqb s.number n) (Some s) (with-number n ys))
+        → cond t (Some y) (with-number n (placed s ys)) ≡ cond u (Some s) (cond t (Some y) (with-number n ys))
+    ahead true true q h ih = none-some y (h q)
+    ahead true false q h ih = refl
+    ahead false u q h ih = ih h ∙ ap (λ v. cond v (Some s) (with-number n ys)) q
+
+    by : (b t : Bool) → eqb y.number n ≡ t → (u : Bool) → eqb s.number n ≡ u → (eqb s.number n ≡ true → cond (eqb y.number n) (Some y) (with-number n ys) ≡ None)
+        → ((eqb s.number n ≡ true → with-number n ys ≡ None) → with-number n (placed s ys) ≡ cond (eqb s.number n) (Some s) (with-number n ys))
+        → with-number n (cond b (y ∷ placed s ys) (s ∷ y ∷ ys)) ≡ cond (eqb s.number n) (Some s) (cond (eqb y.number n) (Some y) (with-number n ys))
+    by true t p u q h ih =
+        ap (λ v. cond v (Some y) (with-number n (placed s ys))) p
+        ∙ (ahead t u q (λ e. ap (λ v. cond v (Some y) (with-number n ys)) (sym p) ∙ h e) ih
+        ∙ (ap (λ v. cond u (Some s) (cond v (Some y) (with-number n ys))) (sym p) ∙ ap (λ v. cond v (Some s) (cond (eqb y.number n) (Some y) (with-number n ys))) (sym q)))
+    by false t p u q h ih = refl
+
+absent : (low n : ℕ) (ps : List CorrectedPost) → Numbers low ps → n < low → post_at n ps ≡ None
+absent low n [] h l = refl
+absent low n (p ∷ ps) h l =
+    let first = h.0 in
+    let other : eqb p.number n ≡ false = ne_eqb p.number n (λ e. omega (arith, first, l, e)) in
+    rw other (absent (suc p.number) n ps h.1 (omega (arith, first, l)))
+
+pub find-order : (n low : ℕ) (ps : List CorrectedPost) → Numbers low ps → find (λ (s : Slot). eqb s.number n) (folding_order ps) ≡ option_map slot_of (post_at n ps)
+unfolding in_order
+find-order n low [] h = refl
+find-order n low (p ∷ ps) h =
+    let rest = find-order n (suc p.number) ps h.1 in
+    find-placed n (slot_of p) (in_order (map slot_of ps))
+    (λ e. rest ∙ ap (option_map slot_of) (absent (suc p.number) n ps h.1 (let same = eqb-true p.number n e in omega (arith, same))))
+    ∙ by (eqb p.number n) rest
+  where
+    by : (t : Bool) → with-number n (in_order (map slot_of ps)) ≡ option_map slot_of (post_at n ps) → cond t (Some (slot_of p)) (with-number n (in_order (map slot_of ps))) ≡ option_map slot_of (cond t (Some p) (post_at n ps))
+    by true e = refl
+    by false e = e
+
+-- ---- the cycle of the last due date before a day
+pub due-by : (g : Given) (day : ℕ) (c : Cycle) (cycles : List Cycle) → IsSound g → opened_in g ≤ day → day ≤ 47481 → cycles ≡ (before g day).cycles → last_due day cycles ≡ Some c → IsDueBy g day c
+due-by g day c cycles s o l same e =
+    let one = s.opening.first in
+    let at = found-at (λ (c : Cycle). nat_lt c.due day) (before g day).cycles c (ap (last_due day) (sym same) ∙ e) in
+    let book = before-is g day (omega (arith, one, o)) in
+    let days = cycles_are_of_the_calendar.days g.history g.issued g.shared (day - 1) at.number c s.opening (omega (arith, l)) (ap (λ (b : Book). cycle_at at.number b.cycles) (sym book) ∙ at.at) in
+    let early = ltb-true c.due day at.passes in
+    record {
+      days = subst (λ k. HasItsDays (anchor_of g.history) k c) (sym days.number) days;
+      first = let n = days.number in let f = at.first in omega (arith, n, f);
+      due = omega (arith, early);
+    }
+
+-- ---- the cycles before a day
+pub counted-cycles : (g : Given) (day : ℕ) (cycles : List Cycle) → IsSound g → opened_in g ≤ day → cycles ≡ (before g day).cycles → length cycles + 1 ≡ cycle_of (anchor_of g.history) day
+counted-cycles g day cycles s o same =
+    let one = s.opening.first in
+    let low : 1 ≤ day = omega (arith, one, o) in
+    let next : day - 1 + 1 ≡ day = omega (arith, low) in
+    ap (λ (cs : List Cycle). length cs + 1) same
+    ∙ (ap (λ (x : Book). length x.cycles + 1) (before-is g day low) ∙ (cycles_are_of_the_calendar.count g.history g.issued g.shared (day - 1) ∙ ap (cycle_of (anchor_of g.history)) next))
+
+pub few-cycles : (g : Given) (day : ℕ) (cycles : List Cycle) → IsSound g → opened_in g ≤ day → day ≤ 47481 → cycles ≡ (before g day).cycles → length cycles + 1 ≤ 47481
+few-cycles g day cycles s o l same =
+    let count = counted-cycles g day cycles s o same in
+    let few = cycle-few (anchor_of g.history) day s.opening o l in
+    omega (arith, count, few, l)
+
+-- ---- the fee
+pub by-parts : (t : List FeeRow) (fs : List Fee) (i : Option (List Fee)) (k n e day x m y l : ℕ) → k ≡ n → x ≡ m → y ≡ l
+    → capped_if_any i (fee_by t fs (record { kind = kind.Returned; due_cycle = k; cycle = e; day = day }) x y) ≡ capped_if_any i (fee_by t fs (record { kind = kind.Returned; due_cycle = n; cycle = e; day = day }) m l)
+by-parts t fs i k n e day x m y l p q r = rw (p, q, r) refl
+
+-- what is charged is the fold's fee
+pub fee-is : (g : Given) (day : ℕ) (c : Cycle) (b : Book) (t : List FeeRow) (i : Option (List Fee)) (fs : List Fee) (a : Anchor) (cycles : List Cycle) (least : ℕ)
+    → IsSound g → opened_in g ≤ day → day ≤ 47481 → cycles ≡ (before g day).cycles → b.cycles ≡ cycles → b.fees ≡ fs → t ≡ g.shared.fees → i ≡ issued_fees (row_for (length cycles + 1) g.issued) → a ≡ anchor_of g.history
+    → least ≡ asked (seen_in g day).issued (last_due day cycles)
+    → capped_if_any i (fee_by t fs (record { kind = kind.Returned; due_cycle = c.number; cycle = cycle_of a day; day = day }) c.minimum least) ≡ penalty_fee (row_in g (day - opened_in g)) (seen_in g day) b kind.Returned c
+fee-is g day c b t i fs a cycles least s o l same own fees table issued anchor asks =
+    let seen = seen_in g day in
+    let row = row_in g (day - opened_in g) in
+    let count : present_cycle b ≡ cycle_of (anchor_of g.history) day = counted-cycles g day b.cycles s o (own ∙ same) in
+    let its : i ≡ issued_fees row = issued ∙ ap (λ (cs : List Cycle). issued_fees (row_for (length cs + 1) g.issued)) same in
+    let fold = fee-fold seen g.shared.fees b.cycles b.fees (present_cycle b) kind.Returned c refl in
+    let alike : fee_by t fs (record { kind = kind.Returned; due_cycle = c.number; cycle = cycle_of a day; day = day }) c.minimum least
+    ≡ fee_by g.shared.fees b.fees (record { kind = kind.Returned; due_cycle = c.number; cycle = present_cycle b; day = day }) c.minimum (asked seen.issued (last_due day b.cycles)) =
+    many t g.shared.fees fs b.fees (cycle_of a day) (present_cycle b) least (asked seen.issued (last_due day b.cycles)) table (sym fees) (ap (λ x. cycle_of x day) anchor ∙ sym count) (asks ∙ ap (λ cs. asked seen.issued (last_due day cs)) (sym own)) in
+    ap (λ u. capped_if_any u (fee_by t fs (record { kind = kind.Returned; due_cycle = c.number; cycle = cycle_of a day; day = day }) c.minimum least)) its
+    ∙ (ap (capped_if_any (issued_fees row)) (alike ∙ sym fold) ∙ sym (caps-fold row (fee_for seen b.cycles b.fees (present_cycle b) kind.Returned c)))
+  where
+    many : (t u : List FeeRow) (fs gs : List Fee) (d e x y : ℕ) → t ≡ u → fs ≡ gs → d ≡ e → x ≡ y
+        → fee_by t fs (record { kind = kind.Returned; due_cycle = c.number; cycle = d; day = day }) c.minimum x ≡ fee_by u gs (record { kind = kind.Returned; due_cycle = c.number; cycle = e; day = day }) c.minimum y
+    many t u fs gs d e x y p q r w = rw (p, q, r, w) refl
+
+-- ---- it is of few cents
+above-low : (n : ℕ) (f g : Fee) → fee_above n f ≡ Some g → pos 0 ≤ℤ g.cents
+above-low zero f g e = cc
+above-low (suc n) f g e = let same : pos (suc n) ≡ g.cents = cc in rw (← same) (omega (arith, ints))
+
+charged-low : (issued : Option IssuedRow) (o : Option Fee) (g : Fee) → charged_fee issued o ≡ Some g → pos 0 ≤ℤ g.cents
+charged-low issued None g e = cc
+charged-low issued (Some f) g e = above-low (capped_by (issued_fee f.due_cycle) issued (fee_cents f)) f g e
+
+returned-low : (issued : Option IssuedRow) (seen : Seen) (b : Book) (c : Option Cycle) (f : Fee) → returned_fee issued seen b c ≡ Some f → pos 0 ≤ℤ f.cents
+returned-low issued seen b None f e = cc
+returned-low issued seen b (Some c) f e = charged-low issued (fee_for seen b.cycles b.fees (present_cycle b) kind.Returned c) f e
+
+high-of : (z : ℤ) → at_least_zero z ≤ 100000 → z ≤ℤ pos 1_000_000_000_000_000
+high-of (pos n) h = omega (arith, ints)
+high-of (negsuc n) h = omega (arith, ints)
+
+pub chargeable : (g : Given) (day : ℕ) (issued : Option IssuedRow) (b : Book) (c : Option Cycle) (f : Fee) → IsSound g → returned_fee issued (seen_in g day) b c ≡ Some f → (pos 0 ≤ℤ f.cents) × (f.cents ≤ℤ pos 1_000_000_000_000_000)
+chargeable g day issued b c f s e =
+    let l = limits-on (anchor_of g.history) g.shared g.history g.issued day (folded-few (anchor_of g.history) g.shared.holidays g.history s.accepted.cents) s.fees in
+    (returned-low issued (seen_in g day) b c f e, high-of f.cents (returned-small issued (seen_in g day) b c l f e))

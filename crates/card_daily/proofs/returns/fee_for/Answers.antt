@@ -1,0 +1,59 @@
+use Rattle.std.proofs.Common.{pos, refl, sym, ap, ◌∙◌, arith, w64}
+use Rattle.std.proofs.lemmas.Int.{to_z-of_z}
+use Rattle.std.specs.Prelude.{option_copied, unsigned_abs}
+use Rattle.card_days.specs.Billing.{cycle_of}
+use Rattle.card_due.specs.Charged.{capped_if_any}
+use Rattle.card_due.specs.Laws.{issued_fees}
+use Rattle.card_model.specs.Cycles.{Cycle}
+use Rattle.card_model.specs.Fees.{last_due}
+use Rattle.card_model.specs.Payments.{asked}
+use Rattle.card_daily.proofs.Charging.{by-parts, due-by, fee-is, few-cycles}
+use Rattle.card_daily.specs.Given.{seen_in}
+use Rattle.card_daily.proofs.returns.fee_for.Goals as goal
+
+pub asked_by-least-requires-clause-due : goal.asked_by-least-requires-clause-due
+asked_by-least-requires-clause-due c x e =
+    due-by c.args.inputs.now c.args.day x c.args.cycles.now c.anchor-anchor.ensures.sound c.requires.opened c.requires.last c.requires.cycles (sym c.due_before.ensures ∙ e)
+
+pub overflow_cast-cycles : goal.overflow_cast-cycles
+overflow_cast-cycles c =
+    let few = few-cycles c.args.inputs.now c.args.day c.args.cycles.now c.anchor-anchor.ensures.sound c.requires.opened c.requires.last c.requires.cycles in
+    omega (arith, few)
+
+pub overflow_add-cycles : goal.overflow_add-cycles
+overflow_add-cycles c =
+    let few = few-cycles c.args.inputs.now c.args.day c.args.cycles.now c.anchor-anchor.ensures.sound c.requires.opened c.requires.last c.requires.cycles in
+    omega (arith, few)
+
+pub returns-in-Some : goal.returns-in-Some
+returns-in-Some c b own fees =
+    let g = c.args.inputs.now in
+    let day = c.args.day in
+    let meant = c.args.meant.now in
+    let cycles = c.args.cycles.now in
+    let i = option_copied c.fees_of-issued.result in
+    let least = asked (seen_in g day).issued (last_due day cycles) in
+    let issued = c.fees_of-issued.ensures ∙ ap issued_fees c.issued_for.ensures in
+    let number = ap (λ (x : Cycle). x.number) c.meant.view_is in
+    let minimum = ap unsigned_abs (to_z-of_z w64 c.minimum_of.result (record { sfits = c.minimum_of.type_inv }) ∙ c.minimum_of.ensures) in
+    let asks = ap unsigned_abs (to_z-of_z w64 c.asked_by-least.result (record { sfits = c.asked_by-least.type_inv }) ∙ (c.asked_by-least.ensures.value ∙ ap (λ o. pos (asked (seen_in g day).issued o)) c.due_before.ensures)) in
+    c.capped_fee.ensures
+    ∙ (ap (capped_if_any i) (sym c.in-Some.is ∙ c.returned_fee.ensures)
+    ∙ (by-parts c.fees.result.now c.args.fees.now i _ meant.number (cycle_of c.anchor-anchor.result day) day _ meant.minimum _ least number minimum asks
+    ∙ fee-is g day meant b c.fees.result.now i c.args.fees.now c.anchor-anchor.result cycles least c.anchor-anchor.ensures.sound c.requires.opened c.requires.last c.requires.cycles own fees c.fees.ensures issued c.anchor-anchor.ensures.value refl))
+
+pub returns-in-None : goal.returns-in-None
+returns-in-None c b own fees =
+    let g = c.args.inputs.now in
+    let day = c.args.day in
+    let meant = c.args.meant.now in
+    let cycles = c.args.cycles.now in
+    let i = option_copied c.fees_of-issued.result in
+    let least = asked (seen_in g day).issued (last_due day cycles) in
+    let issued = c.fees_of-issued.ensures ∙ ap issued_fees c.issued_for.ensures in
+    let number = ap (λ (x : Cycle). x.number) c.meant.view_is in
+    let minimum = ap unsigned_abs (to_z-of_z w64 c.minimum_of.result (record { sfits = c.minimum_of.type_inv }) ∙ c.minimum_of.ensures) in
+    let asks = ap unsigned_abs (to_z-of_z w64 c.asked_by-least.result (record { sfits = c.asked_by-least.type_inv }) ∙ (c.asked_by-least.ensures.value ∙ ap (λ o. pos (asked (seen_in g day).issued o)) c.due_before.ensures)) in
+    ap (capped_if_any i) (sym c.in-None.is ∙ c.returned_fee.ensures)
+    ∙ (by-parts c.fees.result.now c.args.fees.now i _ meant.number (cycle_of c.anchor-anchor.result day) day _ meant.minimum _ least number minimum asks
+    ∙ fee-is g day meant b c.fees.result.now i c.args.fees.now c.anchor-anchor.result cycles least c.anchor-anchor.ensures.sound c.requires.opened c.requires.last c.requires.cycles own fees c.fees.ensures issued c.anchor-anchor.ensures.value refl)

@@ -1,0 +1,117 @@
+// What a returned payment brings back.
+ghost use Rattle.std.specs.Prelude.{◌≡◌, ℕ, ◌++◌, ◌<◌, ◌≤◌, List, Option, Some, OnOk, OnErr, length, pos, take, ◌≤ℤ◌};
+ghost use Rattle.card_alloc.specs.Parts.{back_entries};
+ghost use Rattle.card_effects.specs.Returned.{AreOfThose, AreReturnable, IsChargeable, parts_of};
+ghost use Rattle.card_effects.specs.Standing.{AreRated, IsSlotOf, StandsAt};
+ghost use Rattle.card_events.specs.History.{CorrectedPost};
+ghost use Rattle.card_events.specs.declared.post.Post.TheVariants as post;
+ghost use Rattle.card_model.specs.Books.{Account, Book, with_fee};
+ghost use Rattle.card_model.specs.Cycles.{IssuedRow, Seen};
+ghost use Rattle.card_model.specs.Effects.{effect, meant_for, payment_at};
+ghost use Rattle.card_model.specs.Effects as model;
+ghost use Rattle.card_model.specs.declared.entry.Entry.{Entry};
+ghost use Rattle.card_model.specs.declared.entry.EntryKind.TheVariants as kind;
+ghost use Rattle.card_segments.specs.Balances.{AreWithin};
+
+use crate::debits::note_of;
+use crate::place::newest;
+use card_alloc::{Parts, put_back};
+use card_events::{Category, Slot};
+use card_model::Fee;
+use card_rates::RateBook;
+use card_segments::{Entry, EntryKind, Note, Segments};
+use card_units::NoMemory;
+use std::alloc::Global;
+
+// Puts the parts of a payment back, each on its segment, and Credit's part on the newest purchases.
+fn put_parts_back(
+    alloc: Global,
+    segments: &mut Segments,
+    rates: &RateBook,
+    slot: &Slot,
+    payment: u32,
+    out: &mut Vec<Entry>,
+) -> Result<(), NoMemory>
+    requires rated { AreRated segments.old.segments rates.now }
+    requires parts { AreReturnable (length segments.old.balances) (parts_of payment out.old.items) }
+    requires small { AreWithin 1_000_000_000_000_000 segments.old.balances }
+    ensures stands { OnOk result ((a : Account) (seen : Seen) (p : CorrectedPost) (b : Book) → StandsAt a seen b rates.now segments.old.balances out.old.items → AreOfThose seen.day rates.now b.entries → IsSlotOf seen p slot.now → StandsAt a seen (model.returned a seen p.number payment b) rates.now segments.new.balances out.new.items) }
+    ensures segments { segments.new.segments ≡ segments.old.segments }
+    ensures small { OnOk result (AreWithin 10_000_000_000_000_000 segments.new.balances) }
+    ensures begins { take (length out.old.items) out.new.items ≡ out.old.items }
+{
+    let parts = Parts::of_payment(alloc, out, payment)?;
+    let newest = newest(segments, rates, Category::Purchase, slot.day);
+    let note = note_of(slot, EntryKind::Return);
+    put_back(segments, &parts, newest, &note, out)
+}
+
+// Debits a fee to the newest purchases, on the day of a post.
+fn charge_fee(
+    segments: &mut Segments,
+    rates: &RateBook,
+    slot: &Slot,
+    fee: &Fee,
+    out: &mut Vec<Entry>,
+) -> Result<(), NoMemory>
+    requires rated { AreRated segments.old.segments rates.now }
+    requires amount { pos 0 ≤ℤ fee.now.cents }
+    requires limit { fee.now.cents ≤ℤ pos 1_000_000_000_000_000 }
+    requires small { AreWithin 10_000_000_000_000_000 segments.old.balances }
+    ensures stands { OnOk result ((a : Account) (seen : Seen) (b : Book) → StandsAt a seen b rates.now segments.old.balances out.old.items → slot.now.day ≡ seen.day → StandsAt a seen (with_fee a seen slot.now.number (Some fee.now) b) rates.now segments.new.balances out.new.items) }
+    ensures segments { segments.new.segments ≡ segments.old.segments }
+    ensures err_entries { OnErr result (out.new.items ≡ out.old.items) }
+{
+    let segment = newest(segments, rates, Category::Purchase, slot.day);
+    let note = note_of(slot, EntryKind::Fee);
+    segments.debit(segment, fee.cents, &note, out)?;
+    Ok(())
+}
+
+// The same, where there is a fee.
+fn charge_if_any(
+    segments: &mut Segments,
+    rates: &RateBook,
+    slot: &Slot,
+    charged: &Option<Fee>,
+    out: &mut Vec<Entry>,
+) -> Result<(), NoMemory>
+    requires rated { AreRated segments.old.segments rates.now }
+    requires charged { IsChargeable charged.now }
+    requires small { AreWithin 10_000_000_000_000_000 segments.old.balances }
+    ensures stands { OnOk result ((a : Account) (seen : Seen) (b : Book) → StandsAt a seen b rates.now segments.old.balances out.old.items → slot.now.day ≡ seen.day → StandsAt a seen (with_fee a seen slot.now.number charged.now b) rates.now segments.new.balances out.new.items) }
+    ensures segments { segments.new.segments ≡ segments.old.segments }
+    ensures err_entries { OnErr result (out.new.items ≡ out.old.items) }
+{
+    match charged {
+        Some(fee) => charge_fee(segments, rates, slot, fee, out),
+        None => Ok(()),
+    }
+}
+
+/// The return of a payment, by its number, on the return's effective day: the payment's parts are owed again, each on its
+/// segment in order of number (12 CFR 1026.10, .53). Credit's part uses up the credit balance, and what that no longer holds
+/// is owed on the newest purchases. After them the returned-payment fee is charged, where there is one (12 CFR
+/// 1026.52(b)). Condition: segments and rates of one account, parts that are each of another segment, in order and none of
+/// Held, together at most 10^15 cents, a fee of 0 to 10^15 cents, and balances of at most 10^15 cents in size. After want of
+/// memory balances are of no use, and the entries begin with those that there were.
+pub fn returned(
+    alloc: Global,
+    segments: &mut Segments,
+    rates: &RateBook,
+    slot: &Slot,
+    payment: u32,
+    charged: &Option<Fee>,
+    out: &mut Vec<Entry>,
+) -> Result<(), NoMemory>
+    requires rated { AreRated segments.old.segments rates.now }
+    requires parts { AreReturnable (length segments.old.balances) (parts_of payment out.old.items) }
+    requires charged { IsChargeable charged.now }
+    requires small { AreWithin 1_000_000_000_000_000 segments.old.balances }
+    ensures stands { OnOk result ((issued : Option IssuedRow) (a : Account) (seen : Seen) (p : CorrectedPost) (b : Book) (day : ℕ) → StandsAt a seen b rates.now segments.old.balances out.old.items → AreOfThose seen.day rates.now b.entries → IsSlotOf seen p slot.now → charged.now ≡ model.returned_fee issued seen b (meant_for b.cycles (payment_at payment seen.posts)) → StandsAt a seen (effect issued a seen p (post.Return day payment) b) rates.now segments.new.balances out.new.items) }
+    ensures segments { segments.new.segments ≡ segments.old.segments }
+    ensures err { OnErr result (take (length out.old.items) out.new.items ≡ out.old.items) }
+{
+    put_parts_back(alloc, segments, rates, slot, payment, out)?;
+    charge_if_any(segments, rates, slot, charged, out)
+}
