@@ -1,4 +1,5 @@
--- What a step keeps of an account's posts: they are of the kinds that are taken, and their days are not after today.
+-- What a step keeps of an account's posts: they are of the kinds that are taken, their days are not after today, and Returns
+-- name payments.
 use Rattle.std.proofs.Common.{◌≡◌, ℕ, ◌≤◌, Bool, true, false, cond, List, [], ◌∷◌, ◌++◌, length, Option, Some, None, refl, ap, sym, ◌∙◌, subst, arith}
 use Rattle.std.proofs.lemmas.Bool.{false≢true, ltb-false}
 use Rattle.std.proofs.lemmas.List.Elements.{All-cons, All-head, All-nil, All-push, All-tail}
@@ -7,7 +8,9 @@ use Rattle.std.specs.Prelude.{nat_le, nat_lt}
 use Rattle.card_account.specs.Built.{is_built_post}
 use Rattle.card_account.specs.Runs.{IsTakenPost}
 use Rattle.card_account.proofs.ReasonLemmas.{none_tail, none_head, received, where_none}
-use Rattle.card_daily.specs.Given.{is_to_come}
+use Rattle.card_account.proofs.ReturnLemmas.{names}
+use Rattle.card_daily.proofs.Naming.{names-more}
+use Rattle.card_daily.specs.Given.{NamePayments, is_to_come}
 use Rattle.card_events.specs.History.{anchor_of, at_number, opening_in}
 use Rattle.card_events.specs.Keys.{with_key}
 use Rattle.card_events.specs.SharedRows.{shared_rows}
@@ -33,6 +36,7 @@ pub record IsHeld (today opened : ℕ) (k : Kept) : Type 0 where
 pub record AreHeld (today : ℕ) (l : Lists) : Type 0 where
   pub some : 1 ≤ length l.posts
   pub posts : All (IsHeld today (anchor_of l.posts).opened) l.posts
+  pub returns : NamePayments l.posts 1 l.posts
 
 -- ---- kinds
 not_to_come : (p : Post) → is_built_post p ≡ true → is_to_come p ≡ false
@@ -42,7 +46,7 @@ not_to_come (post.Credit d p c) built = refl
 not_to_come (post.Payment d m by c) built = refl
 not_to_come (post.Bill c) built = refl
 not_to_come (post.Amend t d c) built = refl
-not_to_come (post.Return d t) built = absurd (cc)
+not_to_come (post.Return d t) built = refl
 not_to_come (post.Plan d v r w f) built = refl
 not_to_come (post.Notice d y r w) built = refl
 not_to_come (post.Lower d y r) built = refl
@@ -75,7 +79,7 @@ no_opening (post.Refund c) other = (refl, refl)
 
 -- an Open that is accepted is on no later day than today
 first-held : (key : List ℕ) (today accounts : ℕ) (p : Post) → IsTakenPost p → is_open p ≡ true → reason_to_open today accounts p ≡ None → AreHeld today (record { posts = kept_as 1 key today p ∷ []; issued = [] })
-unfolding reason_to_open
+unfolding reason_to_open NamePayments
 first-held key today accounts (post.Open day t) taken is none =
     let rest = none_tail (bad_terms (post.Open day t)) (day_ahead today (post.Open day t) ∷ where_true (nat_le 1000000 accounts) refusal.LedgerFull ∷ []) none in
     let ahead = none_head (day_ahead today (post.Open day t)) (where_true (nat_le 1000000 accounts) refusal.LedgerFull ∷ []) rest in
@@ -83,6 +87,7 @@ first-held key today accounts (post.Open day t) taken is none =
     record {
       some = omega arith;
       posts = All-cons (IsHeld today day) (kept_as 1 key today (post.Open day t)) [] (record { accepted = omega arith; received = tt; opening = by; first = taken.first; folded = refl }) (All-nil (IsHeld today day));
+      returns = (tt, tt);
     }
 first-held key today accounts (post.Charge d p c) taken is none = absurd (cc)
 first-held key today accounts (post.Credit d p c) taken is none = absurd (cc)
@@ -128,7 +133,11 @@ accepted-held now key p taken other none held =
       first = λ is. absurd (false≢true (sym parts.1 ∙ is));
       folded = not_to_come p taken.built;
     } in
-    record { some = longer now.lists.posts k; posts = held-push now.today (anchor_of now.lists.posts).opened now.lists.posts k held.some refl held.posts one }
+    record {
+      some = longer now.lists.posts k;
+      posts = held-push now.today (anchor_of now.lists.posts).opened now.lists.posts k held.some refl held.posts one;
+      returns = names-more now.lists.posts k held.returns (names now p none);
+    }
 
 -- ---- an outcome
 abbrev pub HeldIf : ℕ → Outcome → Type 0
@@ -182,4 +191,4 @@ later-all today later opened (k ∷ ks) up all =
     All-cons (IsHeld later opened) k ks (later-one today later opened k up (All-head (IsHeld today opened) k ks all)) (later-all today later opened ks up (All-tail (IsHeld today opened) k ks all))
 
 pub later-held : (today later : ℕ) (l : Lists) → today ≤ later → AreHeld today l → AreHeld later l
-later-held today later l up held = record { some = held.some; posts = later-all today later (anchor_of l.posts).opened l.posts up held.posts }
+later-held today later l up held = record { some = held.some; posts = later-all today later (anchor_of l.posts).opened l.posts up held.posts; returns = held.returns }

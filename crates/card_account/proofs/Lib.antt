@@ -2,6 +2,9 @@ pub mod BillLemmas
 pub mod ClosedCycles
 pub mod ClosingLemmas
 pub mod Held
+pub mod PlaceLemmas
+pub mod PlanLemmas
 pub mod ReasonLemmas
+pub mod ReturnLemmas
 pub mod RowLemmas
 pub mod Runs

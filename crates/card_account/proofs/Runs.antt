@@ -147,7 +147,7 @@ running : (s : State) (l : Lists) → s.today ≤ 47481 → IsAccepted s → Are
 running s l last fees accepted segments dated planned held =
     let opening = opening-is s.today l.posts last accepted.terms.first_close_day accepted.terms.last_close_day held.posts in
     record {
-      sound = record { accepted = accepted; fees = fees.fees; segments = segments; dated = dated; opening = opening.0; plans = planned; folded = all-folded s.today (anchor_of l.posts).opened l.posts held.posts };
+      sound = record { accepted = accepted; fees = fees.fees; segments = segments; dated = dated; opening = opening.0; plans = planned; folded = all-folded s.today (anchor_of l.posts).opened l.posts held.posts; returns = held.returns };
       timely = timely s.today (anchor_of l.posts).opened l.posts last held.posts;
       last = last-held s.today (anchor_of l.posts).opened l.posts held.posts;
       opened = opening.1;

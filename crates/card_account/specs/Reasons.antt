@@ -4,20 +4,47 @@ use Rattle.std.specs.Option.{option_map, option_or}
 use Rattle.card_days.specs.Billing.{closing}
 use Rattle.card_days.specs.declared.anchor.Anchor.{Anchor}
 use Rattle.card_events.specs.declared.kept.Kept.{Kept}
+use Rattle.card_events.specs.SharedRows.{SharedRows}
+use Rattle.card_events.specs.declared.post.Post.{Post}
 use Rattle.card_events.specs.declared.reply.Refusal.{Refusal}
 use Rattle.card_events.specs.declared.reply.Refusal.TheVariants as refusal
-use Rattle.card_model.specs.Refusals.{bills, first_reason, number_from, where_true}
+use Rattle.card_model.specs.Cycles.{IssuedRow}
+use Rattle.card_model.specs.Refusals.{Present, already_returned, bills, first_reason, number_from, outside_plan, plan_end_not_closing, plan_too_short, segments_full, unknown_plan, where_true, wrong_entry}
 
--- of a post with a day of its own, whose amount or minute is out of its range or not, in an account that was opened on a day
--- and has so many posts
-unfoldable pub dated_reason : Bool → ℕ → ℕ → ℕ → ℕ → Option Refusal
-dated_reason out today opened count day =
+-- what is judged today of an account with these posts
+abbrev pub judged_of : ℕ → SharedRows → List IssuedRow → List Kept → Present
+judged_of today shared issued posts = record { today = today; shared = shared; lists = record { posts = posts; issued = issued } }
+
+-- ---- posts with a day of their own
+-- an amount, a rate or a minute is out of its range, or the day doesn't lie from the opening day to today
+unfoldable pub early_reason : Bool → ℕ → ℕ → ℕ → Option Refusal
+early_reason out today opened day =
     first_reason (
     where_true out refusal.AmountRange
     ∷ where_true (nat_lt today day) refusal.DayAhead
-    ∷ where_true (nat_lt day opened) refusal.DayBeforeOpen
-    ∷ where_true (nat_le 10000 count) refusal.AccountFull ∷ [])
+    ∷ where_true (nat_lt day opened) refusal.DayBeforeOpen ∷ [])
 
+-- behind all others: the account has so many posts
+abbrev pub full_reason : ℕ → Option Refusal
+full_reason count = where_true (nat_le 10000 count) refusal.AccountFull
+
+-- between these two: of a charge or a credit, its plan
+unfoldable pub place_reason : Present → Post → Option Refusal
+place_reason now p = first_reason (unknown_plan now p ∷ outside_plan now p ∷ [])
+
+-- of a Plan, its end and the account's segments
+unfoldable pub end_reason : Present → Post → Option Refusal
+end_reason now p = first_reason (plan_end_not_closing now p ∷ plan_too_short p ∷ segments_full now p ∷ [])
+
+-- of an Amend, its target
+unfoldable pub target_reason : Present → Post → Option Refusal
+target_reason now p = first_reason (outside_plan now p ∷ wrong_entry now p ∷ [])
+
+-- of a Return, the payment that it names
+unfoldable pub returned_reason : Present → Post → Option Refusal
+returned_reason now p = first_reason (wrong_entry now p ∷ already_returned now p ∷ [])
+
+-- ---- Bills
 -- the cycle of a Bill is none that closes by 2099-12-31
 abbrev pub is_no_cycle : Anchor → ℕ → Bool
 is_no_cycle a cycle = (cycle == 0) || nat_lt 47481 (closing a cycle)

@@ -51,6 +51,7 @@ impl Account {
     ghost use Rattle.card_account.specs.Built.{is_built_post};
     ghost use Rattle.card_account.specs.Verdicts.{verdict_of};
     ghost use Rattle.card_days.specs.Billing.{IsCloseDay};
+    ghost use Rattle.card_events.specs.Dated.{is_dated_post};
     ghost use Rattle.card_events.specs.History.{at_number, terms_in};
     ghost use Rattle.card_events.specs.Keys.{with_key};
     ghost use Rattle.card_events.specs.SharedRows.{SharedRows};
@@ -83,9 +84,10 @@ impl Account {
         })
     }
 
-    /// What a post comes to today, on this account.
+    /// What a post comes to today, on this account. Its days are days of requests.
     pub fn judge(&self, today: Day, key: &Name, post: &Post) -> Verdict
-        requires { is_built_post post.now ≡ true }
+        requires built { is_built_post post.now ≡ true }
+        requires dated { is_dated_post post.now ≡ true }
         ensures { (shared : SharedRows) → result ≡ verdict_of (at_key (present_of today shared self.now.named.lists) key.now post.now (with_key key.now self.now.named.lists.posts)) }
     {
         match self.posts.with_key(key) {
@@ -116,7 +118,8 @@ impl Account {
 
     // What a post comes to whose key is new.
     fn judge_new(&self, today: Day, post: &Post) -> Verdict
-        requires { is_built_post post.now ≡ true }
+        requires built { is_built_post post.now ≡ true }
+        requires dated { is_dated_post post.now ≡ true }
         ensures { (shared : SharedRows) → (key : List ℕ) → result ≡ verdict_of (at_key (present_of today shared self.now.named.lists) key post.now None) }
     {
         if is_open(post) {

@@ -2,24 +2,17 @@
 ghost use Rattle.std.specs.Prelude.{◌≡◌};
 ghost use Rattle.card_account.specs.Built as spec;
 
-use card_events::{Place, Post};
+use card_events::Post;
 
-/// Whether accounts take posts of this kind so far: an Open, a Charge or a Credit on a category, a Payment, or a Bill.
+/// Whether accounts take posts of this kind so far: an Open, a Charge, a Credit, a Payment, a Return, a Plan, an
+/// Amend, or a Bill.
 pub fn is_built_post(post: &Post) -> bool
     ensures { result ≡ spec.is_built_post post.now }
 {
     match post {
-        Post::Charge { place, .. } | Post::Credit { place, .. } => is_category(place),
-        Post::Open { .. } | Post::Payment { .. } | Post::Bill { .. } => true,
+        Post::Open { .. } | Post::Charge { .. } | Post::Credit { .. } | Post::Payment { .. } =>
+            true,
+        Post::Return { .. } | Post::Plan { .. } | Post::Amend { .. } | Post::Bill { .. } => true,
         _ => false,
-    }
-}
-
-fn is_category(place: &Place) -> bool
-    ensures { result ≡ spec.is_category place.now }
-{
-    match place {
-        Place::Plan(_) => false,
-        _ => true,
     }
 }

@@ -1,20 +1,34 @@
 // Why posts aren't accepted: the first reason in order.
 ghost use Rattle.std.specs.Prelude.{◌≡◌, ◌<◌, ◌≤◌, None, Some, true, false, ℕ, ◌||◌, SomeIff, List, length, nat_lt, nat_le, [], ◌∷◌};
+ghost use Rattle.std.specs.Option.{option_or};
 ghost use Rattle.card_account.specs.Built.{is_built_post};
+ghost use Rattle.card_account.specs.Reasons.{judged_of};
 ghost use Rattle.card_account.specs.Reasons as reasons;
 ghost use Rattle.card_days.specs.Billing.{IsCloseDay, closing};
+ghost use Rattle.card_days.specs.declared.anchor.Channel.{Channel};
+ghost use Rattle.card_events.specs.Dated.{is_dated_post};
 ghost use Rattle.card_events.specs.History.{anchor_of, at_number};
 ghost use Rattle.card_events.specs.SharedRows.{SharedRows};
+ghost use Rattle.card_events.specs.declared.post.PlanKind.{PlanKind};
 ghost use Rattle.card_events.specs.declared.post.Post.TheVariants as post;
 ghost use Rattle.card_model.specs.Cycles.{IssuedRow};
 ghost use Rattle.card_model.specs.Machine.{is_open};
 ghost use Rattle.card_model.specs.Refusals.{bad_terms, bills, first_reason, holds_of, number_from, reason_against, reason_to_open, where_true};
 ghost use Rattle.card_model.specs.Refusals as spec;
 
+mod amend;
+mod place;
+mod plan;
+mod returned;
+
 use crate::closings::closing_of;
+use amend::amended_target;
 use card_days::{Anchor, Day};
-use card_events::{Num, Post, Refusal, Terms};
+use card_events::{Num, Place, Post, Refusal, Terms};
 use card_posts::Posts;
+use place::{charged_place, credited_place};
+use plan::plan_end;
+use returned::returned_target;
 
 /// The first term that is out of its range: the closing day is 1 to 28, rates are at most 9,999 basis points, the floor is
 /// at most 1,000,000 cents, the part at most 10,000 basis points.
@@ -66,10 +80,11 @@ fn later_open_reason(today: Day, accounts: usize, day: Day) -> Option<Refusal>
     }
 }
 
-// Why a post with a day of its own isn't accepted today, in an account that was opened on a day and has so many posts.
-#[tactic(auto, unfolding(crate::specs::Reasons::dated_reason))]
-fn dated_reason(out: bool, today: Day, opened: Day, count: u32, day: Day) -> Option<Refusal>
-    ensures { result ≡ reasons.dated_reason out today opened count day }
+// Why a post with a day of its own isn't accepted today, before what else is asked of its kind, in an account that was opened
+// on a day.
+#[tactic(auto, unfolding(crate::specs::Reasons::early_reason))]
+fn early_reason(out: bool, today: Day, opened: Day, day: Day) -> Option<Refusal>
+    ensures { result ≡ reasons.early_reason out today opened day }
 {
     if out {
         Some(Refusal::AmountRange)
@@ -77,10 +92,29 @@ fn dated_reason(out: bool, today: Day, opened: Day, count: u32, day: Day) -> Opt
         Some(Refusal::DayAhead)
     } else if day < opened {
         Some(Refusal::DayBeforeOpen)
-    } else if count >= 10_000 {
+    } else {
+        None
+    }
+}
+
+// Why a post isn't accepted behind all else, in an account that has so many posts.
+fn full_reason(count: u32) -> Option<Refusal>
+    ensures { result ≡ reasons.full_reason count }
+{
+    if count >= 10_000 {
         Some(Refusal::AccountFull)
     } else {
         None
+    }
+}
+
+// The first of two reasons.
+fn first_of(first: Option<Refusal>, later: Option<Refusal>) -> Option<Refusal>
+    ensures { result ≡ option_or first later }
+{
+    match first {
+        Some(refusal) => Some(refusal),
+        None => later,
     }
 }
 
@@ -173,31 +207,150 @@ fn bill_reason(posts: &Posts, anchor: Anchor, today: Day, cycle: Num) -> Option<
     }
 }
 
-/// Why a post under a new key isn't accepted today, on an account with this anchor.
+// Why a charge isn't accepted today.
+fn charge_reason(
+    posts: &Posts,
+    opened: Day,
+    today: Day,
+    day: Day,
+    place: &Place,
+    cents: Num,
+) -> Option<Refusal>
+    requires { opened ≡ (anchor_of posts.now.history).opened }
+    ensures { (shared : SharedRows) (issued : List IssuedRow) → result ≡ reason_against (judged_of today shared issued posts.now.history) (post.Charge day place.now cents) }
+{
+    let early = early_reason(is_no_amount(cents), today, opened, day);
+    let later = charged_place(posts, day, place);
+    first_of(early, first_of(later, full_reason(posts.len())))
+}
+
+// Why a credit isn't accepted today.
+fn credit_reason(
+    posts: &Posts,
+    opened: Day,
+    today: Day,
+    day: Day,
+    place: &Place,
+    cents: Num,
+) -> Option<Refusal>
+    requires { opened ≡ (anchor_of posts.now.history).opened }
+    ensures { (shared : SharedRows) (issued : List IssuedRow) → result ≡ reason_against (judged_of today shared issued posts.now.history) (post.Credit day place.now cents) }
+{
+    let early = early_reason(is_no_amount(cents), today, opened, day);
+    let later = credited_place(posts, place);
+    first_of(early, first_of(later, full_reason(posts.len())))
+}
+
+// Why a payment isn't accepted today.
+fn payment_reason(
+    posts: &Posts,
+    opened: Day,
+    today: Day,
+    day: Day,
+    minute: Num,
+    cents: Num,
+) -> Option<Refusal>
+    requires { opened ≡ (anchor_of posts.now.history).opened }
+    ensures { (shared : SharedRows) (issued : List IssuedRow) (by : Channel) → result ≡ reason_against (judged_of today shared issued posts.now.history) (post.Payment day minute by cents) }
+{
+    let early = early_reason(is_no_payment(minute, cents), today, opened, day);
+    first_of(early, full_reason(posts.len()))
+}
+
+// Why a Return isn't accepted today.
+fn return_reason(posts: &Posts, opened: Day, today: Day, day: Day, target: Num) -> Option<Refusal>
+    requires { opened ≡ (anchor_of posts.now.history).opened }
+    ensures { (shared : SharedRows) (issued : List IssuedRow) → result ≡ reason_against (judged_of today shared issued posts.now.history) (post.Return day target) }
+{
+    let early = early_reason(false, today, opened, day);
+    let later = returned_target(posts, target);
+    first_of(early, first_of(later, full_reason(posts.len())))
+}
+
+fn is_no_correction(cents: Num) -> bool
+    ensures { result ≡ nat_lt 1000000000 cents }
+{
+    cents.get() > 1_000_000_000
+}
+
+// Why an Amend isn't accepted today.
+fn amend_reason(
+    posts: &Posts,
+    opened: Day,
+    today: Day,
+    target: Num,
+    day: Day,
+    cents: Num,
+) -> Option<Refusal>
+    requires { opened ≡ (anchor_of posts.now.history).opened }
+    ensures { (shared : SharedRows) (issued : List IssuedRow) → result ≡ reason_against (judged_of today shared issued posts.now.history) (post.Amend target day cents) }
+{
+    let early = early_reason(is_no_correction(cents), today, opened, day);
+    let later = amended_target(posts, target, day);
+    first_of(early, first_of(later, full_reason(posts.len())))
+}
+
+fn are_no_rates(rate: Num, after: Num) -> bool
+    ensures { result ≡ (nat_lt 9999 rate || nat_lt 9999 after) }
+{
+    rate.get() > 9_999 || after.get() > 9_999
+}
+
+// Why a Plan isn't accepted today.
+fn plan_reason(
+    posts: &Posts,
+    anchor: Anchor,
+    today: Day,
+    day: Day,
+    rate: Num,
+    end: Day,
+    after: Num,
+) -> Option<Refusal>
+    requires anchor { anchor ≡ anchor_of posts.now.history }
+    requires close_day { IsCloseDay anchor.close_day }
+    requires dated { day ≤ 47_481 }
+    requires ends { end ≤ 47_481 }
+    ensures { (shared : SharedRows) (issued : List IssuedRow) (kind : PlanKind) → result ≡ reason_against (judged_of today shared issued posts.now.history) (post.Plan day kind rate end after) }
+{
+    match early_reason(are_no_rates(rate, after), today, anchor.opened, day) {
+        Some(refusal) => Some(refusal),
+        None => first_of(plan_end(posts, anchor, day, end), full_reason(posts.len())),
+    }
+}
+
+/// Why a post under a new key isn't accepted today, on an account with this anchor. Its days are days of requests.
 pub fn post_reason(posts: &Posts, anchor: Anchor, today: Day, post: &Post) -> Option<Refusal>
     requires built { is_built_post post.now ≡ true }
+    requires dated { is_dated_post post.now ≡ true }
     requires not_open { is_open post.now ≡ false }
     requires anchor { anchor ≡ anchor_of posts.now.history }
     requires close_day { IsCloseDay anchor.close_day }
     ensures { (shared : SharedRows) (issued : List IssuedRow) → result ≡ reason_against (record { today = today; shared = shared; lists = record { posts = posts.now.history; issued = issued } }) post.now }
 {
-    let count = posts.len();
     let opened = anchor.opened;
     match post {
-        Post::Charge { day, cents, .. } => {
-            dated_reason(is_no_amount(*cents), today, opened, count, *day)
+        Post::Charge { day, place, cents } => {
+            charge_reason(posts, opened, today, *day, place, *cents)
         }
-        Post::Credit { day, cents, .. } => {
-            dated_reason(is_no_amount(*cents), today, opened, count, *day)
+        Post::Credit { day, place, cents } => {
+            credit_reason(posts, opened, today, *day, place, *cents)
         }
         Post::Payment {
             day,
             minute,
             cents,
             ..
-        } => {
-            let out = is_no_payment(*minute, *cents);
-            dated_reason(out, today, opened, count, *day)
+        } => payment_reason(posts, opened, today, *day, *minute, *cents),
+        Post::Return { day, target } => return_reason(posts, opened, today, *day, *target),
+        Post::Plan {
+            day,
+            rate,
+            end,
+            after,
+            ..
+        } => plan_reason(posts, anchor, today, *day, *rate, *end, *after),
+        Post::Amend { target, day, cents } => {
+            amend_reason(posts, opened, today, *target, *day, *cents)
         }
         Post::Bill { cycle } => bill_reason(posts, anchor, today, *cycle),
         _ => unreachable!(),

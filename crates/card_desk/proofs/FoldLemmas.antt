@@ -1,6 +1,6 @@
 -- Each account of a desk may be folded to the end of today, and its book is that of the state.
-use Rattle.std.proofs.Common.{◌≡◌, ℕ, ◌<◌, ◌≤◌, true, List, [], ◌∷◌, length, get_or, refl, ap, sym, ◌∙◌, subst, arith}
-use Rattle.std.proofs.lemmas.Bool.{and_parts, leb-true}
+use Rattle.std.proofs.Common.{◌≡◌, ℕ, ◌<◌, ◌≤◌, true, List, [], ◌∷◌, length, map, get_or, refl, ap, sym, ◌∙◌, subst, arith}
+use Rattle.std.proofs.lemmas.Bool.{and_from, and_parts, leb-true}
 use Rattle.std.proofs.lemmas.List.{get_or-map, length-map}
 use Rattle.std.proofs.lemmas.List.Elements.{All-cons, All-get_or, All-head, All-nil, All-tail}
 use Rattle.std.specs.List.{All, filter, list_all}
@@ -45,9 +45,14 @@ post_days (post.Charge d p c) is built = ((day_parts d (and_parts (is_day d) (is
 post_days (post.Credit d p c) is built = ((day_parts d (and_parts (is_day d) (is_place p && is_number c) is).0).1, λ e. absurd (cc))
 post_days (post.Payment d m by c) is built = ((day_parts d (and_parts (is_day d) (is_number m && is_number c) is).0).1, λ e. absurd (cc))
 post_days (post.Bill c) is built = (refl, λ e. absurd (cc))
-post_days (post.Amend t d c) is built = absurd (cc)
-post_days (post.Return d t) is built = absurd (cc)
-post_days (post.Plan d v r w f) is built = absurd (cc)
+post_days (post.Amend t d c) is built =
+    let rest = (and_parts (is_number t) (is_day d && is_number c) is).1 in
+    ((day_parts d (and_parts (is_day d) (is_number c) rest).0).1, λ e. absurd (cc))
+post_days (post.Return d t) is built = ((day_parts d (and_parts (is_day d) (is_number t) is).0).1, λ e. absurd (cc))
+post_days (post.Plan d v r w f) is built =
+    let first = and_parts (is_day d) (is_number r && (is_day w && is_number f)) is in
+    let rest = (and_parts (is_number r) (is_day w && is_number f) first.1).1 in
+    (and_from (is_request_day d) (is_request_day w) (day_parts d first.0).1 (day_parts w (and_parts (is_day w) (is_number f) rest).0).1, λ e. absurd (cc))
 post_days (post.Notice d y r w) is built = absurd (cc)
 post_days (post.Lower d y r) is built = absurd (cc)
 post_days post.Penalty is built = absurd (cc)
@@ -103,6 +108,7 @@ may_be_folded places calendar fees count today rows accounts i d desk low =
         opening = one.sound.opening;
         plans = one.sound.plans;
         folded = one.sound.folded;
+        returns = one.sound.returns;
       };
       opened = one.opened;
       dated = desk.dated;

@@ -1,3 +1,5 @@
+ghost use Rattle.std.specs.Prelude.{◌≤◌};
+
 use crate::{Ask, Desk, Fault, LoadFault, View, is_built};
 use card_days::{Channel, Day};
 use card_events::{Name, Num, Place, Post, Refusal, Reply, Request, Shared, Terms};
@@ -205,6 +207,96 @@ fn sees_what_is_owed(rt: HostRuntime) -> Result<(), Fail> {
     let second = Ask::Restated(name(alloc, "a")?, number(2)?);
     let unclosed = seen(alloc, &mut keeper, &second)?;
     assert!(rt; matches!(unclosed, View::NoStatement));
+    Ok(())
+}
+
+// A day of a month, counted from March 2024 on.
+fn on(month: u16, date: u8) -> Result<Day, Fail>
+    requires { month ≤ 23 }
+{
+    let count = month + 2;
+    day(2024 + count / 12, (count % 12) as u8 + 1, date)
+}
+
+fn posted(alloc: Global, key: &str, post: Post) -> Result<Request, Fail> {
+    Ok(Request::Post {
+        account: name(alloc, "a")?,
+        key: name(alloc, key)?,
+        post,
+    })
+}
+
+// On the 6th of a month the Bill of the cycle that closed on the 5th, and on the 10th a charge of 10.00.
+fn pass_month(alloc: Global, keeper: &mut MemoryKeeper, month: u16) -> Result<(), Fail>
+    requires { month ≤ 23 }
+{
+    accept(alloc, keeper, &roll(on(month, 6)?))?;
+    let cycle = number(u64::from(month) + 1)?;
+    let key = format!(in alloc; "b{month}")?;
+    accept(
+        alloc,
+        keeper,
+        &posted(alloc, key.as_str(), Post::Bill { cycle })?,
+    )?;
+    accept(alloc, keeper, &roll(on(month, 10)?))?;
+    let charge = Post::Charge {
+        day: on(month, 10)?,
+        place: Place::Purchase,
+        cents: number(1000)?,
+    };
+    let key = format!(in alloc; "c{month}")?;
+    accept(alloc, keeper, &posted(alloc, key.as_str(), charge)?)
+}
+
+// Corrects the charge of April 2024.
+fn correct(alloc: Global, keeper: &mut MemoryKeeper, key: &str, cents: u64) -> Result<(), Fail> {
+    let amend = Post::Amend {
+        target: number(5)?,
+        day: on(1, 10)?,
+        cents: number(cents)?,
+    };
+    accept(alloc, keeper, &posted(alloc, key, amend)?)
+}
+
+// The balances and minimum payments of 24 cycles, as they were issued or as they are now.
+fn statements(
+    alloc: Global,
+    keeper: &mut MemoryKeeper,
+    as_issued: bool,
+) -> Result<Vec<Option<(Cents, Cents)>>, Fail> {
+    let desk = Desk::load(alloc, keeper)?;
+    let mut list = Vec::new(alloc);
+    for cycle in 1..25u64 {
+        let (account, cycle) = (name(alloc, "a")?, number(cycle)?);
+        let ask = if as_issued {
+            Ask::Issued(account, cycle)
+        } else {
+            Ask::Restated(account, cycle)
+        };
+        list.push(amounts(&desk.see(alloc, &ask)?))?;
+    }
+    Ok(list)
+}
+
+// What is corrected and corrected back after two years: cycles are as before, and issued statements never change.
+#[test]
+fn a_correction_that_is_taken_back(rt: HostRuntime) -> Result<(), Fail> {
+    let alloc = rt.alloc();
+    let mut keeper = MemoryKeeper::new(alloc);
+    accept(alloc, &mut keeper, &roll(day(2024, 3, 1)?))?;
+    accept(alloc, &mut keeper, &open(alloc, "a", 5)?)?;
+    for month in 0..24u16 {
+        pass_month(alloc, &mut keeper, month)?;
+    }
+    let cycles = statements(alloc, &mut keeper, false)?;
+    let issued = statements(alloc, &mut keeper, true)?;
+    assert_eq!(rt; cycles, issued);
+    correct(alloc, &mut keeper, "m1", 2000)?;
+    assert!(rt; statements(alloc, &mut keeper, false)? != cycles);
+    assert_eq!(rt; statements(alloc, &mut keeper, true)?, issued);
+    correct(alloc, &mut keeper, "m2", 1000)?;
+    assert_eq!(rt; statements(alloc, &mut keeper, false)?, cycles);
+    assert_eq!(rt; statements(alloc, &mut keeper, true)?, issued);
     Ok(())
 }
 

@@ -1,6 +1,7 @@
-use Rattle.std.proofs.Common.{sym, ap, subst, ◌∙◌, get_or}
+use Rattle.std.proofs.Common.{◌≡◌, true, sym, ap, subst, ◌∙◌, get_or}
 use Rattle.card_account.specs.Accounts.{present_of}
 use Rattle.card_account.specs.Verdicts.{verdict_of}
+use Rattle.card_events.specs.Dated.{is_dated}
 use Rattle.card_events.specs.Keys.{with_key}
 use Rattle.card_events.specs.declared.reply.Reply.TheVariants as reply
 use Rattle.card_events.specs.declared.request.Request.{Request}
@@ -11,6 +12,10 @@ use Rattle.card_desk.proofs.DeskLemmas.{read_at, outcome_at, verdict_at}
 use Rattle.card_desk.proofs.OutcomeLemmas.{new_at_key, none_against}
 use Rattle.card_desk.proofs.StepLemmas.{post_refused, post_repeated, refused_by, repeated_by}
 use Rattle.card_desk.proofs.desk.Desk.post_known.Goals as goal
+
+pub judge-requires-clause-dated : goal.judge-requires-clause-dated
+unfolding is_dated
+judge-requires-clause-dated g c = subst (λ (x : Request). is_dated x ≡ true) c.requires.request c.requires.dated
 
 pub keep_post-requires-clause-no_reason : goal.keep_post-requires-clause-no_reason
 keep_post-requires-clause-no_reason g c shared d =

@@ -1,0 +1,13 @@
+use Rattle.std.proofs.Common.{Bool, ℕ, ap, refl, ◌∙◌}
+use Rattle.std.specs.Prelude.{nat_lt}
+use Rattle.std.specs.Option.{option_or}
+use Rattle.card_account.specs.Reasons.{early_reason, full_reason, judged_of}
+use Rattle.card_account.proofs.ReasonLemmas.{amend_reasons, by_parts}
+use Rattle.card_account.proofs.reason.amend_reason.Goals as goal
+
+pub returns : goal.returns
+returns c shared issued =
+    let now = judged_of c.args.today shared issued c.args.posts.now.history in
+    by_parts c.early_reason-early.result c.amended_target-later.result c.full_reason.result _ _ _ _ c.first_of-2.result (amend_reasons now c.args.target c.args.day c.args.cents)
+    (c.early_reason-early.ensures ∙ ap (λ (b : Bool). early_reason b c.args.today c.args.opened c.args.day) c.is_no_correction.ensures ∙ ap (λ (o : ℕ). early_reason (nat_lt 1000000000 c.args.cents) c.args.today o c.args.day) c.requires)
+    (c.amended_target-later.ensures now c.args.cents refl) (c.full_reason.ensures ∙ ap full_reason c.len.ensures.value) (c.first_of-2.ensures ∙ ap (option_or c.early_reason-early.result) c.first_of.ensures)
