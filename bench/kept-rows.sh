@@ -1,11 +1,13 @@
 #!/bin/sh
 # How long `apply` takes over generated lines, and how long their rows take to load: for 50,000 and 200,000 lines over 1,000
 # accounts, or for the numbers of lines that are given; with the word `bills`, for 100 and 1,000 accounts, or for the numbers
-# of accounts that are given, over two years with a charge, a bill and a payment a month for each. It isn't part of the gate.
-# The program is built in a copy.
+# of accounts that are given, over two years with a charge, a bill and a payment a month for each; with the word `amends`, for
+# 5,000 corrections of the charges of such an account, or for the numbers that are given. It isn't part of the gate. The
+# program is built in a copy.
 #
 #     bench/kept-rows.sh [LINES..]
 #     bench/kept-rows.sh bills [ACCOUNTS..]
+#     bench/kept-rows.sh amends [AMENDS..]
 set -e
 top=$(cd "$(dirname "$0")/.." && pwd)
 work=$(mktemp -d)
@@ -106,6 +108,19 @@ months() {
     }'
 }
 
+# An account over 24 months, so many corrections of its charges in turn, and what is owed then.
+corrections() {
+    months 1
+    awk -v amends="$1" 'BEGIN {
+        for (n = 0; n < amends; n++) {
+            m = n * 7 % 24
+            day = sprintf("%d-%02d-04", 2024 + int(m / 12), m % 12 + 1)
+            printf "amend a0000 m%d %d %s %d\n", n, 2 + 3 * m, day, 4000 + n % 97 * 100
+        }
+        print "show a0000"
+    }'
+}
+
 # Seconds of a run, to the hundredth: the least of five.
 seconds() {
     for try in 1 2 3 4 5; do
@@ -122,6 +137,11 @@ if [ "$1" = bills ]; then
     form=months
     shift
     [ $# -gt 0 ] || set -- 100 1000
+fi
+if [ "$1" = amends ]; then
+    form=corrections
+    shift
+    [ $# -gt 0 ] || set -- 5000
 fi
 [ $# -gt 0 ] || set -- 50000 200000
 for n in "$@"; do

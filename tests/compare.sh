@@ -13,7 +13,7 @@ fi
 cd "$model" || exit 1
 seed=1
 while [ "$seed" -le 40 ]; do
-    answer=$(PYTHONDONTWRITEBYTECODE=1 python3 -m oracle.compare "$program" "$seed" 200 --accounts 3 --stage 5 --whole 2>&1)
+    answer=$(PYTHONDONTWRITEBYTECODE=1 python3 -m oracle.compare "$program" "$seed" 200 --accounts 3 --stage 8 --whole 2>&1)
     if [ "$answer" != same ]; then
         echo "compare: seed $seed differs"
         echo "$answer"
