@@ -1,4 +1,5 @@
 //! Laws on the books of accounts. Their functions do nothing; their clauses are what holds.
+ghost use Rattle.card_book.specs.Laws.{IssuedRowsStay, OnlyBillsIssue};
 ghost use Rattle.card_book.specs.Stands.{BookIsTheFold};
 ghost use Rattle.card_model.specs.Laws.{BalanceIdentity, CorrectionBack, IssuedCaps, IssuingChangesNoPastDay, PastIsEnough};
 
@@ -32,4 +33,15 @@ pub fn correction_back()
 /// A Bill with the row that it adds changes the book of no day up to the day on which it was accepted.
 pub fn issuing_changes_no_past_day()
     ensures { IssuingChangesNoPastDay }
+{}
+
+/// The rows issued to an account in any state of the ledger stay: after whatever further requests, the account is there and its
+/// issued rows begin with them, unchanged and in order. No correction changes or drops one.
+pub fn issued_rows_stay()
+    ensures { IssuedRowsStay }
+{}
+
+/// A request that is no Bill on an account leaves its issued rows as they are.
+pub fn only_bills_issue()
+    ensures { OnlyBillsIssue }
 {}
