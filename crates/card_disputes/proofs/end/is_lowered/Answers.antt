@@ -1,0 +1,9 @@
+use Rattle.std.proofs.Common.{List, ap, sym, ◌∙◌}
+use Rattle.card_disputes.proofs.EndLemmas.{later-is}
+use Rattle.card_events.specs.History.{CorrectedPost, anchor_of}
+use Rattle.card_model.specs.Deadlines.{has_later, is_lower}
+use Rattle.card_disputes.proofs.end.is_lowered.Goals as goal
+
+pub returns : goal.returns
+returns c holidays stands =
+    c.is_ended.ensures ∙ later-is is_lower (anchor_of c.args.posts.now.history) holidays c.args.posts.now.history c.args.number ∙ ap (λ (l : List CorrectedPost). has_later is_lower c.args.number l) (sym stands)

@@ -1,0 +1,4 @@
+pub mod Dues
+pub mod Ends
+pub mod Increases
+pub mod Notices

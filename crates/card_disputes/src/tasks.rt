@@ -1,0 +1,161 @@
+// The open tasks of an account.
+ghost use Rattle.std.specs.Prelude.{◌≡◌, ◌≤◌, ◌≤ℤ◌, ◌++◌, ℕ, List, IfOk, IfSome, OnOk, pos, unsigned_abs};
+ghost use Rattle.std.specs.Option.{option_map, option_to_list};
+ghost use Rattle.card_days.specs.Billing.{IsCloseDay};
+ghost use Rattle.card_disputes.specs.Dues as dues;
+ghost use Rattle.card_events.specs.History.{anchor_of};
+ghost use Rattle.card_model.specs.Deadlines as spec;
+ghost use Rattle.card_posts.specs.Posted.{StandsFor};
+ghost use Rattle.card_slots.specs.Segments.{ArePostsDated};
+
+use crate::due::{credit_due, due_at};
+use crate::order::by_day;
+use crate::review::review_by;
+use card_days::{Anchor, Calendar, Day};
+use card_events::Name;
+use card_model::{Task, TaskKind};
+use card_posts::Posts;
+use card_units::{Cents, NoMemory};
+use std::alloc::Global;
+
+// the cents of a credit balance
+fn cents_in(credit: Cents) -> u64
+    requires { pos 0 ≤ℤ credit }
+    ensures { result ≡ unsigned_abs credit }
+{
+    credit as u64
+}
+
+// One more task, where it has a day.
+fn push_task(
+    tasks: &mut Vec<Task>,
+    alloc: Global,
+    name: &Name,
+    kind: TaskKind,
+    by: Option<Day>,
+    post: u32,
+) -> Result<(), NoMemory>
+    ensures { OnOk result (tasks.new.items ≡ tasks.old.items ++ option_to_list (option_map (spec.task_of name.now kind post) by)) }
+{
+    match by {
+        Some(by) => {
+            let account = name.copy(alloc)?;
+            tasks.push(Task {
+                by,
+                account,
+                kind,
+                post,
+            })?;
+            Ok(())
+        }
+        None => Ok(()),
+    }
+}
+
+// The tasks of one kind that posts make.
+fn push_tasks(
+    tasks: &mut Vec<Task>,
+    alloc: Global,
+    name: &Name,
+    anchor: &Anchor,
+    posts: &Posts,
+    calendar: &Calendar,
+    credit: u64,
+    kind: TaskKind,
+) -> Result<(), NoMemory>
+    requires close_day { IsCloseDay anchor.now.close_day }
+    requires opened { anchor.now.opened ≤ 47_481 }
+    requires dated { ArePostsDated posts.now.history }
+    ensures { (holidays : List ℕ) → StandsFor holidays posts.now → OnOk result (tasks.new.items ≡ tasks.old.items ++ spec.tasks_of name.now kind (dues.due_by anchor.now calendar.now credit posts.now.corrected kind) posts.now.corrected) }
+{
+    for i in 0..posts.len() {
+        let by = due_at(posts, anchor, calendar, credit, kind, i + 1);
+        push_task(tasks, alloc, name, kind, by, i + 1)?;
+    }
+    Ok(())
+}
+
+/// The open tasks of an account that holds a credit balance since a day, by day, kind and post: to acknowledge and to
+/// resolve disputes (12 CFR 1026.13(c)), to refund credit balances (12 CFR 1026.11(a)), to review rate increases and to
+/// lower rates after a review (12 CFR 1026.59). The credit balance is in cents, at least 0. The days of the posts, the day
+/// since which there is a credit balance and today are days of requests. The corrected list is that of the posts under some
+/// calendar.
+pub fn work_of(
+    alloc: Global,
+    name: &Name,
+    anchor: &Anchor,
+    posts: &Posts,
+    calendar: &Calendar,
+    credit: Cents,
+    since: Option<Day>,
+    today: Day,
+) -> Result<Vec<Task>, NoMemory>
+    requires anchor { anchor.now ≡ anchor_of posts.now.history }
+    requires close_day { IsCloseDay anchor.now.close_day }
+    requires dated { ArePostsDated posts.now.history }
+    requires low { pos 0 ≤ℤ credit }
+    requires since { IfSome since (λ d. d ≤ 47_481) }
+    requires today { today ≤ 47_481 }
+    ensures { (holidays : List ℕ) → StandsFor holidays posts.now → IfOk result (λ tasks. tasks.items ≡ spec.open_tasks name.now anchor.now calendar.now posts.now.corrected (unsigned_abs credit) since today) }
+{
+    let credit = cents_in(credit);
+    let mut tasks = Vec::new(alloc);
+    push_tasks(
+        &mut tasks,
+        alloc,
+        name,
+        anchor,
+        posts,
+        calendar,
+        credit,
+        TaskKind::Ack,
+    )?;
+    push_tasks(
+        &mut tasks,
+        alloc,
+        name,
+        anchor,
+        posts,
+        calendar,
+        credit,
+        TaskKind::Resolve,
+    )?;
+    push_tasks(
+        &mut tasks,
+        alloc,
+        name,
+        anchor,
+        posts,
+        calendar,
+        credit,
+        TaskKind::Refund,
+    )?;
+    push_task(
+        &mut tasks,
+        alloc,
+        name,
+        TaskKind::Credit,
+        credit_due(credit, since),
+        0,
+    )?;
+    push_task(
+        &mut tasks,
+        alloc,
+        name,
+        TaskKind::Review,
+        review_by(posts, today),
+        0,
+    )?;
+    push_tasks(
+        &mut tasks,
+        alloc,
+        name,
+        anchor,
+        posts,
+        calendar,
+        credit,
+        TaskKind::Lower,
+    )?;
+    by_day(&mut tasks)?;
+    Ok(tasks)
+}

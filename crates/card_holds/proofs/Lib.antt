@@ -1,0 +1,6 @@
+pub mod Covers
+pub mod Sums
+pub mod Numbered
+pub mod OfTests
+pub mod Segments
+pub mod Standing

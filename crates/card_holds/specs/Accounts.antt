@@ -1,0 +1,11 @@
+-- The segments and rates that are kept of an account.
+use Rattle.std.specs.Prelude.{ℕ, ◌≡◌, List, []}
+use Rattle.card_events.specs.declared.kept.Kept.{Kept}
+use Rattle.card_model.specs.declared.segment.Segment.{Segment}
+use Rattle.card_rates.specs.RateBooks.{Rates, rates_of}
+use Rattle.card_slots.specs.Segments.{account_segments}
+
+-- They are those that the posts of the account add. The holidays count for none of them
+pub record AreOf (history : List Kept) (kept : List Segment) (rated : Rates) : Type 0 where
+  pub segments : (holidays : List ℕ) → kept ≡ account_segments holidays history
+  pub rates : (holidays : List ℕ) → rated.segments ≡ (rates_of holidays history []).segments

@@ -1,0 +1,4 @@
+pub mod Accounts
+pub mod Laws
+pub mod Seen
+pub mod TestAccount

@@ -1,0 +1,13 @@
+//! What disputes of charges and their resolutions do on their day (12 CFR 1026.13).
+#![tactic(auto)]
+
+mod charges;
+mod disputes;
+pub mod laws;
+mod resolves;
+mod seen;
+#[cfg(test)]
+mod tests;
+
+pub use disputes::dispute;
+pub use resolves::resolve;

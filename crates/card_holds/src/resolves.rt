@@ -1,0 +1,109 @@
+// A dispute that is resolved.
+ghost use Rattle.std.specs.Prelude.{◌≡◌, ◌≤◌, ℕ, List, OnOk, OnErr, pos, ◌≤ℤ◌, cond, Option, slice_index_or};
+ghost use Rattle.card_bounds.specs.Bounds.{moved};
+ghost use Rattle.card_effects.specs.Standing.{IsSlotOf, StandsAt};
+ghost use Rattle.card_events.specs.History.{CorrectedPost};
+ghost use Rattle.card_events.specs.SharedRows.{SharedRows};
+ghost use Rattle.card_events.specs.declared.post.Post.TheVariants as post;
+ghost use Rattle.card_model.specs.Books.{Book, account_of};
+ghost use Rattle.card_model.specs.Cycles.{IssuedRow};
+ghost use Rattle.card_model.specs.Effects.{charge_disputed, effect, is_held_by, moved_by};
+ghost use Rattle.card_model.specs.Entries.{sum_of};
+ghost use Rattle.card_posts.specs.Posted.{StandsFor};
+ghost use Rattle.card_rates.specs.Laws.{seen_in};
+ghost use Rattle.card_segments.specs.Balances.{AreWithin};
+ghost use Rattle.card_holds.specs.Accounts.{AreOf};
+ghost use Rattle.card_holds.specs.Seen.{charge_named};
+
+use crate::charges::segment_of;
+use crate::disputes::note_of;
+use crate::seen::{charge_seen, post_seen};
+use card_events::{Num, Post, Slot};
+use card_posts::Posts;
+use card_rates::RateBook;
+use card_segments::{Entry, EntryKind, Segments};
+use card_slots::DayPost;
+use card_units::{Cents, NoMemory};
+
+// What an entry moves to Held, if it is of a post.
+fn held_of(entry: &Entry, post: Num) -> Cents
+    ensures { result ≡ cond (is_held_by post entry.now) entry.now.cents (pos 0) }
+{
+    let is_held = entry.post as u64 == post.get()
+        && entry.segment == 1
+        && entry.kind == EntryKind::Hold;
+    if is_held { entry.cents } else { 0 }
+}
+
+// The sum of what entries of a post move to Held.
+fn held_sum(entries: &[Entry], post: Num) -> Cents
+    requires { moved entries.now ≤ 1_000_000_000_000_000 }
+    ensures { result ≡ sum_of (is_held_by post) entries.now }
+{
+    let mut sum = 0;
+    for entry in entries {
+        sum += held_of(entry, post);
+    }
+    sum
+}
+
+// What a Dispute moved to Held, as its entries tell it.
+pub fn moved_by(entries: &[Entry], dispute: Num) -> Cents
+    requires { moved entries.now ≤ 1_000_000_000_000_000 }
+    ensures value { result ≡ pos (moved_by dispute entries.now) }
+    ensures low { pos 0 ≤ℤ result }
+    ensures high { result ≤ℤ pos 1_000_000_000_000_000 }
+{
+    let sum = held_sum(entries, dispute);
+    if sum < 0 { 0 } else { sum }
+}
+
+// The charge that a post disputes, 0 where it is no Dispute.
+fn charge_in(post: &Post) -> u64
+    ensures { result ≡ charge_disputed post.now }
+{
+    match post {
+        Post::Dispute { target, .. } => target.get(),
+        _ => 0,
+    }
+}
+
+fn charge_named(dispute: &Option<DayPost>) -> u64
+    ensures { result ≡ charge_named dispute.now }
+{
+    match dispute {
+        Some(dispute) => charge_in(&dispute.post),
+        None => 0,
+    }
+}
+
+/// A Resolve of a Dispute, by the Dispute's number: what the Dispute moved leaves Held and is debited to the charge's segment
+/// again (12 CFR 1026.13(e), (f)). It uses up the credit balance first (12 CFR 1026.11(a)). What the Resolve confirmed as an
+/// error lowers the charge, and not what is put back. Condition: segments and rates of the account; entries that move at most
+/// 10^15 cents together, interest apart; Held with at least what the Dispute moved; and balances of at most 10^15 cents in
+/// size. After want of memory balances and entries are as they were.
+pub fn resolve(
+    posts: &Posts,
+    segments: &mut Segments,
+    rates: &RateBook,
+    slot: &Slot,
+    dispute: Num,
+    out: &mut Vec<Entry>,
+) -> Result<(), NoMemory>
+    requires account { AreOf posts.now.history segments.old.segments rates.now }
+    requires moved { moved out.old.items ≤ 1_000_000_000_000_000 }
+    requires held { pos (moved_by dispute out.old.items) ≤ℤ slice_index_or segments.old.balances 1 (pos 0) }
+    requires small { AreWithin 1_000_000_000_000_000 segments.old.balances }
+    ensures stands { OnOk result ((row : Option IssuedRow) (issued : List IssuedRow) (shared : SharedRows) (p : CorrectedPost) (b : Book) (day cents : ℕ) → StandsFor shared.holidays posts.now → StandsAt (account_of posts.now.history) (seen_in posts.now.history issued shared slot.now.day) b rates.now segments.old.balances out.old.items → IsSlotOf (seen_in posts.now.history issued shared slot.now.day) p slot.now → StandsAt (account_of posts.now.history) (seen_in posts.now.history issued shared slot.now.day) (effect row (account_of posts.now.history) (seen_in posts.now.history issued shared slot.now.day) p (post.Resolve day dispute cents) b) rates.now segments.new.balances out.new.items) }
+    ensures segments { segments.new.segments ≡ segments.old.segments }
+    ensures err { OnErr result (segments.new ≡ segments.old) }
+    ensures err_entries { OnErr result (out.new.items ≡ out.old.items) }
+{
+    let disputed = charge_named(&post_seen(posts, dispute.get(), slot.day));
+    let charge = charge_seen(posts, disputed, slot.day);
+    let segment = segment_of(rates, segments, &charge, slot.day);
+    let cents = moved_by(out, dispute);
+    let note = note_of(slot);
+    segments.release(segment, cents, &note, out)?;
+    Ok(())
+}

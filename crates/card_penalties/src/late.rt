@@ -1,0 +1,82 @@
+// Whether a minimum payment is sixty days late, and when a penalty then begins.
+ghost use Rattle.std.specs.Prelude.{◌≡◌, ◌+◌, ◌<◌, ◌≤◌, ◌≤ℤ◌, ℕ, List, nat_lt, pos, unsigned_abs};
+ghost use Rattle.card_days.specs.Billing.{IsCloseDay, closing, due};
+ghost use Rattle.card_model.specs.Payments as model;
+ghost use Rattle.card_penalties.specs.Late.{owes_by};
+ghost use Rattle.card_posts.specs.Posted.{StandsFor};
+
+use card_days::{Anchor, Day, closing, due};
+use card_due::DueCycle;
+use card_fees::counted;
+use card_posts::Posts;
+
+// The day that comes so many days after another.
+fn later(day: Day, days: i32) -> Day
+    requires low { pos 0 ≤ℤ days }
+    requires last { day + unsigned_abs days ≤ 48_576 }
+    ensures { result ≡ day + unsigned_abs days }
+{
+    Day::from_number(day.number() + days).unwrap()
+}
+
+// The due date of a cycle.
+fn due_date(a: &Anchor, cycle: u32) -> Day
+    requires close_day { IsCloseDay a.now.close_day }
+    requires cycle { 1 ≤ cycle }
+    requires in_calendar { due a.now cycle ≤ 48_576 }
+    ensures { result ≡ due a.now cycle }
+{
+    due(*a, cycle).unwrap()
+}
+
+// The day after the closing of a cycle.
+fn after_closing(a: &Anchor, cycle: u32) -> Day
+    requires close_day { IsCloseDay a.now.close_day }
+    requires cycle { 1 ≤ cycle }
+    requires in_calendar { closing a.now cycle < 48_576 }
+    ensures { result ≡ closing a.now cycle + 1 }
+{
+    later(closing(*a, cycle).unwrap(), 1)
+}
+
+// Whether a due date lies more than 60 days back.
+fn is_long_past(due: Day, day: Day) -> bool
+    ensures { result ≡ nat_lt (due + 60) day }
+{
+    due.number() + 60 < day.number()
+}
+
+// Whether the payments since a cycle's closing are below its minimum payment.
+fn is_unpaid(posts: &Posts, a: &Anchor, c: &DueCycle, day: Day) -> bool
+    requires close_day { IsCloseDay a.now.close_day }
+    requires cycle { 1 ≤ c.now.cycle }
+    requires in_calendar { closing a.now c.now.cycle < 48_576 }
+    requires low { pos 0 ≤ℤ c.now.minimum }
+    ensures { (holidays : List ℕ) → StandsFor holidays posts.now → result ≡ nat_lt (model.counted posts.now.corrected (closing a.now c.now.cycle + 1) day) (unsigned_abs c.now.minimum) }
+{
+    let from = after_closing(a, c.cycle);
+    (counted(posts, from, day) as u64) < c.minimum as u64
+}
+
+/// Whether a closed cycle owes its minimum payment for sixty days on a day (12 CFR 1026.55(b)(4)): its due date lies more than
+/// 60 days back, its statement has a due payment, and the payments with effective days after its closing and up to the day,
+/// without those returned by then, are below the minimum payment. The cycle is at least 1, its due date is there, and its
+/// minimum payment is at least 0. The corrected list is that of the posts under some calendar. It takes no memory.
+pub fn owes_sixty_days(posts: &Posts, a: &Anchor, c: &DueCycle, day: Day) -> bool
+    requires close_day { IsCloseDay a.now.close_day }
+    requires cycle { 1 ≤ c.now.cycle }
+    requires in_calendar { due a.now c.now.cycle ≤ 48_576 }
+    requires low { pos 0 ≤ℤ c.now.minimum }
+    ensures { (holidays : List ℕ) → StandsFor holidays posts.now → result ≡ owes_by a.now posts.now.corrected c.now day }
+{
+    is_long_past(due_date(a, c.cycle), day) && c.has_due_payment && is_unpaid(posts, a, c, day)
+}
+
+/// The day on which a penalty begins that is notified on a day: 45 days after it (12 CFR 1026.9(g)(1)(i)). The day is at most
+/// 2102-11-17.
+pub fn begin_after(day: Day) -> Day
+    requires { day ≤ 48_531 }
+    ensures { result ≡ day + 45 }
+{
+    later(day, 45)
+}
