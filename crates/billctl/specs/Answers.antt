@@ -1,6 +1,5 @@
 -- What is written for a line, what is kept of it, and how the ledger goes on.
-use Rattle.std.specs.Prelude.{ℕ, Bool, true, false, if◌then◌else◌, List, [], Option, Some, None}
-use Rattle.card_desk.specs.Built.{is_built}
+use Rattle.std.specs.Prelude.{ℕ, Bool, true, false, List, [], Option, Some, None}
 use Rattle.card_events.specs.declared.reply.Reply.{Reply}
 use Rattle.card_events.specs.declared.reply.Reply.TheVariants as reply
 use Rattle.card_events.specs.declared.reply.Refusal.TheVariants as refusal
@@ -30,24 +29,24 @@ is_refusal reply.Done = false
 is_refusal (reply.Accepted n) = false
 is_refusal (reply.Refused r) = true
 
--- the reply to a line with a request of a kind that the ledger takes so far
+-- the reply to a line with a request
 unfoldable pub reply_in : State → Line → Option Reply
-reply_in s (line.Request r) = if is_built r then Some (step s r).1 else None
+reply_in s (line.Request r) = Some (step s r).1
 reply_in s (line.Show account) = None
 reply_in s (line.Bad field) = None
 
--- what is written for a request with this reply, or with none as the ledger doesn't take its kind so far: it is bad at its word
-abbrev pub text_for : ℕ → Option Reply → List ℕ
-text_for number None = bad_text number 1
-text_for number (Some r) = reply_text r
+-- what is written for a reply, and nothing where there is none
+abbrev pub text_for : Option Reply → List ℕ
+text_for None = []
+text_for (Some r) = reply_text r
 
 abbrev pub is_refused_by : Option Reply → Bool
-is_refused_by None = true
+is_refused_by None = false
 is_refused_by (Some r) = is_refusal r
 
 -- what is written for the line of this number
 unfoldable pub answer_text : State → ℕ → Line → List ℕ
-answer_text s number (line.Request r) = text_for number (reply_in s (line.Request r))
+answer_text s number (line.Request r) = text_for (reply_in s (line.Request r))
 answer_text s number (line.Show account) = view_text account (seen s (ask.Show account))
 answer_text s number (line.Bad field) = bad_text number field
 
@@ -59,12 +58,12 @@ is_refused s (line.Bad field) = true
 
 -- the ledger after the line
 unfoldable pub next : State → Line → State
-next s (line.Request r) = if is_built r then (step s r).0 else s
+next s (line.Request r) = (step s r).0
 next s (line.Show account) = s
 next s (line.Bad field) = s
 
 -- the rows that are kept of the line: that of a newly accepted request
 unfoldable pub line_rows : State → Line → List Row
-line_rows s (line.Request r) = if is_built r then new_rows s r else []
+line_rows s (line.Request r) = new_rows s r
 line_rows s (line.Show account) = []
 line_rows s (line.Bad field) = []

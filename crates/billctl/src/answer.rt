@@ -11,15 +11,14 @@ ghost use Rattle.card_text.specs.Lines.{IsDatedLine};
 ghost use Rattle.billctl.specs.Answers.{answer_text, is_refused, line_rows, next, reply_in};
 ghost use Rattle.billctl.specs.Answers as spec;
 
-use card_desk::{Desk, Fault, View, is_built};
+use card_desk::{Desk, Fault, View};
 use card_events::{Name, Refusal, Reply};
 use card_keeper::Keeper;
 use card_text::{Line, bad_text, reply_text, show_text};
 use card_units::NoMemory;
 use std::alloc::Global;
 
-/// Carries out the request of a line, where it is of a kind that the ledger takes so far, and gives the reply to it. Where
-/// it is newly accepted its row is kept.
+/// Carries out the request of a line, where it is one, and gives the reply to it. Where it is newly accepted its row is kept.
 #[tactic(auto, unfolding(crate::specs::Answers::reply_in, crate::specs::Answers::next, crate::specs::Answers::line_rows))]
 pub fn carry_out<K: Keeper>(
     alloc: Global,
@@ -38,16 +37,15 @@ pub fn carry_out<K: Keeper>(
     ensures cause { IsErrOf result Fault.Keeper → Rose (K.faults keeper.old) (K.faults keeper.new) }
 {
     match line {
-        Line::Request(request) if is_built(request) => match desk.apply(alloc, keeper, request) {
+        Line::Request(request) => match desk.apply(alloc, keeper, request) {
             Ok(reply) => Ok(Some(reply)),
             Err(fault) => Err(fault),
         },
-        _ => Ok(None),
+        Line::Show(_) | Line::Bad(_) => Ok(None),
     }
 }
 
-/// What is written for the line of this number, which was carried out with this reply, and whether that is `no` or `bad`. A
-/// request of a kind that the ledger doesn't take so far is bad at its word.
+/// What is written for the line of this number, which was carried out with this reply, and whether that is `no` or `bad`.
 #[tactic(auto, unfolding(crate::specs::Answers::reply_in, crate::specs::Answers::next, crate::specs::Answers::answer_text, crate::specs::Answers::is_refused))]
 pub fn answer(
     alloc: Global,
@@ -60,23 +58,19 @@ pub fn answer(
     ensures refused { (s : State) → desk.now ≡ next s line.now → reply.now ≡ reply_in s line.now → IfOk result (λ a. a.1 ≡ is_refused s line.now) }
 {
     match line {
-        Line::Request(_) => answer_request(alloc, number, reply),
+        Line::Request(_) => answer_request(alloc, reply),
         Line::Show(account) => answer_show(alloc, desk, account),
         Line::Bad(field) => Ok((bad_text(alloc, number, *field)?, true)),
     }
 }
 
-fn answer_request(
-    alloc: Global,
-    number: u64,
-    reply: &Option<Reply>,
-) -> Result<(String, bool), NoMemory>
-    ensures text { IfOk result (λ a. string_bytes a.0 ≡ spec.text_for number reply.now) }
+fn answer_request(alloc: Global, reply: &Option<Reply>) -> Result<(String, bool), NoMemory>
+    ensures text { IfOk result (λ a. string_bytes a.0 ≡ spec.text_for reply.now) }
     ensures refused { IfOk result (λ a. a.1 ≡ spec.is_refused_by reply.now) }
 {
     match reply {
         Some(reply) => Ok((reply_text(alloc, reply)?, is_refusal(reply))),
-        None => Ok((bad_text(alloc, number, 1)?, true)),
+        None => Ok((String::new(alloc), false)),
     }
 }
 
@@ -101,7 +95,7 @@ fn view_text(alloc: Global, account: &Name, view: &View) -> Result<String, NoMem
             credit,
             held,
         } => show_text(alloc, account, *day, *owed, *credit, *held),
-        View::NoStatement | View::Statement(_) => Ok(String::new(alloc)),
+        View::NoStatement | View::Statement(_) | View::Work(_) => Ok(String::new(alloc)),
     }
 }
 

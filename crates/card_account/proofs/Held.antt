@@ -1,16 +1,15 @@
--- What a step keeps of an account's posts: they are of the kinds that are taken, their days are not after today, and Returns
--- name payments.
+-- What a step keeps of an account's posts: their days are not after today, and Returns name payments.
 use Rattle.std.proofs.Common.{◌≡◌, ℕ, ◌≤◌, Bool, true, false, cond, List, [], ◌∷◌, ◌++◌, length, Option, Some, None, refl, ap, sym, ◌∙◌, subst, arith}
 use Rattle.std.proofs.lemmas.Bool.{false≢true, ltb-false}
 use Rattle.std.proofs.lemmas.List.Elements.{All-cons, All-head, All-nil, All-push, All-tail}
 use Rattle.std.specs.List.{All}
 use Rattle.std.specs.Prelude.{nat_le, nat_lt}
-use Rattle.card_account.specs.Built.{is_built_post}
 use Rattle.card_account.specs.Runs.{IsTakenPost}
-use Rattle.card_account.proofs.ReasonLemmas.{none_tail, none_head, received, where_none}
-use Rattle.card_account.proofs.ReturnLemmas.{names}
+use Rattle.card_account.proofs.NamingLemmas.{names}
+use Rattle.card_reasons.proofs.Accepted.{received}
+use Rattle.card_reasons.proofs.ReasonLemmas.{none_tail, none_head, where_none}
 use Rattle.card_daily.proofs.Naming.{names-more}
-use Rattle.card_daily.specs.Given.{NamePayments, is_to_come}
+use Rattle.card_daily.specs.Given.{NamePayments}
 use Rattle.card_events.specs.History.{anchor_of, at_number, opening_in}
 use Rattle.card_events.specs.Keys.{with_key}
 use Rattle.card_events.specs.SharedRows.{shared_rows}
@@ -30,7 +29,6 @@ pub record IsHeld (today opened : ℕ) (k : Kept) : Type 0 where
   pub received : IsReceived opened k.accepted k.post
   pub opening : opening_in k.post ≤ today
   pub first : opens k.post ≡ true → 14975 ≤ opening_in k.post
-  pub folded : is_to_come k.post ≡ false
 
 -- the lists of an account
 pub record AreHeld (today : ℕ) (l : Lists) : Type 0 where
@@ -39,25 +37,6 @@ pub record AreHeld (today : ℕ) (l : Lists) : Type 0 where
   pub returns : NamePayments l.posts 1 l.posts
 
 -- ---- kinds
-not_to_come : (p : Post) → is_built_post p ≡ true → is_to_come p ≡ false
-not_to_come (post.Open d t) built = refl
-not_to_come (post.Charge d p c) built = refl
-not_to_come (post.Credit d p c) built = refl
-not_to_come (post.Payment d m by c) built = refl
-not_to_come (post.Bill c) built = refl
-not_to_come (post.Amend t d c) built = refl
-not_to_come (post.Return d t) built = refl
-not_to_come (post.Plan d v r w f) built = refl
-not_to_come (post.Notice d y r w) built = refl
-not_to_come (post.Lower d y r) built = refl
-not_to_come post.Penalty built = absurd (cc)
-not_to_come (post.Review d f) built = refl
-not_to_come (post.Dispute d t c) built = absurd (cc)
-not_to_come (post.Ack d t) built = refl
-not_to_come (post.Resolve d t c) built = absurd (cc)
-not_to_come (post.AskRefund d) built = refl
-not_to_come (post.Refund c) built = refl
-
 no_opening : (p : Post) → is_open p ≡ false → (opening_in p ≡ 0) × (opens p ≡ false)
 no_opening (post.Open d t) other = absurd (cc)
 no_opening (post.Charge d p c) other = (refl, refl)
@@ -86,7 +65,7 @@ first-held key today accounts (post.Open day t) taken is none =
     let by : day ≤ today = ltb-false today day (where_none (nat_lt today day) refusal.DayAhead ahead) in
     record {
       some = omega arith;
-      posts = All-cons (IsHeld today day) (kept_as 1 key today (post.Open day t)) [] (record { accepted = omega arith; received = tt; opening = by; first = taken.first; folded = refl }) (All-nil (IsHeld today day));
+      posts = All-cons (IsHeld today day) (kept_as 1 key today (post.Open day t)) [] (record { accepted = omega arith; received = tt; opening = by; first = taken }) (All-nil (IsHeld today day));
       returns = (tt, tt);
     }
 first-held key today accounts (post.Charge d p c) taken is none = absurd (cc)
@@ -128,10 +107,9 @@ accepted-held now key p taken other none held =
     let parts = no_opening p other in
     let one : IsHeld now.today (anchor_of now.lists.posts).opened k = record {
       accepted = omega arith;
-      received = received now p taken.built none;
+      received = received now p none;
       opening = omega (arith, parts.0);
       first = λ is. absurd (false≢true (sym parts.1 ∙ is));
-      folded = not_to_come p taken.built;
     } in
     record {
       some = longer now.lists.posts k;
@@ -183,7 +161,7 @@ outcome-held today rows accounts key p (Some l) taken held = at_key-held (record
 -- ---- later days
 later-one : (today later opened : ℕ) (k : Kept) → today ≤ later → IsHeld today opened k → IsHeld later opened k
 later-one today later opened k up held =
-    record { accepted = omega (arith, held.accepted, up); received = held.received; opening = omega (arith, held.opening, up); first = held.first; folded = held.folded }
+    record { accepted = omega (arith, held.accepted, up); received = held.received; opening = omega (arith, held.opening, up); first = held.first }
 
 later-all : (today later opened : ℕ) (ks : List Kept) → today ≤ later → All (IsHeld today opened) ks → All (IsHeld later opened) ks
 later-all today later opened [] up all = All-nil (IsHeld later opened)

@@ -1,10 +1,6 @@
-pub mod BillLemmas
+mod CreditLemmas
 pub mod ClosedCycles
-pub mod ClosingLemmas
 pub mod Held
-pub mod PlaceLemmas
-pub mod PlanLemmas
-pub mod ReasonLemmas
-pub mod ReturnLemmas
+pub mod NamingLemmas
 pub mod RowLemmas
 pub mod Runs

@@ -7,9 +7,9 @@ use Rattle.std.specs.Prelude.{nat_le, nat_lt, ◌&&◌}
 use Rattle.std.specs.Str.{bytes_eq}
 use Rattle.card_account.specs.Runs.{AreRunning, IsTaken, RunsMayBeFolded}
 use Rattle.card_account.proofs.Held.{AreHeld, HeldIf, HeldThere, IsHeld, later-held, outcome-held}
-use Rattle.card_account.proofs.ReasonLemmas.{none_head, where_none}
+use Rattle.card_reasons.proofs.ReasonLemmas.{none_head, where_none}
 use Rattle.card_daily.proofs.Runs.{runs_keep_plans}
-use Rattle.card_daily.specs.Given.{ArePlanned, is_to_come}
+use Rattle.card_daily.specs.Given.{ArePlanned}
 use Rattle.card_events.specs.Dated.{is_dated, is_dated_post}
 use Rattle.card_events.specs.History.{anchor_of, opening_in, terms_in, terms_of}
 use Rattle.card_events.specs.declared.kept.Kept.{Kept}
@@ -111,11 +111,6 @@ unfolding last_accepted
 last-held today opened [] all = omega arith
 last-held today opened (k ∷ ks) all = let one = All-head (IsHeld today opened) k ks all in omega (arith, one.accepted, last-held today opened ks (All-tail (IsHeld today opened) k ks all))
 
-all-folded : (today opened : ℕ) (ks : List Kept) → All (IsHeld today opened) ks → All (λ (k : Kept). is_to_come k.post ≡ false) ks
-all-folded today opened [] all = All-nil (λ (k : Kept). is_to_come k.post ≡ false)
-all-folded today opened (k ∷ ks) all =
-    All-cons (λ (k : Kept). is_to_come k.post ≡ false) k ks (All-head (IsHeld today opened) k ks all).folded (all-folded today opened ks (All-tail (IsHeld today opened) k ks all))
-
 -- a post with a closing day opens an account
 opens-is : (p : Post) → 1 ≤ (terms_in p).close → opens p ≡ true
 opens-is (post.Open d t) low = refl
@@ -147,7 +142,7 @@ running : (s : State) (l : Lists) → s.today ≤ 47481 → IsAccepted s → Are
 running s l last fees accepted segments dated planned held =
     let opening = opening-is s.today l.posts last accepted.terms.first_close_day accepted.terms.last_close_day held.posts in
     record {
-      sound = record { accepted = accepted; fees = fees.fees; segments = segments; dated = dated; opening = opening.0; plans = planned; folded = all-folded s.today (anchor_of l.posts).opened l.posts held.posts; returns = held.returns };
+      sound = record { accepted = accepted; fees = fees.fees; segments = segments; dated = dated; opening = opening.0; plans = planned; returns = held.returns };
       timely = timely s.today (anchor_of l.posts).opened l.posts last held.posts;
       last = last-held s.today (anchor_of l.posts).opened l.posts held.posts;
       opened = opening.1;

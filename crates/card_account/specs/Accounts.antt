@@ -14,6 +14,7 @@ use Rattle.card_model.specs.Entries.{credit_balance, owed, owing}
 use Rattle.card_model.specs.Folds.{cycle_at}
 use Rattle.card_model.specs.Machine.{NamedAccount}
 use Rattle.card_model.specs.Refusals.{Lists, Present, book_today}
+use Rattle.card_posts.specs.Posted.{last_accepted}
 
 -- the account as the machine has it, with the corrected list that is kept of it
 pub record OpenAccount : Type 0 where
@@ -41,6 +42,7 @@ pub record MayBeFolded (today : ℕ) (holidays : List ℕ) (fees : List FeeRow) 
   pub stands : IsCorrected holidays a
   pub sound : IsSound (given_of a.named.lists (shared_by holidays fees))
   pub opened : opened_in (given_of a.named.lists (shared_by holidays fees)) ≤ today
+  pub accepted : last_accepted a.named.lists.posts ≤ today
   pub dated : today ≤ 47481
 
 -- the row that was issued, if one was

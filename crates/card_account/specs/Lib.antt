@@ -1,6 +1,5 @@
 pub mod Accounts
-pub mod Built
 pub mod Closed
-pub mod Reasons
 pub mod Verdicts
+pub mod Works
 pub mod Runs

@@ -1,8 +1,7 @@
--- What every run leaves in an account, over the kinds of posts that accounts take so far.
+-- What every run leaves in an account.
 use Rattle.std.specs.Prelude.{◌≡◌, ◌≤◌, true, List}
 use Rattle.std.specs.List.{All}
 use Rattle.card_account.specs.Accounts.{given_of}
-use Rattle.card_account.specs.Built.{is_built_post}
 use Rattle.card_daily.specs.Given.{IsSound}
 use Rattle.card_events.specs.Dated.{is_dated}
 use Rattle.card_events.specs.History.{anchor_of, opening_in}
@@ -15,17 +14,16 @@ use Rattle.card_model.specs.Refusals.{Lists}
 use Rattle.card_posts.specs.Posted.{last_accepted, opens}
 use Rattle.card_posts.specs.Stored.{AreTimely}
 
--- a post of a kind that is taken; an account is opened from 2011-01-01 on
-pub record IsTakenPost (p : Post) : Type 0 where
-  pub built : is_built_post p ≡ true
-  pub first : opens p ≡ true → 14975 ≤ opening_in p
+-- an account is opened from 2011-01-01 on
+abbrev pub IsTakenPost : Post → Type 0
+IsTakenPost p = opens p ≡ true → 14975 ≤ opening_in p
 
 -- a request with such a post, or that all accounts share
 abbrev pub IsOfPost : Request → Type 0
 IsOfPost (request.Shared r) = Unit {0}
 IsOfPost (request.Post name key p) = IsTakenPost p
 
--- a request of the kinds that are taken, with days up to 2099-12-31
+-- a request with days from 2011-01-01 to 2099-12-31
 abbrev pub IsTaken : Request → Type 0
 IsTaken r = (is_dated r ≡ true) × IsOfPost r
 

@@ -6,19 +6,22 @@ ghost use Rattle.card_model.specs.Machine.{is_open};
 ghost use Rattle.card_posts.specs.Posted.{opens};
 
 use crate::Fault;
-use crate::closings::{closed_cycle, closing_of};
+use crate::cycles::closed_cycle;
 use crate::issue::{issued_by, push_issued};
+use crate::judge::reason_today;
 use crate::keep::keep_row;
 use crate::owing::Owing;
-use crate::reason::post_reason;
 use crate::statement::{issued_of, restated_of};
 use crate::verdict::Verdict;
+use crate::work::tasks_today;
 use card_book::{Folded, Issued, Statement, fold};
 use card_days::{Anchor, Calendar, Day};
+use card_disputes::Task;
 use card_events::{Name, Num, Post, Refusal};
 use card_fees::FeeTable;
 use card_keeper::{Keeper, Row};
 use card_posts::Posts;
+use card_reasons::closing_of;
 use card_units::NoMemory;
 use std::alloc::Global;
 use std::marker::Model;
@@ -48,16 +51,15 @@ impl Model for Account {
 impl Account {
     ghost use Rattle.std.specs.Prelude.{◌≡◌, ◌<◌, ◌≤◌, ◌+◌, ◌++◌, [], ◌∷◌, true, false, length, IfOk, OnErr, OnOk, IsErrOf, pos, Option, Some, None, List, ℕ, if◌then◌else◌};
     ghost use Rattle.card_account.specs.Accounts.{IsCorrected, MayBeFolded, is_closed, issued_statement, owing_in, present_of, restated_statement, shared_by};
-    ghost use Rattle.card_account.specs.Built.{is_built_post};
     ghost use Rattle.card_account.specs.Verdicts.{verdict_of};
     ghost use Rattle.card_days.specs.Billing.{IsCloseDay};
     ghost use Rattle.card_events.specs.Dated.{is_dated_post};
     ghost use Rattle.card_events.specs.History.{at_number, terms_in};
     ghost use Rattle.card_events.specs.Keys.{with_key};
-    ghost use Rattle.card_events.specs.SharedRows.{SharedRows};
     ghost use Rattle.card_keeper.specs.Rows.{GoOn, KeepsRows, AddsRows, SameRowsTold};
     ghost use Rattle.card_model.specs.Machine.{accepted, at_key, is_repeat_of, kept_as};
     ghost use Rattle.card_model.specs.Refusals.{book_today, reason_against};
+    ghost use Rattle.card_model.specs.Work.{tasks_in};
     ghost use Rattle.card_ports.specs.Counts.{Rose};
     ghost use Rattle.card_posts.specs.Posted.{opens};
 
@@ -85,14 +87,24 @@ impl Account {
     }
 
     /// What a post comes to today, on this account. Its days are days of requests.
-    pub fn judge(&self, today: Day, key: &Name, post: &Post) -> Verdict
-        requires built { is_built_post post.now ≡ true }
+    ///
+    /// `NoMemory` comes for a Penalty or a Refund under a new key alone, which are judged by the book of today.
+    pub fn judge(
+        &self,
+        alloc: Global,
+        today: Day,
+        key: &Name,
+        post: &Post,
+        calendar: &Calendar,
+        fees: &FeeTable,
+    ) -> Result<Verdict, NoMemory>
         requires dated { is_dated_post post.now ≡ true }
-        ensures { (shared : SharedRows) → result ≡ verdict_of (at_key (present_of today shared self.now.named.lists) key.now post.now (with_key key.now self.now.named.lists.posts)) }
+        requires folded { MayBeFolded today calendar.now fees.now self.now }
+        ensures { IfOk result (λ v. v ≡ verdict_of (at_key (present_of today (shared_by calendar.now fees.now) self.now.named.lists) key.now post.now (with_key key.now self.now.named.lists.posts))) }
     {
         match self.posts.with_key(key) {
-            Some(number) => self.compare(number, post),
-            None => self.judge_new(today, post),
+            Some(number) => Ok(self.compare(number, post)),
+            None => self.judge_new(alloc, today, post, calendar, fees),
         }
     }
 
@@ -117,18 +129,52 @@ impl Account {
     }
 
     // What a post comes to whose key is new.
-    fn judge_new(&self, today: Day, post: &Post) -> Verdict
-        requires built { is_built_post post.now ≡ true }
+    fn judge_new(
+        &self,
+        alloc: Global,
+        today: Day,
+        post: &Post,
+        calendar: &Calendar,
+        fees: &FeeTable,
+    ) -> Result<Verdict, NoMemory>
         requires dated { is_dated_post post.now ≡ true }
-        ensures { (shared : SharedRows) → (key : List ℕ) → result ≡ verdict_of (at_key (present_of today shared self.now.named.lists) key post.now None) }
+        requires folded { MayBeFolded today calendar.now fees.now self.now }
+        ensures { IfOk result (λ v. (key : List ℕ) → v ≡ verdict_of (at_key (present_of today (shared_by calendar.now fees.now) self.now.named.lists) key post.now None)) }
     {
         if is_open(post) {
-            return Verdict::Refused(Refusal::AccountExists);
+            return Ok(Verdict::Refused(Refusal::AccountExists));
         }
-        match post_reason(&self.posts, self.anchor, today, post) {
-            Some(refusal) => Verdict::Refused(refusal),
-            None => Verdict::New,
+        match self.reason(alloc, today, post, calendar, fees) {
+            Ok(Some(refusal)) => Ok(Verdict::Refused(refusal)),
+            Ok(None) => Ok(Verdict::New),
+            Err(NoMemory) => Err(NoMemory),
         }
+    }
+
+    // The first reason against a post whose key is new.
+    fn reason(
+        &self,
+        alloc: Global,
+        today: Day,
+        post: &Post,
+        calendar: &Calendar,
+        fees: &FeeTable,
+    ) -> Result<Option<Refusal>, NoMemory>
+        requires not_open { is_open post.now ≡ false }
+        requires dated { is_dated_post post.now ≡ true }
+        requires folded { MayBeFolded today calendar.now fees.now self.now }
+        ensures { IfOk result (λ reason. reason ≡ reason_against (present_of today (shared_by calendar.now fees.now) self.now.named.lists) post.now) }
+    {
+        reason_today(
+            alloc,
+            &self.posts,
+            &self.issued,
+            &self.anchor,
+            today,
+            post,
+            calendar,
+            fees,
+        )
     }
 
     /// Keeps the row and takes the post, against which there is no reason: both, or neither. A Bill issues its statement.
@@ -147,7 +193,6 @@ impl Account {
         calendar: &Calendar,
         fees: &FeeTable,
     ) -> Result<u32, Fault>
-        requires built { is_built_post post.now ≡ true }
         requires no_reason { reason_against (present_of today (shared_by calendar.now fees.now) self.old.named.lists) post.now ≡ None }
         requires folded { MayBeFolded today calendar.now fees.now self.old }
         requires rows { GoOn (K.rows keeper.old) (row ∷ []) }
@@ -189,7 +234,7 @@ impl Account {
         fees: &FeeTable,
     ) -> Result<Folded, NoMemory>
         requires { MayBeFolded today calendar.now fees.now self.now }
-        ensures { IfOk result (λ f. f ≡ book_today (present_of today (shared_by calendar.now fees.now) self.now.named.lists)) }
+        ensures { IfOk result (λ f. f.book ≡ book_today (present_of today (shared_by calendar.now fees.now) self.now.named.lists)) }
     {
         fold(alloc, &self.posts, &self.issued, calendar, fees, today)
     }
@@ -225,7 +270,7 @@ impl Account {
         ensures value { result ≡ is_closed today self.now.named.lists cycle }
         ensures small { result ≡ true → cycle ≤ 48_576 }
     {
-        match closing_of(self.anchor, cycle) {
+        match closing_of(&self.anchor, cycle) {
             Some(closing) => closing < today,
             None => false,
         }
@@ -249,6 +294,29 @@ impl Account {
         }
         let folded = self.fold(alloc, today, calendar, fees)?;
         restated_of(alloc, &self.issued, closed_cycle(&folded, cycle), cycle)
+    }
+
+    /// Its open tasks today, by day, kind and post (12 CFR 1026.11(a), .13(c), .59).
+    pub fn tasks(
+        &self,
+        alloc: Global,
+        today: Day,
+        calendar: &Calendar,
+        fees: &FeeTable,
+    ) -> Result<Vec<Task>, NoMemory>
+        requires { MayBeFolded today calendar.now fees.now self.now }
+        ensures { IfOk result (λ tasks. tasks.items ≡ tasks_in self.now.named.name (present_of today (shared_by calendar.now fees.now) self.now.named.lists) (book_today (present_of today (shared_by calendar.now fees.now) self.now.named.lists))) }
+    {
+        tasks_today(
+            alloc,
+            &self.name,
+            &self.anchor,
+            &self.posts,
+            &self.issued,
+            today,
+            calendar,
+            fees,
+        )
     }
 }
 

@@ -7,7 +7,7 @@ ghost use Rattle.card_model.specs.Machine.{issues};
 ghost use Rattle.card_model.specs.Refusals.{reason_against};
 ghost use Rattle.card_posts.specs.Posted.{StandsFor};
 
-use crate::closings::closed_cycle;
+use crate::cycles::closed_cycle;
 use card_book::{Folded, Issued, Statement, fold};
 use card_days::{Calendar, Day};
 use card_events::{Num, Post};
@@ -52,7 +52,7 @@ fn row_of(
     today: Day,
 ) -> Result<Option<Issued>, NoMemory>
     requires { cycle ≤ 48_576 }
-    ensures { IfOk result (λ made. issued_as made ≡ rows_issued cycle bill today folded.now) }
+    ensures { IfOk result (λ made. issued_as made ≡ rows_issued cycle bill today folded.now.book) }
 {
     match closed_cycle(folded, cycle) {
         Some(closed) => {

@@ -2,8 +2,7 @@
 ghost use Rattle.card_account.specs.Closed.{ClosedCyclesAreInTheBook};
 ghost use Rattle.card_account.specs.Runs.{RunsMayBeFolded};
 
-/// After every list of requests of the kinds that are taken so far, with days from 2011-01-01 to 2099-12-31, each account may
-/// be folded to the end of today.
+/// After every list of requests with days from 2011-01-01 to 2099-12-31, each account may be folded to the end of today.
 pub fn runs_may_be_folded()
     ensures { RunsMayBeFolded }
 {}

@@ -2,22 +2,24 @@
 #![tactic(auto)]
 
 mod account;
-mod built;
-mod closings;
+mod cycles;
 mod fault;
 mod issue;
+mod judge;
 mod keep;
 pub mod laws;
 mod owing;
-mod reason;
 mod statement;
+mod tasks;
 mod verdict;
+mod work;
 
 pub use account::Account;
-pub use built::is_built_post;
 pub use card_daily::Statement;
+pub use card_disputes::{Task, TaskKind};
+pub use card_reasons::open_reason;
 pub use fault::Fault;
 pub use keep::keep_row;
 pub use owing::Owing;
-pub use reason::open_reason;
+pub use tasks::{Tasks, work_today};
 pub use verdict::Verdict;

@@ -10,7 +10,7 @@ use Rattle.card_model.specs.Folds.{book, book_after, day_after}
 use Rattle.card_model.specs.declared.entry.Entry.{Entry}
 use Rattle.card_rates.specs.RateBooks.{Rates}
 use Rattle.card_daily.proofs.Books.{day-is}
-use Rattle.card_daily.proofs.Opened.{before-opening}
+use Rattle.card_dayend.proofs.Opened.{before-opening}
 use Rattle.card_daily.specs.Given.{Given, account_in, book_in, book_on, opened_in, row_in, seen_in}
 use Rattle.card_daily.specs.Stands.{before}
 use Rattle.card_book.specs.Stands.{BookIsTheFold, book_through, day_to_fold, since_after, since_through}

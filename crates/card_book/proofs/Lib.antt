@@ -1,6 +1,10 @@
 pub mod Balances
 pub mod Credit
 pub mod Days
+pub mod Disputed
+pub mod EveryEntry
 pub mod IssuedRows
 pub mod More
+pub mod Notices
+pub mod PenaltyFees
 pub mod Told

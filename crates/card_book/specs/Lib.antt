@@ -1,2 +1,3 @@
+pub mod Compliance
 pub mod Laws
 pub mod Stands

@@ -16,6 +16,11 @@ pub record Summary : Type 0 where
   pub credit_since : Option ℕ
   pub whole : Bool
 
+-- the book at the end of a day, and since when there is a credit balance (12 CFR 1026.11(a)(3))
+pub record FoldedBook : Type 0 where
+  pub book : Book
+  pub since : Option ℕ
+
 -- the first day that isn't folded
 abbrev pub day_to_fold : Given → Option ℕ → ℕ
 day_to_fold g None = opened_in g

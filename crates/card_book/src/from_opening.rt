@@ -1,12 +1,15 @@
 ghost use Rattle.std.specs.Prelude.{◌≡◌, ◌<◌, ◌≤◌, IfOk, neg_ℤ, option_copied, pos, slice_index_or};
-ghost use Rattle.card_daily.specs.Given.{IsSound, book_on, opened_in};
+ghost use Rattle.card_daily.specs.Given.{IsSound, book_on, opened_in, seen_in};
+ghost use Rattle.card_model.specs.Deadlines.{credit_since};
+ghost use Rattle.card_model.specs.Payments.{sixty_days_late};
 ghost use Rattle.card_model.specs.Entries.{at_least_zero};
 ghost use Rattle.card_model.specs.Folds.{cycle_at};
 ghost use Rattle.card_segments.specs.Balances.{AreWithin};
 ghost use Rattle.card_posts.specs.Posted.{StandsFor};
 
 use crate::Book;
-use card_daily::{Cycle, Inputs, Issued, Track, opening_day};
+use card_daily::{Cycle, Inputs, Issued, Track, is_sixty_days_late};
+use card_dayend::opening_day;
 use card_days::{Calendar, Day};
 use card_fees::FeeTable;
 use card_posts::Posts;
@@ -17,7 +20,8 @@ use std::alloc::Global;
 use std::marker::{Brand, Model};
 use std::sync::ledger::{Blank, Ledger};
 
-/// The book of an account at the end of a day, with its entries and its closed cycles.
+/// The book of an account at the end of a day, with its entries and its closed cycles, and since when there is a credit
+/// balance.
 #[derive(Drop)]
 pub struct Folded {
     book: Book,
@@ -25,13 +29,13 @@ pub struct Folded {
 }
 
 impl Model for Folded {
-    ghost use Rattle.card_model.specs.Books.{Book};
+    ghost use Rattle.card_book.specs.Stands.{FoldedBook};
     ghost use Rattle.card_model.specs.Entries.{AreBalances};
     ghost use Rattle.card_segments.specs.Balances.{AreWithin, HaveSigns};
 
-    ghost Value = { Book };
+    ghost Value = { FoldedBook };
 
-    ghost view = { λ f. record { entries = f.track.entries.items; cycles = f.track.cycles.items; fees = f.book.state.fees.items; penalties = f.book.state.rates.penalties } };
+    ghost view = { λ f. record { book = record { entries = f.track.entries.items; cycles = f.track.cycles.items; fees = f.book.state.fees.items; penalties = f.book.state.rates.penalties }; since = f.book.credit_since } };
 
     ghost invariant = { λ f. AreBalances f.track.entries.items f.book.state.segments.balances × AreWithin 1_000_000_000_000_000 f.book.state.segments.balances };
 }
@@ -65,7 +69,8 @@ fn fold_counted<L: Ledger>(
     requires some { 0 < blank.parts }
     requires opened { opened_in inputs.now ≤ to }
     requires last { to ≤ 47_481 }
-    ensures { IfOk result (λ f. f ≡ book_on inputs.now to) }
+    ensures book { IfOk result (λ f. f.book ≡ book_on inputs.now to) }
+    ensures since { IfOk result (λ f. f.since ≡ credit_since (book_on inputs.now to).entries (opened_in inputs.now) to) }
 {
     let _opened = opening_day(inputs);
     let mut book = Book::start(alloc, inputs)?;
@@ -92,7 +97,8 @@ pub fn fold(
     requires sound { IsSound (record { history = posts.now.history; issued = issued.now; shared = record { holidays = calendar.now; fees = fees.now } }) }
     requires opened { opened_in (record { history = posts.now.history; issued = issued.now; shared = record { holidays = calendar.now; fees = fees.now } }) ≤ to }
     requires last { to ≤ 47_481 }
-    ensures { IfOk result (λ f. f ≡ book_on (record { history = posts.now.history; issued = issued.now; shared = record { holidays = calendar.now; fees = fees.now } }) to) }
+    ensures book { IfOk result (λ f. f.book ≡ book_on (record { history = posts.now.history; issued = issued.now; shared = record { holidays = calendar.now; fees = fees.now } }) to) }
+    ensures since { IfOk result (λ f. f.since ≡ credit_since (book_on (record { history = posts.now.history; issued = issued.now; shared = record { holidays = calendar.now; fees = fees.now } }) to).entries (opened_in (record { history = posts.now.history; issued = issued.now; shared = record { holidays = calendar.now; fees = fees.now } })) to) }
 {
     let inputs = Inputs::new(posts, issued, calendar, fees);
     fold_counted::<Brand>(alloc, &inputs, to, Blank::new(1))
@@ -105,28 +111,59 @@ impl Folded {
 
     /// What is owed in all, in cents; below 0 where a credit balance is left.
     pub fn owed(&self) -> Cents
-        ensures { result ≡ owed self.now.entries }
+        ensures { result ≡ owed self.now.book.entries }
     {
         self.book.segments().owed()
     }
 
     /// The credit balance, in cents, at least 0 (12 CFR 1026.11(a)).
     pub fn credit(&self) -> Cents
-        ensures { result ≡ pos (credit_balance self.now.entries) }
+        ensures { result ≡ pos (credit_balance self.now.book.entries) }
     {
         credit_of(self.book.segments())
     }
 
     /// What is held in dispute, in cents, at least 0 (12 CFR 1026.13).
     pub fn held(&self) -> Cents
-        ensures { result ≡ pos (owing 1 self.now.entries) }
+        ensures { result ≡ pos (owing 1 self.now.book.entries) }
     {
         held_in(self.book.segments())
     }
 
+    /// The first day of the present run of days that end with a credit balance (12 CFR 1026.11(a)(3)), None where there is no
+    /// credit balance.
+    pub fn credit_since(&self) -> Option<Day>
+        ensures { result ≡ self.now.since }
+    {
+        self.book.credit_since()
+    }
+
+    /// Whether the account is sixty days late at the end of a day (12 CFR 1026.55(b)(4)): some due date lies more than 60 days
+    /// back, and the payments since its closing are below its minimum payment. This is the book of that day, folded from the
+    /// same posts, issued statements, calendar and fees; the day isn't before the opening day and at most 2099-12-31. It takes
+    /// no memory.
+    pub fn late_today(
+        &self,
+        posts: &Posts,
+        issued: &[Issued],
+        calendar: &Calendar,
+        fees: &FeeTable,
+        today: Day,
+    ) -> bool
+        requires stands { StandsFor calendar.now posts.now }
+        requires sound { IsSound (record { history = posts.now.history; issued = issued.now; shared = record { holidays = calendar.now; fees = fees.now } }) }
+        requires opened { opened_in (record { history = posts.now.history; issued = issued.now; shared = record { holidays = calendar.now; fees = fees.now } }) ≤ today }
+        requires last { today ≤ 47_481 }
+        requires book { self.now.book ≡ book_on (record { history = posts.now.history; issued = issued.now; shared = record { holidays = calendar.now; fees = fees.now } }) today }
+        ensures { result ≡ sixty_days_late (seen_in (record { history = posts.now.history; issued = issued.now; shared = record { holidays = calendar.now; fees = fees.now } }) today) (book_on (record { history = posts.now.history; issued = issued.now; shared = record { holidays = calendar.now; fees = fees.now } }) today).cycles }
+    {
+        let inputs = Inputs::new(posts, issued, calendar, fees);
+        is_sixty_days_late(&inputs, today, &self.track.cycles)
+    }
+
     /// The closed cycle with a number, from 1; None where it isn't closed.
     pub fn cycle(&self, number: u32) -> Option<&Cycle>
-        ensures { option_copied result ≡ cycle_at number self.now.cycles }
+        ensures { option_copied result ≡ cycle_at number self.now.book.cycles }
     {
         cycle_of(&self.track.cycles, number)
     }

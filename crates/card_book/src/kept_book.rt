@@ -4,7 +4,8 @@ ghost use Rattle.card_model.specs.Entries.{credit_in};
 ghost use Rattle.card_book.specs.Stands.{since_after};
 
 use crate::copies::copy_state;
-use card_daily::{Cycle, Inputs, State, Statement, Track, next_day, opening_day, start};
+use card_daily::{Cycle, Inputs, State, Statement, Track, is_sixty_days_late};
+use card_dayend::{next_day, opening_day, start};
 use card_days::Day;
 use card_segments::Segments;
 use card_steps::Steps;
@@ -89,11 +90,12 @@ impl Model for Book {
 impl Book {
     ghost use Rattle.std.specs.Prelude.{◌≡◌, ◌+◌, ◌≤◌, ◌<◌, ℕ, [], true, false, length, IfOk, OnOk, OnErr, Some, None};
     ghost use Rattle.card_book.specs.Stands.{StandsFor, book_through, day_to_fold, days_through, since_after};
-    ghost use Rattle.card_daily.specs.Given.{Given, opened_in};
+    ghost use Rattle.card_daily.specs.Given.{Given, book_on, opened_in, seen_in};
     ghost use Rattle.card_daily.specs.Stands.{AreBefore, Begins};
     ghost use Rattle.card_daily.specs.declared.track.Track.{Track};
     ghost use Rattle.card_model.specs.Entries.{AreBalances, balance, credit_in, owed};
     ghost use Rattle.card_model.specs.Folds.{cycle_at};
+    ghost use Rattle.card_model.specs.Payments.{sixty_days_late};
     ghost use Rattle.card_slots.specs.Segments.{account_segments};
 
     /// The book before the opening day. It stands beside a track without entries and cycles.
@@ -223,6 +225,22 @@ impl Book {
             cycle: cycle_in(track, number).copy(alloc)?,
             issue,
         })
+    }
+
+    /// Whether the account is sixty days late at the end of the last day folded (12 CFR 1026.55(b)(4)): some due date lies more
+    /// than 60 days back, and the payments since its closing are below its minimum payment. False where no day is folded. The
+    /// Book and the track stand for the book of these inputs, and the day is at most 2099-12-31. It takes no memory.
+    pub fn late_today(&self, inputs: &Inputs, track: &Track) -> bool
+        requires stands { StandsFor inputs.now self.now track.now }
+        requires last { (day : ℕ) → self.now.day ≡ Some day → day ≤ 47_481 }
+        ensures late { (day : ℕ) → self.now.day ≡ Some day → result ≡ sixty_days_late (seen_in inputs.now day) (book_on inputs.now day).cycles }
+        ensures none { self.now.day ≡ None → result ≡ false }
+    {
+        let _opened = opening_day(inputs);
+        match self.day {
+            Some(day) => is_sixty_days_late(inputs, day, &track.cycles),
+            None => false,
+        }
     }
 
     // The first day that isn't folded.

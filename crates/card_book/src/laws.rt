@@ -1,4 +1,5 @@
 //! Laws on the books of accounts. Their functions do nothing; their clauses are what holds.
+ghost use Rattle.card_book.specs.Compliance.{DisputedAmountsAreLeftAlone, NoticesKeepEarlierRates, PenaltyFeesAreReasonable};
 ghost use Rattle.card_book.specs.Laws.{IssuedRowsStay, OnlyBillsIssue};
 ghost use Rattle.card_book.specs.Stands.{BookIsTheFold};
 ghost use Rattle.card_model.specs.Laws.{BalanceIdentity, CorrectionBack, IssuedCaps, IssuingChangesNoPastDay, PastIsEnough};
@@ -44,4 +45,24 @@ pub fn issued_rows_stay()
 /// A request that is no Bill on an account leaves its issued rows as they are.
 pub fn only_bills_issue()
     ensures { OnlyBillsIssue }
+{}
+
+/// In the book of every day, for every history: no penalty fee exceeds the minimum payment that was due immediately before it
+/// was charged, no due date has two penalty fees, and the entries of fees sum up to these fees and no more (12 CFR
+/// 1026.52(b)(2)(i), (ii)).
+pub fn penalty_fees_are_reasonable()
+    ensures { PenaltyFeesAreReasonable }
+{}
+
+/// For every history and every notice of a rate increase in it, given on a day: no charge of the first 14 days after it is
+/// owed on the vintage that bears the increased rate, such a charge goes where it would go without the notice, and every
+/// older vintage bears on every day the rate that it would bear without the notice (12 CFR 1026.55(b)(3)).
+pub fn notices_keep_earlier_rates()
+    ensures { NoticesKeepEarlierRates }
+{}
+
+/// In the book of every day, for every history: what is on Held was only set aside by a dispute or brought back. No payment
+/// or credit is allocated to a disputed amount, and it bears no interest and no fee (12 CFR 1026.13(d)).
+pub fn disputed_amounts_are_left_alone()
+    ensures { DisputedAmountsAreLeftAlone }
 {}

@@ -1,7 +1,7 @@
 ghost use Rattle.std.specs.Prelude.{◌≡◌, ◌+◌, ◌<◌, ◌≤◌, [], IfOk, OnOk};
 ghost use Rattle.card_events.specs.declared.post.Post.TheVariants as post;
 ghost use Rattle.card_daily.specs.Given.{opened_in};
-ghost use Rattle.card_daily.specs.TestAccount.{IsGood, IsOn, opening};
+ghost use Rattle.card_dayend.specs.TestAccount.{IsGood, IsOn, opening};
 ghost use Rattle.card_posts.specs.Posted.{StandsFor};
 ghost use Rattle.card_book.specs.Stands as kept;
 

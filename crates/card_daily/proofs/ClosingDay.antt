@@ -114,7 +114,7 @@ grows-by a k (suc n) =
     let on = ap (closing a) same in
     omega (arith, more, rest, on)
 
-grows-to : (a : Anchor) (k m : ℕ) → k ≤ m → closing a k ≤ closing a m
+pub grows-to : (a : Anchor) (k m : ℕ) → k ≤ m → closing a k ≤ closing a m
 grows-to a k m l = let whole : m - k + k ≡ m = omega arith in subst (λ n. closing a k ≤ closing a n) whole (grows-by a k (m - k))
 
 opening-low : (a : Anchor) → IsAnchor a → 14975 ≤ closing a 0 + 1

@@ -22,7 +22,7 @@ use Rattle.card_model.proofs.Calendar.{is-anchor}
 use Rattle.card_slots.proofs.Turns.{of_a_day}
 use Rattle.card_daily.specs.Given.{Given, IsSound, account_in, opened_in, row_in, seen_in}
 use Rattle.card_daily.specs.Stands.{amid, before, first_in, posted, posts_of}
-use Rattle.card_daily.proofs.Books.{amid-none, amid-small, day-is, seen-now}
+use Rattle.card_daily.proofs.Books.{amid-small, day-is}
 
 -- ---- a day of the month comes within 31 days
 -- from a day of the calendar on
@@ -144,9 +144,3 @@ posted-small g day s o l =
     let done = posts_on (seen_in g (opened_in g + n)) in
     let parts : posts_on (seen_in g day) ≡ done ++ [] = ap (λ d. posts_on (seen_in g d)) (sym e) ∙ sym (append-nil done) in
     subst (λ (b : Book). AreSmall b.entries) (sym (posted-folded g day o)) (amid-small g day done [] s o l parts)
-
--- no penalty has begun
-pub posted-none : (g : Given) (day : ℕ) → IsSound g → opened_in g ≤ day → (posted g day).penalties ≡ []
-posted-none g day s o =
-    let seen = seen_in g (opened_in g + (day - opened_in g)) in
-    ap (λ (b : Book). b.penalties) (posted-folded g day o) ∙ amid-none g day (posts_on seen) s (seen-now g (opened_in g + (day - opened_in g)) s)

@@ -24,40 +24,44 @@ use Rattle.card_model.specs.Segments.{SegmentTerms}
 use Rattle.card_model.specs.declared.entry.EntryKind.TheVariants as kind
 use Rattle.card_model.specs.declared.fee.Fee.{Fee}
 use Rattle.card_model.specs.declared.segment.Interval.{Interval}
-use Rattle.card_daily.proofs.Books.{HasNone, before-none, day-is}
+use Rattle.card_daily.proofs.Books.{day-is}
+use Rattle.card_daily.proofs.Penalized.{IsWithPenalties, accrued-with, stand-with}
 use Rattle.card_daily.proofs.Repaying.{IsOther, others-bring, same-brought}
 use Rattle.card_daily.proofs.Returning.{returned-start}
 use Rattle.card_daily.proofs.Standing.{begins-with}
-use Rattle.card_daily.specs.Due.{fee_after, fee_due}
+use Rattle.card_daily.specs.Due.{AreCharged, charged, fee_after, fee_due}
 use Rattle.card_daily.specs.Given.{Given, IsSound, account_in, opened_in, row_in, seen_in}
+use Rattle.card_daily.specs.Penalties.{cured_on}
 use Rattle.card_daily.specs.Stands.{AreAmid, AreBefore, StandFor, amid, before, first_in, returned_by, rows_amid, rows_through}
 use Rattle.card_daily.specs.declared.state.State.{State}
 use Rattle.card_daily.specs.declared.track.Track.{Track}
 
 -- ---- the book
-same-penalties : (ps : List Interval) (b : Book) → ps ≡ b.penalties → with_penalties ps b ≡ b
-same-penalties ps b e = ap (λ (is : List Interval). with_penalties is b) e
-
 fee-penalties : (a : Account) (seen : Seen) (n : ℕ) (o : Option Fee) (b : Book) → (with_fee a seen n o b).penalties ≡ b.penalties
 fee-penalties a seen n None b = refl
 fee-penalties a seen n (Some f) b = refl
 
-due-is : (issued : Option IssuedRow) (a : Account) (seen : Seen) (b : Book) (c : Option Cycle) → HasNone b → on_due issued a seen b c ≡ with_fee a seen 0 (fee_after issued seen b c) b
-unfolding on_due
-due-is issued a seen b None h = refl
-due-is issued a seen b (Some c) h = by (eqb seen.day (c.due + 1))
+due-is : (issued : Option IssuedRow) (a : Account) (seen : Seen) (b : Book) (c : Option Cycle)
+    → on_due issued a seen b c ≡ with_penalties (cured_on seen b.cycles c b.penalties) (with_fee a seen 0 (fee_after issued seen b c) b)
+unfolding on_due cured_on
+due-is issued a seen b None = refl
+due-is issued a seen b (Some c) = by (eqb seen.day (c.due + 1))
   where
-    by : (t : Bool) → cond t (after_due_date issued a seen b c) b ≡ with_fee a seen 0 (cond t (late_fee issued seen b c) None) b
-    by true = same-penalties (map (cured_by seen b.cycles c) b.penalties) (with_fee a seen 0 (late_fee issued seen b c) b) (ap (map (cured_by seen b.cycles c)) h ∙ (sym h ∙ sym (fee-penalties a seen 0 (late_fee issued seen b c) b)))
+    cured : List Interval
+    cured = map (cured_by seen b.cycles c) b.penalties
+
+    by : (t : Bool) → cond t (after_due_date issued a seen b c) b ≡ with_penalties (cond t cured b.penalties) (with_fee a seen 0 (cond t (late_fee issued seen b c) None) b)
+    by true = refl
     by false = refl
 
-pub amid-is : (g : Given) (day : ℕ) → IsSound g → opened_in g ≤ day → amid g day [] ≡ with_fee (account_in g) (seen_in g day) 0 (fee_due g day) (before g day)
+pub amid-is : (g : Given) (day : ℕ) → opened_in g ≤ day
+    → amid g day [] ≡ with_penalties (cured_on (seen_in g day) (before g day).cycles (last_cycle (before g day).cycles) (before g day).penalties) (charged g day)
 unfolding after_posts fee_due
-amid-is g day s o =
+amid-is g day o =
     let row = row_in g (day - opened_in g) in
     let b = before g day in
     ap (λ d. on_due row (account_in g) (seen_in g d) b (last_cycle b.cycles)) (day-is (opened_in g) day o)
-    ∙ due-is row (account_in g) (seen_in g day) b (last_cycle b.cycles) (before-none g day s)
+    ∙ due-is row (account_in g) (seen_in g day) b (last_cycle b.cycles)
 
 -- ---- the fee
 abbrev IsFewCents : Fee → Type 0
@@ -131,14 +135,15 @@ pub record IsWithFee (g : Given) (day : ℕ) (o : Option Fee) (s new : State) (t
   pub sums : AreBalances (with_fee (account_in g) (seen_in g day) 0 o (before g day)).entries new.segments.balances
   pub segments : new.segments.segments ≡ s.segments.segments
   pub rates : new.rates ≡ s.rates
+  pub penalties : new.penalties.items ≡ s.penalties.items
   pub rows : new.rows.items ≡ s.rows.items
   pub accruals : new.accruals.items ≡ s.accruals.items
 
-pub begun : (g : Given) (day : ℕ) (o : Option Fee) (s new : State) (t after : Track) → IsSound g → opened_in g ≤ day → fee_due g day ≡ o → AreBefore g day s t → IsWithFee g day o s new t after → AreAmid g day [] new after
-begun g day o s new t after sound l due h w =
+pub begun : (g : Given) (day : ℕ) (o : Option Fee) (s new : State) (t after : Track) → fee_due g day ≡ o → AreBefore g day s t → IsWithFee g day o s new t after → AreCharged g day new after
+begun g day o s new t after due h w =
     let b = before g day in
     let b' = with_fee (account_in g) (seen_in g day) 0 o b in
-    let is : b' ≡ amid g day [] = sym (amid-is g day sound l ∙ ap (λ (o : Option Fee). with_fee (account_in g) (seen_in g day) 0 o b) due) in
+    let is : b' ≡ charged g day = ap (λ (o : Option Fee). with_fee (account_in g) (seen_in g day) 0 o b) (sym due) in
     let rates : new.rates ≡ rates_of g.shared.holidays g.history b'.penalties =
     w.rates ∙ (h.stand.rates ∙ ap (λ ps. rates_of g.shared.holidays g.history ps) (sym (fee-penalties (account_in g) (seen_in g day) 0 o b))) in
     let rows : new.rows.items ≡ map (rows_amid g day [] b') new.rates.segments =
@@ -148,6 +153,7 @@ begun g day o s new t after sound l due h w =
       entries = w.entries;
       cycles = w.cycles ∙ (h.stand.cycles ∙ sym (fee-cycles (account_in g) (seen_in g day) 0 o b));
       fees = w.fees;
+      penalties = w.penalties ∙ (h.stand.penalties ∙ sym (fee-penalties (account_in g) (seen_in g day) 0 o b));
       rates = rates;
       segments = w.segments ∙ h.stand.segments;
       sums = w.sums;
@@ -165,3 +171,22 @@ begun g day o s new t after sound l due h w =
 
 pub fee-front : (a : Account) (seen : Seen) (n : ℕ) (f : Fee) (b : Book) → take (length b.entries) (with_fee a seen n (Some f) b).entries ≡ b.entries
 fee-front a seen n f b = begins-with b.entries (with_fee a seen n (Some f) b).entries (debit (record { day = seen.day; kind = kind.Fee; post = n }) (newest_purchase a seen) (fee_cents f) (credit_balance b.entries)) refl
+
+-- ---- the penalties
+-- what the ends of penalties change after it
+pub ended : (g : Given) (day : ℕ) (s new : State) (t : Track) → opened_in g ≤ day → AreCharged g day s t
+    → IsWithPenalties (cured_on (seen_in g day) (before g day).cycles (last_cycle (before g day).cycles) (before g day).penalties) s new → AreAmid g day [] new t
+ended g day s new t o h k =
+    let ps = cured_on (seen_in g day) (before g day).cycles (last_cycle (before g day).cycles) (before g day).penalties in
+    let stand = stand-with g (rows_amid g day [] (charged g day)) (rows_amid g day [] (with_penalties ps (charged g day))) ps (charged g day) s new t h.stand (λ x. refl) k in
+    record {
+      stand = subst (λ (b : Book). StandFor g (rows_amid g day [] b) b new t) (sym (amid-is g day o)) stand;
+      accrued = accrued-with g (day - 1) (before g day) ps s new h.accrued k;
+    }
+
+-- the penalties and cycles before it
+pub charged-penalties : (g : Given) (day : ℕ) → (charged g day).penalties ≡ (before g day).penalties
+charged-penalties g day = fee-penalties (account_in g) (seen_in g day) 0 (fee_due g day) (before g day)
+
+pub charged-cycles : (g : Given) (day : ℕ) → (charged g day).cycles ≡ (before g day).cycles
+charged-cycles g day = fee-cycles (account_in g) (seen_in g day) 0 (fee_due g day) (before g day)

@@ -41,7 +41,7 @@ use Rattle.card_daily.specs.Given.{Given, IsSound, account_in, opened_in, row_in
 use Rattle.card_daily.specs.Stands.{amid, before, only_folded, posts_of}
 
 -- ---- the book after a front of the day's posts
-without-idle : (issued : Option IssuedRow) (a : Account) (seen : Seen) (ps : List CorrectedPost) (b : Book) → after_posts issued a seen (only_folded ps) b ≡ after_posts issued a seen ps b
+pub without-idle : (issued : Option IssuedRow) (a : Account) (seen : Seen) (ps : List CorrectedPost) (b : Book) → after_posts issued a seen (only_folded ps) b ≡ after_posts issued a seen ps b
 unfolding after_posts
 without-idle issued a seen [] b = refl
 without-idle issued a seen (p ∷ ps) b = by (is_folded p.post) refl (without-idle issued a seen ps)

@@ -17,7 +17,7 @@ use Rattle.card_events.specs.declared.post.Post.TheVariants as post
 use Rattle.card_grace.specs.Accruals.{Accrued, nothing_accrued}
 use Rattle.card_grace.specs.Growth.{with_repaid}
 use Rattle.card_grace.specs.Rows.{Rows}
-use Rattle.card_model.specs.Books.{Book}
+use Rattle.card_model.specs.Books.{Book, with_penalties}
 use Rattle.card_model.specs.Effects.{effect}
 use Rattle.card_model.specs.Payments.{returns}
 use Rattle.card_model.specs.Segments.{SegmentTerms, kept_segment}
@@ -29,15 +29,17 @@ use Rattle.card_slots.proofs.Places.{of_days}
 use Rattle.card_slots.proofs.Turns.{in_turn, of_a_day}
 use Rattle.card_slots.specs.Days.{day_post, folded_post, place_of}
 use Rattle.card_slots.specs.declared.day.DayPost.{DayPost}
-use Rattle.card_daily.proofs.Books.{IsNow, all-now, day-is}
+use Rattle.card_daily.proofs.Books.{day-is}
 use Rattle.card_daily.proofs.Following.{begun-by}
 use Rattle.card_daily.proofs.Posting.{IsAdded, begins-more, each-same, effect-adds, same-returned}
 use Rattle.card_daily.proofs.Fronts.{are-those, due_left, no-credit}
 use Rattle.card_daily.proofs.Repaying.{same-brought}
+use Rattle.card_daily.proofs.Penalized.{IsWithPenalties, accrued-with, penalty-is, penalty-none, stand-with}
 use Rattle.card_daily.proofs.Returning.{not-returned, returned-next, sees-payment}
 use Rattle.card_daily.proofs.Standing.{amid-lies, begins-with, rated, stands}
-use Rattle.card_daily.specs.Given.{Given, IsSound, account_in, is_to_come, opened_in, row_in, seen_in}
-use Rattle.card_daily.specs.Posts.{IsRestKept, MayFollow, StandWith, done_by, place_in, returned_after}
+use Rattle.card_daily.specs.Given.{Given, IsSound, account_in, opened_in, row_in, seen_in}
+use Rattle.card_daily.specs.Penalties.{begun_on}
+use Rattle.card_daily.specs.Posts.{IsRestKept, MayFollow, StandWith, done_by, is_penalty, place_in, returned_after}
 use Rattle.card_daily.specs.Returns.{SeesPayment}
 use Rattle.card_daily.specs.Stands.{AreAmid, Begins, StandFor, amid, before, first_in, posts_of, returned_by, rows_amid, rows_through}
 use Rattle.card_daily.specs.declared.state.State.{State}
@@ -66,7 +68,6 @@ first-by g day s o l =
 
 -- ---- the post at a place
 pub record IsOfDay (today : ℕ) (p : CorrectedPost) : Type 0 where
-  pub now : is_to_come p.post ≡ false
   pub few : is_folded p.post ≡ true → p.cents ≤ 1000000000
   pub day : p.day ≡ today
 
@@ -83,7 +84,6 @@ of-day g day i d s l =
     let all = corrected (anchor_of g.history) g.shared.holidays g.history in
     let few = among (λ (p : CorrectedPost). p.cents ≤ 1000000000) (λ (p : CorrectedPost). is_folded p.post) all (folded-few (anchor_of g.history) g.shared.holidays g.history s.accepted.cents) in
     record {
-      now = All-get_or IsNow (posts_of g day) i d l (All-filter (λ (p : CorrectedPost). eqb p.day day) IsNow all (all-now g s));
       few = All-get_or (λ (p : CorrectedPost). is_folded p.post ≡ true → p.cents ≤ 1000000000) (posts_of g day) i d l (All-filter (λ (p : CorrectedPost). eqb p.day day) (λ (p : CorrectedPost). is_folded p.post ≡ true → p.cents ≤ 1000000000) all few);
       day = eqb-true (get_or (posts_of g day) i d).day day (All-get_or (λ (p : CorrectedPost). eqb p.day day ≡ true) (posts_of g day) i d l (filter_passes (λ (p : CorrectedPost). eqb p.day day) all));
     }
@@ -144,6 +144,7 @@ amid-with g day done next c s new t after h k adds is w =
       entries = w.at.same;
       cycles = k.cycles ∙ (h.stand.cycles ∙ sym adds.cycles);
       fees = w.fees;
+      penalties = k.penalties ∙ (h.stand.penalties ∙ sym adds.penalties);
       rates = k.rates ∙ (h.stand.rates ∙ ap (λ ps. rates_of g.shared.holidays g.history ps) (sym adds.penalties));
       segments = k.segments ∙ h.stand.segments;
       sums = w.at.sums;
@@ -195,8 +196,32 @@ place-high g day place x h =
     let high : pos (post_at_place g day place).cents ≤ℤ pos 1_000_000_000_000_000 = omega (arith, ints, few) in
     subst (λ (d : DayPost). d.cents ≤ℤ pos 1_000_000_000_000_000) (sym h.same) high
 
-pub place-kind : (g : Given) (day place : ℕ) (x : DayPost) → IsAtPlace g day place x → is_to_come x.post ≡ false
-place-kind g day place x h = ap (λ (d : DayPost). is_to_come d.post) h.same ∙ h.of_day.now
+-- a post that is no Penalty
+no-penalty : (p : Post) → (p ≡ post.Penalty → ⊥) → is_penalty p ≡ false
+no-penalty post.Penalty other = absurd (other refl)
+no-penalty (post.Charge d p c) other = refl
+no-penalty (post.Payment d m c x) other = refl
+no-penalty (post.Credit d p c) other = refl
+no-penalty (post.Return d t) other = refl
+no-penalty (post.Dispute d t c) other = refl
+no-penalty (post.Resolve d t c) other = refl
+no-penalty (post.Refund c) other = refl
+no-penalty (post.Open d t) other = refl
+no-penalty (post.Plan d k r x f) other = refl
+no-penalty (post.Notice d c r x) other = refl
+no-penalty (post.Lower d c r) other = refl
+no-penalty (post.Review d f) other = refl
+no-penalty (post.Ack d t) other = refl
+no-penalty (post.AskRefund d) other = refl
+no-penalty (post.Amend t d c) other = refl
+no-penalty (post.Bill c) other = refl
+
+pub place-kind : (g : Given) (day place : ℕ) (x : DayPost) → IsAtPlace g day place x → (x.post ≡ post.Penalty → ⊥) → is_penalty x.post ≡ false
+place-kind g day place x h other = no-penalty x.post other
+
+-- the same of the corrected post
+post-kind : (g : Given) (day place : ℕ) (x : DayPost) → IsAtPlace g day place x → is_penalty x.post ≡ false → is_penalty (post_at_place g day place).post ≡ false
+post-kind g day place x h e = ap (λ (d : DayPost). is_penalty d.post) (sym h.same) ∙ e
 
 pub place-cycles : (g : Given) (day place : ℕ) (x : DayPost) (done : List CorrectedPost) (s : State) (t : Track) → IsAtPlace g day place x → AreAmid g day done s t → t.cycles.items ≡ (before g x.day).cycles
 place-cycles g day place x done s t p h = h.stand.cycles ∙ (cycles-before g day done ∙ ap (λ d. (before g d).cycles) (sym (place-day g day place x p)))
@@ -267,15 +292,15 @@ after-post g day place x s new t after sound o l low high p h did =
     (first-by g day sound o l) (cycles-before g day done) (may-follow g day place s t sound o low high h) p.same (with-rows g day done s t o h))
 
 pub next-amid : (g : Given) (day place : ℕ) (x : DayPost) (s new : State) (t after : Track) → IsSound g → opened_in g ≤ day → day ≤ 47481 → place_in g day ≤ place → place < place_in g day + length (posts_of g day)
-    → IsAtPlace g day place x → AreAmid g day (done_by g day place) s t → IsRestKept s new t after → Enters g x s new t after → AreAmid g day (done_by g day (place + 1)) new after
-next-amid g day place x s new t after sound o l low high p h k did =
-    let adds = effect-adds (row_in g (day - opened_in g)) (account_in g) (seen_in g day) (post_at_place g day place) (post_at_place g day place).post (amid g day (done_by g day place)) p.of_day.now in
+    → IsAtPlace g day place x → is_penalty x.post ≡ false → AreAmid g day (done_by g day place) s t → IsRestKept s new t after → Enters g x s new t after → AreAmid g day (done_by g day (place + 1)) new after
+next-amid g day place x s new t after sound o l low high p kind h k did =
+    let adds = effect-adds (row_in g (day - opened_in g)) (account_in g) (seen_in g day) (post_at_place g day place) (post_at_place g day place).post (amid g day (done_by g day place)) (post-kind g day place x p kind) in
     amid-with g day (done_by g day place) (done_by g day (place + 1)) (after_place g day place) s new t after h k adds (next-place g day place o low high) (after-post g day place x s new t after sound o l low high p h did)
 
 pub next-begins : (g : Given) (day place : ℕ) (x : DayPost) (s new : State) (t after : Track) → IsSound g → opened_in g ≤ day → day ≤ 47481 → place_in g day ≤ place → place < place_in g day + length (posts_of g day)
-    → IsAtPlace g day place x → AreAmid g day (done_by g day place) s t → IsRestKept s new t after → Enters g x s new t after → Begins t after
-next-begins g day place x s new t after sound o l low high p h k did =
-    let adds = effect-adds (row_in g (day - opened_in g)) (account_in g) (seen_in g day) (post_at_place g day place) (post_at_place g day place).post (amid g day (done_by g day place)) p.of_day.now in
+    → IsAtPlace g day place x → is_penalty x.post ≡ false → AreAmid g day (done_by g day place) s t → IsRestKept s new t after → Enters g x s new t after → Begins t after
+next-begins g day place x s new t after sound o l low high p kind h k did =
+    let adds = effect-adds (row_in g (day - opened_in g)) (account_in g) (seen_in g day) (post_at_place g day place) (post_at_place g day place).post (amid g day (done_by g day place)) (post-kind g day place x p kind) in
     let w = after-post g day place x s new t after sound o l low high p h did in
     begins-more t after adds.more (w.at.same ∙ (adds.entries ∙ ap (λ es. es ++ adds.more) (sym h.stand.entries))) k.cycles
 
@@ -320,6 +345,7 @@ next-idle g day place s t o low high idle h =
       entries = h.stand.entries;
       cycles = h.stand.cycles;
       fees = h.stand.fees;
+      penalties = h.stand.penalties;
       rates = h.stand.rates;
       segments = h.stand.segments;
       sums = h.stand.sums;
@@ -327,6 +353,24 @@ next-idle g day place s t o low high idle h =
       accruals = h.stand.accruals;
     } in
     record { stand = subst (λ (c : Book). StandFor g (rows_amid g day next c) c s t) same stand; accrued = h.accrued }
+
+-- a Penalty changes penalties and rates alone
+pub next-penalty : (g : Given) (day place : ℕ) (x : DayPost) (s new : State) (t : Track) → opened_in g ≤ day → place_in g day ≤ place → place < place_in g day + length (posts_of g day)
+    → IsAtPlace g day place x → x.post ≡ post.Penalty → AreAmid g day (done_by g day place) s t → IsWithPenalties (begun_on (seen_in g day) (before g day).cycles (amid g day (done_by g day place)).penalties) s new → AreAmid g day (done_by g day (place + 1)) new t
+next-penalty g day place x s new t o low high p is h k =
+    let done = done_by g day place in
+    let next = done_by g day (place + 1) in
+    let b = amid g day done in
+    let q = post_at_place g day place in
+    let c = with_penalties (begun_on (seen_in g day) (before g day).cycles b.penalties) b in
+    let kind : q.post ≡ post.Penalty = ap (λ (d : DayPost). d.post) (sym p.same) ∙ is in
+    let same : c ≡ amid g day next = ap (λ cs. with_penalties (begun_on (seen_in g day) cs b.penalties) b) (sym (cycles-before g day done))
+    ∙ (sym (penalty-is (row_in g (day - opened_in g)) (account_in g) (seen_in g day) q q.post b kind) ∙ next-place g day place o low high) in
+    let returned : (n : ℕ) → returned_by g day done n ≡ returned_by g day next n =
+    λ n. sym (ap (λ u. returned_by g day done n || u) (penalty-none n q.post kind) ∙ or-false (returned_by g day done n)) ∙ returned-place g day place n low high in
+    let stand = stand-with g (rows_amid g day done b) (rows_amid g day next c) (begun_on (seen_in g day) (before g day).cycles b.penalties) b s new t h.stand
+    (λ x. ap (λ r. with_repaid r (rows_through g (first_in g day) (day - 1) (before g day) x)) (same-brought x.id (first_in g day) (returned_by g day done) (returned_by g day next) returned b.entries)) k in
+    record { stand = subst (λ (c : Book). StandFor g (rows_amid g day next c) c new t) same stand; accrued = accrued-with g (day - 1) (before g day) _ s new h.accrued k }
 
 -- ---- rows of each segment but Credit and Held
 pub rows-count : (g : Given) (rows_by : SegmentTerms → Rows) (b : Book) (s : State) (t : Track) → StandFor g rows_by b s t → length s.segments.segments ≡ length s.segments.balances → 5 ≤ length s.segments.balances

@@ -36,8 +36,7 @@ use Rattle.card_slots.specs.Days.{day_post}
 use Rattle.card_slots.specs.declared.day.DayPost.{DayPost}
 use Rattle.card_daily.proofs.Repaying.{IsOther, others-bring, same-brought}
 use Rattle.card_daily.proofs.Standing.{begins-same, begins-with}
-use Rattle.card_daily.specs.Given.{is_to_come}
-use Rattle.card_daily.specs.Posts.{StandWith, returned_after}
+use Rattle.card_daily.specs.Posts.{StandWith, is_penalty, returned_after}
 use Rattle.card_daily.specs.Returns.{fees_with}
 use Rattle.card_daily.specs.Stands.{Begins}
 use Rattle.card_daily.specs.declared.state.State.{State}
@@ -215,15 +214,15 @@ no-way e = absurd (no e)
     no : true ≡ false → ⊥
     no e = cc
 
-pub effect-adds : (issued : Option IssuedRow) (a : Account) (seen : Seen) (s : CorrectedPost) (p : Post) (b : Book) → is_to_come p ≡ false → IsAdded b (effect issued a seen s p b)
+pub effect-adds : (issued : Option IssuedRow) (a : Account) (seen : Seen) (s : CorrectedPost) (p : Post) (b : Book) → is_penalty p ≡ false → IsAdded b (effect issued a seen s p b)
 unfolding effect
 effect-adds issued a seen s (post.Charge d p n) b e = record { more = _; entries = refl; cycles = refl; penalties = refl }
 effect-adds issued a seen s (post.Payment d m c n) b e = record { more = _; entries = refl; cycles = refl; penalties = refl }
 effect-adds issued a seen s (post.Credit d p n) b e = record { more = _; entries = refl; cycles = refl; penalties = refl }
 effect-adds issued a seen s (post.Refund n) b e = record { more = _; entries = refl; cycles = refl; penalties = refl }
 effect-adds issued a seen s (post.Return d target) b e = return-added issued a seen s b d target
-effect-adds issued a seen s (post.Dispute d target claim) b e = no-way e
-effect-adds issued a seen s (post.Resolve d target c) b e = no-way e
+effect-adds issued a seen s (post.Dispute d target claim) b e = record { more = _; entries = refl; cycles = refl; penalties = refl }
+effect-adds issued a seen s (post.Resolve d target c) b e = record { more = _; entries = refl; cycles = refl; penalties = refl }
 effect-adds issued a seen s post.Penalty b e = no-way e
 effect-adds issued a seen s (post.Open d t) b e = none-added b
 effect-adds issued a seen s (post.Plan d k r x f) b e = none-added b
@@ -285,31 +284,33 @@ pub handed : (z : ℤ) → pos 0 ≤ℤ z → z ≤ℤ pos 1_000_000_000_000_000
 handed z low high = to_z-of_z w64 z (within-fits 1_000_000_000_000_000 z (omega arith) (omega (arith, ints, low), high))
 
 -- ---- the kinds that change nothing
-pub nothing-done : (issued : Option IssuedRow) (a : Account) (seen : Seen) (s : CorrectedPost) (q : Post) (b : Book) → is_to_come q ≡ false
+pub nothing-done : (issued : Option IssuedRow) (a : Account) (seen : Seen) (s : CorrectedPost) (q : Post) (b : Book) → is_penalty q ≡ false
     → ((d : ℕ) (pl : Place) (n : ℕ) → q ≡ post.Charge d pl n → ⊥)
     → ((d : ℕ) (pl : Place) (n : ℕ) → q ≡ post.Credit d pl n → ⊥)
     → ((d m : ℕ) (by : Channel) (n : ℕ) → q ≡ post.Payment d m by n → ⊥)
     → ((n : ℕ) → q ≡ post.Refund n → ⊥)
     → ((d t : ℕ) → q ≡ post.Return d t → ⊥)
+    → ((d t n : ℕ) → q ≡ post.Dispute d t n → ⊥)
+    → ((d t n : ℕ) → q ≡ post.Resolve d t n → ⊥)
     → effect issued a seen s q b ≡ b
 unfolding effect
-nothing-done issued a seen s (post.Charge d pl n) b e no1 no2 no3 no4 no5 = absurd (no1 d pl n refl)
-nothing-done issued a seen s (post.Credit d pl n) b e no1 no2 no3 no4 no5 = absurd (no2 d pl n refl)
-nothing-done issued a seen s (post.Payment d m by n) b e no1 no2 no3 no4 no5 = absurd (no3 d m by n refl)
-nothing-done issued a seen s (post.Refund n) b e no1 no2 no3 no4 no5 = absurd (no4 n refl)
-nothing-done issued a seen s (post.Return d target) b e no1 no2 no3 no4 no5 = absurd (no5 d target refl)
-nothing-done issued a seen s (post.Dispute d target claim) b e no1 no2 no3 no4 no5 = no-way e
-nothing-done issued a seen s (post.Resolve d target c) b e no1 no2 no3 no4 no5 = no-way e
-nothing-done issued a seen s post.Penalty b e no1 no2 no3 no4 no5 = no-way e
-nothing-done issued a seen s (post.Open d t) b e no1 no2 no3 no4 no5 = refl
-nothing-done issued a seen s (post.Plan d k r x f) b e no1 no2 no3 no4 no5 = refl
-nothing-done issued a seen s (post.Notice d c r x) b e no1 no2 no3 no4 no5 = refl
-nothing-done issued a seen s (post.Lower d c r) b e no1 no2 no3 no4 no5 = refl
-nothing-done issued a seen s (post.Review d f) b e no1 no2 no3 no4 no5 = refl
-nothing-done issued a seen s (post.Ack d t) b e no1 no2 no3 no4 no5 = refl
-nothing-done issued a seen s (post.AskRefund d) b e no1 no2 no3 no4 no5 = refl
-nothing-done issued a seen s (post.Amend t d c) b e no1 no2 no3 no4 no5 = refl
-nothing-done issued a seen s (post.Bill c) b e no1 no2 no3 no4 no5 = refl
+nothing-done issued a seen s (post.Charge d pl n) b e no1 no2 no3 no4 no5 no6 no7 = absurd (no1 d pl n refl)
+nothing-done issued a seen s (post.Credit d pl n) b e no1 no2 no3 no4 no5 no6 no7 = absurd (no2 d pl n refl)
+nothing-done issued a seen s (post.Payment d m by n) b e no1 no2 no3 no4 no5 no6 no7 = absurd (no3 d m by n refl)
+nothing-done issued a seen s (post.Refund n) b e no1 no2 no3 no4 no5 no6 no7 = absurd (no4 n refl)
+nothing-done issued a seen s (post.Return d target) b e no1 no2 no3 no4 no5 no6 no7 = absurd (no5 d target refl)
+nothing-done issued a seen s (post.Dispute d target claim) b e no1 no2 no3 no4 no5 no6 no7 = absurd (no6 d target claim refl)
+nothing-done issued a seen s (post.Resolve d target c) b e no1 no2 no3 no4 no5 no6 no7 = absurd (no7 d target c refl)
+nothing-done issued a seen s post.Penalty b e no1 no2 no3 no4 no5 no6 no7 = no-way e
+nothing-done issued a seen s (post.Open d t) b e no1 no2 no3 no4 no5 no6 no7 = refl
+nothing-done issued a seen s (post.Plan d k r x f) b e no1 no2 no3 no4 no5 no6 no7 = refl
+nothing-done issued a seen s (post.Notice d c r x) b e no1 no2 no3 no4 no5 no6 no7 = refl
+nothing-done issued a seen s (post.Lower d c r) b e no1 no2 no3 no4 no5 no6 no7 = refl
+nothing-done issued a seen s (post.Review d f) b e no1 no2 no3 no4 no5 no6 no7 = refl
+nothing-done issued a seen s (post.Ack d t) b e no1 no2 no3 no4 no5 no6 no7 = refl
+nothing-done issued a seen s (post.AskRefund d) b e no1 no2 no3 no4 no5 no6 no7 = refl
+nothing-done issued a seen s (post.Amend t d c) b e no1 no2 no3 no4 no5 no6 no7 = refl
+nothing-done issued a seen s (post.Bill c) b e no1 no2 no3 no4 no5 no6 no7 = refl
 
 -- the other kinds return nothing
 pub returns-none : (n : ℕ) (q : Post) → ((d t : ℕ) → q ≡ post.Return d t → ⊥) → returns n q ≡ false

@@ -1,5 +1,5 @@
 -- What the fold of an account is given, and its books from day to day.
-use Rattle.std.specs.Prelude.{ℕ, suc, ◌≡◌, ◌≤◌, ◌<◌, true, false, Bool, List, [], ◌∷◌, Option, Some}
+use Rattle.std.specs.Prelude.{ℕ, suc, ◌≡◌, ◌≤◌, ◌<◌, true, List, [], ◌∷◌, Option, Some}
 use Rattle.std.specs.List.{All}
 use Rattle.card_days.specs.Civil.{day_of_month}
 use Rattle.card_days.specs.declared.anchor.Anchor.{Anchor}
@@ -51,13 +51,6 @@ abbrev pub row_in : Given → ℕ → Option IssuedRow
 row_in g n = row_for (present_cycle (book_in g n)) g.issued
 
 -- ---- what is asked of them
--- a Dispute, a Resolve or a Penalty, which aren't folded yet
-abbrev pub is_to_come : Post → Bool
-is_to_come (post.Dispute _ _ _) = Bool.true
-is_to_come (post.Resolve _ _ _) = Bool.true
-is_to_come post.Penalty = Bool.true
-is_to_come _ = false
-
 -- a plan's last day is a closing, from the opening day on
 abbrev pub EndsWithAClosing : Anchor → Kept → Type 0
 EndsWithAClosing a k = (first end : ℕ) → plan_days k.post ≡ Some (first, end) → (a.opened ≤ end) × (day_of_month end ≡ a.close_day)
@@ -76,7 +69,7 @@ unfoldable pub NamePayments : List Kept → ℕ → List Kept → Type 0
 NamePayments history n [] = Unit {0}
 NamePayments history n (k ∷ ks) = NamesAPayment history n k.post × NamePayments history (suc n) ks
 
--- What every run of the machine leaves in an account, over the kinds that are folded
+-- What every run of the machine leaves in an account
 pub record IsSound (g : Given) : Type 0 where
   pub accepted : AreAccepted (record { posts = g.history; issued = g.issued })
   pub fees : All HasFewFees g.shared.fees
@@ -84,5 +77,4 @@ pub record IsSound (g : Given) : Type 0 where
   pub dated : ArePostsDated g.history
   pub opening : IsOpening (anchor_of g.history)
   pub plans : ArePlanned g.history
-  pub folded : All (λ k. is_to_come k.post ≡ false) g.history
   pub returns : NamePayments g.history 1 g.history

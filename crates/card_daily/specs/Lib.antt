@@ -2,8 +2,7 @@ pub mod Closing
 pub mod Due
 pub mod Given
 pub mod Laws
+pub mod Penalties
 pub mod Posts
 pub mod Returns
-pub mod Rows
 pub mod Stands
-pub mod TestAccount

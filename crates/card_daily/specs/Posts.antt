@@ -5,6 +5,7 @@ use Rattle.card_effects.specs.Returned.{AreOfThose}
 use Rattle.card_effects.specs.Standing.{StandsAt}
 use Rattle.card_events.specs.History.{CorrectedPost, anchor_of, corrected}
 use Rattle.card_events.specs.declared.post.Post.{Post}
+use Rattle.card_events.specs.declared.post.Post.TheVariants as post
 use Rattle.card_grace.specs.Growth.{IsOfNoCredit}
 use Rattle.card_grace.specs.Rows.{Rows}
 use Rattle.card_model.specs.Books.{Account, Book}
@@ -28,6 +29,11 @@ abbrev pub done_by : Given → ℕ → ℕ → List CorrectedPost
 done_by g day place = take (place - place_in g day) (posts_of g day)
 
 -- ---- one post
+-- a Penalty, which changes no entry
+abbrev pub is_penalty : Post → Bool
+is_penalty post.Penalty = true
+is_penalty _ = false
+
 -- the payments that are returned after a post, where these were before it
 abbrev pub returned_after : (ℕ → Bool) → Post → ℕ → Bool
 returned_after returned p n = returned n || returns n p
@@ -50,5 +56,6 @@ pub record MayFollow (day : ℕ) (rated : Rates) (returned : ℕ → Bool) (p : 
 pub record IsRestKept (s new : State) (t after : Track) : Type 0 where
   pub segments : new.segments.segments ≡ s.segments.segments
   pub rates : new.rates ≡ s.rates
+  pub penalties : new.penalties.items ≡ s.penalties.items
   pub accruals : new.accruals.items ≡ s.accruals.items
   pub cycles : after.cycles.items ≡ t.cycles.items

@@ -4,8 +4,10 @@ ghost use Rattle.card_effects.specs.Standing.{AreRated, StandsAt};
 ghost use Rattle.card_model.specs.Books.{Account, Book, with_fee};
 ghost use Rattle.card_segments.specs.Balances.{AreWithin};
 ghost use Rattle.card_daily.specs.Due as spec;
+ghost use Rattle.card_daily.specs.Due.{AreCharged};
 ghost use Rattle.card_events.specs.History.{anchor_of};
 ghost use Rattle.card_model.specs.CycleDays.{HasItsDays};
+ghost use Rattle.card_due.specs.Asked.{asks};
 ghost use Rattle.card_due.specs.Laws.{due_cycle_of, issue_day, issued_fees};
 ghost use Rattle.card_model.specs.Caps.{row_for};
 ghost use Rattle.card_model.specs.Cycles.{Cycle, Seen, last_cycle};
@@ -13,6 +15,7 @@ ghost use Rattle.card_model.specs.DueDates as model;
 ghost use Rattle.card_daily.specs.Given.{account_in, opened_in, row_in, seen_in};
 ghost use Rattle.card_daily.specs.Stands.{AreAmid, AreBefore, Begins, before};
 
+use crate::penalties::end_penalties;
 use crate::{Inputs, Issued, State, Track};
 use card_closing::Cycle;
 use card_days::Day;
@@ -57,8 +60,9 @@ fn with_due_payment(cycle: &Cycle, has_due_payment: bool) -> DueCycle
     }
 }
 
-// A closed cycle as its due date sees it.
-pub(crate) fn due_cycle(inputs: &Inputs, day: Day, cycle: &Cycle) -> DueCycle
+/// A closed cycle as its due date sees it on a day: its minimum payment and grace amount in cents, and whether it has a due
+/// payment by that day (12 CFR 1026.5(b)(2)(ii)). The cycle is one of the calendar, with a due date up to 2102-12-31.
+pub fn due_cycle(inputs: &Inputs, day: Day, cycle: &Cycle) -> DueCycle
     requires days { HasItsDays (anchor_of inputs.now.history) cycle.now.number cycle.now }
     requires number { 1 ≤ cycle.now.number }
     requires last { cycle.now.due ≤ 48_576 }
@@ -67,6 +71,15 @@ pub(crate) fn due_cycle(inputs: &Inputs, day: Day, cycle: &Cycle) -> DueCycle
     let anchor = inputs.anchor();
     let issued = issue_day(inputs.issued_for(cycle.number));
     with_due_payment(cycle, has_due_payment(&anchor, cycle.number, issued, day))
+}
+
+/// What a closed cycle's due date asks for, in cents: its minimum payment, which is at least 0, and 0 where the cycle has no due
+/// payment (12 CFR 1026.5(b)(2)(ii)).
+pub fn asked(due: &DueCycle) -> Cents
+    requires { pos 0 ≤ℤ due.now.minimum }
+    ensures { result ≡ pos (asks due.now) }
+{
+    if due.has_due_payment { due.minimum } else { 0 }
 }
 
 // The penalty fees that an issued statement has.
@@ -94,7 +107,7 @@ fn late_fee(inputs: &Inputs, day: Day, fees: &[Fee], cycle: &Cycle) -> Option<Fe
     due_fee(inputs.fees(), fees, inputs.posts(), &anchor, &due, issued)
 }
 
-fn is_day_after(due: Day, day: Day) -> bool
+pub(crate) fn is_day_after(due: Day, day: Day) -> bool
     ensures { result ≡ (day == due + 1) }
 {
     day.number() == due.number() + 1
@@ -131,6 +144,7 @@ fn charge(day: Day, late: Fee, state: &mut State, track: &mut Track) -> Result<(
     ensures segments { OnOk result (state.new.segments.segments ≡ state.old.segments.segments) }
     ensures fees { OnOk result (state.new.fees.items ≡ state.old.fees.items ++ late ∷ []) }
     ensures rates { OnOk result (state.new.rates ≡ state.old.rates) }
+    ensures penalties { OnOk result (state.new.penalties.items ≡ state.old.penalties.items) }
     ensures rows { OnOk result (state.new.rows.items ≡ state.old.rows.items) }
     ensures accruals { OnOk result (state.new.accruals.items ≡ state.old.accruals.items) }
     ensures cycles { track.new.cycles.items ≡ track.old.cycles.items }
@@ -149,7 +163,28 @@ fn charge(day: Day, late: Fee, state: &mut State, track: &mut Track) -> Result<(
     Ok(())
 }
 
-/// On the day after the last cycle's due date, charges the late fee where it wasn't met (12 CFR 1026.52(b)(1)(ii)); on other
+// Charges the late fee that a day begins with, where one is due.
+fn charge_late(
+    inputs: &Inputs,
+    day: Day,
+    state: &mut State,
+    track: &mut Track,
+) -> Result<(), NoMemory>
+    requires opened { opened_in inputs.now ≤ day }
+    requires last { day ≤ 47_481 }
+    requires before { AreBefore inputs.now day state.old track.old }
+    ensures charged { OnOk result (AreCharged inputs.now day state.new track.new) }
+    ensures begins { Begins track.old track.new }
+{
+    let _anchor = inputs.anchor();
+    if let Some(late) = fee_due(inputs, day, &state.fees, track.cycles.last()) {
+        charge(day, late, state, track)?;
+    }
+    Ok(())
+}
+
+/// On the day after the last cycle's due date, charges the late fee where it wasn't met (12 CFR 1026.52(b)(1)(ii)), and ends
+/// with that due date each penalty rate without an end whose six due dates were met (12 CFR 1026.55(b)(4)(ii)); on other
 /// days it does nothing. The day isn't before the opening day and at most 2099-12-31, and the days before it are folded. After
 /// want of memory state and track are of no use, but that the track begins with what it held.
 pub fn due_day(
@@ -164,10 +199,14 @@ pub fn due_day(
     ensures amid { OnOk result (AreAmid inputs.now day [] state.new track.new) }
     ensures begins { Begins track.old track.new }
 {
-    let _anchor = inputs.anchor();
-    if let Some(late) = fee_due(inputs, day, &state.fees, track.cycles.last()) {
-        charge(day, late, state, track)?;
-    }
+    charge_late(inputs, day, state, track)?;
+    end_penalties(
+        inputs,
+        day,
+        &track.cycles,
+        &mut state.rates,
+        &mut state.penalties,
+    );
     Ok(())
 }
 

@@ -118,7 +118,7 @@ impl<'a> Inputs<'a> {
     }
 
     /// The opening day, and the day of the month on which cycles close.
-    pub(crate) fn anchor(&self) -> Anchor
+    pub fn anchor(&self) -> Anchor
         ensures value { result ≡ anchor_of self.now.history }
         ensures sound { IsSound self.now }
     {
@@ -126,14 +126,14 @@ impl<'a> Inputs<'a> {
     }
 
     /// The terms of the account.
-    pub(crate) fn terms(&self) -> Terms
+    pub fn terms(&self) -> Terms
         ensures value { result ≡ terms_of self.now.history }
     {
         terms_of_first(self.posts)
     }
 
     /// The accepted posts.
-    pub(crate) fn posts(&self) -> &Posts
+    pub fn posts(&self) -> &Posts
         ensures history { result.now.history ≡ self.now.history }
         ensures stands { StandsFor self.now.shared.holidays result.now }
     {
@@ -141,14 +141,14 @@ impl<'a> Inputs<'a> {
     }
 
     /// The fee table.
-    pub(crate) fn fees(&self) -> &FeeTable
+    pub fn fees(&self) -> &FeeTable
         ensures { result.now ≡ self.now.shared.fees }
     {
         self.fees
     }
 
     /// The issued statement of a cycle.
-    pub(crate) fn issued_for(&self, cycle: u32) -> Option<&Issued>
+    pub fn issued_for(&self, cycle: u32) -> Option<&Issued>
         ensures { option_copied result ≡ row_for cycle self.now.issued }
     {
         find(self.issued, cycle)

@@ -1,28 +1,20 @@
-//! What a day does to an account: its due date, its posts, its rows, and its closing.
+//! The morning and the posts of a day of an account: what its due date brings, and what its posts do.
 #![tactic(auto)]
 
-mod begin;
-mod closing;
-mod day;
 mod due;
+mod holds;
 mod inputs;
 pub mod laws;
+mod penalties;
 mod posts;
 mod returns;
-mod rows;
 mod state;
 mod track;
 
-pub use begin::{opening_day, start};
 pub use card_closing::{Amounts, Cycle, Entry, Fee, Fees};
-pub use closing::close_day;
-pub use day::next_day;
-pub use due::due_day;
+pub use due::{asked, due_cycle, due_day};
 pub use inputs::Inputs;
+pub use penalties::is_sixty_days_late;
 pub use posts::post_day;
-pub use rows::row_day;
 pub use state::State;
 pub use track::{Issued, Statement, Track};
-
-#[cfg(test)]
-mod tests;

@@ -1,5 +1,6 @@
 // The posts of a day, in turn.
-ghost use Rattle.std.specs.Prelude.{◌≡◌, ◌+◌, ◌-◌, ◌<◌, ◌≤◌, ℕ, Bool, true, false, List, [], length, min, Option, OnOk, OnErr, option_copied, pos, ◌≤ℤ◌, unsigned_abs};
+ghost use Rattle.std.specs.Prelude.{◌≡◌, ◌+◌, ◌-◌, ◌<◌, ◌≤◌, ℕ, Bool, true, false, List, [], length, min, Option, OnOk, OnErr, option_copied, pos, ◌≤ℤ◌, slice_index_or, unsigned_abs};
+ghost use Rattle.card_bounds.specs.Bounds.{moved};
 ghost use Rattle.card_days.specs.Billing.{IsCloseDay};
 ghost use Rattle.card_days.specs.declared.anchor.Channel.{Channel};
 ghost use Rattle.card_effects.specs.Returned.{AreReturnable, parts_of};
@@ -7,21 +8,25 @@ ghost use Rattle.card_effects.specs.Standing.{AreRated, IsSlotOf, StandsAt};
 ghost use Rattle.card_events.specs.History.{CorrectedPost, anchor_of};
 ghost use Rattle.card_events.specs.declared.post.Post.TheVariants as post;
 ghost use Rattle.card_grace.specs.Rows.{Rows};
+ghost use Rattle.card_holds.specs.Accounts.{AreOf};
 ghost use Rattle.card_model.specs.Books.{Account, Book};
 ghost use Rattle.card_model.specs.CycleDays.{IsOpening};
 ghost use Rattle.card_model.specs.Cycles.{Cycle, IssuedRow, Seen, last_cycle};
-ghost use Rattle.card_model.specs.Effects.{effect, second_closing};
+ghost use Rattle.card_model.specs.Deadlines.{resolves};
+ghost use Rattle.card_model.specs.Effects.{effect, moved_by, second_closing};
 ghost use Rattle.card_model.specs.Payments as model;
 ghost use Rattle.card_model.specs.Payments.{returns};
 ghost use Rattle.card_model.specs.Segments.{SegmentTerms};
 ghost use Rattle.card_segments.specs.Balances.{AreWithin};
 ghost use Rattle.card_slots.specs.Days.{day_post};
-ghost use Rattle.card_daily.specs.Given.{account_in, is_to_come, opened_in, row_in, seen_in};
-ghost use Rattle.card_daily.specs.Posts.{IsRestKept, MayFollow, StandWith, done_by, place_in, returned_after};
+ghost use Rattle.card_daily.specs.Given.{account_in, opened_in, row_in, seen_in};
+ghost use Rattle.card_daily.specs.Posts.{IsRestKept, MayFollow, StandWith, done_by, is_penalty, place_in, returned_after};
 ghost use Rattle.card_daily.specs.Returns.{SeesPayment};
 ghost use Rattle.card_daily.specs.Stands.{AreAmid, Begins, before, posts_of};
 
 use crate::due::due_cycle;
+use crate::holds::{enter_dispute, enter_resolve};
+use crate::penalties::begin_penalty;
 use crate::returns::enter_return;
 use crate::{Inputs, State, Track};
 use card_closing::Cycle;
@@ -204,7 +209,10 @@ fn enter_post(
     requires small { AreWithin 1_000_000_000_000_000 state.old.segments.balances }
     requires rows { length state.old.rows.items + 2 ≡ length state.old.segments.balances }
     requires parts { (n : ℕ) → AreReturnable (length state.old.segments.balances) (parts_of n track.old.entries.items) }
-    requires kind { is_to_come post.now.post ≡ false }
+    requires kind { is_penalty post.now.post ≡ false }
+    requires account { AreOf inputs.now.history state.old.segments.segments state.old.rates }
+    requires moved { moved track.old.entries.items ≤ 1_000_000_000_000_000 }
+    requires held { (n : ℕ) → resolves n post.now.post ≡ true → pos (moved_by n track.old.entries.items) ≤ℤ slice_index_or state.old.segments.balances 1 (pos 0) }
     requires named { (n : ℕ) → returns n post.now.post ≡ true → (n ≤ 10_000) × SeesPayment inputs.now post.now.day n }
     ensures stands { OnOk result ((first : ℕ) (returned : ℕ → Bool) (rows : SegmentTerms → Rows) (p : CorrectedPost) (b : Book) → first ≤ post.now.day → b.cycles ≡ (before inputs.now post.now.day).cycles → MayFollow post.now.day state.old.rates returned p b → post.now ≡ day_post p → StandWith (account_in inputs.now) (seen_in inputs.now post.now.day) first returned rows b state.old track.old → StandWith (account_in inputs.now) (seen_in inputs.now post.now.day) first (returned_after returned p.post) rows (effect (row_in inputs.now (post.now.day - opened_in inputs.now)) (account_in inputs.now) (seen_in inputs.now post.now.day) p p.post b) state.new track.new) }
     ensures rest { IsRestKept state.old state.new track.old track.new }
@@ -223,6 +231,10 @@ fn enter_post(
         Post::Return { target, .. } => {
             enter_return(alloc, inputs, &slot, target.get() as u32, state, track)
         }
+        Post::Dispute { target, cents, .. } => {
+            enter_dispute(inputs, &slot, *target, *cents, state, track)
+        }
+        Post::Resolve { target, .. } => enter_resolve(inputs, &slot, *target, state, track),
         _ => Ok(()),
     }
 }
@@ -247,15 +259,25 @@ fn enter(
     let _anchor = inputs.anchor();
     let _count = state.segments.len();
     match folded_at(inputs.posts(), place) {
-        Some(post) => enter_post(alloc, inputs, &post, state, track),
+        Some(post) => match &post.post {
+            Post::Penalty => begin_penalty(
+                inputs,
+                day,
+                &track.cycles,
+                &mut state.rates,
+                &mut state.penalties,
+            ),
+            _ => enter_post(alloc, inputs, &post, state, track),
+        },
         None => Ok(()),
     }
 }
 
-/// Enters the posts of a day, in order of number: charges, refunds, payments, merchants' credits and returned payments (12 CFR
-/// 1026.10, .11(a), .52(b), .53), and the kinds that change no balance. The day isn't before the opening day and at most 2099-12-31; the days before
-/// it are folded, and what its due date brought. After want of memory state and track are of no use, but that the track
-/// begins with what it held.
+/// Enters the posts of a day, in order of number: charges, refunds, payments, merchants' credits, returned payments, disputes and
+/// their resolutions (12 CFR 1026.10, .11(a), .13, .52(b), .53), and the kinds that change no balance. A Penalty begins 45 days
+/// later where the account is sixty days late (12 CFR 1026.9(g), .55(b)(4)). The day isn't before the opening day and at most
+/// 2099-12-31; the days before it are folded, and what its due date brought. After want of memory state and track are of no
+/// use, but that the track begins with what it held.
 pub fn post_day(
     alloc: Global,
     inputs: &Inputs,

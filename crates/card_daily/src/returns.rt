@@ -21,8 +21,7 @@ ghost use Rattle.card_daily.specs.Returns.{IsDueBy, SeesPayment, fees_with};
 ghost use Rattle.card_daily.specs.Posts.{IsRestKept, StandWith};
 ghost use Rattle.card_daily.specs.Stands.{Begins, before};
 
-use crate::closing::asked;
-use crate::due::{due_cycle, fees_of, minimum_of, push_fee};
+use crate::due::{asked, due_cycle, fees_of, minimum_of, push_fee};
 use crate::{Inputs, State, Track};
 use card_closing::Cycle;
 use card_days::Day;

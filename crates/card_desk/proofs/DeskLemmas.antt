@@ -1,7 +1,6 @@
 -- What a desk's parts say of its state.
 use Rattle.std.proofs.Common.{◌≡◌, ℕ, zero, suc, ◌+◌, ◌<◌, List, [], ◌∷◌, ◌++◌, length, get_or, set, Some, None, refl, ap, sym, ◌∙◌, arith, length-append}
 use Rattle.card_events.specs.Keys.{with_key}
-use Rattle.card_events.specs.SharedRows.{SharedRows, shared_rows}
 use Rattle.card_events.specs.declared.post.Post.{Post}
 use Rattle.card_events.specs.declared.request.Shared.{Shared}
 use Rattle.card_index.specs.Places.{place_of}
@@ -13,7 +12,7 @@ use Rattle.card_account.specs.Verdicts.{verdict_of}
 use Rattle.card_account.specs.declared.verdict.Verdict.{Verdict}
 use Rattle.card_desk.proofs.CountLemmas.{sum_pushed, sum_set}
 use Rattle.card_desk.proofs.OutcomeLemmas.{known_outcome}
-use Rattle.card_account.specs.Accounts.{OpenAccount, present_of}
+use Rattle.card_account.specs.Accounts.{OpenAccount}
 use Rattle.card_desk.specs.Desks.{named_all, now_of}
 use Rattle.std.proofs.lemmas.List.{get_or-map, length-map}
 use Rattle.card_desk.proofs.PlaceLemmas.{is_place, no_place}
@@ -64,19 +63,18 @@ pub there_at : (xs : List OpenAccount) (name : List ℕ) (i : ℕ) (a : OpenAcco
 there_at xs name i a place is = ap (λ (x : NamedAccount). Some x.lists) (read_at xs (named_all xs) i a a.named is refl place.bound) ∙ sym (place.there a.named)
 
 -- what a post of the account at a place comes to, by its verdict on the account that was read
-pub verdict_at : (s : State) (key : List ℕ) (p : Post) (today : ℕ) (a b : NamedAccount) (v : Verdict) → today ≡ s.today → a ≡ b
-    → ((shared : SharedRows) → v ≡ verdict_of (at_key (present_of today shared a.lists) key p (with_key key a.lists.posts)))
-    → (shared : SharedRows) → v ≡ verdict_of (at_key (present_of s.today shared b.lists) key p (with_key key b.lists.posts))
-verdict_at s key p today a b v now same is shared =
-    is shared ∙ ap (λ (n : ℕ). verdict_of (at_key (present_of n shared a.lists) key p (with_key key a.lists.posts))) now
-    ∙ ap (λ (x : NamedAccount). verdict_of (at_key (present_of s.today shared x.lists) key p (with_key key x.lists.posts))) same
+pub verdict_at : (s t : State) (key : List ℕ) (p : Post) (a b : NamedAccount) (v : Verdict) → t ≡ s → a ≡ b
+    → v ≡ verdict_of (at_key (now_of t a.lists) key p (with_key key a.lists.posts)) → v ≡ verdict_of (at_key (now_of s b.lists) key p (with_key key b.lists.posts))
+verdict_at s t key p a b v now same is =
+    is ∙ ap (λ (x : State). verdict_of (at_key (now_of x a.lists) key p (with_key key a.lists.posts))) now
+    ∙ ap (λ (x : NamedAccount). verdict_of (at_key (now_of s x.lists) key p (with_key key x.lists.posts))) same
 
 pub outcome_at : (s : State) (name key : List ℕ) (p : Post) (i : ℕ) (d : NamedAccount) (v : Verdict) → IsPlace name s.accounts i
-    → ((shared : SharedRows) → v ≡ verdict_of (at_key (present_of s.today shared (get_or s.accounts i d).lists) key p (with_key key (get_or s.accounts i d).lists.posts)))
+    → v ≡ verdict_of (at_key (now_of s (get_or s.accounts i d).lists) key p (with_key key (get_or s.accounts i d).lists.posts))
     → (v ≡ verdict_of (outcome_in s name key p)) × (outcome_in s name key p ≡ at_key (now_of s (get_or s.accounts i d).lists) key p (with_key key (get_or s.accounts i d).lists.posts))
 outcome_at s name key p i d v place is =
     let known = known_outcome s name key p (get_or s.accounts i d).lists (place.there d) in
-    (is (shared_rows s.shared) ∙ ap verdict_of (sym known), known)
+    (is ∙ ap verdict_of (sym known), known)
 
 -- the state after an account was opened
 pub opened_state : (s t : State) (name : List ℕ) (l : Lists) (a : NamedAccount) → t.today ≡ s.today → t.shared ≡ s.shared → t.accounts ≡ s.accounts ++ a ∷ [] → a ≡ record { name = name; lists = l } → place_from name 0 s.accounts ≡ None

@@ -1,5 +1,5 @@
 -- Each account of a desk may be folded to the end of today, and its book is that of the state.
-use Rattle.std.proofs.Common.{◌≡◌, ℕ, ◌<◌, ◌≤◌, true, List, [], ◌∷◌, length, map, get_or, refl, ap, sym, ◌∙◌, subst, arith}
+use Rattle.std.proofs.Common.{◌≡◌, ℕ, ◌<◌, ◌≤◌, Bool, true, false, Option, Some, List, [], ◌∷◌, length, get_or, refl, ap, sym, ◌∙◌, subst, arith}
 use Rattle.std.proofs.lemmas.Bool.{and_from, and_parts, leb-true}
 use Rattle.std.proofs.lemmas.List.{get_or-map, length-map}
 use Rattle.std.proofs.lemmas.List.Elements.{All-cons, All-get_or, All-head, All-nil, All-tail}
@@ -7,16 +7,21 @@ use Rattle.std.specs.List.{All, filter, list_all}
 use Rattle.std.specs.Prelude.{nat_le, nat_lt, ◌&&◌, ◌++◌, ◌+◌, ◌-◌, if◌then◌else◌, None}
 use Rattle.std.specs.Option.{option_map}
 use Rattle.card_account.specs.Accounts.{IsCorrected, MayBeFolded, OpenAccount, is_closed, present_of, restated_as, restated_statement, shared_by}
-use Rattle.card_account.specs.Built.{is_built_post}
+use Rattle.card_account.specs.Verdicts.{verdict_of}
+use Rattle.card_account.specs.declared.verdict.Verdict.{Verdict}
 use Rattle.card_account.specs.Runs.{AreRunning, IsTaken}
 use Rattle.card_account.proofs.Runs.{runs_may_be_folded}
 use Rattle.card_days.specs.Business.{AgreeUpTo, with_holiday}
 use Rattle.card_days.proofs.Agree.{with_holiday-agrees}
+use Rattle.card_desk.proofs.DeskLemmas.{read_at, verdict_at}
+use Rattle.card_reasons.proofs.SameReasons.{AreAlike, same_reason}
 use Rattle.card_desk.specs.Desks.{AreCorrected, IsDesk, IsRun, named_all, now_of, state_of}
-use Rattle.card_desk.specs.Kept.{is_taken}
 use Rattle.card_events.specs.Dated.{is_dated, is_dated_post, is_dated_shared, is_request_day}
-use Rattle.card_events.specs.History.{CorrectedPost, anchor_of, corrected, is_folded, opening_in}
+use Rattle.card_events.specs.History.{CorrectedPost, anchor_of, at_number, corrected, is_folded, opening_in}
+use Rattle.card_events.specs.Keys.{with_key}
 use Rattle.card_events.specs.Names.{is_name}
+use Rattle.card_events.specs.declared.reply.Refusal.{Refusal}
+use Rattle.card_events.specs.declared.reply.Refusal.TheVariants as refusal
 use Rattle.card_events.specs.SharedRows.{FeeRow, SharedRows, shared_rows}
 use Rattle.card_events.specs.declared.post.Post.{Post}
 use Rattle.card_events.specs.declared.post.Post.TheVariants as post
@@ -28,8 +33,8 @@ use Rattle.card_model.specs.Accepted.{HasFewFees}
 use Rattle.card_model.specs.Books.{Book, account_of}
 use Rattle.card_model.specs.Caps.{row_for}
 use Rattle.card_model.specs.Folds.{book, book_after, cycle_at, rows_issued}
-use Rattle.card_model.specs.Machine.{Accepts, NamedAccount, State, accepted, issues, kept_as, outcome_in}
-use Rattle.card_model.specs.Refusals.{Lists, book_today}
+use Rattle.card_model.specs.Machine.{Accepts, NamedAccount, Refuses, Repeats, State, accepted, at_key, is_open, is_repeat_of, issues, judged, kept_as, outcome_in}
+use Rattle.card_model.specs.Refusals.{Lists, Present, book_today, reason_against}
 use Rattle.card_posts.specs.Posted.{last_accepted, opens}
 use Rattle.card_posts.proofs.Holidays.{same-corrected}
 use Rattle.card_rows.specs.Held.{are_terms, is_day, is_number, is_place, is_post, is_request, is_shared}
@@ -38,30 +43,32 @@ use Rattle.card_rows.specs.Held.{are_terms, is_day, is_number, is_place, is_post
 day_parts : (day : ℕ) → is_day day ≡ true → (14975 ≤ day) × (is_request_day day ≡ true)
 day_parts day is = let parts = and_parts (nat_le 14975 day) (is_request_day day) is in (leb-true 14975 day parts.0, parts.1)
 
-post_days : (p : Post) → is_post p ≡ true → is_built_post p ≡ true → (is_dated_post p ≡ true) × (opens p ≡ true → 14975 ≤ opening_in p)
+post_days : (p : Post) → is_post p ≡ true → (is_dated_post p ≡ true) × (opens p ≡ true → 14975 ≤ opening_in p)
 unfolding is_post is_dated_post
-post_days (post.Open d t) is built = let day = day_parts d (and_parts (is_day d) (are_terms t) is).0 in (day.1, λ _. day.0)
-post_days (post.Charge d p c) is built = ((day_parts d (and_parts (is_day d) (is_place p && is_number c) is).0).1, λ e. absurd (cc))
-post_days (post.Credit d p c) is built = ((day_parts d (and_parts (is_day d) (is_place p && is_number c) is).0).1, λ e. absurd (cc))
-post_days (post.Payment d m by c) is built = ((day_parts d (and_parts (is_day d) (is_number m && is_number c) is).0).1, λ e. absurd (cc))
-post_days (post.Bill c) is built = (refl, λ e. absurd (cc))
-post_days (post.Amend t d c) is built =
+post_days (post.Open d t) is = let day = day_parts d (and_parts (is_day d) (are_terms t) is).0 in (day.1, λ _. day.0)
+post_days (post.Charge d p c) is = ((day_parts d (and_parts (is_day d) (is_place p && is_number c) is).0).1, λ e. absurd (cc))
+post_days (post.Credit d p c) is = ((day_parts d (and_parts (is_day d) (is_place p && is_number c) is).0).1, λ e. absurd (cc))
+post_days (post.Payment d m by c) is = ((day_parts d (and_parts (is_day d) (is_number m && is_number c) is).0).1, λ e. absurd (cc))
+post_days (post.Bill c) is = (refl, λ e. absurd (cc))
+post_days (post.Amend t d c) is =
     let rest = (and_parts (is_number t) (is_day d && is_number c) is).1 in
     ((day_parts d (and_parts (is_day d) (is_number c) rest).0).1, λ e. absurd (cc))
-post_days (post.Return d t) is built = ((day_parts d (and_parts (is_day d) (is_number t) is).0).1, λ e. absurd (cc))
-post_days (post.Plan d v r w f) is built =
+post_days (post.Return d t) is = ((day_parts d (and_parts (is_day d) (is_number t) is).0).1, λ e. absurd (cc))
+post_days (post.Plan d v r w f) is =
     let first = and_parts (is_day d) (is_number r && (is_day w && is_number f)) is in
     let rest = (and_parts (is_number r) (is_day w && is_number f) first.1).1 in
     (and_from (is_request_day d) (is_request_day w) (day_parts d first.0).1 (day_parts w (and_parts (is_day w) (is_number f) rest).0).1, λ e. absurd (cc))
-post_days (post.Notice d y r w) is built = absurd (cc)
-post_days (post.Lower d y r) is built = absurd (cc)
-post_days post.Penalty is built = absurd (cc)
-post_days (post.Review d f) is built = absurd (cc)
-post_days (post.Dispute d t c) is built = absurd (cc)
-post_days (post.Ack d t) is built = absurd (cc)
-post_days (post.Resolve d t c) is built = absurd (cc)
-post_days (post.AskRefund d) is built = absurd (cc)
-post_days (post.Refund c) is built = absurd (cc)
+post_days (post.Notice d y r w) is =
+    let first = and_parts (is_day d) (is_number r && is_day w) is in
+    (and_from (is_request_day d) (is_request_day w) (day_parts d first.0).1 (day_parts w (and_parts (is_number r) (is_day w) first.1).1).1, λ e. absurd (cc))
+post_days (post.Lower d y r) is = ((day_parts d (and_parts (is_day d) (is_number r) is).0).1, λ e. absurd (cc))
+post_days post.Penalty is = (refl, λ e. absurd (cc))
+post_days (post.Review d f) is = ((day_parts d is).1, λ e. absurd (cc))
+post_days (post.Dispute d t c) is = ((day_parts d (and_parts (is_day d) (is_number t && is_number c) is).0).1, λ e. absurd (cc))
+post_days (post.Ack d t) is = ((day_parts d (and_parts (is_day d) (is_number t) is).0).1, λ e. absurd (cc))
+post_days (post.Resolve d t c) is = ((day_parts d (and_parts (is_day d) (is_number t && is_number c) is).0).1, λ e. absurd (cc))
+post_days (post.AskRefund d) is = ((day_parts d is).1, λ e. absurd (cc))
+post_days (post.Refund c) is = (refl, λ e. absurd (cc))
 
 pub shared_day : (r : Shared) → is_shared r ≡ true → is_dated_shared r ≡ true
 unfolding is_shared is_dated_shared
@@ -69,18 +76,15 @@ shared_day (shared.Roll day) is = (day_parts day is).1
 shared_day (shared.Holiday day) is = (day_parts day is).1
 shared_day (shared.FeeRow day first repeat) is = (day_parts day (and_parts (is_day day) (is_number first && is_number repeat) is).0).1
 
-taken_is : (r : Request) → is_taken r ≡ true → IsTaken r
+taken_is : (r : Request) → is_request r ≡ true → IsTaken r
 unfolding is_request is_dated
-taken_is (request.Shared r) taken = (shared_day r (and_parts (is_shared r) true taken).0, tt)
+taken_is (request.Shared r) taken = (shared_day r taken, tt)
 taken_is (request.Post name key p) taken =
-    let both = and_parts (is_name name && (is_name key && is_post p)) (is_built_post p) taken in
-    let held = and_parts (is_name key) (is_post p) (and_parts (is_name name) (is_name key && is_post p) both.0).1 in
-    let days = post_days p held.1 both.1 in
-    (days.0, record { built = both.1; first = days.1 })
+    post_days p (and_parts (is_name key) (is_post p) (and_parts (is_name name) (is_name key && is_post p) taken).1).1
 
-all_taken : (rs : List Request) → list_all is_taken rs ≡ true → All IsTaken rs
+all_taken : (rs : List Request) → list_all is_request rs ≡ true → All IsTaken rs
 all_taken [] taken = All-nil IsTaken
-all_taken (r ∷ rs) taken = let parts = and_parts (is_taken r) (list_all is_taken rs) taken in All-cons IsTaken r rs (taken_is r parts.0) (all_taken rs parts.1)
+all_taken (r ∷ rs) taken = let parts = and_parts (is_request r) (list_all is_request rs) taken in All-cons IsTaken r rs (taken_is r parts.0) (all_taken rs parts.1)
 
 -- ---- accounts of a run
 pub all_running : (s : State) → IsRun s → All (λ (x : NamedAccount). AreRunning s x.lists) s.accounts
@@ -107,10 +111,10 @@ may_be_folded places calendar fees count today rows accounts i d desk low =
         dated = one.sound.dated;
         opening = one.sound.opening;
         plans = one.sound.plans;
-        folded = one.sound.folded;
         returns = one.sound.returns;
       };
       opened = one.opened;
+      accepted = one.last;
       dated = desk.dated;
     }
 
@@ -137,6 +141,59 @@ same_book places calendar fees count today rows accounts i d desk low =
     let same = same-corrected (anchor_of lists.posts) calendar (shared_rows rows).holidays lists.posts one.timely (λ x l. desk.holidays x) in
     one_book lists today calendar (shared_rows rows).holidays fees same
     ∙ ap (λ (f : List FeeRow). book_today (present_of today (shared_by (shared_rows rows).holidays f) lists)) desk.table
+
+-- so the account is judged alike
+alike_at : (places : List (List ℕ × ℕ)) (calendar : List ℕ) (fees : List FeeRow) (count today : ℕ) (rows : List Shared) (accounts : List OpenAccount) (i : ℕ) (d : OpenAccount)
+    → IsDesk places calendar fees count today rows accounts → i < length accounts → AreAlike today (get_or accounts i d).named.lists (shared_by calendar fees) (shared_rows rows)
+alike_at places calendar fees count today rows accounts i d desk low =
+    let lists = (get_or accounts i d).named.lists in
+    let one = running_at (state_of today rows accounts) accounts i d low (all_running (state_of today rows accounts) desk.ran) in
+    record {
+      posts = same-corrected (anchor_of lists.posts) calendar (shared_rows rows).holidays lists.posts one.timely (λ x l. desk.holidays x);
+      books = same_book places calendar fees count today rows accounts i d desk low;
+      fees = desk.table;
+    }
+
+pub same_reason_at : (places : List (List ℕ × ℕ)) (calendar : List ℕ) (fees : List FeeRow) (count today : ℕ) (rows : List Shared) (accounts : List OpenAccount) (i : ℕ) (d : OpenAccount) (p : Post)
+    → IsDesk places calendar fees count today rows accounts → i < length accounts
+    → reason_against (present_of today (shared_by calendar fees) (get_or accounts i d).named.lists) p ≡ reason_against (now_of (state_of today rows accounts) (get_or accounts i d).named.lists) p
+same_reason_at places calendar fees count today rows accounts i d p desk low =
+    same_reason today (get_or accounts i d).named.lists (shared_by calendar fees) (shared_rows rows) p (alike_at places calendar fees count today rows accounts i d desk low)
+
+-- and its verdict is one
+verdict_by : (a b : Present) (key : List ℕ) (p : Post) (k : Option ℕ) → a.lists ≡ b.lists → reason_against a p ≡ reason_against b p → verdict_of (at_key a key p k) ≡ verdict_of (at_key b key p k)
+verdict_by a b key p (Some n) lists same = ap (λ (l : Lists). verdict_of (if is_repeat_of p (at_number n l.posts) then Repeats n else Refuses (refusal.KeyReused n))) lists
+verdict_by a b key p None lists same = new_by (is_open p) (reason_against a p) (reason_against b p) same
+  where
+    reason_by : (r : Option Refusal) → verdict_of (judged a key p r) ≡ verdict_of (judged b key p r)
+    reason_by (Some r) = refl
+    reason_by None = refl
+
+    new_by : (o : Bool) (r q : Option Refusal) → r ≡ q → verdict_of (if o then Refuses refusal.AccountExists else judged a key p r) ≡ verdict_of (if o then Refuses refusal.AccountExists else judged b key p q)
+    new_by true r q e = refl
+    new_by false r q e = reason_by r ∙ ap (λ x. verdict_of (judged b key p x)) e
+
+pub same_verdict : (places : List (List ℕ × ℕ)) (calendar : List ℕ) (fees : List FeeRow) (count today : ℕ) (rows : List Shared) (accounts : List OpenAccount) (i : ℕ) (a : OpenAccount) (key : List ℕ) (p : Post) (v : Verdict)
+    → IsDesk places calendar fees count today rows accounts → i < length accounts → a ≡ get_or accounts i a
+    → v ≡ verdict_of (at_key (present_of today (shared_by calendar fees) a.named.lists) key p (with_key key a.named.lists.posts))
+    → v ≡ verdict_of (at_key (now_of (state_of today rows accounts) a.named.lists) key p (with_key key a.named.lists.posts))
+same_verdict places calendar fees count today rows accounts i a key p v desk low is found =
+    let s = state_of today rows accounts in
+    let same = same_reason_at places calendar fees count today rows accounts i a p desk low in
+    found
+    ∙ verdict_by (present_of today (shared_by calendar fees) a.named.lists) (now_of s a.named.lists) key p (with_key key a.named.lists.posts) refl
+    (subst (λ (x : OpenAccount). reason_against (present_of today (shared_by calendar fees) x.named.lists) p ≡ reason_against (now_of s x.named.lists) p) (sym is) same)
+
+-- by its verdict, what a post of the account at a place comes to
+pub judged_at : (places : List (List ℕ × ℕ)) (calendar : List ℕ) (fees : List FeeRow) (count today : ℕ) (rows : List Shared) (accounts : List OpenAccount) (i : ℕ) (a : OpenAccount) (s : State) (d : NamedAccount) (key : List ℕ) (p : Post) (v : Verdict)
+    → IsDesk places calendar fees count today rows accounts → state_of today rows accounts ≡ s → i < length s.accounts → a ≡ get_or accounts i a
+    → v ≡ verdict_of (at_key (present_of today (shared_by calendar fees) a.named.lists) key p (with_key key a.named.lists.posts))
+    → v ≡ verdict_of (at_key (now_of s (get_or s.accounts i d).lists) key p (with_key key (get_or s.accounts i d).lists.posts))
+judged_at places calendar fees count today rows accounts i a s d key p v desk state low is found =
+    let listed = ap (λ (x : State). x.accounts) state in
+    let here : i < length accounts = omega (arith, low, ap (λ (l : List NamedAccount). length l) listed, length-map accounts (λ (x : OpenAccount). x.named)) in
+    verdict_at s (state_of today rows accounts) key p a.named (get_or s.accounts i d) v state (read_at accounts s.accounts i a d is listed low)
+    (same_verdict places calendar fees count today rows accounts i a key p v desk here is found)
 
 -- and so does what a post brings
 same_issues : (today : ℕ) (lists : Lists) (a b : SharedRows) (p : Post) → book_today (present_of today a lists) ≡ book_today (present_of today b lists) → issues (present_of today a lists) p ≡ issues (present_of today b lists) p

@@ -6,13 +6,13 @@ use Rattle.std.proofs.lemmas.List.Elements.{All-nil, All-push, All-set, filter_m
 use Rattle.std.proofs.lemmas.List.Folds.{list_all-append}
 use Rattle.std.specs.List.{filter_map, list_all}
 use Rattle.std.specs.Prelude.{nat_le, nat_lt, ◌&&◌}
-use Rattle.card_account.proofs.ReasonLemmas.{none_head, where_none}
+use Rattle.card_reasons.proofs.ReasonLemmas.{none_head, where_none}
 use Rattle.card_events.specs.declared.reply.Refusal.TheVariants as refusal
 use Rattle.card_account.specs.Accounts.{IsCorrected, OpenAccount}
 use Rattle.card_days.specs.Business.{is_holiday, with_holiday}
 use Rattle.card_days.proofs.Holidays.{with_holiday-is}
 use Rattle.card_desk.specs.Desks.{AreCorrected, AreSameHolidays, IsDesk, IsRun, named_all, state_of}
-use Rattle.card_desk.specs.Kept.{is_taken, posts_in}
+use Rattle.card_desk.specs.Kept.{posts_in}
 use Rattle.card_index.specs.Places.{place_of}
 use Rattle.card_desk.specs.Applied.{are_short}
 use Rattle.card_desk.specs.Places.{IsIndex, IsPlace, place_from}
@@ -26,9 +26,7 @@ use Rattle.card_desk.proofs.FoldLemmas.{shared_day}
 use Rattle.card_desk.proofs.RunLemmas.{run_more}
 use Rattle.card_events.specs.Dated.{is_dated_shared}
 use Rattle.card_events.specs.SharedRows.{FeeRow, fee_row_of, holiday_of, shared_rows}
-use Rattle.card_account.specs.Built.{is_built_post}
 use Rattle.card_events.specs.declared.post.Post.{Post}
-use Rattle.card_events.specs.declared.post.Post.TheVariants as post
 use Rattle.card_events.specs.declared.reply.Reply.{Reply}
 use Rattle.card_events.specs.declared.reply.Reply.TheVariants as reply
 use Rattle.card_events.specs.declared.request.Request.{Request}
@@ -40,10 +38,10 @@ use Rattle.card_model.specs.Refusals.{Lists, Present, reason_to_open, where_true
 use Rattle.card_rows.specs.Held.{is_request, is_shared}
 
 -- one request more
-pub run_on : (s t : State) (r : Request) (a : Reply) → IsRun s → is_taken r ≡ true → (t, a) ≡ step s r → IsRun t
+pub run_on : (s t : State) (r : Request) (a : Reply) → IsRun s → is_request r ≡ true → (t, a) ≡ step s r → IsRun t
 run_on s t r a ran taken next = record {
   requests = ran.requests ++ r ∷ [];
-  taken = list_all-append is_taken ran.requests (r ∷ []) ∙ and_from (list_all is_taken ran.requests) (is_taken r && true) ran.taken (and_from (is_taken r) true taken refl);
+  taken = list_all-append is_request ran.requests (r ∷ []) ∙ and_from (list_all is_request ran.requests) (is_request r && true) ran.taken (and_from (is_request r) true taken refl);
   state_is = ap (λ (x : State × Reply). x.0) next ∙ ap (λ (x : State). (step x r).0) ran.state_is ∙ sym (run_more start ran.requests r);
 }
 
@@ -121,7 +119,7 @@ shared_desk places calendar new_calendar fees new_fees count today rows accounts
       table = table;
       corrected = corrected;
       counted = ap (λ (n : ℕ). n + 1) desk.counted ∙ sym (count_shared s t r refl);
-      ran = run_on s t (request.Shared r) (with_shared s r None).1 desk.ran (and_from (is_shared r) true held refl) (sym (shared_step s r none));
+      ran = run_on s t (request.Shared r) (with_shared s r None).1 desk.ran held (sym (shared_step s r none));
     }
 
 -- a Holiday or a fee row that is accepted is for a later day, and fees are within their range
@@ -139,26 +137,6 @@ few_fees today any day first repeat none =
     (ltb-false 100000 first both.0, ltb-false 100000 repeat both.1)
 
 -- ---- an account that is opened
--- an Open is taken
-pub opens_built : (p : Post) → is_open p ≡ true → is_built_post p ≡ true
-opens_built (post.Open d t) is = refl
-opens_built (post.Charge d p c) is = absurd (cc)
-opens_built (post.Credit d p c) is = absurd (cc)
-opens_built (post.Payment d m by c) is = refl
-opens_built (post.Bill c) is = refl
-opens_built (post.Amend t d c) is = absurd (cc)
-opens_built (post.Return d t) is = absurd (cc)
-opens_built (post.Plan d v r w f) is = absurd (cc)
-opens_built (post.Notice d y r w) is = absurd (cc)
-opens_built (post.Lower d y r) is = absurd (cc)
-opens_built post.Penalty is = absurd (cc)
-opens_built (post.Review d f) is = absurd (cc)
-opens_built (post.Dispute d t c) is = absurd (cc)
-opens_built (post.Ack d t) is = absurd (cc)
-opens_built (post.Resolve d t c) is = absurd (cc)
-opens_built (post.AskRefund d) is = absurd (cc)
-opens_built (post.Refund c) is = absurd (cc)
-
 pub opened_is : (s : State) (name key : List ℕ) (p : Post) (made : NamedAccount) → place_from name 0 s.accounts ≡ None → is_open p ≡ true → reason_to_open s.today (length s.accounts) p ≡ None
     → made ≡ record { name = name; lists = record { posts = kept_as 1 key s.today p ∷ []; issued = [] } } → (record { today = s.today; shared = s.shared; accounts = s.accounts ++ made ∷ [] }, reply.Accepted 1) ≡ step s (request.Post name key p)
 opened_is s name key p made absent opens_is none is =
@@ -168,7 +146,7 @@ opened_is s name key p made absent opens_is none is =
     ∙ sym (post_step s name key p (Accepts l) (open_accepted s name key p (no_place name 0 s.accounts absent).0 opens_is none))
 
 pub opened_desk : (places more : List (List ℕ × ℕ)) (calendar : List ℕ) (fees : List FeeRow) (count today : ℕ) (rows : List Shared) (accounts : List OpenAccount) (made : OpenAccount) (name key : List ℕ) (p : Post)
-    → IsDesk places calendar fees count today rows accounts → is_taken (request.Post name key p) ≡ true → place_from name 0 (named_all accounts) ≡ None → is_open p ≡ true
+    → IsDesk places calendar fees count today rows accounts → is_request (request.Post name key p) ≡ true → place_from name 0 (named_all accounts) ≡ None → is_open p ≡ true
     → reason_to_open today (length (named_all accounts)) p ≡ None → made.named ≡ record { name = name; lists = record { posts = kept_as 1 key today p ∷ []; issued = [] } }
     → IsIndex more (named_all accounts ++ made.named ∷ []) → length accounts < 1000000 → IsCorrected calendar made → IsDesk more calendar fees (count + 1) today rows (accounts ++ made ∷ [])
 opened_desk places more calendar fees count today rows accounts made name key p desk taken absent opens_is none is index room stands =
@@ -203,7 +181,7 @@ posted_is s name key p i a d place named accepts =
     ∙ sym (post_step s name key p (Accepts a.lists) accepts)
 
 pub posted_desk : (places : List (List ℕ × ℕ)) (calendar : List ℕ) (fees : List FeeRow) (count today : ℕ) (rows : List Shared) (accounts : List OpenAccount) (i : ℕ) (a d : OpenAccount) (name key : List ℕ) (p : Post)
-    → IsDesk places calendar fees count today rows accounts → is_taken (request.Post name key p) ≡ true → IsPlace name (named_all accounts) i → i < length accounts
+    → IsDesk places calendar fees count today rows accounts → is_request (request.Post name key p) ≡ true → IsPlace name (named_all accounts) i → i < length accounts
     → a.named.name ≡ (get_or accounts i d).named.name → outcome_in (state_of today rows accounts) name key p ≡ Accepts a.named.lists
     → length a.named.lists.posts ≡ length (get_or accounts i d).named.lists.posts + 1 → length a.named.lists.posts ≤ 10000 → IsCorrected calendar a
     → IsDesk places calendar fees (count + 1) today rows (set accounts i a)

@@ -1,3 +1,4 @@
+pub mod Apart
 pub mod CountLemmas
 pub mod DeskLemmas
 pub mod FoldLemmas
@@ -11,3 +12,4 @@ pub mod RowLemmas
 pub mod RunLemmas
 pub mod SoundLemmas
 pub mod StepLemmas
+pub mod WorkLemmas

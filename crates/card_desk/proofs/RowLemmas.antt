@@ -1,8 +1,7 @@
 -- One row that is loaded.
 use Rattle.std.proofs.Common.{◌≡◌, ℕ, zero, suc, ◌≤◌, ◌<◌, ◌∷◌, [], length, get_or, arith, Bool, true, false, List, Option, Some, Result, Ok, Err, IfOk, ap, sym, ◌∙◌}
 use Rattle.std.specs.Prelude.{slice_get}
-use Rattle.std.proofs.lemmas.Bool.{and_parts, leb-true}
-use Rattle.card_desk.specs.Built.{is_built}
+use Rattle.std.proofs.lemmas.Bool.{leb-true}
 use Rattle.card_events.specs.Dated.{is_dated, is_dated_shared}
 use Rattle.card_events.specs.declared.request.Request.{Request}
 use Rattle.card_events.specs.declared.request.Request.TheVariants as request
@@ -11,7 +10,6 @@ use Rattle.card_keeper.specs.Rows.{KeepsRows, SameRowsTold, GivesRows}
 use Rattle.card_keeper.specs.declared.row.Row.{Row}
 use Rattle.card_model.specs.Machine.{State, is_new}
 use Rattle.card_rows.proofs.RequestLaws.{one_request}
-use Rattle.card_rows.specs.Held.{is_request}
 use Rattle.card_rows.specs.Spelling.{IsSpelling}
 use Rattle.card_desk.specs.declared.fault.LoadFault.{LoadFault}
 use Rattle.card_desk.specs.declared.fault.LoadFault.TheVariants as fault
@@ -20,7 +18,7 @@ use Rattle.card_desk.proofs.SoundLemmas.{fits_told}
 
 -- the bytes of a new row spell its request alone
 the_bytes : (s : State) (n : ℕ) (row : Row) (bytes : List ℕ) (r : Request) → bytes ≡ row.body → IsNewRow s n row r → IsSpelling bytes r
-the_bytes s n row bytes r is new = record { spelled = is ∙ ap (λ (x : Row). x.body) new.row_is; held = (and_parts (is_request r) (is_built r) new.taken).0 }
+the_bytes s n row bytes r is new = record { spelled = is ∙ ap (λ (x : Row). x.body) new.row_is; held = new.taken }
 
 same : (s : State) (n : ℕ) (row : Row) (bytes : List ℕ) (given r : Request) → bytes ≡ row.body → IsSpelling bytes given → IsNewRow s n row r → r ≡ given
 same s n row bytes given r is spelled new = one_request r given bytes (the_bytes s n row bytes r is new) spelled
@@ -33,13 +31,6 @@ not_new (Ok new) s n row bytes given is spelled answer = λ old r fresh.
     let no : false ≡ true = sym old ∙ answer ∙ newly in
     cc
 not_new (Err e) s n row bytes given is spelled answer = tt
-
--- a request of a kind that isn't taken
-pub not_built : (s : State) (n : ℕ) (row : Row) (bytes : List ℕ) (given r : Request) → bytes ≡ row.body → IsSpelling bytes given → is_built given ≡ false → IsNewRow s n row r → ⊥
-not_built s n row bytes given r is spelled unbuilt fresh =
-    let built : is_built given ≡ true = ap is_built (sym (same s n row bytes given r is spelled fresh)) ∙ (and_parts (is_request r) (is_built r) fresh.taken).1 in
-    let wrong : false ≡ true = sym unbuilt ∙ built in
-    cc
 
 -- bytes that spell no request
 pub not_spelled : (s : State) (n : ℕ) (row : Row) (bytes : List ℕ) (r : Request) → bytes ≡ row.body → ((r : Request) → IsSpelling bytes r → ⊥) → IsNewRow s n row r → ⊥

@@ -6,7 +6,8 @@ use Rattle.std.proofs.lemmas.Bool.{and_parts, and_from}
 use Rattle.card_events.specs.declared.request.Request.{Request}
 use Rattle.card_keeper.specs.declared.row.Row.{Row}
 use Rattle.card_model.specs.Machine.{State, start, step, run, run_from, is_new, accepted_from}
-use Rattle.card_desk.specs.Kept.{accepted_count, row_of, rows_from, is_taken}
+use Rattle.card_rows.specs.Held.{is_request}
+use Rattle.card_desk.specs.Kept.{accepted_count, row_of, rows_from}
 use Rattle.card_desk.proofs.LoadLemmas.{new_count, old_stays}
 
 -- the request, where it is newly accepted
@@ -79,15 +80,15 @@ unfolding accepted_from run_from
 run_again s [] = refl
 run_again s (x ∷ rs) = run_at s x (accepted_from (step s x).0 rs) (is_new s x) refl ∙ run_again (step s x).0 rs
 
-taken_at : (x : Request) (rest : List Request) (b : Bool) → is_taken x ≡ true → list_all is_taken rest ≡ true → list_all is_taken ((if b then x ∷ [] else []) ++ rest) ≡ true
-taken_at x rest true one all = and_from (is_taken x) (list_all is_taken rest) one all
+taken_at : (x : Request) (rest : List Request) (b : Bool) → is_request x ≡ true → list_all is_request rest ≡ true → list_all is_request ((if b then x ∷ [] else []) ++ rest) ≡ true
+taken_at x rest true one all = and_from (is_request x) (list_all is_request rest) one all
 taken_at x rest false one all = all
 
-pub taken_again : (s : State) (rs : List Request) → list_all is_taken rs ≡ true → list_all is_taken (accepted_from s rs) ≡ true
+pub taken_again : (s : State) (rs : List Request) → list_all is_request rs ≡ true → list_all is_request (accepted_from s rs) ≡ true
 unfolding accepted_from
 taken_again s [] all = refl
 taken_again s (x ∷ rs) all =
-    let both = and_parts (is_taken x) (list_all is_taken rs) all in
+    let both = and_parts (is_request x) (list_all is_request rs) all in
     taken_at x (accepted_from (step s x).0 rs) (is_new s x) both.0 (taken_again (step s x).0 rs both.1)
 
 -- ---- a list of which each is newly accepted

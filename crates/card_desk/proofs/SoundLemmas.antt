@@ -9,7 +9,8 @@ use Rattle.card_events.specs.declared.request.Request.{Request}
 use Rattle.card_keeper.specs.Rows.{KeepsRows, SameRowsTold, GivesRows, next_seq, next_after}
 use Rattle.card_keeper.specs.declared.row.Row.{Row}
 use Rattle.card_model.specs.Machine.{State, start, step, run, run_from, is_new, accepted_from}
-use Rattle.card_desk.specs.Kept.{AreSound, AreDamaged, IsNewRow, IsRunOf, Fits, accepted_count, row_of, rows_of, rows_from, is_taken}
+use Rattle.card_rows.specs.Held.{is_request}
+use Rattle.card_desk.specs.Kept.{AreSound, AreDamaged, IsNewRow, IsRunOf, Fits, accepted_count, row_of, rows_of, rows_from}
 use Rattle.card_desk.specs.Loads.{GoesOn}
 use Rattle.card_desk.proofs.RunLemmas.{run_more, accepted_more, rows_more, rows_length, count_all}
 
@@ -37,7 +38,7 @@ sound_more rows rs n row r sound place new =
     record {
       rows_are = ap (λ (l : List Row). l ++ row ∷ []) sound.rows_are ∙ ap (λ (x : Row). rows_of rs ++ x ∷ []) new.row_is ∙ ap (λ (m : ℕ). rows_of rs ++ row_of m r ∷ []) (sym many) ∙ sym (rows_more 1 rs (r ∷ []));
       all_new = accepted_more start rs r ∙ ap (λ (l : List Request). l ++ (if is_new (run rs) r then r ∷ [] else [])) sound.all_new ∙ ap (λ (b : Bool). rs ++ (if b then r ∷ [] else [])) new.newly;
-      taken = list_all-append is_taken rs (r ∷ []) ∙ and_from (list_all is_taken rs) (is_taken r && true) sound.taken (and_from (is_taken r) true new.taken refl);
+      taken = list_all-append is_request rs (r ∷ []) ∙ and_from (list_all is_request rs) (is_request r && true) sound.taken (and_from (is_request r) true new.taken refl);
     }
 
 pub run_goes_on : (rows : List Row) (s next : State) (n : ℕ) (row : Row) → IsRunOf rows s → n ≡ length rows + 1 → GoesOn s n row next → IsRunOf (rows ++ row ∷ []) next

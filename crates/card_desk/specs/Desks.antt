@@ -3,8 +3,9 @@ use Rattle.std.specs.Prelude.{◌≡◌, ◌≤◌, ℕ, true, map, length, List
 use Rattle.std.specs.List.{All, list_all}
 use Rattle.card_account.specs.Accounts.{IsCorrected, OpenAccount}
 use Rattle.card_days.specs.Business.{is_holiday}
+use Rattle.card_rows.specs.Held.{is_request}
 use Rattle.card_desk.specs.Applied.{are_short}
-use Rattle.card_desk.specs.Kept.{accepted_count, is_taken}
+use Rattle.card_desk.specs.Kept.{accepted_count}
 use Rattle.card_desk.specs.Places.{IsIndex}
 use Rattle.card_events.specs.SharedRows.{FeeRow, shared_rows}
 use Rattle.card_events.specs.declared.request.Request.{Request}
@@ -24,10 +25,10 @@ state_of today rows accounts = record { today = today; shared = rows; accounts =
 abbrev pub now_of : State → Lists → Present
 now_of s lists = record { today = s.today; shared = shared_rows s.shared; lists = lists }
 
--- some requests of the kinds that the ledger takes so far lead to the state
+-- some requests that may be spelled lead to the state
 pub record IsRun (s : State) : Type 0 where
   pub requests : List Request
-  pub taken : list_all is_taken requests ≡ true
+  pub taken : list_all is_request requests ≡ true
   pub state_is : s ≡ run requests
 
 -- the same days are holidays

@@ -1,7 +1,6 @@
 -- The rows of requests.
-use Rattle.std.specs.Prelude.{◌≡◌, ℕ, ◌+◌, ◌-◌, ◌≤◌, Bool, true, ◌&&◌, if◌then◌else◌, List, [], ◌∷◌, length, take, slice_get, Option, Some, None, ⊤}
+use Rattle.std.specs.Prelude.{◌≡◌, ℕ, ◌+◌, ◌-◌, ◌≤◌, true, if◌then◌else◌, List, [], ◌∷◌, length, take, slice_get, Option, Some, None, ⊤}
 use Rattle.std.specs.List.{list_all}
-use Rattle.card_desk.specs.Built.{is_built}
 use Rattle.card_events.specs.declared.request.Request.{Request}
 use Rattle.card_keeper.specs.Rows.{next_seq}
 use Rattle.card_keeper.specs.declared.row.Row.{Row}
@@ -40,20 +39,16 @@ abbrev pub Fits : Option (List Row) → State → Type 0
 Fits None s = ⊤
 Fits (Some rows) s = next_seq rows ≡ accepted_count s + 1
 
--- the request may be spelled, and is of the kinds that the ledger takes so far
-abbrev pub is_taken : Request → Bool
-is_taken r = is_request r && is_built r
-
--- the rows are those of requests, each of which was newly accepted in its place, of the kinds that the ledger takes so far
+-- the rows are those of requests that may be spelled, each of which was newly accepted in its place
 pub record AreSound (rows : List Row) (requests : List Request) : Type 0 where
   pub rows_are : rows ≡ rows_of requests
   pub all_new : accepted_from start requests ≡ requests
-  pub taken : list_all is_taken requests ≡ true
+  pub taken : list_all is_request requests ≡ true
 
--- row n is that of a request which is newly accepted in this state, of the kinds that the ledger takes so far
+-- row n is that of a request that may be spelled and is newly accepted in this state
 pub record IsNewRow (s : State) (n : ℕ) (row : Row) (r : Request) : Type 0 where
   pub row_is : row ≡ row_of n r
-  pub taken : is_taken r ≡ true
+  pub taken : is_request r ≡ true
   pub newly : is_new s r ≡ true
 
 -- row n is the first that isn't the row of a request that is newly accepted in its place

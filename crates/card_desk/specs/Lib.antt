@@ -1,5 +1,5 @@
+pub mod Apart
 pub mod Applied
-pub mod Built
 pub mod Desks
 pub mod Kept
 pub mod Loads

@@ -11,6 +11,7 @@ use Rattle.card_model.specs.Books.{Book}
 use Rattle.card_model.specs.Entries.{credit_balance, owed, owing}
 use Rattle.card_model.specs.Machine.{State, lists_of}
 use Rattle.card_model.specs.Refusals.{Lists, book_today}
+use Rattle.card_model.specs.Work.{work}
 
 -- what is owed in a book, the credit balance and what is held in dispute
 abbrev pub shown_of : ℕ → Book → View
@@ -41,3 +42,4 @@ unfoldable pub seen : State → Ask → View
 seen s (ask.Show account) = shown s (lists_of account s.accounts)
 seen s (ask.Issued account cycle) = issued cycle (lists_of account s.accounts)
 seen s (ask.Restated account cycle) = restated s cycle (lists_of account s.accounts)
+seen s ask.Work = view.Work (work s)

@@ -8,7 +8,7 @@ ghost use Rattle.card_desk.specs.Kept as spec;
 use crate::reason::{fees_reason, holiday_reason, roll_reason};
 use crate::row::row_of;
 use crate::{Ask, View};
-use card_account::{Account, Fault, Owing, Statement, Verdict, keep_row, open_reason};
+use card_account::{Account, Fault, Owing, Statement, Verdict, keep_row, open_reason, work_today};
 use card_days::{Calendar, Day};
 use card_events::{Name, Num, Post, Refusal, Reply, Request, Shared};
 use card_fees::FeeTable;
@@ -45,8 +45,6 @@ impl Model for Desk {
 impl Desk {
     ghost use Rattle.std.specs.Prelude.{◌≡◌, ◌≤◌, ◌<◌, ◌+◌, ◌++◌, [], ◌∷◌, true, Some, None, length, slice_index_or, IfOk, OnOk, OnErr, IsErrOf};
     ghost use Rattle.card_account.specs.Accounts.{present_of};
-    ghost use Rattle.card_account.specs.Built.{is_built_post};
-    ghost use Rattle.card_desk.specs.Built.{is_built};
     ghost use Rattle.card_events.specs.SharedRows.{SharedRows};
     ghost use Rattle.card_rows.specs.Held.{is_request};
     ghost use Rattle.card_desk.specs.Desks.{now_of};
@@ -56,8 +54,10 @@ impl Desk {
     ghost use Rattle.card_keeper.specs.Rows.{KeepsRows, SameRowsTold};
     ghost use Rattle.card_model.specs.Machine.{NamedAccount, start, lists_of, outcome_in, Accepts, accepted, shared_reason, has_accounts};
     ghost use Rattle.card_model.specs.Refusals.{reason_against, reason_to_open};
+    ghost use Rattle.card_model.specs.Work.{work};
     ghost use Rattle.card_ports.specs.Counts.{Rose};
     ghost use Rattle.card_posts.specs.Posted.{opens};
+    ghost use Rattle.card_desk.specs.Apart.{IsApart};
     ghost use Rattle.card_desk.specs.Applied.{Steps};
     ghost use Rattle.card_desk.specs.Kept.{Fits, accepted_count};
     ghost use Rattle.card_desk.specs.Places.{IsPlace, place_from};
@@ -377,11 +377,10 @@ impl Desk {
         post: &Post,
     ) -> Result<Reply, Fault>
         requires request { request.now ≡ Request.Post account.now key.now post.now }
-        requires built { is_built_post post.now ≡ true }
         requires dated { is_dated request.now ≡ true }
         requires fits { Fits (K.rows keeper.old) self.old }
         requires place { IsPlace account.now self.old.accounts at }
-        requires no_reason { (shared : SharedRows) (d : NamedAccount) → reason_against (present_of self.old.today shared (slice_index_or self.old.accounts at d).lists) post.now ≡ None }
+        requires no_reason { (d : NamedAccount) → reason_against (now_of self.old (slice_index_or self.old.accounts at d).lists) post.now ≡ None }
         requires accepted { (d : NamedAccount) → outcome_in self.old account.now key.now post.now ≡ Accepts (accepted (now_of self.old (slice_index_or self.old.accounts at d).lists) key.now post.now) }
         ensures ok { IfOk result (Steps (K.rows keeper.old) (K.rows keeper.new) self.old request.now self.new) }
         ensures err { OnErr result (self.new ≡ self.old) }
@@ -419,7 +418,6 @@ impl Desk {
         post: &Post,
     ) -> Result<Reply, Fault>
         requires request { request.now ≡ Request.Post account.now key.now post.now }
-        requires built { is_built_post post.now ≡ true }
         requires dated { is_dated request.now ≡ true }
         requires fits { Fits (K.rows keeper.old) self.old }
         requires place { IsPlace account.now self.old.accounts at }
@@ -431,10 +429,11 @@ impl Desk {
         ensures cause { IsErrOf result Fault.Keeper → Rose (K.faults keeper.old) (K.faults keeper.new) }
     {
         let known = &self.accounts[at];
-        match known.judge(self.today, key, post) {
-            Verdict::Refused(refusal) => Ok(Reply::Refused(refusal)),
-            Verdict::Repeat(number) => Ok(Reply::Accepted(number)),
-            Verdict::New => self.keep_post(alloc, keeper, request, at, account, key, post),
+        match known.judge(alloc, self.today, key, post, &self.calendar, &self.fees) {
+            Ok(Verdict::Refused(refusal)) => Ok(Reply::Refused(refusal)),
+            Ok(Verdict::Repeat(number)) => Ok(Reply::Accepted(number)),
+            Ok(Verdict::New) => self.keep_post(alloc, keeper, request, at, account, key, post),
+            Err(NoMemory) => Err(Fault::Memory),
         }
     }
 
@@ -449,7 +448,6 @@ impl Desk {
         post: &Post,
     ) -> Result<Reply, Fault>
         requires request { request.now ≡ Request.Post account.now key.now post.now }
-        requires built { is_built_post post.now ≡ true }
         requires dated { is_dated request.now ≡ true }
         requires fits { Fits (K.rows keeper.old) self.old }
         ensures ok { IfOk result (Steps (K.rows keeper.old) (K.rows keeper.new) self.old request.now self.new) }
@@ -466,19 +464,21 @@ impl Desk {
     }
 
     /// One step of the machine. A newly accepted request is prepared, then its row is kept, then it is carried out without
-    /// memory; a refusal or a repeat changes nothing. After a fault the desk and the rows are as they were.
+    /// memory; a refusal or a repeat changes nothing. No account but the one that the request names is touched, and the reply
+    /// depends on no other. After a fault the desk and the rows are as they were.
     ///
     /// `Keeper`: the keeper failed. `Memory`: memory was wanted and isn't there.
+    #[tactic(auto, using(crate::proofs::Apart::apart_of_step))]
     pub fn apply<K: Keeper>(
         &mut self,
         alloc: Global,
         keeper: &mut K,
         request: &Request,
     ) -> Result<Reply, Fault>
-        requires built { is_built request.now ≡ true }
         requires dated { is_dated request.now ≡ true }
         requires fits { Fits (K.rows keeper.old) self.old }
         ensures ok { IfOk result (Steps (K.rows keeper.old) (K.rows keeper.new) self.old request.now self.new) }
+        ensures apart { IfOk result (IsApart self.old request.now self.new) }
         ensures err { OnErr result (self.new ≡ self.old) }
         ensures rows_stay { OnErr result (KeepsRows (K.rows keeper.old) (K.rows keeper.new)) }
         ensures told { SameRowsTold (K.rows keeper.old) (K.rows keeper.new) }
@@ -541,6 +541,20 @@ impl Desk {
         }
     }
 
+    // The open tasks of all accounts.
+    fn work(&self, alloc: Global) -> Result<View, NoMemory>
+        ensures { IfOk result (λ view. view ≡ View.Work (work self.now)) }
+    {
+        let tasks = work_today(
+            alloc,
+            &self.accounts,
+            self.today,
+            &self.calendar,
+            &self.fees,
+        )?;
+        Ok(View::Work(tasks))
+    }
+
     /// The answer to what is asked, or want of memory.
     #[tactic(auto, unfolding(crate::specs::Views::seen))]
     pub fn see(&self, alloc: Global, ask: &Ask) -> Result<View, NoMemory>
@@ -550,6 +564,7 @@ impl Desk {
             Ask::Show(account) => self.show(alloc, account),
             Ask::Issued(account, cycle) => self.issued(alloc, account, *cycle),
             Ask::Restated(account, cycle) => self.restated(alloc, account, *cycle),
+            Ask::Work => self.work(alloc),
         }
     }
 }

@@ -11,7 +11,7 @@ pub enum LoadFault {
     /// Memory was wanted and isn't there.
     Memory,
     /// The row of this number, counted from 1, is the first whose number is another, whose body is no spelling, or whose
-    /// request is refused, a repeat or of a kind that isn't taken, in its place.
+    /// request is refused or a repeat in its place.
     Damaged(u64),
 }
 

@@ -1,16 +1,19 @@
-//! Laws of kept rows, for all rows and all requests. Their functions do nothing; their clauses are what holds.
+//! Laws of kept rows and of accounts apart, for all rows and all requests. Their functions do nothing; their clauses are what holds.
 ghost use Rattle.std.specs.Prelude.{◌≡◌, ◌++◌, ℕ, true, List, []};
 ghost use Rattle.std.specs.List.{list_all};
 ghost use Rattle.card_events.specs.declared.request.Request.{Request};
 ghost use Rattle.card_keeper.specs.declared.row.Row.{Row};
 ghost use Rattle.card_model.specs.Machine.{State, start, step, run, accepted_from};
-ghost use Rattle.card_desk.specs.Kept.{AreSound, AreDamaged, IsRunOf, is_taken, rows_of, new_rows};
+ghost use Rattle.card_model.specs.Isolated.{Isolation};
+ghost use Rattle.card_rows.specs.Held.{is_request};
+ghost use Rattle.card_desk.specs.Apart.{RequestsStandApart};
+ghost use Rattle.card_desk.specs.Kept.{AreSound, AreDamaged, IsRunOf, rows_of, new_rows};
 
 /// The rows of what is newly accepted of requests are sound, and a run of the accepted ones alone ends in the state of the
 /// whole run. Sound rows are damaged nowhere: so no row that a desk wrote is ever called damaged, and a desk that is loaded
 /// from them is in the writer's state.
 pub fn load_of_rows()
-    ensures sound { (requests : List Request) → list_all is_taken requests ≡ true → AreSound (rows_of (accepted_from start requests)) (accepted_from start requests) }
+    ensures sound { (requests : List Request) → list_all is_request requests ≡ true → AreSound (rows_of (accepted_from start requests)) (accepted_from start requests) }
     ensures state { (requests : List Request) → run (accepted_from start requests) ≡ run requests }
     ensures not_damaged { (rows : List Row) (requests : List Request) (n : ℕ) → AreSound rows requests → AreDamaged rows n → ⊥ }
 {}
@@ -19,10 +22,23 @@ pub fn load_of_rows()
 /// that this one adds.
 pub fn rows_of_a_desk()
     ensures first { IsRunOf [] start }
-    ensures next { (rows : List Row) (s : State) (r : Request) → IsRunOf rows s → is_taken r ≡ true → IsRunOf (rows ++ new_rows s r) (step s r).0 }
+    ensures next { (rows : List Row) (s : State) (r : Request) → IsRunOf rows s → is_request r ≡ true → IsRunOf (rows ++ new_rows s r) (step s r).0 }
 {}
 
 /// Sound rows are the rows of one list of requests.
 pub fn rows_tell_requests()
     ensures { (rows : List Row) (these those : List Request) → AreSound rows these → AreSound rows those → these ≡ those }
+{}
+
+/// Over two lists of requests that agree on one account and on what all accounts share, with equal replies to the latter and
+/// the ledger never full for an Open of that account: all replies on the account are equal, and so are its posts and its issued
+/// statements, and with them its cycles. No other account's requests reach it.
+pub fn isolation()
+    ensures { Isolation }
+{}
+
+/// A single request changes the posts and issued statements of no account but the one that it names; and its reply depends on
+/// today, the shared requests, that account's own lists and, for its Open, the number of accounts, and on nothing else.
+pub fn requests_stand_apart()
+    ensures { RequestsStandApart }
 {}

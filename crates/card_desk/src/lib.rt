@@ -1,7 +1,6 @@
 //! The machine of accounts: one request at a time, each with its reply and, where it is newly accepted, its kept row.
 #![tactic(auto)]
 
-mod built;
 mod desk;
 mod fault;
 pub mod laws;
@@ -12,8 +11,7 @@ mod row;
 mod tests;
 mod view;
 
-pub use built::is_built;
-pub use card_account::{Fault, Statement};
+pub use card_account::{Fault, Statement, Task, TaskKind, Tasks};
 pub use desk::Desk;
 pub use fault::LoadFault;
 pub use view::{Ask, View};

@@ -1,6 +1,5 @@
 // A desk from kept rows.
 ghost use Rattle.std.specs.Prelude.{◌≡◌, ◌≤◌, ◌+◌, ℕ, true, false, IfOk, OnOk, IsErrOf};
-ghost use Rattle.card_desk.specs.Built.{is_built};
 ghost use Rattle.card_events.specs.Dated.{is_dated};
 ghost use Rattle.card_events.specs.declared.request.Request.{Request};
 ghost use Rattle.card_keeper.specs.Rows.{GivesRows, KeepsRows, SameRowsTold};
@@ -10,7 +9,6 @@ ghost use Rattle.card_desk.specs.Kept.{AreDamaged, IsNewRow, IsRunOf, accepted_c
 ghost use Rattle.card_desk.specs.Loads.{GoesOn};
 
 use crate::Desk;
-use crate::built::is_built;
 use crate::fault::LoadFault;
 use card_account::Fault;
 use card_events::Request;
@@ -48,7 +46,7 @@ impl Desk {
     /// The desk that the kept rows give: that of a run of their requests. The rows stay, whatever is answered.
     ///
     /// `Damaged(n)`: row n, counted from 1, is the first whose number isn't n, whose body is no spelling, or whose request
-    /// is refused, a repeat or of a kind that isn't taken, in its place; it never comes for rows that a desk wrote.
+    /// is refused or a repeat in its place; it never comes for rows that a desk wrote.
     /// `Keeper`: the keeper failed. `Memory`: memory was wanted and isn't there.
     pub fn load<K: Keeper>(alloc: Global, keeper: &mut K) -> Result<Desk, LoadFault>
         ensures ok { IfOk result (IsLoadedOf (K.rows keeper.old)) }
@@ -105,14 +103,13 @@ fn run_row(alloc: Global, desk: &mut Desk, number: u64, row: &Row) -> Result<boo
         return Ok(false);
     }
     match decode(alloc, row.body.bytes())? {
-        Some(request) if is_built(&request) => run_request(alloc, desk, &request),
-        _ => Ok(false),
+        Some(request) => run_request(alloc, desk, &request),
+        None => Ok(false),
     }
 }
 
 // Carries out a request, and says whether it was newly accepted.
 fn run_request(alloc: Global, desk: &mut Desk, request: &Request) -> Result<bool, NoMemory>
-    requires built { is_built request.now ≡ true }
     requires dated { is_dated request.now ≡ true }
     ensures new { IfOk result (λ new. new ≡ is_new desk.old request.now) }
     ensures step { OnOk result (desk.new ≡ (step desk.old request.now).0) }

@@ -1,7 +1,8 @@
 ghost use Rattle.std.specs.Prelude.{◌≤◌};
 
-use crate::{Ask, Desk, Fault, LoadFault, View, is_built};
+use crate::{Ask, Desk, Fault, LoadFault, View};
 use card_days::{Channel, Day};
+use card_disputes::{Task, TaskKind};
 use card_events::{Name, Num, Place, Post, Refusal, Reply, Request, Shared, Terms};
 use card_keeper::{Body, FailingKeeper, Keeper, MemoryKeeper, Row};
 use card_units::Cents;
@@ -39,9 +40,9 @@ fn roll(day: Day) -> Request {
     Request::Shared(Shared::Roll(day))
 }
 
-// Opens an account on 2024-03-01.
-fn open(alloc: Global, account: &str, close: u64) -> Result<Request, Fail> {
-    let terms = Terms {
+// Terms with cycles that close on a day of the month.
+fn terms(close: u64) -> Result<Terms, Fail> {
+    Ok(Terms {
         close: number(close)?,
         purchase: number(1999)?,
         cash: number(2499)?,
@@ -49,8 +50,13 @@ fn open(alloc: Global, account: &str, close: u64) -> Result<Request, Fail> {
         penalty: number(2999)?,
         floor: number(2500)?,
         pct: number(100)?,
-    };
+    })
+}
+
+// Opens an account on 2024-03-01.
+fn open(alloc: Global, account: &str, close: u64) -> Result<Request, Fail> {
     let day = day(2024, 3, 1)?;
+    let terms = terms(close)?;
     Ok(Request::Post {
         account: name(alloc, account)?,
         key: name(alloc, "o")?,
@@ -104,8 +110,8 @@ fn answer<K: Keeper>(
     request: &Request,
 ) -> Result<Result<Reply, Fault>, Fail> {
     let mut desk = Desk::load(alloc, keeper)?;
-    if !is_built(&request) || !request.is_dated() {
-        return Err(Fail::from("a request that isn't taken"));
+    if !request.is_dated() {
+        return Err(Fail::from("a request with a day past 2099-12-31"));
     }
     Ok(desk.apply(alloc, keeper, request))
 }
@@ -388,4 +394,72 @@ fn damaged_rows_are_told(rt: HostRuntime) -> Result<(), Fail> {
         assert_eq!(rt; load_of(rt.alloc(), rows)?, loaded);
     }
     Ok(())
+}
+
+// Has a post on the account `d` carried out.
+fn accept_on_d(
+    alloc: Global,
+    keeper: &mut MemoryKeeper,
+    key: &str,
+    post: Post,
+) -> Result<(), Fail> {
+    let request = Request::Post {
+        account: name(alloc, "d")?,
+        key: name(alloc, key)?,
+        post,
+    };
+    accept(alloc, keeper, &request)
+}
+
+// A charge of 50.00 to the account `d`, whose cycles close on the 15th. Its statement is issued.
+fn billed_charge(alloc: Global, keeper: &mut MemoryKeeper) -> Result<(), Fail> {
+    accept(alloc, keeper, &roll(day(2024, 2, 16)?))?;
+    let opened = day(2024, 1, 16)?;
+    let terms = terms(15)?;
+    accept_on_d(alloc, keeper, "o", Post::Open { day: opened, terms })?;
+    let day = day(2024, 2, 1)?;
+    let cents = number(5000)?;
+    let place = Place::Purchase;
+    accept_on_d(alloc, keeper, "c1", Post::Charge { day, place, cents })?;
+    let cycle = number(1)?;
+    accept_on_d(alloc, keeper, "b1", Post::Bill { cycle })
+}
+
+// Disputes it whole on its last day for that.
+fn dispute(alloc: Global, keeper: &mut MemoryKeeper) -> Result<(), Fail> {
+    accept(alloc, keeper, &roll(day(2024, 4, 17)?))?;
+    let day = day(2024, 4, 16)?;
+    let target = number(2)?;
+    let cents = number(5000)?;
+    accept_on_d(alloc, keeper, "x1", Post::Dispute { day, target, cents })
+}
+
+// Whether these are one task to acknowledge and one to resolve post 4, by these days.
+fn are_of_the_dispute(tasks: &[Task], ack: Day, resolve: Day) -> bool {
+    tasks.len() == 2
+        && tasks[0].kind == TaskKind::Ack
+        && tasks[0].by == ack
+        && tasks[0].post == 4
+        && tasks[1].kind == TaskKind::Resolve
+        && tasks[1].by == resolve
+        && tasks[1].post == 4
+}
+
+// A dispute is acknowledged within 30 days and resolved within 90.
+#[test]
+fn a_dispute_has_its_tasks(rt: HostRuntime) -> Result<(), Fail> {
+    let alloc = rt.alloc();
+    let mut keeper = MemoryKeeper::new(alloc);
+    billed_charge(alloc, &mut keeper)?;
+    dispute(alloc, &mut keeper)?;
+    let desk = Desk::load(alloc, &mut keeper)?;
+    match desk.see(alloc, &Ask::Work)? {
+        View::Work(tasks) => {
+            let ack = day(2024, 5, 16)?;
+            let resolve = day(2024, 7, 15)?;
+            assert!(rt; are_of_the_dispute(tasks.as_slice(), ack, resolve));
+            Ok(())
+        }
+        _ => Err(Fail::from("no tasks")),
+    }
 }

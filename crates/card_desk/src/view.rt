@@ -1,4 +1,4 @@
-use card_account::Statement;
+use card_account::{Statement, Tasks};
 use card_days::Day;
 use card_events::{Name, Num};
 use card_units::Cents;
@@ -12,6 +12,8 @@ pub enum Ask {
     Issued(Name, Num),
     /// The statement of the account's cycle of this number, as the book of today has it.
     Restated(Name, Num),
+    /// The open tasks of all accounts.
+    Work,
 }
 
 /// The answer to what is asked. Cents are signed; a credit balance is told as a number of at least 0.
@@ -30,4 +32,6 @@ pub enum View {
     },
     /// The statement of the cycle.
     Statement(Statement),
+    /// The open tasks, by day, account, kind and post.
+    Work(Tasks),
 }

@@ -2,7 +2,7 @@ use Rattle.std.proofs.Common.{subst, ◌≡◌, None}
 use Rattle.card_events.specs.declared.post.Post.{Post}
 use Rattle.card_model.specs.Refusals.{reason_against}
 use Rattle.card_account.specs.Accounts.{present_of, shared_by}
-use Rattle.card_account.proofs.ReasonLemmas.{small}
+use Rattle.card_reasons.proofs.Accepted.{small}
 use Rattle.card_account.proofs.issue.issued_by.Goals as goal
 
 pub row_of-requires : goal.row_of-requires

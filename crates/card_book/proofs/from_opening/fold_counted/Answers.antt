@@ -1,7 +1,8 @@
-use Rattle.std.proofs.Common.{sym, ap, subst, List}
+use Rattle.std.proofs.Common.{sym, ap, ◌∙◌, subst, List}
 use Rattle.card_model.specs.Books.{Book}
 use Rattle.card_model.specs.Entries.{AreBalances}
 use Rattle.card_model.specs.declared.entry.Entry.{Entry}
+use Rattle.card_book.specs.Stands.{since_through}
 use Rattle.card_book.proofs.Told.{small-on, sums-on, whole-is}
 use Rattle.card_book.proofs.from_opening.fold_counted.Goals as goal
 
@@ -21,5 +22,8 @@ invariant_of-result g c =
       small-on given c.args.to b.state.segments.balances c.opening_day-opened.ensures.sound c.requires.last sums,
     )
 
-pub returns : goal.returns
-returns g c = whole-is c.args.inputs.now c.advance.new.self c.advance.new.track c.args.to c.in_ok-advance.ensures.day c.in_ok-advance.ensures.stands
+pub returns-clause-book : goal.returns-clause-book
+returns-clause-book g c = whole-is c.args.inputs.now c.advance.new.self c.advance.new.track c.args.to c.in_ok-advance.ensures.day c.in_ok-advance.ensures.stands
+
+pub returns-clause-since : goal.returns-clause-since
+returns-clause-since g c = c.in_ok-advance.ensures.stands.since ∙ ap (since_through c.args.inputs.now) c.in_ok-advance.ensures.day

@@ -1,4 +1,4 @@
-use Rattle.card_daily.proofs.OfTests.{opens-well}
+use Rattle.card_dayend.proofs.OfTests.{opens-well}
 use Rattle.card_book.proofs.tests.open.Goals as goal
 
 pub returns-clause-good : goal.returns-clause-good

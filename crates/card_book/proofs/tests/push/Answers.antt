@@ -1,4 +1,4 @@
-use Rattle.card_daily.proofs.OfTests.{one-more}
+use Rattle.card_dayend.proofs.OfTests.{one-more}
 use Rattle.card_book.proofs.tests.push.Goals as goal
 
 pub returns-clause-good : goal.returns-clause-good

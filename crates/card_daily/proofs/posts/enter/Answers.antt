@@ -1,11 +1,19 @@
-use Rattle.std.proofs.Common.{◌-◌, length, sym, ◌∙◌, arith, subst}
+use Rattle.std.proofs.Common.{◌≡◌, ◌-◌, ◌≤◌, List, length, refl, sym, ap, ◌∙◌, arith, subst}
 use Rattle.card_daily.proofs.Fronts.{front-small, returnable}
-use Rattle.card_daily.proofs.PostDay.{either-way, next-amid, next-begins, next-idle, none-found, place-cycles, post_at_place, place-day, place-found, place-high, place-kind, place-low, place-named, rows-count, told-here}
+use Rattle.card_daily.proofs.Holding.{front-moves, of-account, place-held}
+use Rattle.card_daily.proofs.PostDay.{cycles-before, either-way, next-amid, next-begins, next-idle, next-penalty, none-found, place-cycles, post_at_place, place-day, place-found, place-high, place-kind, place-low, place-named, rows-count, told-here}
+use Rattle.card_daily.proofs.Penalized.{both-ok}
 use Rattle.card_daily.proofs.Posting.{on-ok}
 use Rattle.card_daily.proofs.Standing.{rated, within}
+use Rattle.card_bounds.specs.Bounds.{moved}
 use Rattle.card_effects.specs.Returned.{AreReturnable, parts_of}
+use Rattle.card_daily.specs.Given.{seen_in}
+use Rattle.card_daily.specs.Penalties.{begun_on}
 use Rattle.card_daily.specs.Posts.{done_by, place_in}
-use Rattle.card_daily.specs.Stands.{amid}
+use Rattle.card_daily.specs.Stands.{amid, before}
+use Rattle.card_model.specs.Cycles.{Cycle}
+use Rattle.card_model.specs.declared.segment.Interval.{Interval}
+use Rattle.card_rates.specs.RateBooks.{Rates, with_penalties}
 use Rattle.card_daily.proofs.posts.enter.Goals as goal
 
 pub enter_post-requires-clause-opened : goal.enter_post-requires-clause-opened
@@ -105,27 +113,50 @@ enter_post-requires-clause-kind c =
     let x = c.in-Some.post in
     let sound = c.anchor-anchor.ensures.sound in
     let here = place-found g day place c.posts.result.now c.folded_at.result x sound c.posts.ensures.stands c.posts.ensures.history c.requires.from c.requires.within c.folded_at.ensures c.in-Some.is in
-    place-kind g day place x here
+    place-kind g day place x here c.in_default.not-Penalty
 
-pub returns-in-Some-clause-amid : goal.returns-in-Some-clause-amid
-returns-in-Some-clause-amid c =
+pub returns-in_default : goal.returns-in_default
+returns-in_default c =
     let g = c.args.inputs.now in
     let day = c.args.day in
     let place = c.args.place in
     let x = c.in-Some.post in
     let sound = c.anchor-anchor.ensures.sound in
     let here = place-found g day place c.posts.result.now c.folded_at.result x sound c.posts.ensures.stands c.posts.ensures.history c.requires.from c.requires.within c.folded_at.ensures c.in-Some.is in
-    on-ok c.enter_post.result _ _ c.enter_post.ensures.stands (λ did. next-amid g day place x c.args.state.now c.enter_post.new.state c.args.track.now c.enter_post.new.track sound c.requires.opened c.requires.last c.requires.from c.requires.within here c.requires.amid c.enter_post.ensures.rest did)
+    let kind = place-kind g day place x here c.in_default.not-Penalty in
+    record {
+      amid = on-ok c.enter_post.result _ _ c.enter_post.ensures.stands (λ did. next-amid g day place x c.args.state.now c.enter_post.new.state c.args.track.now c.enter_post.new.track sound c.requires.opened c.requires.last c.requires.from c.requires.within here kind c.requires.amid c.enter_post.ensures.rest did);
+      begins = either-way c.enter_post.result _ (on-ok c.enter_post.result _ _ c.enter_post.ensures.stands (λ did. next-begins g day place x c.args.state.now c.enter_post.new.state c.args.track.now c.enter_post.new.track sound c.requires.opened c.requires.last c.requires.from c.requires.within here kind c.requires.amid c.enter_post.ensures.rest did)) c.enter_post.ensures.err;
+    }
 
-pub returns-in-Some-clause-begins : goal.returns-in-Some-clause-begins
-returns-in-Some-clause-begins c =
+pub begin_penalty-requires-clause-cycles : goal.begin_penalty-requires-clause-cycles
+begin_penalty-requires-clause-cycles c =
+    let g = c.args.inputs.now in
+    c.deref.ensures.value ∙ (c.requires.amid.stand.cycles ∙ cycles-before g c.args.day (done_by g c.args.day c.args.place))
+
+pub returns-in-Penalty-clause-amid : goal.returns-in-Penalty-clause-amid
+returns-in-Penalty-clause-amid c =
     let g = c.args.inputs.now in
     let day = c.args.day in
     let place = c.args.place in
     let x = c.in-Some.post in
-    let sound = c.anchor-anchor.ensures.sound in
-    let here = place-found g day place c.posts.result.now c.folded_at.result x sound c.posts.ensures.stands c.posts.ensures.history c.requires.from c.requires.within c.folded_at.ensures c.in-Some.is in
-    either-way c.enter_post.result _ (on-ok c.enter_post.result _ _ c.enter_post.ensures.stands (λ did. next-begins g day place x c.args.state.now c.enter_post.new.state c.args.track.now c.enter_post.new.track sound c.requires.opened c.requires.last c.requires.from c.requires.within here c.requires.amid c.enter_post.ensures.rest did)) c.enter_post.ensures.err
+    let s = c.args.state.now in
+    let h = c.requires.amid in
+    let done = done_by g day place in
+    let here = place-found g day place c.posts.result.now c.folded_at.result x c.anchor-anchor.ensures.sound c.posts.ensures.stands c.posts.ensures.history c.requires.from c.requires.within c.folded_at.ensures c.in-Some.is in
+    let cycles = c.deref.ensures.value ∙ (h.stand.cycles ∙ cycles-before g day done) in
+    let alike : (ps : List Interval) → ps ≡ (amid g day done).penalties → begun_on (seen_in g day) c.deref.result.now ps ≡ begun_on (seen_in g day) (before g day).cycles (amid g day done).penalties =
+    λ ps e. ap (λ (cs : List Cycle). begun_on (seen_in g day) cs ps) cycles ∙ ap (begun_on (seen_in g day) (before g day).cycles) e in
+    both-ok c.begin_penalty.result _ _ _ c.begin_penalty.ensures.rates c.begin_penalty.ensures.penalties
+    (λ rates penalties. next-penalty g day place x s _ c.args.track.now c.requires.opened c.requires.from c.requires.within here c.in-Penalty.is h
+    (record {
+      segments = refl;
+      rates = rates ∙ ap (λ (is : List Interval). with_penalties is s.rates) (alike s.rates.penalties (ap (λ (r : Rates). r.penalties) h.stand.rates));
+      penalties = penalties ∙ alike s.penalties.items h.stand.penalties;
+      rows = refl;
+      accruals = refl;
+      fees = refl;
+    }))
 
 pub returns-in-None-clause-amid : goal.returns-in-None-clause-amid
 returns-in-None-clause-amid c =
@@ -134,3 +165,24 @@ returns-in-None-clause-amid c =
     let place = c.args.place in
     next-idle g day place c.args.state.now c.args.track.now c.requires.opened c.requires.from c.requires.within
     (none-found (post_at_place g day place) (sym (told-here g day place c.posts.result.now c.folded_at.result c.posts.ensures.stands c.posts.ensures.history c.requires.from c.requires.within c.folded_at.ensures) ∙ c.in-None.is)) c.requires.amid
+
+pub enter_post-requires-clause-account : goal.enter_post-requires-clause-account
+enter_post-requires-clause-account c =
+    of-account c.args.inputs.now _ (amid c.args.inputs.now c.args.day (done_by c.args.inputs.now c.args.day c.args.place)) c.args.state.now c.args.track.now c.requires.amid.stand
+
+pub enter_post-requires-clause-moved : goal.enter_post-requires-clause-moved
+enter_post-requires-clause-moved c =
+    let g = c.args.inputs.now in
+    let day = c.args.day in
+    subst (λ es. moved es ≤ 1_000_000_000_000_000) (sym c.requires.amid.stand.entries) (front-moves g day (c.args.place - place_in g day) c.anchor-anchor.ensures.sound c.requires.opened c.requires.last)
+
+pub enter_post-requires-clause-held : goal.enter_post-requires-clause-held
+enter_post-requires-clause-held c n gives =
+    let g = c.args.inputs.now in
+    let day = c.args.day in
+    let place = c.args.place in
+    let x = c.in-Some.post in
+    let sound = c.anchor-anchor.ensures.sound in
+    let here = place-found g day place c.posts.result.now c.folded_at.result x sound c.posts.ensures.stands c.posts.ensures.history c.requires.from c.requires.within c.folded_at.ensures c.in-Some.is in
+    place-held g day place n x c.args.state.now.segments.balances c.args.track.now.entries.items sound c.requires.opened c.requires.from c.requires.within here gives c.requires.amid.stand.entries c.requires.amid.stand.sums
+    (let five = c.len-count.ensures.five in omega (arith, five, c.len-count.ensures.balances))

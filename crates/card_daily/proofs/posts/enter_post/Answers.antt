@@ -2,6 +2,7 @@ use Rattle.std.proofs.Common.{◌≡◌, ◌-◌, true, sym, ap, ◌∙◌, refl
 use Rattle.card_events.specs.declared.post.Post.{Post}
 use Rattle.card_events.specs.declared.post.Post.TheVariants as post
 use Rattle.card_model.specs.Books.{Book}
+use Rattle.card_model.specs.Deadlines.{resolves}
 use Rattle.card_model.specs.Payments.{is_payment, returns}
 use Rattle.card_slots.specs.declared.day.DayPost.{DayPost}
 use Rattle.card_daily.proofs.Posting.{handed, nothing-done, of-kind, of-return, on-ok, returns-none, slot-is}
@@ -84,7 +85,34 @@ returns-in_default c =
       stands = λ first returned rows_by p b l cycles may e h.
           of-kind row a seen first returned rows_by p x x.post b c.args.state.now c.args.track.now e refl (λ n. returns-none n x.post c.in_default.not-Return)
           (subst (λ (d : Book). StandWith a seen first returned rows_by d c.args.state.now c.args.track.now)
-          (sym (nothing-done row a seen p x.post b c.requires.kind c.in_default.not-Charge c.in_default.not-Credit c.in_default.not-Payment c.in_default.not-Refund c.in_default.not-Return)) h);
-      rest = record { segments = refl; rates = refl; accruals = refl; cycles = refl };
+          (sym (nothing-done row a seen p x.post b c.requires.kind c.in_default.not-Charge c.in_default.not-Credit c.in_default.not-Payment c.in_default.not-Refund c.in_default.not-Return c.in_default.not-Dispute c.in_default.not-Resolve)) h);
+      rest = record { segments = refl; rates = refl; penalties = refl; accruals = refl; cycles = refl };
       err = tt;
     }
+
+pub returns-in-Dispute-clause-stands : goal.returns-in-Dispute-clause-stands
+returns-in-Dispute-clause-stands c =
+    let x = c.args.post.now in
+    let a = account_in c.args.inputs.now in
+    let seen = seen_in c.args.inputs.now x.day in
+    let row = row_in c.args.inputs.now (x.day - opened_in c.args.inputs.now) in
+    on-ok c.enter_dispute.result _ _ c.enter_dispute.ensures.stands
+    (λ did first returned rows_by p b l cycles may e h.
+    of-kind row a seen first returned rows_by p x _ b c.enter_dispute.new.state c.enter_dispute.new.track e c.in-Dispute.is (λ n. refl)
+    (did row first returned rows_by p b c.in-Dispute.day (slot-is seen p x _ e (handed x.cents c.requires.amount c.requires.limit) refl) h))
+
+pub enter_resolve-requires-clause-held : goal.enter_resolve-requires-clause-held
+enter_resolve-requires-clause-held c =
+    let target = c.in-Resolve.target in
+    c.requires.held target (subst (λ (q : Post). resolves target q ≡ true) (sym c.in-Resolve.is) (eq-eqb target target refl))
+
+pub returns-in-Resolve-clause-stands : goal.returns-in-Resolve-clause-stands
+returns-in-Resolve-clause-stands c =
+    let x = c.args.post.now in
+    let a = account_in c.args.inputs.now in
+    let seen = seen_in c.args.inputs.now x.day in
+    let row = row_in c.args.inputs.now (x.day - opened_in c.args.inputs.now) in
+    on-ok c.enter_resolve.result _ _ c.enter_resolve.ensures.stands
+    (λ did first returned rows_by p b l cycles may e h.
+    of-kind row a seen first returned rows_by p x _ b c.enter_resolve.new.state c.enter_resolve.new.track e c.in-Resolve.is (λ n. refl)
+    (did row first returned rows_by p b c.in-Resolve.day c.in-Resolve.cents (slot-is seen p x _ e (handed x.cents c.requires.amount c.requires.limit) refl) h))

@@ -1,5 +1,5 @@
 use Rattle.std.proofs.Common.{arith}
-use Rattle.card_account.proofs.ClosingLemmas.{grown}
+use Rattle.card_reasons.proofs.ClosingLemmas.{grown}
 use Rattle.card_account.proofs.account.Account.is_closed.Goals as goal
 
 pub returns-in-Some-clause-small : goal.returns-in-Some-clause-small

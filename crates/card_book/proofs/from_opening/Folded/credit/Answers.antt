@@ -2,7 +2,7 @@ use Rattle.std.proofs.Common.{w64}
 use Rattle.std.proofs.lemmas.Int.{to_z-of_z}
 use Rattle.std.proofs.Common.{◌∙◌, ap, sym, subst, pos, get_or}
 use Rattle.std.specs.Prelude.{neg_ℤ}
-use Rattle.card_model.specs.Books.{Book}
+use Rattle.card_book.specs.Stands.{FoldedBook}
 use Rattle.card_model.specs.Entries.{at_least_zero, credit_balance}
 use Rattle.card_segments.specs.Balances.{AreWithin, Balances}
 use Rattle.card_book.proofs.Balances.{each-any}
@@ -18,4 +18,4 @@ returns c =
     ∙ (c.credit_of.ensures
     ∙ (ap (λ (b : Balances). pos (at_least_zero (neg_ℤ (get_or b.balances 0 (pos 0))))) c.segments.ensures.kept
     ∙ (ap (λ z. pos (at_least_zero (neg_ℤ z))) (each-any inside.track.entries.items inside.book.state.segments.balances 0 c.self.invariant.0)
-    ∙ ap (λ (b : Book). pos (credit_balance b.entries)) c.self.view_is)))
+    ∙ ap (λ (f : FoldedBook). pos (credit_balance f.book.entries)) c.self.view_is)))

@@ -1,7 +1,7 @@
 use Rattle.std.proofs.Common.{w64}
 use Rattle.std.proofs.lemmas.Int.{to_z-of_z}
 use Rattle.std.proofs.Common.{◌∙◌, ap, pos, get_or}
-use Rattle.card_model.specs.Books.{Book}
+use Rattle.card_book.specs.Stands.{FoldedBook}
 use Rattle.card_model.specs.Entries.{at_least_zero, owing}
 use Rattle.card_segments.specs.Balances.{Balances}
 use Rattle.card_book.proofs.Balances.{each-any}
@@ -14,4 +14,4 @@ returns c =
     ∙ (c.held_in.ensures
     ∙ (ap (λ (b : Balances). pos (at_least_zero (get_or b.balances 1 (pos 0)))) c.segments.ensures.kept
     ∙ (ap (λ z. pos (at_least_zero z)) (each-any inside.track.entries.items inside.book.state.segments.balances 1 c.self.invariant.0)
-    ∙ ap (λ (b : Book). pos (owing 1 b.entries)) c.self.view_is)))
+    ∙ ap (λ (f : FoldedBook). pos (owing 1 f.book.entries)) c.self.view_is)))

@@ -1,7 +1,7 @@
 use Rattle.std.proofs.Common.{w64}
 use Rattle.std.proofs.lemmas.Int.{to_z-of_z}
 use Rattle.std.proofs.Common.{◌∙◌, ap}
-use Rattle.card_model.specs.Books.{Book}
+use Rattle.card_book.specs.Stands.{FoldedBook}
 use Rattle.card_model.specs.Entries.{owed}
 use Rattle.card_segments.proofs.Totals.{total-owed}
 use Rattle.card_segments.specs.Balances.{Balances, total}
@@ -13,4 +13,4 @@ returns c =
     to_z-of_z w64 c.owed.result (record { sfits = c.owed.type_inv })
     ∙ (c.owed.ensures
     ∙ (ap (λ (b : Balances). total b.balances) c.segments.ensures.kept
-    ∙ (total-owed inside.track.entries.items inside.book.state.segments.balances c.self.invariant.0 ∙ ap (λ (b : Book). owed b.entries) c.self.view_is)))
+    ∙ (total-owed inside.track.entries.items inside.book.state.segments.balances c.self.invariant.0 ∙ ap (λ (f : FoldedBook). owed f.book.entries) c.self.view_is)))

@@ -1,8 +1,6 @@
 use Rattle.std.proofs.Common.{◌≡◌, ℕ, true, ◌+◌, ◌<◌, List, [], ◌∷◌, ◌++◌, length, None, refl, sym, ap, subst, ◌∙◌, arith}
-use Rattle.std.proofs.lemmas.Bool.{and_from}
 use Rattle.std.proofs.lemmas.List.{length-map, map-append}
 use Rattle.card_account.specs.Accounts.{OpenAccount}
-use Rattle.card_account.specs.Built.{is_built_post}
 use Rattle.card_events.specs.declared.reply.Reply.TheVariants as reply
 use Rattle.card_events.specs.declared.request.Request.{Request}
 use Rattle.card_events.specs.declared.request.Request.TheVariants as request
@@ -10,12 +8,12 @@ use Rattle.card_model.specs.Machine.{State, NamedAccount, kept_as}
 use Rattle.card_model.specs.Refusals.{Lists, reason_to_open}
 use Rattle.card_desk.specs.Applied.{Steps}
 use Rattle.card_desk.specs.Desks.{IsDesk, named_all, state_of}
-use Rattle.card_desk.specs.Kept.{row_of, accepted_count, is_taken}
+use Rattle.card_desk.specs.Kept.{row_of, accepted_count}
 use Rattle.card_desk.specs.Places.{place_from}
 use Rattle.card_desk.proofs.DeskLemmas.{count_opened, opened_state}
 use Rattle.card_desk.proofs.IndexLemmas.{index_back, index_pushed}
 use Rattle.card_index.specs.Places.{Places}
-use Rattle.card_desk.proofs.KeptLemmas.{index_desk, opened_desk, opens_built}
+use Rattle.card_desk.proofs.KeptLemmas.{index_desk, opened_desk}
 use Rattle.card_desk.proofs.OutcomeLemmas.{open_accepted}
 use Rattle.card_desk.proofs.PlaceLemmas.{no_place}
 use Rattle.card_desk.proofs.StepLemmas.{goes_on, post_accepted}
@@ -45,7 +43,7 @@ invariant_of-self-in-Ok g c =
     let index = index_pushed d.index c.insert.new.self (named_all items) made.named c.bytes.result.now c.len-place.result c.self.invariant.index c.in_ok-insert.ensures.ok place (c.bytes.ensures.value ∙ sym name_is)
     (ap (λ (n : List ℕ). place_from n 0 (named_all items)) name_is ∙ absent) in
     let held = ap is_request (sym c.requires.request) ∙ c.in_ok-row.ensures.held in
-    let taken : is_taken (request.Post name key p) ≡ true = and_from (is_request (request.Post name key p)) (is_built_post p) held (opens_built p c.requires.open) in
+    let taken : is_request (request.Post name key p) ≡ true = held in
     subst (λ (l : List OpenAccount). IsDesk c.insert.new.self d.calendar d.fees (d.count + 1) d.today d.shared.items l) (sym accounts)
     (opened_desk d.index c.insert.new.self d.calendar d.fees d.count d.today d.shared.items items made name key p c.self.invariant taken absent c.requires.open none made_is index room
     (c.in_ok-made.ensures.stands d.calendar))

@@ -1,9 +1,7 @@
 use Rattle.std.proofs.Common.{◌≡◌, ℕ, true, ◌+◌, ◌<◌, ◌≤◌, List, length, get_or, set, refl, sym, ap, subst, ◌∙◌, arith}
-use Rattle.std.proofs.lemmas.Bool.{and_from}
 use Rattle.std.proofs.lemmas.List.{length-map, map-set}
 use Rattle.card_account.specs.Accounts.{MayBeFolded, OpenAccount, present_of, shared_by}
-use Rattle.card_account.specs.Built.{is_built_post}
-use Rattle.card_account.proofs.ReasonLemmas.{few}
+use Rattle.card_reasons.proofs.Accepted.{few}
 use Rattle.card_events.specs.declared.reply.Reply.TheVariants as reply
 use Rattle.card_events.specs.declared.request.Request.{Request}
 use Rattle.card_events.specs.declared.request.Request.TheVariants as request
@@ -11,10 +9,10 @@ use Rattle.card_model.specs.Machine.{Accepts, State, NamedAccount, accepted, out
 use Rattle.card_model.specs.Refusals.{Lists, reason_against}
 use Rattle.card_desk.specs.Applied.{Steps}
 use Rattle.card_desk.specs.Desks.{now_of, state_of}
-use Rattle.card_desk.specs.Kept.{row_of, accepted_count, is_taken}
+use Rattle.card_desk.specs.Kept.{row_of, accepted_count}
 use Rattle.card_desk.specs.Places.{IsPlace}
 use Rattle.card_desk.proofs.DeskLemmas.{count_added, changed_state, read_at}
-use Rattle.card_desk.proofs.FoldLemmas.{accepted_in, may_be_folded}
+use Rattle.card_desk.proofs.FoldLemmas.{accepted_in, may_be_folded, same_reason_at}
 use Rattle.card_desk.proofs.KeptLemmas.{longer, posted_desk}
 use Rattle.card_desk.proofs.StepLemmas.{goes_on, post_accepted}
 use Rattle.card_rows.specs.Held.{is_request}
@@ -28,11 +26,13 @@ accept-requires-clause-no_reason g c =
     let s = c.args.self.now in
     let d = c.self.inside in
     let b = c.index_mut-account.result.now in
-    let shared = shared_by d.calendar d.fees in
     let p = c.args.post.now in
-    let read = read_at d.accounts.items s.accounts c.args.at b b.named c.index_mut-account.ensures.value (ap (λ (x : State). x.accounts) c.self.view_is) c.requires.place.bound in
-    ap (λ (n : ℕ). reason_against (present_of n shared b.named.lists) p) (ap (λ (x : State). x.today) c.self.view_is)
-    ∙ ap (λ (x : NamedAccount). reason_against (present_of s.today shared x.lists) p) read ∙ c.requires.no_reason shared b.named
+    let items = d.accounts.items in
+    let low : c.args.at < length items = omega (arith, c.requires.place.bound, ap (λ (x : State). length x.accounts) c.self.view_is, length-map items (λ (x : OpenAccount). x.named)) in
+    let read = read_at items s.accounts c.args.at b b.named c.index_mut-account.ensures.value (ap (λ (x : State). x.accounts) c.self.view_is) c.requires.place.bound in
+    let same = same_reason_at d.index d.calendar d.fees d.count d.today d.shared.items items c.args.at b p c.self.invariant low in
+    subst (λ (x : OpenAccount). reason_against (present_of d.today (shared_by d.calendar d.fees) x.named.lists) p ≡ reason_against (now_of (state_of d.today d.shared.items items) x.named.lists) p) (sym c.index_mut-account.ensures.value) same
+    ∙ ap (λ (x : State). reason_against (now_of x b.named.lists) p) c.self.view_is ∙ ap (λ (x : NamedAccount). reason_against (now_of s x.lists) p) read ∙ c.requires.no_reason b.named
 
 pub accept-requires-clause-folded : goal.accept-requires-clause-folded
 accept-requires-clause-folded g c =
@@ -63,10 +63,10 @@ invariant_of-self-2 g c =
     let outcome = accepted_in d.index d.calendar d.fees d.count d.today d.shared.items items at a b name key p c.self.invariant low c.index_mut-account.ensures.value lists allowed in
     let more : length a.named.lists.posts ≡ length b.named.lists.posts + 1 = ap (λ (l : Lists). length l.posts) lists ∙ longer (present_of d.today (shared_by d.calendar d.fees) b.named.lists) key p in
     let read = read_at items c.args.self.now.accounts at b b.named c.index_mut-account.ensures.value (ap (λ (x : State). x.accounts) c.self.view_is) c.requires.place.bound in
-    let room = few (present_of c.args.self.now.today (shared_by d.calendar d.fees) (get_or c.args.self.now.accounts at b.named).lists) p (c.requires.no_reason (shared_by d.calendar d.fees) b.named) in
+    let room = few (now_of c.args.self.now (get_or c.args.self.now.accounts at b.named).lists) p (c.requires.no_reason b.named) in
     let short : length a.named.lists.posts ≤ 10000 = omega (arith, more, room, ap (λ (x : NamedAccount). length x.lists.posts) read) in
     let held = ap is_request (sym c.requires.request) ∙ c.in_ok-row.ensures.held in
-    let taken : is_taken (request.Post name key p) ≡ true = and_from (is_request (request.Post name key p)) (is_built_post p) held c.requires.built in
+    let taken : is_request (request.Post name key p) ≡ true = held in
     posted_desk d.index d.calendar d.fees d.count d.today d.shared.items items at a b name key p c.self.invariant taken place low named outcome
     (more ∙ ap (λ (x : OpenAccount). length x.named.lists.posts + 1) c.index_mut-account.ensures.value) short c.in_ok-number.ensures.stands
 

@@ -1,0 +1,12 @@
+use Rattle.std.proofs.Common.{◌≡◌}
+use Rattle.card_penalties.specs.Ending.{cured_with}
+use Rattle.card_rates.specs.RateBooks.{with_penalties}
+use Rattle.card_daily.proofs.Penalized.{done-to}
+use Rattle.card_daily.specs.Given.{seen_in}
+use Rattle.card_daily.proofs.penalties.end_cured.Given as goal
+
+abbrev pub invariant-loop-which : goal.invariant-loop-which
+invariant-loop-which l = record {
+  kept : l.penalties.items ≡ done-to (cured_with (seen_in l.inputs l.day) l.cycles l.due) l.which l.fn.penalties.items;
+  rates : l.rates ≡ with_penalties l.penalties.items l.fn.rates;
+}

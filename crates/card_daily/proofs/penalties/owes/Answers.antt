@@ -1,0 +1,23 @@
+use Rattle.std.proofs.Common.{◌≤◌, sym, ap, ◌∙◌, subst}
+use Rattle.card_days.specs.Billing.{due}
+use Rattle.card_days.specs.declared.anchor.Anchor.{Anchor}
+use Rattle.card_due.specs.declared.asked.DueCycle.{DueCycle}
+use Rattle.card_events.specs.History.{anchor_of, corrected}
+use Rattle.card_daily.proofs.Penalized.{owes-is}
+use Rattle.card_daily.proofs.penalties.owes.Goals as goal
+
+pub owes_sixty_days-requires-clause-cycle : goal.owes_sixty_days-requires-clause-cycle
+owes_sixty_days-requires-clause-cycle c = subst (λ (x : DueCycle). 1 ≤ x.cycle) (sym c.due_cycle-due.ensures) c.requires.closed.first
+
+pub owes_sixty_days-requires-clause-in_calendar : goal.owes_sixty_days-requires-clause-in_calendar
+owes_sixty_days-requires-clause-in_calendar c =
+    let h = c.requires.closed in
+    subst (λ (x : DueCycle). due c.anchor-anchor.result x.cycle ≤ 48576) (sym c.due_cycle-due.ensures)
+    (subst (λ (a : Anchor). due a c.args.cycle.now.number ≤ 48576) (sym c.anchor-anchor.ensures.value) (subst (λ n. n ≤ 48576) h.days.due h.due))
+
+pub returns : goal.returns
+returns c =
+    let g = c.args.inputs.now in
+    let posts = c.posts.ensures.stands ∙ ap (λ h. corrected (anchor_of h) g.shared.holidays h) c.posts.ensures.history in
+    c.owes_sixty_days.ensures g.shared.holidays c.posts.ensures.stands
+    ∙ owes-is g c.args.day c.args.cycle.now c.anchor-anchor.result c.posts.result.now.corrected c.due_cycle-due.result c.requires.closed c.anchor-anchor.ensures.value posts c.due_cycle-due.ensures

@@ -1,9 +1,0 @@
-use Rattle.std.proofs.Common.{◌≡◌, ◌-◌, ◌≤◌, ◌++◌, take, drop}
-use Rattle.card_daily.specs.Rows.{with_accruals}
-use Rattle.card_daily.proofs.rows.accrue_all.Given as goal
-
-abbrev pub invariant-loop-id : goal.invariant-loop-id
-invariant-loop-id l = record {
-  begun : 2 ≤ l.id;
-  accruals : l.accruals.items ≡ take (l.id - 2) (with_accruals l.rates l.segments.balances l.day l.fn.accruals.items) ++ drop (l.id - 2) l.fn.accruals.items;
-}

@@ -1,0 +1,73 @@
+// A charge that is disputed, and a dispute that is resolved.
+ghost use Rattle.std.specs.Prelude.{◌≡◌, ◌≤◌, ℕ, Bool, Option, OnOk, OnErr, pos, ◌≤ℤ◌, slice_index_or};
+ghost use Rattle.card_bounds.specs.Bounds.{moved};
+ghost use Rattle.card_effects.specs.Standing.{IsSlotOf};
+ghost use Rattle.card_events.specs.History.{CorrectedPost};
+ghost use Rattle.card_events.specs.declared.post.Post.TheVariants as post;
+ghost use Rattle.card_grace.specs.Rows.{Rows};
+ghost use Rattle.card_holds.specs.Accounts.{AreOf};
+ghost use Rattle.card_model.specs.Books.{Book};
+ghost use Rattle.card_model.specs.Cycles.{IssuedRow};
+ghost use Rattle.card_model.specs.Effects.{effect, moved_by};
+ghost use Rattle.card_model.specs.Segments.{SegmentTerms};
+ghost use Rattle.card_segments.specs.Balances.{AreWithin};
+ghost use Rattle.card_daily.specs.Given.{account_in, seen_in};
+ghost use Rattle.card_daily.specs.Posts.{IsRestKept, StandWith};
+ghost use Rattle.card_daily.specs.Stands.{Begins};
+
+use crate::{Inputs, State, Track};
+use card_events::{Num, Slot};
+use card_holds::{dispute, resolve};
+use card_units::NoMemory;
+
+// Enters a Dispute of a charge, by the charge's number.
+pub(crate) fn enter_dispute(
+    inputs: &Inputs,
+    slot: &Slot,
+    charge: Num,
+    claim: Num,
+    state: &mut State,
+    track: &mut Track,
+) -> Result<(), NoMemory>
+    requires account { AreOf inputs.now.history state.old.segments.segments state.old.rates }
+    requires small { AreWithin 1_000_000_000_000_000 state.old.segments.balances }
+    ensures stands { OnOk result ((issued : Option IssuedRow) (first : ℕ) (returned : ℕ → Bool) (rows : SegmentTerms → Rows) (p : CorrectedPost) (b : Book) (on : ℕ) → IsSlotOf (seen_in inputs.now slot.now.day) p slot.now → StandWith (account_in inputs.now) (seen_in inputs.now slot.now.day) first returned rows b state.old track.old → StandWith (account_in inputs.now) (seen_in inputs.now slot.now.day) first returned rows (effect issued (account_in inputs.now) (seen_in inputs.now slot.now.day) p (post.Dispute on charge claim) b) state.new track.new) }
+    ensures rest { IsRestKept state.old state.new track.old track.new }
+    ensures err { OnErr result (Begins track.old track.new) }
+{
+    dispute(
+        inputs.posts(),
+        &mut state.segments,
+        &state.rates,
+        slot,
+        charge,
+        claim,
+        &mut track.entries,
+    )
+}
+
+// Enters a Resolve of a Dispute, by the Dispute's number.
+pub(crate) fn enter_resolve(
+    inputs: &Inputs,
+    slot: &Slot,
+    target: Num,
+    state: &mut State,
+    track: &mut Track,
+) -> Result<(), NoMemory>
+    requires account { AreOf inputs.now.history state.old.segments.segments state.old.rates }
+    requires moved { moved track.old.entries.items ≤ 1_000_000_000_000_000 }
+    requires held { pos (moved_by target track.old.entries.items) ≤ℤ slice_index_or state.old.segments.balances 1 (pos 0) }
+    requires small { AreWithin 1_000_000_000_000_000 state.old.segments.balances }
+    ensures stands { OnOk result ((issued : Option IssuedRow) (first : ℕ) (returned : ℕ → Bool) (rows : SegmentTerms → Rows) (p : CorrectedPost) (b : Book) (on cents : ℕ) → IsSlotOf (seen_in inputs.now slot.now.day) p slot.now → StandWith (account_in inputs.now) (seen_in inputs.now slot.now.day) first returned rows b state.old track.old → StandWith (account_in inputs.now) (seen_in inputs.now slot.now.day) first returned rows (effect issued (account_in inputs.now) (seen_in inputs.now slot.now.day) p (post.Resolve on target cents) b) state.new track.new) }
+    ensures rest { IsRestKept state.old state.new track.old track.new }
+    ensures err { OnErr result (Begins track.old track.new) }
+{
+    resolve(
+        inputs.posts(),
+        &mut state.segments,
+        &state.rates,
+        slot,
+        target,
+        &mut track.entries,
+    )
+}

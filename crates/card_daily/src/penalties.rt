@@ -1,0 +1,183 @@
+// How penalty rates begin and end.
+ghost use Rattle.std.specs.Prelude.{◌≡◌, ◌+◌, ◌≤◌, ◌<◌, ◌&&◌, ◌++◌, ℕ, length, map, nat_lt, not, slice_index_or, slice_set, Some, None, OnOk};
+ghost use Rattle.std.specs.List.{All, list_all};
+ghost use Rattle.card_events.specs.History.{anchor_of};
+ghost use Rattle.card_model.specs.Cycles.{last_cycle};
+ghost use Rattle.card_model.specs.DueDates.{due_after_day};
+ghost use Rattle.card_model.specs.Payments as model;
+ghost use Rattle.card_model.specs.Payments.{met, sixty_days_late};
+ghost use Rattle.card_model.specs.declared.segment.Interval.{Interval};
+ghost use Rattle.card_penalties.specs.Ending.{awaits_end, cured_with};
+ghost use Rattle.card_rates.specs.RateBooks.{with_penalties};
+ghost use Rattle.card_daily.specs.Given.{opened_in, seen_in};
+ghost use Rattle.card_daily.specs.Penalties.{IsClosed, begun_on, cured_on};
+ghost use Rattle.card_daily.specs.Returns.{IsDueBy};
+ghost use Rattle.card_daily.specs.Stands.{before};
+
+use crate::Inputs;
+use crate::due::{due_cycle, is_day_after};
+use card_closing::Cycle;
+use card_days::Day;
+use card_model::Interval;
+use card_penalties::{awaits_end, begin_after, is_due_after, is_met, owes_sixty_days};
+use card_rates::RateBook;
+use card_units::NoMemory;
+
+// Whether a closed cycle owes its minimum payment for sixty days.
+fn owes(inputs: &Inputs, day: Day, cycle: &Cycle) -> bool
+    requires closed { IsClosed inputs.now cycle.now }
+    ensures { result ≡ model.owes_sixty_days (seen_in inputs.now day) cycle.now }
+{
+    let anchor = inputs.anchor();
+    let due = due_cycle(inputs, day, cycle);
+    owes_sixty_days(inputs.posts(), &anchor, &due, day)
+}
+
+/// Whether the account is sixty days late on a day (12 CFR 1026.55(b)(4)): the due date of one of these closed cycles lies more
+/// than 60 days back, and the payments since its closing are below its minimum payment. Each cycle has the calendar's days. It
+/// takes no memory.
+#[tactic(auto, unfolding(card_model::specs::Payments::sixty_days_late))]
+pub fn is_sixty_days_late(inputs: &Inputs, day: Day, cycles: &[Cycle]) -> bool
+    requires closed { All (IsClosed inputs.now) cycles.now }
+    ensures { result ≡ sixty_days_late (seen_in inputs.now day) cycles.now }
+{
+    for cycle in cycles {
+        if owes(inputs, day, cycle) {
+            return true;
+        }
+    }
+    false
+}
+
+// A penalty begins 45 days after a day on which the account is sixty days late.
+pub(crate) fn begin_penalty(
+    inputs: &Inputs,
+    day: Day,
+    cycles: &[Cycle],
+    rates: &mut RateBook,
+    penalties: &mut Vec<Interval>,
+) -> Result<(), NoMemory>
+    requires opened { opened_in inputs.now ≤ day }
+    requires last { day ≤ 47_481 }
+    requires cycles { cycles.now ≡ (before inputs.now day).cycles }
+    ensures rates { OnOk result (rates.new ≡ with_penalties (begun_on (seen_in inputs.now day) cycles.now rates.old.penalties) rates.old) }
+    ensures penalties { OnOk result (penalties.new.items ≡ begun_on (seen_in inputs.now day) cycles.now penalties.old.items) }
+{
+    let _sound = inputs.anchor();
+    if is_sixty_days_late(inputs, day, cycles) {
+        let begins = begin_after(day);
+        rates.begin_penalty(begins)?;
+        penalties.push(Interval { begins, last: None })?;
+    }
+    Ok(())
+}
+
+// Whether the due date of a closed cycle was met.
+fn is_due_met(inputs: &Inputs, day: Day, cycle: &Cycle) -> bool
+    requires due { IsDueBy inputs.now day cycle.now }
+    requires last { day ≤ 47_481 }
+    ensures { result ≡ met (seen_in inputs.now day) cycle.now }
+{
+    let anchor = inputs.anchor();
+    let due = due_cycle(inputs, day, cycle);
+    is_met(inputs.posts(), &anchor, &due)
+}
+
+// Whether it lies after a day and wasn't met.
+fn is_missed(inputs: &Inputs, day: Day, cycle: &Cycle, begins: Day) -> bool
+    requires due { IsDueBy inputs.now day cycle.now }
+    requires last { day ≤ 47_481 }
+    ensures { result ≡ (nat_lt begins cycle.now.due && not (met (seen_in inputs.now day) cycle.now)) }
+{
+    is_due_after(cycle, begins) && !is_due_met(inputs, day, cycle)
+}
+
+// Whether all due dates after a day were met.
+fn are_met(inputs: &Inputs, day: Day, cycles: &[Cycle], begins: Day) -> bool
+    requires due { All (IsDueBy inputs.now day) cycles.now }
+    requires last { day ≤ 47_481 }
+    ensures { result ≡ list_all (met (seen_in inputs.now day)) (due_after_day begins cycles.now) }
+{
+    for cycle in cycles {
+        if is_missed(inputs, day, cycle, begins) {
+            return false;
+        }
+    }
+    true
+}
+
+// Whether a penalty ends: it has no end, and the six due dates after its first day were met.
+fn is_cured(inputs: &Inputs, day: Day, cycles: &[Cycle], penalty: &Interval) -> bool
+    requires due { All (IsDueBy inputs.now day) cycles.now }
+    requires last { day ≤ 47_481 }
+    ensures { result ≡ (awaits_end cycles.now penalty.now && list_all (met (seen_in inputs.now day)) (due_after_day penalty.now.begins cycles.now)) }
+{
+    awaits_end(cycles, penalty) && are_met(inputs, day, cycles, penalty.begins)
+}
+
+// The penalty at a place has a due date for its last day where it is cured.
+fn end_if_cured(
+    inputs: &Inputs,
+    day: Day,
+    cycles: &[Cycle],
+    due: Day,
+    which: usize,
+    rates: &mut RateBook,
+    penalties: &mut Vec<Interval>,
+)
+    requires due { All (IsDueBy inputs.now day) cycles.now }
+    requires last { day ≤ 47_481 }
+    requires which { which < length penalties.old.items }
+    requires same { rates.old.penalties ≡ penalties.old.items }
+    ensures rates { rates.new ≡ with_penalties penalties.new.items rates.old }
+    ensures penalties { (i : Interval) → penalties.new.items ≡ slice_set penalties.old.items which (cured_with (seen_in inputs.now day) cycles.now due (slice_index_or penalties.old.items which i)) }
+{
+    if is_cured(inputs, day, cycles, &penalties[which]) {
+        rates.end_penalty(which, due);
+        penalties[which].last = Some(due);
+    }
+}
+
+// So has each of them.
+fn end_cured(
+    inputs: &Inputs,
+    day: Day,
+    cycles: &[Cycle],
+    due: Day,
+    rates: &mut RateBook,
+    penalties: &mut Vec<Interval>,
+)
+    requires due { All (IsDueBy inputs.now day) cycles.now }
+    requires last { day ≤ 47_481 }
+    requires same { rates.old.penalties ≡ penalties.old.items }
+    ensures rates { rates.new ≡ with_penalties penalties.new.items rates.old }
+    ensures penalties { penalties.new.items ≡ map (cured_with (seen_in inputs.now day) cycles.now due) penalties.old.items }
+{
+    for which in 0..penalties.len() {
+        end_if_cured(inputs, day, cycles, due, which, rates, penalties);
+    }
+}
+
+// On the day after the last cycle's due date, each penalty that is cured ends with it.
+#[tactic(auto, unfolding(crate::specs::Penalties::cured_on))]
+pub(crate) fn end_penalties(
+    inputs: &Inputs,
+    day: Day,
+    cycles: &[Cycle],
+    rates: &mut RateBook,
+    penalties: &mut Vec<Interval>,
+)
+    requires opened { opened_in inputs.now ≤ day }
+    requires last { day ≤ 47_481 }
+    requires cycles { cycles.now ≡ (before inputs.now day).cycles }
+    requires same { rates.old.penalties ≡ penalties.old.items }
+    ensures rates { rates.new ≡ with_penalties penalties.new.items rates.old }
+    ensures penalties { penalties.new.items ≡ cured_on (seen_in inputs.now day) cycles.now (last_cycle cycles.now) penalties.old.items }
+{
+    let _sound = inputs.anchor();
+    if let Some(cycle) = cycles.last() {
+        if is_day_after(cycle.due, day) {
+            end_cured(inputs, day, cycles, cycle.due, rates, penalties);
+        }
+    }
+}

@@ -1,0 +1,129 @@
+ghost use Rattle.std.specs.Prelude.{◌≡◌, ℕ, ◌+◌, ◌-◌, ◌<◌, ◌≤◌, ◌^◌, length, pos, slice_index_or, OnOk};
+ghost use Rattle.std.specs.List.{All, Contains};
+ghost use Rattle.card_effects.specs.Standing.{AreRated};
+ghost use Rattle.card_grace.specs.Accruals.{Accrued};
+ghost use Rattle.card_grace.specs.BookRows.{rate_of};
+ghost use Rattle.card_grace.specs.Rows.{Rows};
+ghost use Rattle.card_model.specs.Entries.{at_least_zero};
+ghost use Rattle.card_model.specs.Segments.{SegmentTerms};
+ghost use Rattle.card_rates.specs.RateBooks.{rate_of as rate_in_force};
+ghost use Rattle.card_segments.specs.Balances.{AreWithin};
+ghost use Rattle.card_daily.specs.Given.{Given, IsSound, opened_in};
+ghost use Rattle.card_dayend.specs.Rows.{AwaitsRows, with_accrual_at, with_accruals, with_row, with_rows};
+ghost use Rattle.card_daily.specs.Stands.{AreAmid, ArePosted, posts_of};
+ghost use Rattle.card_daily.specs.declared.track.Track.{Track};
+
+use card_daily::State;
+use card_days::Day;
+use card_grace::{Accrual, CycleRows};
+use card_rates::RateBook;
+use card_segments::Segments;
+use card_units::{Bp, Cents, NoMemory};
+
+// The rate 0.
+fn no_rate() -> Bp
+    ensures { result ≡ 0 }
+{
+    Bp::new(0).unwrap()
+}
+
+// What is owed on a segment at the end of a day.
+fn owed_on(segments: &Segments, id: u8) -> u64
+    requires billed { 2 ≤ id }
+    requires known { id < length segments.now.balances }
+    requires small { AreWithin 1_000_000_000_000_000 segments.now.balances }
+    ensures value { result ≡ at_least_zero (slice_index_or segments.now.balances id (pos 0)) }
+    ensures bound { result ≤ 10 ^ 15 }
+{
+    segments.balance(id).unsigned_abs()
+}
+
+// The rate of a segment's row: that of the day, and 0 where nothing is owed.
+fn row_rate(rates: &RateBook, id: u8, day: Day, owed: u64) -> Bp
+    requires there { id < length rates.now.segments + 2 }
+    ensures { (t : SegmentTerms) → Contains rates.now.segments t → t.id ≡ id → result ≡ rate_of owed (rate_in_force rates.now day t) }
+{
+    if owed == 0 {
+        no_rate()
+    } else {
+        rates.rate_on(id, day)
+    }
+}
+
+// The row of a segment on a day.
+fn add_row(
+    rows: &mut CycleRows,
+    rates: &RateBook,
+    id: u8,
+    day: Day,
+    owed: u64,
+) -> Result<(), NoMemory>
+    requires there { id < length rates.now.segments + 2 }
+    requires small { owed ≤ 10 ^ 15 }
+    requires few { length rows.old.days < 31 }
+    ensures { OnOk result ((t : SegmentTerms) → Contains rates.now.segments t → t.id ≡ id → rows.new ≡ with_row rates.now day t owed rows.old) }
+{
+    rows.row(1, owed as Cents, row_rate(rates, id, day, owed))
+}
+
+// The rows of all segments on a day.
+fn add_rows(
+    rows: &mut Vec<CycleRows>,
+    segments: &Segments,
+    rates: &RateBook,
+    day: Day,
+) -> Result<(), NoMemory>
+    requires rated { AreRated segments.now.segments rates.now }
+    requires equal { length rows.old.items ≡ length rates.now.segments }
+    requires small { AreWithin 1_000_000_000_000_000 segments.now.balances }
+    requires few { All (λ (r : Rows). length r.days < 31) rows.old.items }
+    ensures { OnOk result (rows.new.items ≡ with_rows rates.now segments.now.balances day rows.old.items) }
+{
+    for id in 2..segments.len() {
+        let place = id as usize - 2;
+        let owed = owed_on(segments, id);
+        add_row(&mut rows[place], rates, id, day, owed)?;
+    }
+    Ok(())
+}
+
+// What a segment accrues on a day, where it does so at a rate.
+fn accrue(accrual: &mut Accrual, owed: u64, rate: Option<Bp>)
+    requires small { owed ≤ 10 ^ 15 }
+    requires few { accrual.old.days < 40_000 }
+    ensures { accrual.new ≡ with_accrual_at rate owed accrual.old }
+{
+    if let Some(rate) = rate {
+        accrual.accrue(1, owed as Cents, rate);
+    }
+}
+
+// What all segments accrue on a day.
+fn accrue_all(accruals: &mut Vec<Accrual>, segments: &Segments, rates: &RateBook, day: Day)
+    requires rated { AreRated segments.now.segments rates.now }
+    requires equal { length accruals.old.items ≡ length rates.now.segments }
+    requires small { AreWithin 1_000_000_000_000_000 segments.now.balances }
+    requires few { All (λ (a : Accrued). a.days < 40_000) accruals.old.items }
+    ensures accruals { accruals.new.items ≡ with_accruals rates.now segments.now.balances day accruals.old.items }
+    ensures balances { length segments.now.balances ≡ length rates.now.segments + 2 }
+{
+    for id in 2..segments.len() {
+        let place = id as usize - 2;
+        let owed = owed_on(segments, id);
+        let rate = rates.accrual_on(id, day);
+        accrue(&mut accruals[place], owed, rate);
+    }
+}
+
+/// The rows of a day, up to 2099-12-31, once its posts are folded: of each segment but Credit and Held what is owed at the
+/// end of the day, in cents, with its rate in basis points (12 CFR 1026.14(b)), which is kept as 0 where nothing is owed.
+/// A deferred plan in its period accrues the day (12 CFR 1026.7(b)(14)). After want of memory the rows are of no use.
+pub fn row_day(day: Day, state: &mut State) -> Result<(), NoMemory>
+    requires last { day ≤ 47_481 }
+    requires amid { AwaitsRows day state.old }
+    ensures posted { OnOk result ((g : Given) (t : Track) → IsSound g → opened_in g ≤ day → AreAmid g day (posts_of g day) state.old t → ArePosted g day state.new t) }
+{
+    add_rows(&mut state.rows, &state.segments, &state.rates, day)?;
+    accrue_all(&mut state.accruals, &state.segments, &state.rates, day);
+    Ok(())
+}

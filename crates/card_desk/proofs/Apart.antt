@@ -1,0 +1,63 @@
+-- A request concerns one account at most.
+use Rattle.std.proofs.Common.{◌≡◌, ℕ, Bool, true, false, cond, ◌&&◌, List, [], ◌∷◌, refl, ap, ◌∙◌, eqb, Option, Some, None}
+use Rattle.std.specs.Str.{bytes_eq}
+use Rattle.std.proofs.lemmas.Bool.{eqb-true}
+use Rattle.card_events.specs.declared.post.Post.{Post}
+use Rattle.card_events.specs.declared.reply.Reply.{Reply}
+use Rattle.card_events.specs.declared.reply.Refusal.{Refusal}
+use Rattle.card_events.specs.declared.request.Request.{Request}
+use Rattle.card_events.specs.declared.request.Request.TheVariants as request
+use Rattle.card_events.specs.declared.request.Shared.{Shared}
+use Rattle.card_keeper.specs.declared.row.Row.{Row}
+use Rattle.card_model.specs.Machine.{Accepts, NamedAccount, Outcome, Refuses, Repeats, State, accounts_after, has_accounts, lists_of, outcome_in, reply_to, shared_reason, step, with_lists, with_shared}
+use Rattle.card_model.specs.Refusals.{Lists}
+use Rattle.card_desk.specs.Applied.{Steps}
+use Rattle.card_desk.specs.Apart.{IsApart, RequestsStandApart}
+
+names-equal : (a b : List ℕ) → bytes_eq a b ≡ true → a ≡ b
+names-equal [] [] e = refl
+names-equal [] (y ∷ ys) e = cc
+names-equal (x ∷ xs) [] e = cc
+names-equal (x ∷ xs) (y ∷ ys) e = by (eqb x y) refl e (names-equal xs ys)
+  where
+    by : (t : Bool) → eqb x y ≡ t → t && bytes_eq xs ys ≡ true → (bytes_eq xs ys ≡ true → xs ≡ ys) → x ∷ xs ≡ y ∷ ys
+    by true f e h = let head : x ≡ y = eqb-true x y f in let tail : xs ≡ ys = h e in cc
+    by false f e h = cc
+
+other-lists : (name other : List ℕ) (l : Lists) (xs : List NamedAccount) → bytes_eq other name ≡ false → lists_of name (with_lists other l xs) ≡ lists_of name xs
+unfolding lists_of with_lists
+other-lists name other l [] n = rw n refl
+other-lists name other l (x ∷ xs) n = by (bytes_eq x.name other) refl (other-lists name other l xs n)
+  where
+    by : (t : Bool) → bytes_eq x.name other ≡ t → lists_of name (with_lists other l xs) ≡ lists_of name xs
+        → lists_of name (cond t (record { name = x.name; lists = l } ∷ xs) (x ∷ with_lists other l xs)) ≡ cond (bytes_eq x.name name) (Some x.lists) (lists_of name xs)
+    by true e h = let same : bytes_eq x.name name ≡ false = rw (names-equal x.name other e) n in rw same refl
+    by false e h = rw h refl
+
+others-stay : (name other : List ℕ) (o : Outcome) (xs : List NamedAccount) → bytes_eq other name ≡ false → lists_of name (accounts_after other o xs) ≡ lists_of name xs
+others-stay name other (Refuses r) xs n = refl
+others-stay name other (Repeats k) xs n = refl
+others-stay name other (Accepts l) xs n = other-lists name other l xs n
+
+shared-stay : (s : State) (r : Shared) (o : Option Refusal) → (with_shared s r o).0.accounts ≡ s.accounts
+shared-stay s r (Some e) = refl
+shared-stay s r None = refl
+
+pub requests_stand_apart : RequestsStandApart
+unfolding step
+requests_stand_apart s (request.Shared r) new reply e = record {
+  others = λ name i. ap (lists_of name) (ap (λ (x : State × Reply). x.0.accounts) e ∙ shared-stay s r (shared_reason s.today (has_accounts s) r));
+  own = λ name key p i. cc;
+}
+requests_stand_apart s (request.Post other k q) new reply e = record {
+  others = λ name i. ap (λ (x : State × Reply). lists_of name x.0.accounts) e ∙ others-stay name other (outcome_in s other k q) s.accounts i;
+  own = λ name key p i. ap (λ (x : State × Reply). x.1) e ∙ same name key p i;
+}
+  where
+    same : (name key : List ℕ) (p : Post) → request.Post other k q ≡ request.Post name key p
+        → reply_to (outcome_in s other k q) ≡ reply_to (outcome_in s name key p)
+    same name key p i = cc
+
+-- so where a step was made
+pub apart_of_step : (before after : Option (List Row)) (s : State) (r : Request) (new : State) (reply : Reply) → Steps before after s r new reply → IsApart s r new reply
+apart_of_step before after s r new reply h = requests_stand_apart s r new reply h.step_is

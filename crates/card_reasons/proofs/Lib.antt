@@ -1,0 +1,10 @@
+pub mod Accepted
+pub mod ClosingLemmas
+pub mod DisputeLemmas
+pub mod NoticeLemmas
+pub mod PlaceLemmas
+pub mod PlanLemmas
+pub mod ReasonLemmas
+pub mod ReturnLemmas
+pub mod SameReasons
+pub mod SearchLemmas

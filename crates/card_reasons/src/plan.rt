@@ -1,0 +1,102 @@
+// The end of a Plan, and the segments that an account has.
+ghost use Rattle.std.specs.Prelude.{◌≡◌, ℕ, ◌+◌, ◌≤◌, not, ◌==◌, nat_le, nat_lt, max, [], ◌∷◌};
+ghost use Rattle.std.specs.List.{count_by};
+ghost use Rattle.card_reasons.specs.Reasons.{end_reason};
+ghost use Rattle.card_days.specs.Billing.{IsCloseDay, next_on};
+ghost use Rattle.card_events.specs.History.{adds_segment, anchor_of, at_number};
+ghost use Rattle.card_events.specs.declared.post.PlanKind.{PlanKind};
+ghost use Rattle.card_events.specs.declared.post.Post.TheVariants as post;
+ghost use Rattle.card_model.specs.Refusals.{Present, first_reason, holds_of, where_true};
+
+use card_days::{Anchor, Day, closing, cycle_of, six_months_after};
+use card_events::{Post, Refusal};
+use card_posts::Posts;
+
+// The later of two days.
+fn later_of(a: Day, b: Day) -> Day
+    ensures value { result ≡ max a b }
+    ensures from { b ≤ result }
+    ensures until { (day : ℕ) → a ≤ day → b ≤ day → result ≤ day }
+{
+    if a < b { b } else { a }
+}
+
+// The first closing on or after a day, from the opening day on.
+fn closing_from(anchor: &Anchor, day: Day) -> Day
+    requires close_day { IsCloseDay anchor.now.close_day }
+    requires opened { anchor.now.opened ≤ 47_481 }
+    requires last { day ≤ 47_481 }
+    ensures { result ≡ next_on anchor.now.close_day (max day anchor.now.opened) }
+{
+    let _ = anchor.opened.number();
+    let from = later_of(day, anchor.opened);
+    closing(*anchor, cycle_of(*anchor, from)).unwrap()
+}
+
+fn adds_segment(post: &Post) -> bool
+    ensures { result ≡ adds_segment post.now }
+{
+    match post {
+        Post::Plan { .. } | Post::Notice { .. } => true,
+        _ => false,
+    }
+}
+
+// Whether the post with a number adds a segment.
+fn adds_at(posts: &Posts, number: u32) -> bool
+    ensures { result ≡ holds_of (λ k. adds_segment k.post) (at_number number posts.now.history) }
+{
+    match posts.get(number) {
+        Some(kept) => adds_segment(&kept.post),
+        None => false,
+    }
+}
+
+// How many posts add a segment.
+fn added_count(posts: &Posts) -> u32
+    ensures value { result ≡ count_by (λ k. adds_segment k.post) posts.now.history }
+    ensures few { result ≤ 10_000 }
+{
+    let mut count = 0;
+    for i in 0..posts.len() {
+        if adds_at(posts, i + 1) {
+            count += 1;
+        }
+    }
+    count
+}
+
+/// Whether an account has no room for one more segment. Five are there from the opening on.
+pub fn has_all_segments(posts: &Posts) -> bool
+    ensures { result ≡ nat_le 64 (5 + count_by (λ k. adds_segment k.post) posts.now.history) }
+{
+    added_count(posts) + 5 >= 64
+}
+
+fn reason_for(end: Day, closing: Day, least: Day, full: bool) -> Option<Refusal>
+    ensures { result ≡ first_reason (where_true (not (closing == end)) (Refusal.PlanEndNotClosing closing) ∷ where_true (nat_lt end least) Refusal.PlanTooShort ∷ where_true full Refusal.SegmentsFull ∷ []) }
+{
+    if closing != end {
+        Some(Refusal::PlanEndNotClosing(closing))
+    } else if end < least {
+        Some(Refusal::PlanTooShort)
+    } else if full {
+        Some(Refusal::SegmentsFull)
+    } else {
+        None
+    }
+}
+
+/// Why a Plan from a day on isn't accepted with its end, or as one more segment.
+pub fn plan_end(posts: &Posts, anchor: &Anchor, day: Day, end: Day) -> Option<Refusal>
+    requires anchor { anchor.now ≡ anchor_of posts.now.history }
+    requires close_day { IsCloseDay anchor.now.close_day }
+    requires opened { anchor.now.opened ≤ 47_481 }
+    requires dated { day ≤ 47_481 }
+    requires ends { end ≤ 47_481 }
+    ensures { (now : Present) (kind : PlanKind) (rate after : ℕ) → now.lists.posts ≡ posts.now.history → result ≡ end_reason now (post.Plan day kind rate end after) }
+{
+    let next = closing_from(anchor, end);
+    let least = six_months_after(day);
+    reason_for(end, next, least, has_all_segments(posts))
+}
