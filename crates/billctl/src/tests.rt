@@ -140,7 +140,7 @@ fn refusals_and_bad_lines_harm_no_other_line(rt: HostRuntime) -> Result<(), Fail
         ),
         (
             b"refund a f 5\nlower a l 2024-03-01 cash 5\npenalty a q\n",
-            "bad 5 1\nbad 6 1\nbad 7 1\n",
+            "no 23 RefundTooLarge 0\nok 3\nno 18 NotDelinquent\n",
             1,
         ),
         (b"show z\n", "no 1 UnknownAccount\n", 1),
