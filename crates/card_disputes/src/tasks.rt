@@ -18,6 +18,17 @@ use card_posts::Posts;
 use card_units::{Cents, NoMemory};
 use std::alloc::Global;
 
+// What the tasks of an account are made from: its name, its cycles, its posts, the holidays, and the cents of its credit
+// balance.
+#[derive(Drop)]
+struct Basis<'a> {
+    name: &'a Name,
+    anchor: &'a Anchor,
+    posts: &'a Posts,
+    calendar: &'a Calendar,
+    credit: u64,
+}
+
 // the cents of a credit balance
 fn cents_in(credit: Cents) -> u64
     requires { pos 0 ≤ℤ credit }
@@ -56,21 +67,25 @@ fn push_task(
 fn push_tasks(
     tasks: &mut Vec<Task>,
     alloc: Global,
-    name: &Name,
-    anchor: &Anchor,
-    posts: &Posts,
-    calendar: &Calendar,
-    credit: u64,
+    basis: &Basis,
     kind: TaskKind,
 ) -> Result<(), NoMemory>
-    requires close_day { IsCloseDay anchor.now.close_day }
-    requires opened { anchor.now.opened ≤ 47_481 }
-    requires dated { ArePostsDated posts.now.history }
-    ensures { (holidays : List ℕ) → StandsFor holidays posts.now → OnOk result (tasks.new.items ≡ tasks.old.items ++ spec.tasks_of name.now kind (dues.due_by anchor.now calendar.now credit posts.now.corrected kind) posts.now.corrected) }
+    requires close_day { IsCloseDay basis.now.anchor.now.close_day }
+    requires opened { basis.now.anchor.now.opened ≤ 47_481 }
+    requires dated { ArePostsDated basis.now.posts.now.history }
+    ensures { (holidays : List ℕ) → StandsFor holidays basis.now.posts.now → OnOk result (tasks.new.items ≡ tasks.old.items ++ spec.tasks_of basis.now.name.now kind (dues.due_by basis.now.anchor.now basis.now.calendar.now basis.now.credit basis.now.posts.now.corrected kind) basis.now.posts.now.corrected) }
 {
+    let posts = basis.posts;
     for i in 0..posts.len() {
-        let by = due_at(posts, anchor, calendar, credit, kind, i + 1);
-        push_task(tasks, alloc, name, kind, by, i + 1)?;
+        let by = due_at(
+            posts,
+            basis.anchor,
+            basis.calendar,
+            basis.credit,
+            kind,
+            i + 1,
+        );
+        push_task(tasks, alloc, basis.name, kind, by, i + 1)?;
     }
     Ok(())
 }
@@ -99,63 +114,22 @@ pub fn work_of(
     ensures { (holidays : List ℕ) → StandsFor holidays posts.now → IfOk result (λ tasks. tasks.items ≡ spec.open_tasks name.now anchor.now calendar.now posts.now.corrected (unsigned_abs credit) since today) }
 {
     let credit = cents_in(credit);
+    let basis = Basis {
+        name,
+        anchor,
+        posts,
+        calendar,
+        credit,
+    };
+    let refunded = credit_due(credit, since);
+    let reviewed = review_by(posts, today);
     let mut tasks = Vec::new(alloc);
-    push_tasks(
-        &mut tasks,
-        alloc,
-        name,
-        anchor,
-        posts,
-        calendar,
-        credit,
-        TaskKind::Ack,
-    )?;
-    push_tasks(
-        &mut tasks,
-        alloc,
-        name,
-        anchor,
-        posts,
-        calendar,
-        credit,
-        TaskKind::Resolve,
-    )?;
-    push_tasks(
-        &mut tasks,
-        alloc,
-        name,
-        anchor,
-        posts,
-        calendar,
-        credit,
-        TaskKind::Refund,
-    )?;
-    push_task(
-        &mut tasks,
-        alloc,
-        name,
-        TaskKind::Credit,
-        credit_due(credit, since),
-        0,
-    )?;
-    push_task(
-        &mut tasks,
-        alloc,
-        name,
-        TaskKind::Review,
-        review_by(posts, today),
-        0,
-    )?;
-    push_tasks(
-        &mut tasks,
-        alloc,
-        name,
-        anchor,
-        posts,
-        calendar,
-        credit,
-        TaskKind::Lower,
-    )?;
+    push_tasks(&mut tasks, alloc, &basis, TaskKind::Ack)?;
+    push_tasks(&mut tasks, alloc, &basis, TaskKind::Resolve)?;
+    push_tasks(&mut tasks, alloc, &basis, TaskKind::Refund)?;
+    push_task(&mut tasks, alloc, name, TaskKind::Credit, refunded, 0)?;
+    push_task(&mut tasks, alloc, name, TaskKind::Review, reviewed, 0)?;
+    push_tasks(&mut tasks, alloc, &basis, TaskKind::Lower)?;
     by_day(&mut tasks)?;
     Ok(tasks)
 }

@@ -5,4 +5,4 @@ use Rattle.card_posts.specs.Posted.{StandsFor}
 use Rattle.card_disputes.proofs.tasks.push_tasks.Given as goal
 
 abbrev pub invariant-loop-i : goal.invariant-loop-i
-invariant-loop-i l = (holidays : List ℕ) → StandsFor holidays l.posts → l.tasks.items ≡ l.fn.tasks.items ++ tasks_from l.name l.kind (due_by l.anchor l.calendar l.credit l.posts.corrected l.kind) 1 (take l.i l.posts.history)
+invariant-loop-i l = (holidays : List ℕ) → StandsFor holidays l.basis.posts.now → l.tasks.items ≡ l.fn.tasks.items ++ tasks_from l.basis.name.now l.kind (due_by l.basis.anchor.now l.basis.calendar.now l.basis.credit l.basis.posts.now.corrected l.kind) 1 (take l.i l.basis.posts.now.history)

@@ -30,8 +30,8 @@ returns c holidays stands =
     (c.in_ok-push_tasks.ensures holidays stands)
     (c.in_ok-push_tasks-2.ensures holidays stands)
     (c.in_ok-push_tasks-3.ensures holidays stands)
-    (c.in_ok-push_task.ensures ∙ ap (λ o. c.push_tasks-3.new.tasks.items ++ option_to_list (option_map (task_of name task.Credit 0) o)) c.credit_due.ensures)
-    (c.in_ok-push_task-2.ensures ∙ ap (λ o. c.push_task.new.tasks.items ++ option_to_list (option_map (task_of name task.Review 0) o)) (c.review_by.ensures holidays stands))
+    (c.in_ok-push_task.ensures ∙ ap (λ o. c.push_tasks-3.new.tasks.items ++ option_to_list (option_map (task_of name task.Credit 0) o)) c.credit_due-refunded.ensures)
+    (c.in_ok-push_task-2.ensures ∙ ap (λ o. c.push_task.new.tasks.items ++ option_to_list (option_map (task_of name task.Review 0) o)) (c.review_by-reviewed.ensures holidays stands))
     (c.in_ok-push_tasks-4.ensures holidays stands))
     ∙ open-is name c.args.anchor.now c.args.calendar.now c.args.posts.now.corrected c.cents_in-credit.result c.args.since c.args.today
     ∙ ap (λ n. open_tasks name c.args.anchor.now c.args.calendar.now c.args.posts.now.corrected n c.args.since c.args.today) (c.cents_in-credit.ensures ∙ ap unsigned_abs (to_z-of_z w64 c.args.credit c.ranges.credit))
