@@ -10,7 +10,7 @@ use Rattle.card_days.proofs.DueLaws.{closing_laws, due_before_next}
 use Rattle.card_due.proofs.Cases.{case-fold}
 use Rattle.card_due.specs.Asked.{case_by}
 use Rattle.card_due.specs.Laws.{AreDueBy, AreOfTheCalendar, due_cycle_at}
-use Rattle.card_due.specs.declared.asked.DueCycle.{DueCycle}
+use Rattle.card_due.specs.declared.due_cycle.DueCycle.{DueCycle}
 use Rattle.card_events.specs.History.{CorrectedPost, anchor_of, corrected}
 use Rattle.card_fees.proofs.Days.{closing-from, due-later}
 use Rattle.card_fees.proofs.Fold.{past-due-fold}

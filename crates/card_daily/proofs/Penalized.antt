@@ -9,7 +9,7 @@ use Rattle.card_days.specs.Billing.{closing, cycle_of, due}
 use Rattle.card_days.specs.declared.anchor.Anchor.{Anchor}
 use Rattle.card_days.proofs.Cycles.{cycle_around}
 use Rattle.card_due.specs.Laws.{due_cycle_of}
-use Rattle.card_due.specs.declared.asked.DueCycle.{DueCycle}
+use Rattle.card_due.specs.declared.due_cycle.DueCycle.{DueCycle}
 use Rattle.card_events.specs.History.{CorrectedPost, anchor_of, corrected}
 use Rattle.card_events.specs.declared.post.Post.{Post}
 use Rattle.card_events.specs.declared.post.Post.TheVariants as post

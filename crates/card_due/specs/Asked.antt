@@ -8,7 +8,7 @@ use Rattle.card_fees.specs.Counting.{earlier_posts}
 use Rattle.card_model.specs.Payments.{counted, credited}
 use Rattle.card_model.specs.declared.grace.GraceCase.{GraceCase}
 use Rattle.card_model.specs.declared.grace.GraceCase.TheVariants as case
-use Rattle.card_due.specs.declared.asked.DueCycle.{DueCycle}
+use Rattle.card_due.specs.declared.due_cycle.DueCycle.{DueCycle}
 
 -- a cycle's due date is there, and its grace amount isn't below 0
 pub record IsInCalendar (a : Anchor) (c : DueCycle) : Type 0 where

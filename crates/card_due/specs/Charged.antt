@@ -12,7 +12,7 @@ use Rattle.card_model.specs.Fees.{fee_cents}
 use Rattle.card_model.specs.declared.fee.Fee.{Fee}
 use Rattle.card_model.specs.declared.fee.FeeKind.TheVariants as kind
 use Rattle.card_due.specs.Asked.{asks}
-use Rattle.card_due.specs.declared.asked.DueCycle.{DueCycle}
+use Rattle.card_due.specs.declared.due_cycle.DueCycle.{DueCycle}
 
 -- the cents of a fee for a due date, 0 for those of others
 abbrev pub cents_for : ℕ → Fee → ℕ

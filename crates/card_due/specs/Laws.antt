@@ -19,7 +19,7 @@ use Rattle.card_model.specs.Payments.{has_due_payment, minimum_left, paid}
 use Rattle.card_model.specs.declared.fee.Fee.{Fee}
 use Rattle.card_due.specs.Asked.{case_by, is_due_by, is_paid, left_by}
 use Rattle.card_due.specs.Charged.{capped_if_any, late_by}
-use Rattle.card_due.specs.declared.asked.DueCycle.{DueCycle}
+use Rattle.card_due.specs.declared.due_cycle.DueCycle.{DueCycle}
 
 -- a closed cycle of the fold as its due date sees it
 abbrev pub due_cycle_of : Seen → Cycle → DueCycle

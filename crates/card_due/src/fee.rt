@@ -6,7 +6,7 @@ ghost use Rattle.card_model.specs.Caps.{fee_above};
 ghost use Rattle.card_model.specs.Fees.{fee_cents};
 ghost use Rattle.card_posts.specs.Posted.{StandsFor};
 
-use crate::asked::{DueCycle, asked};
+use crate::due_cycle::{DueCycle, asked};
 use card_days::Anchor;
 use card_fees::{FeeTable, late_fee, met};
 use card_model::Fee;

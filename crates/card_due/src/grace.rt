@@ -2,10 +2,10 @@
 ghost use Rattle.std.specs.Prelude.{◌≡◌, ℕ, ◌+◌, ◌<◌, ◌≤◌, ◌≤ℤ◌, List, Some, pos};
 ghost use Rattle.card_days.specs.Billing.{IsCloseDay, closing, due};
 ghost use Rattle.card_due.specs.Asked.{IsInCalendar, case_by, is_paid, paid_before, repaid_by};
-ghost use Rattle.card_due.specs.declared.asked.DueCycle.{DueCycle};
+ghost use Rattle.card_due.specs.declared.due_cycle.DueCycle.{DueCycle};
 ghost use Rattle.card_posts.specs.Posted.{StandsFor};
 
-use crate::asked::{DueCycle, due_date};
+use crate::due_cycle::{DueCycle, due_date};
 use card_days::{Anchor, Day, closing};
 use card_fees::{counted, credited};
 use card_model::GraceCase;

@@ -4,7 +4,7 @@ ghost use Rattle.card_days.specs.Billing.{IsCloseDay, closing};
 ghost use Rattle.card_due.specs.Asked.{left_by};
 ghost use Rattle.card_posts.specs.Posted.{StandsFor};
 
-use crate::asked::{DueCycle, asked};
+use crate::due_cycle::{DueCycle, asked};
 use crate::grace::after_closing;
 use card_days::{Anchor, Day};
 use card_fees::counted_before;

@@ -3,7 +3,7 @@ use Rattle.std.specs.Prelude.{ℕ, Bool, ◌&&◌, not, ◌==◌, is_some, lengt
 use Rattle.std.specs.List.{list_all}
 use Rattle.card_days.specs.declared.anchor.Anchor.{Anchor}
 use Rattle.card_due.specs.Asked.{asks}
-use Rattle.card_due.specs.declared.asked.DueCycle.{DueCycle}
+use Rattle.card_due.specs.declared.due_cycle.DueCycle.{DueCycle}
 use Rattle.card_events.specs.History.{CorrectedPost}
 use Rattle.card_fees.specs.Due as fees
 use Rattle.card_model.specs.Cycles.{Cycle, Seen}

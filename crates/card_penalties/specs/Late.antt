@@ -3,7 +3,7 @@
 use Rattle.std.specs.Prelude.{ℕ, ◌+◌, Bool, ◌&&◌, nat_lt, List, unsigned_abs}
 use Rattle.card_days.specs.Billing.{closing, due}
 use Rattle.card_days.specs.declared.anchor.Anchor.{Anchor}
-use Rattle.card_due.specs.declared.asked.DueCycle.{DueCycle}
+use Rattle.card_due.specs.declared.due_cycle.DueCycle.{DueCycle}
 use Rattle.card_events.specs.History.{CorrectedPost}
 use Rattle.card_model.specs.Payments.{counted}
 

@@ -1,27 +1,16 @@
 // Whether a penalty ends with a due date.
 ghost use Rattle.std.specs.Prelude.{◌≡◌, ◌≤◌, ◌≤ℤ◌, ℕ, List, length, nat_lt, pos};
 ghost use Rattle.card_days.specs.Billing.{IsCloseDay, due};
-ghost use Rattle.card_due.specs.Asked.{asks};
 ghost use Rattle.card_model.specs.DueDates.{due_after_day};
 ghost use Rattle.card_penalties.specs.Ending as spec;
 ghost use Rattle.card_posts.specs.Posted.{StandsFor};
 
 use card_closing::Cycle;
 use card_days::{Anchor, Day};
-use card_due::DueCycle;
+use card_due::{DueCycle, asked};
 use card_fees::met;
 use card_model::Interval;
 use card_posts::Posts;
-use card_units::Cents;
-
-// The minimum payment that is due: 0 where the statement has no due payment.
-fn asked(c: &DueCycle) -> Cents
-    requires { pos 0 ≤ℤ c.now.minimum }
-    ensures value { result ≡ pos (asks c.now) }
-    ensures low { pos 0 ≤ℤ result }
-{
-    if c.has_due_payment { c.minimum } else { 0 }
-}
 
 /// Whether the payments with effective days after a cycle's closing and up to its due date, without those returned by then,
 /// reach its minimum payment; without a due payment the due date counts as met (12 CFR 1026.5(b)(2)(ii)). The cycle is at

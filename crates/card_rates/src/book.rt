@@ -80,6 +80,13 @@ impl RateBook {
         self.penalties[which].last = Some(last);
     }
 
+    /// The penalties that began, in the order of their beginnings. It takes no memory.
+    pub fn penalties(&self) -> &[Interval]
+        ensures { result.now ≡ self.now.penalties }
+    {
+        &self.penalties
+    }
+
     /// The same rates in memory of their own.
     pub fn copy(&self, alloc: Global) -> Result<RateBook, NoMemory>
         ensures { IfOk result (λ book. book ≡ self.now) }
@@ -131,14 +138,6 @@ impl RateBook {
         ensures { result ≡ length self.now.segments + 2 }
     {
         self.segments.len() + 2
-    }
-
-    // How many penalties have begun.
-    #[cfg(test)]
-    pub(crate) fn penalty_count(&self) -> usize
-        ensures { result ≡ length self.now.penalties }
-    {
-        self.penalties.len()
     }
 
     // the segment with a number, other than Credit and Held

@@ -320,10 +320,10 @@ fn penalize(rt: &impl Abort, book: &mut RateBook, penalty: (i32, i32)) -> Result
     if begins == 0 {
         return Ok(());
     }
-    let which = book.penalty_count();
+    let which = book.penalties().len();
     book.begin_penalty(day(rt, begins))?;
     if last > 0 {
-        assert!(rt; which < book.penalty_count());
+        assert!(rt; which < book.penalties().len());
         book.end_penalty(which, day(rt, last));
     }
     Ok(())

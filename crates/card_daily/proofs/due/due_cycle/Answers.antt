@@ -3,7 +3,7 @@ use Rattle.std.specs.Option.{option_map}
 use Rattle.card_due.proofs.Issued.{due-fold}
 use Rattle.card_due.specs.Asked.{is_due_by}
 use Rattle.card_days.specs.declared.anchor.Anchor.{Anchor}
-use Rattle.card_due.specs.declared.asked.DueCycle.{DueCycle}
+use Rattle.card_due.specs.declared.due_cycle.DueCycle.{DueCycle}
 use Rattle.card_events.specs.History.{anchor_of}
 use Rattle.card_model.specs.Caps.{row_for}
 use Rattle.card_model.specs.Cycles.{Cycle, IssuedRow}

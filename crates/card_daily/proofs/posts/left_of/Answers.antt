@@ -5,7 +5,7 @@ use Rattle.card_days.specs.declared.anchor.Anchor.{Anchor}
 use Rattle.card_due.proofs.Remainder.{left-fold}
 use Rattle.card_due.specs.Asked.{left_by}
 use Rattle.card_due.specs.Laws.{due_cycle_of}
-use Rattle.card_due.specs.declared.asked.DueCycle.{DueCycle}
+use Rattle.card_due.specs.declared.due_cycle.DueCycle.{DueCycle}
 use Rattle.card_events.specs.History.{CorrectedPost, anchor_of, corrected}
 use Rattle.card_model.specs.Cycles.{Cycle}
 use Rattle.card_daily.proofs.Following.{begun-by, due-most}

@@ -27,7 +27,8 @@ pub fn due_date(a: &Anchor, cycle: u32) -> Day
     due(*a, cycle).unwrap()
 }
 
-// The minimum payment that is due: 0 where the statement has no due payment.
+/// What a closed cycle's due date asks for, in cents: its minimum payment, which is at least 0, and 0 where the cycle has no due
+/// payment (12 CFR 1026.5(b)(2)(ii)). It takes no memory.
 pub fn asked(c: &DueCycle) -> Cents
     requires { pos 0 ≤ℤ c.now.minimum }
     ensures value { result ≡ pos (asks c.now) }
