@@ -11,3 +11,4 @@ pub mod Following
 pub mod IndexLemmas
 pub mod Opening
 pub mod Holidays
+pub mod Numbered

@@ -1,6 +1,6 @@
 -- The accepted posts of an account, as clauses see them.
-use Rattle.std.specs.Prelude.{◌≡◌, ℕ, suc, ◌≤◌, max, Bool, true, false, List, [], ◌∷◌, length, map, pos, ◌≤ℤ◌}
-use Rattle.std.specs.List.{All}
+use Rattle.std.specs.Prelude.{◌≡◌, ℕ, suc, ◌≤◌, max, Bool, true, false, ◌==◌, List, [], ◌∷◌, Option, option_map, length, map, pos, ◌≤ℤ◌}
+use Rattle.std.specs.List.{All, find}
 use Rattle.card_events.specs.History.{CorrectedPost, anchor_of, corrected, slot_of}
 use Rattle.card_events.specs.declared.kept.Kept.{Kept}
 use Rattle.card_events.specs.declared.kept.Slot.{Slot}
@@ -21,6 +21,10 @@ StandsFor holidays posted = posted.corrected ≡ corrected (anchor_of posted.his
 -- a corrected list as it is folded: its slots by effective day, then by number
 abbrev pub folding_order : List CorrectedPost → List Slot
 folding_order posts = in_order (map slot_of posts)
+
+-- the slot of the post with a number
+abbrev pub slot_with : ℕ → List CorrectedPost → Option Slot
+slot_with number posts = option_map slot_of (find (λ p. p.number == number) posts)
 
 -- there are at most 10,000 of them, each of 0 to 999,999,999,999 cents
 pub record AreBounded (slots : List Slot) : Type 0 where

@@ -1,7 +1,9 @@
 // Slots in the order in which they are folded.
-ghost use Rattle.std.specs.Prelude.{◌≡◌, ◌+◌, ◌<◌, ◌≤◌, length, slice_set, vec_len, vec_capacity};
-ghost use Rattle.card_posts.specs.Effect.{slot_by, slots_from};
+ghost use Rattle.std.specs.Prelude.{◌≡◌, ◌+◌, ◌<◌, ◌≤◌, List, length, slice_set, vec_len, vec_capacity};
+ghost use Rattle.card_events.specs.declared.kept.Kept.{Kept};
+ghost use Rattle.card_posts.specs.Effect.{corrected_with, slot_by, slots_from};
 ghost use Rattle.card_posts.specs.Order.{before, placed, in_order, IsAscending, IsPlace, without};
+ghost use Rattle.card_posts.specs.Posted.{slot_with};
 
 use crate::effect::Effect;
 use card_events::Slot;
@@ -15,6 +17,20 @@ pub fn slot(number: u32, effect: &Effect) -> Slot
         day: effect.day,
         number,
         cents: effect.cents.get() as i64,
+    }
+}
+
+// The slot of the post with a number.
+pub fn slot_with(effects: &[Effect], number: u64) -> Option<Slot>
+    requires few { length effects.now ≤ 10_000 }
+    ensures { (history : List Kept) → length effects.now ≡ length history → result ≡ slot_with number (corrected_with 1 5 history effects.now) }
+{
+    if number == 0 {
+        return None;
+    }
+    match effects.get(number as usize - 1) {
+        Some(effect) => Some(slot(number as u32, effect)),
+        None => None,
     }
 }
 

@@ -3,7 +3,7 @@ use crate::effect::{Effect, no_cents};
 use crate::enter::enter;
 use crate::index::{enter_key, find};
 use crate::make::{copy_history, one, one_correction, one_effect, one_kept, one_slot, opening};
-use crate::order::slot;
+use crate::order::{slot, slot_with};
 use card_days::{Anchor, Calendar, Day};
 use card_events::{Kept, Name, Post, Slot};
 use card_units::NoMemory;
@@ -50,7 +50,7 @@ impl Posts {
     ghost use Rattle.card_events.specs.History.{anchor_of, at_number, terms_in};
     ghost use Rattle.card_events.specs.Keys.{with_key};
     ghost use Rattle.card_posts.specs.Change.{IsFirstChange};
-    ghost use Rattle.card_posts.specs.Posted.{AreBounded, AreNumbered, IsReceived, StandsFor, folding_order, opens, target_of};
+    ghost use Rattle.card_posts.specs.Posted.{AreBounded, AreNumbered, IsReceived, StandsFor, folding_order, opens, slot_with, target_of};
     ghost use Rattle.card_posts.specs.Stored.{AreTimely};
 
     /// The post that opens an account, which has number 1. Its terms close cycles on day 1 to 28 of a month. The
@@ -99,6 +99,14 @@ impl Posts {
         ensures { option_copied result ≡ at_number number self.now.history }
     {
         numbered(&self.history, number as u64)
+    }
+
+    /// The slot of the post with this number: its effective day, and its corrected cents, 0 for kinds without cents. None comes
+    /// exactly where no post has the number. It takes no memory.
+    pub fn slot(&self, number: u64) -> Option<Slot>
+        ensures { result ≡ slot_with number self.now.corrected }
+    {
+        slot_with(&self.effects, number)
     }
 
     /// The number of the post with this key, the first where several have it. None comes exactly where no post has it.

@@ -166,7 +166,14 @@ fn later_posts_correct_earlier_ones(rt: HostRuntime) -> Result<(), Fail> {
             (slot.number, slot.day.number(), slot.cents),
             (number, day, cents)
         );
+        let by_number = posts.slot(u64::from(number)).expect(&rt, "a slot");
+        assert_eq!(rt;
+            (by_number.number, by_number.day.number(), by_number.cents),
+            (number, day, cents)
+        );
     }
+    assert!(rt; posts.slot(0).is_none());
+    assert!(rt; posts.slot(10).is_none());
     let other = Name::read(alloc, b"C")?.expect(&rt, "a name");
     assert_eq!(rt; posts.with_key(&other), Some(5));
     assert_eq!(rt; posts.with_key(&key), Some(1));
