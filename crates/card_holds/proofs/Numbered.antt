@@ -1,7 +1,7 @@
 -- Posts by their numbers, as the fold of a day sees them.
-use Rattle.std.proofs.Common.{◌≡◌, ℕ, suc, ◌+◌, ◌<◌, ◌≤◌, Bool, true, false, cond, ◌&&◌, eqb, leb, List, [], ◌∷◌, map, refl, sym, ap, ◌∙◌, subst, arith, Option, Some, None, ℤ, pos}
+use Rattle.std.proofs.Common.{◌≡◌, ℕ, suc, ◌+◌, ◌<◌, ◌≤◌, Bool, true, false, cond, ◌&&◌, eqb, leb, List, [], ◌∷◌, refl, sym, ap, ◌∙◌, subst, arith, Option, Some, None, ℤ, pos}
 use Rattle.std.specs.Prelude.{IfSome, option_map, slice_get}
-use Rattle.std.specs.List.{All, filter, find}
+use Rattle.std.specs.List.{All, filter}
 use Rattle.std.proofs.lemmas.Bool.{eqb-true, leb-true, ne_eqb}
 use Rattle.std.proofs.lemmas.List.Elements.{All-cons, All-head, All-nil, All-tail}
 use Rattle.card_bounds.proofs.Totals.{Numbers, numbers-filter, slots-number}
@@ -13,40 +13,12 @@ use Rattle.card_events.specs.declared.kept.Slot.{Slot}
 use Rattle.card_events.specs.declared.post.Post.{Post}
 use Rattle.card_model.specs.Cycles.{IssuedRow, post_at}
 use Rattle.card_model.specs.Effects.{charge_at, is_charge}
-use Rattle.card_posts.specs.Order.{before, in_order, placed}
-use Rattle.card_posts.specs.Posted.{folding_order}
+use Rattle.card_posts.specs.Posted.{slot_with}
 use Rattle.card_rates.specs.Laws.{seen_in}
 use Rattle.card_slots.proofs.Posts.{Stands}
 use Rattle.card_slots.specs.Days.{day_post, found_for, only_folded, slot_post}
 use Rattle.card_slots.specs.declared.day.DayPost.{DayPost}
 use Rattle.card_holds.specs.Seen.{charge_seen, if_charge, post_by, post_seen}
-
--- ---- the slot with a number
-abbrev with-number : ℕ → List Slot → Option Slot
-with-number n slots = find (λ s. eqb s.number n) slots
-
-find-placed : (n : ℕ) (s : Slot) (xs : List Slot) → (eqb s.number n ≡ true → with-number n xs ≡ None) → with-number n (placed s xs) ≡ cond (eqb s.number n) (Some s) (with-number n xs)
-unfolding placed
-find-placed n s [] h = refl
-find-placed n s (y ∷ ys) h = by (before y s) (eqb y.number n) refl (eqb s.number n) refl h (find-placed n s ys)
-  where
-    none-some : {X : Type 0} (x : Slot) → Some x ≡ None → X
-    none-some x e = cc
-
-    ahead : (t u : Bool) → eqb s.number n ≡ u → (eqb s.number n ≡ true → cond t (Some y) (with-number n ys) ≡ None) → ((eqb s.number n ≡ true → with-number n ys ≡ None) → with-number n (placed s ys) ≡ cond (eqb s.number n) (Some s) (with-number n ys))
-        → cond t (Some y) (with-number n (placed s ys)) ≡ cond u (Some s) (cond t (Some y) (with-number n ys))
-    ahead true true q h ih = none-some y (h q)
-    ahead true false q h ih = refl
-    ahead false u q h ih = ih h ∙ ap (λ v. cond v (Some s) (with-number n ys)) q
-
-    by : (b t : Bool) → eqb y.number n ≡ t → (u : Bool) → eqb s.number n ≡ u → (eqb s.number n ≡ true → cond (eqb y.number n) (Some y) (with-number n ys) ≡ None)
-        → ((eqb s.number n ≡ true → with-number n ys ≡ None) → with-number n (placed s ys) ≡ cond (eqb s.number n) (Some s) (with-number n ys))
-        → with-number n (cond b (y ∷ placed s ys) (s ∷ y ∷ ys)) ≡ cond (eqb s.number n) (Some s) (cond (eqb y.number n) (Some y) (with-number n ys))
-    by true t p u q h ih =
-        ap (λ v. cond v (Some y) (with-number n (placed s ys))) p
-        ∙ (ahead t u q (λ e. ap (λ v. cond v (Some y) (with-number n ys)) (sym p) ∙ h e) ih
-        ∙ (ap (λ v. cond u (Some s) (cond v (Some y) (with-number n ys))) (sym p) ∙ ap (λ v. cond v (Some s) (cond (eqb y.number n) (Some y) (with-number n ys))) (sym q)))
-    by false t p u q h ih = refl
 
 absent : (low n : ℕ) (ps : List CorrectedPost) → Numbers low ps → n < low → post_at n ps ≡ None
 absent low n [] h l = refl
@@ -54,19 +26,6 @@ absent low n (p ∷ ps) h l =
     let first = h.0 in
     let other : eqb p.number n ≡ false = ne_eqb p.number n (λ e. omega (arith, first, l, e)) in
     rw other (absent (suc p.number) n ps h.1 (omega (arith, first, l)))
-
-find-order : (n low : ℕ) (ps : List CorrectedPost) → Numbers low ps → find (λ (s : Slot). eqb s.number n) (folding_order ps) ≡ option_map slot_of (post_at n ps)
-unfolding in_order
-find-order n low [] h = refl
-find-order n low (p ∷ ps) h =
-    let rest = find-order n (suc p.number) ps h.1 in
-    find-placed n (slot_of p) (in_order (map slot_of ps))
-    (λ e. rest ∙ ap (option_map slot_of) (absent (suc p.number) n ps h.1 (let same = eqb-true p.number n e in omega (arith, same))))
-    ∙ by (eqb p.number n) rest
-  where
-    by : (t : Bool) → with-number n (in_order (map slot_of ps)) ≡ option_map slot_of (post_at n ps) → cond t (Some (slot_of p)) (with-number n (in_order (map slot_of ps))) ≡ option_map slot_of (cond t (Some p) (post_at n ps))
-    by true e = refl
-    by false e = e
 
 -- ---- the post with a number among some of the posts
 abbrev keep : (CorrectedPost → Bool) → Option CorrectedPost → Option CorrectedPost
@@ -130,16 +89,15 @@ slot-found history p s = ap (option_map (slot_post (slot_of p))) s.found ∙ ap 
 
 -- ---- the post with a number
 pub seen-is : (history : List Kept) (issued : List IssuedRow) (shared : SharedRows) (day n : ℕ)
-    → post_by day history (find (λ (s : Slot). eqb s.number n) (folding_order (corrected (anchor_of history) shared.holidays history))) ≡ post_seen (seen_in history issued shared day) n
+    → post_by day history (slot_with n (corrected (anchor_of history) shared.holidays history)) ≡ post_seen (seen_in history issued shared day) n
 seen-is history issued shared day n =
     let a = anchor_of history in
     let cs = corrected a shared.holidays history in
     let numbers : Numbers 1 cs = slots-number a shared.holidays history 1 5 history in
     let folds : CorrectedPost → Bool = λ (p : CorrectedPost). is_folded p.post in
     let early : CorrectedPost → Bool = λ (p : CorrectedPost). leb p.day day in
-    ap (post_by day history) (find-order n 1 cs numbers)
-    ∙ (both (post_at n cs) refl
-    ∙ ap (option_map day_post) (sym (post-filter n 1 early (filter folds cs) (numbers-filter folds 1 cs numbers) ∙ ap (keep early) (post-filter n 1 folds cs numbers))))
+    both (post_at n cs) refl
+    ∙ ap (option_map day_post) (sym (post-filter n 1 early (filter folds cs) (numbers-filter folds 1 cs numbers) ∙ ap (keep early) (post-filter n 1 folds cs numbers)))
   where
     each : (p : CorrectedPost) (t u : Bool) → leb p.day day ≡ t → is_folded p.post ≡ u → found_for history (Some (slot_of p)) ≡ Some (day_post p)
         → cond t (only_folded (found_for history (Some (slot_of p)))) None ≡ option_map day_post (keep (λ (q : CorrectedPost). leb q.day day) (cond u (Some p) None))

@@ -1,6 +1,5 @@
 // Posts as the fold of a day sees them, by their numbers.
-ghost use Rattle.std.specs.Prelude.{◌≡◌, ◌==◌, ◌≤◌, Some, option_copied, List, IfSome};
-ghost use Rattle.std.specs.List.{find};
+ghost use Rattle.std.specs.Prelude.{◌≡◌, ◌≤◌, Some, List, IfSome};
 ghost use Rattle.card_events.specs.SharedRows.{SharedRows};
 ghost use Rattle.card_model.specs.Cycles.{IssuedRow};
 ghost use Rattle.card_posts.specs.Posted.{StandsFor};
@@ -12,18 +11,6 @@ use card_days::Day;
 use card_events::{Post, Slot};
 use card_posts::Posts;
 use card_slots::{DayPost, is_folded};
-
-// The slot with a number.
-fn slot_with(slots: &[Slot], number: u64) -> Option<&Slot>
-    ensures { option_copied result ≡ find (λ s. s.number == number) slots.now }
-{
-    for slot in slots {
-        if slot.number as u64 == number {
-            return Some(slot);
-        }
-    }
-    None
-}
 
 // A post of a kind that is folded.
 fn if_folded(post: DayPost) -> Option<DayPost>
@@ -52,13 +39,13 @@ fn post_of(posts: &Posts, slot: &Slot) -> Option<DayPost>
 }
 
 // The same, where it counts by a day.
-fn post_by(posts: &Posts, slot: Option<&Slot>, day: Day) -> Option<DayPost>
-    ensures { result ≡ seen.post_by day posts.now.history (option_copied slot.entry) }
+fn post_by(posts: &Posts, slot: Option<Slot>, day: Day) -> Option<DayPost>
+    ensures { result ≡ seen.post_by day posts.now.history slot }
 {
     match slot {
         Some(slot) => {
             if slot.day <= day {
-                post_of(posts, slot)
+                post_of(posts, &slot)
             } else {
                 None
             }
@@ -72,7 +59,7 @@ pub fn post_seen(posts: &Posts, number: u64, day: Day) -> Option<DayPost>
     ensures value { (issued : List IssuedRow) (shared : SharedRows) → StandsFor shared.holidays posts.now → result ≡ seen.post_seen (seen_in posts.now.history issued shared day) number }
     ensures by { IfSome result (λ p. p.day ≤ day) }
 {
-    post_by(posts, slot_with(posts.in_order(), number), day)
+    post_by(posts, posts.slot(number), day)
 }
 
 // A post that is a charge.

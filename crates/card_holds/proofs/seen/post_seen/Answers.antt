@@ -1,8 +1,6 @@
-use Rattle.std.proofs.Common.{◌≤◌, eqb, sym, ap, ◌∙◌, subst, Option}
+use Rattle.std.proofs.Common.{◌≤◌, sym, ap, ◌∙◌, subst, Option}
 use Rattle.std.specs.Prelude.{IfSome}
-use Rattle.std.specs.List.{find}
-use Rattle.card_events.specs.declared.kept.Slot.{Slot}
-use Rattle.card_posts.specs.Posted.{folding_order}
+use Rattle.card_posts.specs.Posted.{slot_with}
 use Rattle.card_slots.specs.declared.day.DayPost.{DayPost}
 use Rattle.card_holds.specs.Seen.{post_by}
 use Rattle.card_holds.proofs.Numbered.{seen-by, seen-is}
@@ -11,7 +9,7 @@ use Rattle.card_holds.proofs.seen.post_seen.Goals as goal
 pub returns-clause-value : goal.returns-clause-value
 returns-clause-value c issued shared stands =
     let h = c.args.posts.now.history in
-    c.post_by.ensures ∙ (ap (post_by c.args.day h) (c.slot_with.ensures ∙ ap (find (λ (s : Slot). eqb s.number c.args.number)) (c.in_order.ensures.order ∙ ap folding_order stands))
+    c.post_by.ensures ∙ (ap (post_by c.args.day h) (c.slot.ensures ∙ ap (slot_with c.args.number) stands)
     ∙ seen-is h issued shared c.args.day c.args.number)
 
 pub returns-clause-by : goal.returns-clause-by
