@@ -39,7 +39,6 @@ pub record IsCopy (s from : State) : Type 0 where
   pub rows : s.rows.items ≡ from.rows.items
   pub accruals : s.accruals.items ≡ from.accruals.items
   pub fees : s.fees.items ≡ from.fees.items
-  pub penalties : s.penalties.items ≡ from.penalties.items
 
 copy-before : (g : Given) (day : ℕ) (s from : State) (t : Track) → IsCopy s from → AreBefore g day from t → AreBefore g day s t
 copy-before g day s from t c h =
@@ -49,7 +48,6 @@ copy-before g day s from t c h =
         entries = old.entries;
         cycles = old.cycles;
         fees = c.fees ∙ old.fees;
-        penalties = c.penalties ∙ old.penalties;
         rates = c.rates ∙ old.rates;
         segments = ap (λ (b : Balances). b.segments) c.segments ∙ old.segments;
         sums = subst (λ (b : Balances). AreBalances (before g day).entries b.balances) (sym c.segments) old.sums;

@@ -16,14 +16,13 @@ fn copy_rows(rows: &[CycleRows], alloc: Global) -> Result<Vec<CycleRows>, NoMemo
     Ok(copy)
 }
 
-/// The same segments, rates, rows, accruals, fees and penalties in memory of their own.
+/// The same segments, rates, rows, accruals and fees in memory of their own.
 pub fn copy_state(state: &State, alloc: Global) -> Result<State, NoMemory>
     ensures segments { IfOk result (λ s. s.segments ≡ state.now.segments) }
     ensures rates { IfOk result (λ s. s.rates ≡ state.now.rates) }
     ensures rows { IfOk result (λ s. s.rows.items ≡ state.now.rows.items) }
     ensures accruals { IfOk result (λ s. s.accruals.items ≡ state.now.accruals.items) }
     ensures fees { IfOk result (λ s. s.fees.items ≡ state.now.fees.items) }
-    ensures penalties { IfOk result (λ s. s.penalties.items ≡ state.now.penalties.items) }
 {
     Ok(State {
         segments: state.segments.copy(alloc)?,
@@ -31,6 +30,5 @@ pub fn copy_state(state: &State, alloc: Global) -> Result<State, NoMemory>
         rows: copy_rows(&state.rows, alloc)?,
         accruals: Vec::from_slice(alloc, &state.accruals)?,
         fees: Vec::from_slice(alloc, &state.fees)?,
-        penalties: Vec::from_slice(alloc, &state.penalties)?,
     })
 }

@@ -135,7 +135,6 @@ pub record IsWithFee (g : Given) (day : ℕ) (o : Option Fee) (s new : State) (t
   pub sums : AreBalances (with_fee (account_in g) (seen_in g day) 0 o (before g day)).entries new.segments.balances
   pub segments : new.segments.segments ≡ s.segments.segments
   pub rates : new.rates ≡ s.rates
-  pub penalties : new.penalties.items ≡ s.penalties.items
   pub rows : new.rows.items ≡ s.rows.items
   pub accruals : new.accruals.items ≡ s.accruals.items
 
@@ -153,7 +152,6 @@ begun g day o s new t after due h w =
       entries = w.entries;
       cycles = w.cycles ∙ (h.stand.cycles ∙ sym (fee-cycles (account_in g) (seen_in g day) 0 o b));
       fees = w.fees;
-      penalties = w.penalties ∙ (h.stand.penalties ∙ sym (fee-penalties (account_in g) (seen_in g day) 0 o b));
       rates = rates;
       segments = w.segments ∙ h.stand.segments;
       sums = w.sums;

@@ -1,7 +1,7 @@
 -- Penalties that begin and end: what stays, and what is known of the closed cycles that they read.
-use Rattle.std.proofs.Common.{◌≡◌, ℕ, zero, suc, ◌+◌, ◌-◌, ◌<◌, ◌≤◌, true, false, cond, List, [], ◌∷◌, ◌++◌, map, take, drop, length, get_or, set, refl, sym, ap, ◌∙◌, subst, arith, Option, Some, ◌⊎◌, inl, inr, Result, Ok, Err}
+use Rattle.std.proofs.Common.{◌≡◌, ℕ, zero, suc, ◌+◌, ◌-◌, ◌<◌, ◌≤◌, true, false, cond, List, [], ◌∷◌, ◌++◌, map, take, drop, length, get_or, set, refl, sym, ap, ◌∙◌, subst, arith, Option, Some, ◌⊎◌, inl, inr}
 use Rattle.std.specs.List.{All}
-use Rattle.std.specs.Prelude.{◌==◌, OnOk}
+use Rattle.std.specs.Prelude.{◌==◌}
 use Rattle.std.proofs.lemmas.Bool.{cases_lt}
 use Rattle.std.proofs.lemmas.List.{append-nil, drop_all, take_all}
 use Rattle.std.proofs.lemmas.List.Elements.{All-cons, All-nil}
@@ -58,7 +58,6 @@ earlier-starts g day d o l =
 pub record IsWithPenalties (ps : List Interval) (s new : State) : Type 0 where
   pub segments : new.segments ≡ s.segments
   pub rates : new.rates ≡ rates.with_penalties ps s.rates
-  pub penalties : new.penalties.items ≡ ps
   pub rows : new.rows ≡ s.rows
   pub accruals : new.accruals ≡ s.accruals
   pub fees : new.fees ≡ s.fees
@@ -74,7 +73,6 @@ stand-with g rows_by next ps b s new t h same n =
       entries = h.entries;
       cycles = h.cycles;
       fees = ap (λ v. v.items) n.fees ∙ h.fees;
-      penalties = n.penalties;
       rates = n.rates ∙ ap (rates.with_penalties ps) h.rates;
       segments = ap (λ v. v.segments) n.segments ∙ h.segments;
       sums = subst (λ v. AreBalances b.entries v.balances) (sym n.segments) h.sums;
@@ -222,8 +220,3 @@ cured-then seen cs c due ps o e d t =
 pub cured-else : (seen : Seen) (cs : List Cycle) (c : Cycle) (ps : List Interval) (o : Option Cycle) → o ≡ Some c → (seen.day == c.due + 1) ≡ false → ps ≡ cured_on seen cs o ps
 unfolding cured_on
 cured-else seen cs c ps o e t = sym (ap (λ b. cond b (map (cured_by seen cs c) ps) ps) t) ∙ sym (ap (λ o. cured_on seen cs o ps) e)
-
--- ---- results
-pub both-ok : {A E : Type 0} (r : Result A E) (P Q R : Type 0) → OnOk r P → OnOk r Q → (P → Q → R) → OnOk r R
-both-ok (Ok x) P Q R h k f = f h k
-both-ok (Err e) P Q R h k f = h

@@ -144,7 +144,6 @@ amid-with g day done next c s new t after h k adds is w =
       entries = w.at.same;
       cycles = k.cycles ∙ (h.stand.cycles ∙ sym adds.cycles);
       fees = w.fees;
-      penalties = k.penalties ∙ (h.stand.penalties ∙ sym adds.penalties);
       rates = k.rates ∙ (h.stand.rates ∙ ap (λ ps. rates_of g.shared.holidays g.history ps) (sym adds.penalties));
       segments = k.segments ∙ h.stand.segments;
       sums = w.at.sums;
@@ -345,7 +344,6 @@ next-idle g day place s t o low high idle h =
       entries = h.stand.entries;
       cycles = h.stand.cycles;
       fees = h.stand.fees;
-      penalties = h.stand.penalties;
       rates = h.stand.rates;
       segments = h.stand.segments;
       sums = h.stand.sums;
@@ -354,7 +352,7 @@ next-idle g day place s t o low high idle h =
     } in
     record { stand = subst (λ (c : Book). StandFor g (rows_amid g day next c) c s t) same stand; accrued = h.accrued }
 
--- a Penalty changes penalties and rates alone
+-- a Penalty changes the rates alone
 pub next-penalty : (g : Given) (day place : ℕ) (x : DayPost) (s new : State) (t : Track) → opened_in g ≤ day → place_in g day ≤ place → place < place_in g day + length (posts_of g day)
     → IsAtPlace g day place x → x.post ≡ post.Penalty → AreAmid g day (done_by g day place) s t → IsWithPenalties (begun_on (seen_in g day) (before g day).cycles (amid g day (done_by g day place)).penalties) s new → AreAmid g day (done_by g day (place + 1)) new t
 next-penalty g day place x s new t o low high p is h k =

@@ -56,6 +56,5 @@ pub record MayFollow (day : ℕ) (rated : Rates) (returned : ℕ → Bool) (p : 
 pub record IsRestKept (s new : State) (t after : Track) : Type 0 where
   pub segments : new.segments.segments ≡ s.segments.segments
   pub rates : new.rates ≡ s.rates
-  pub penalties : new.penalties.items ≡ s.penalties.items
   pub accruals : new.accruals.items ≡ s.accruals.items
   pub cycles : after.cycles.items ≡ t.cycles.items

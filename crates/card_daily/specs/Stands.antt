@@ -74,7 +74,6 @@ pub record StandFor (g : Given) (rows_by : SegmentTerms → Rows) (b : Book) (s 
   pub entries : t.entries.items ≡ b.entries
   pub cycles : t.cycles.items ≡ b.cycles
   pub fees : s.fees.items ≡ b.fees
-  pub penalties : s.penalties.items ≡ b.penalties
   pub rates : s.rates ≡ rates_of g.shared.holidays g.history b.penalties
   pub segments : s.segments.segments ≡ account_segments g.shared.holidays g.history
   pub sums : AreBalances b.entries s.segments.balances

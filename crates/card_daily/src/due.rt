@@ -144,7 +144,6 @@ fn charge(day: Day, late: Fee, state: &mut State, track: &mut Track) -> Result<(
     ensures segments { OnOk result (state.new.segments.segments ≡ state.old.segments.segments) }
     ensures fees { OnOk result (state.new.fees.items ≡ state.old.fees.items ++ late ∷ []) }
     ensures rates { OnOk result (state.new.rates ≡ state.old.rates) }
-    ensures penalties { OnOk result (state.new.penalties.items ≡ state.old.penalties.items) }
     ensures rows { OnOk result (state.new.rows.items ≡ state.old.rows.items) }
     ensures accruals { OnOk result (state.new.accruals.items ≡ state.old.accruals.items) }
     ensures cycles { track.new.cycles.items ≡ track.old.cycles.items }
@@ -200,13 +199,7 @@ pub fn due_day(
     ensures begins { Begins track.old track.new }
 {
     charge_late(inputs, day, state, track)?;
-    end_penalties(
-        inputs,
-        day,
-        &track.cycles,
-        &mut state.rates,
-        &mut state.penalties,
-    );
+    end_penalties(inputs, day, &track.cycles, &mut state.rates);
     Ok(())
 }
 

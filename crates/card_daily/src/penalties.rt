@@ -55,19 +55,16 @@ pub(crate) fn begin_penalty(
     day: Day,
     cycles: &[Cycle],
     rates: &mut RateBook,
-    penalties: &mut Vec<Interval>,
 ) -> Result<(), NoMemory>
     requires opened { opened_in inputs.now ≤ day }
     requires last { day ≤ 47_481 }
     requires cycles { cycles.now ≡ (before inputs.now day).cycles }
-    ensures rates { OnOk result (rates.new ≡ with_penalties (begun_on (seen_in inputs.now day) cycles.now rates.old.penalties) rates.old) }
-    ensures penalties { OnOk result (penalties.new.items ≡ begun_on (seen_in inputs.now day) cycles.now penalties.old.items) }
+    ensures { OnOk result (rates.new ≡ with_penalties (begun_on (seen_in inputs.now day) cycles.now rates.old.penalties) rates.old) }
 {
     let _sound = inputs.anchor();
     if is_sixty_days_late(inputs, day, cycles) {
         let begins = begin_after(day);
         rates.begin_penalty(begins)?;
-        penalties.push(Interval { begins, last: None })?;
     }
     Ok(())
 }
@@ -123,61 +120,40 @@ fn end_if_cured(
     due: Day,
     which: usize,
     rates: &mut RateBook,
-    penalties: &mut Vec<Interval>,
 )
     requires due { All (IsDueBy inputs.now day) cycles.now }
     requires last { day ≤ 47_481 }
-    requires which { which < length penalties.old.items }
-    requires same { rates.old.penalties ≡ penalties.old.items }
-    ensures rates { rates.new ≡ with_penalties penalties.new.items rates.old }
-    ensures penalties { (i : Interval) → penalties.new.items ≡ slice_set penalties.old.items which (cured_with (seen_in inputs.now day) cycles.now due (slice_index_or penalties.old.items which i)) }
+    requires which { which < length rates.old.penalties }
+    ensures { (i : Interval) → rates.new ≡ with_penalties (slice_set rates.old.penalties which (cured_with (seen_in inputs.now day) cycles.now due (slice_index_or rates.old.penalties which i))) rates.old }
 {
-    if is_cured(inputs, day, cycles, &penalties[which]) {
+    if is_cured(inputs, day, cycles, &rates.penalties()[which]) {
         rates.end_penalty(which, due);
-        penalties[which].last = Some(due);
     }
 }
 
 // So has each of them.
-fn end_cured(
-    inputs: &Inputs,
-    day: Day,
-    cycles: &[Cycle],
-    due: Day,
-    rates: &mut RateBook,
-    penalties: &mut Vec<Interval>,
-)
+fn end_cured(inputs: &Inputs, day: Day, cycles: &[Cycle], due: Day, rates: &mut RateBook)
     requires due { All (IsDueBy inputs.now day) cycles.now }
     requires last { day ≤ 47_481 }
-    requires same { rates.old.penalties ≡ penalties.old.items }
-    ensures rates { rates.new ≡ with_penalties penalties.new.items rates.old }
-    ensures penalties { penalties.new.items ≡ map (cured_with (seen_in inputs.now day) cycles.now due) penalties.old.items }
+    ensures { rates.new ≡ with_penalties (map (cured_with (seen_in inputs.now day) cycles.now due) rates.old.penalties) rates.old }
 {
-    for which in 0..penalties.len() {
-        end_if_cured(inputs, day, cycles, due, which, rates, penalties);
+    for which in 0..rates.penalties().len() {
+        end_if_cured(inputs, day, cycles, due, which, rates);
     }
 }
 
 // On the day after the last cycle's due date, each penalty that is cured ends with it.
 #[tactic(auto, unfolding(crate::specs::Penalties::cured_on))]
-pub(crate) fn end_penalties(
-    inputs: &Inputs,
-    day: Day,
-    cycles: &[Cycle],
-    rates: &mut RateBook,
-    penalties: &mut Vec<Interval>,
-)
+pub(crate) fn end_penalties(inputs: &Inputs, day: Day, cycles: &[Cycle], rates: &mut RateBook)
     requires opened { opened_in inputs.now ≤ day }
     requires last { day ≤ 47_481 }
     requires cycles { cycles.now ≡ (before inputs.now day).cycles }
-    requires same { rates.old.penalties ≡ penalties.old.items }
-    ensures rates { rates.new ≡ with_penalties penalties.new.items rates.old }
-    ensures penalties { penalties.new.items ≡ cured_on (seen_in inputs.now day) cycles.now (last_cycle cycles.now) penalties.old.items }
+    ensures { rates.new ≡ with_penalties (cured_on (seen_in inputs.now day) cycles.now (last_cycle cycles.now) rates.old.penalties) rates.old }
 {
     let _sound = inputs.anchor();
     if let Some(cycle) = cycles.last() {
         if is_day_after(cycle.due, day) {
-            end_cured(inputs, day, cycles, cycle.due, rates, penalties);
+            end_cured(inputs, day, cycles, cycle.due, rates);
         }
     }
 }

@@ -260,13 +260,7 @@ fn enter(
     let _count = state.segments.len();
     match folded_at(inputs.posts(), place) {
         Some(post) => match &post.post {
-            Post::Penalty => begin_penalty(
-                inputs,
-                day,
-                &track.cycles,
-                &mut state.rates,
-                &mut state.penalties,
-            ),
+            Post::Penalty => begin_penalty(inputs, day, &track.cycles, &mut state.rates),
             _ => enter_post(alloc, inputs, &post, state, track),
         },
         None => Ok(()),

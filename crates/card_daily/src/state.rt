@@ -1,11 +1,11 @@
 use card_grace::{Accrual, CycleRows};
-use card_model::{Fee, Interval};
+use card_model::Fee;
 use card_rates::RateBook;
 use card_segments::Segments;
 
-/// What is kept of an account from day to day: its segments with their balances, its rates, the rows of the open cycle and
-/// what was accrued, of each segment but Credit and Held in order of number, and the penalty fees charged and the penalty
-/// rates begun so far.
+/// What is kept of an account from day to day: its segments with their balances, its rates with the penalties begun so far, the
+/// rows of the open cycle and what was accrued, of each segment but Credit and Held in order of number, and the penalty fees
+/// charged so far.
 #[derive(Drop)]
 pub struct State {
     pub segments: Segments,
@@ -13,5 +13,4 @@ pub struct State {
     pub rows: Vec<CycleRows>,
     pub accruals: Vec<Accrual>,
     pub fees: Vec<Fee>,
-    pub penalties: Vec<Interval>,
 }

@@ -72,7 +72,6 @@ pub record IsClosed (g : Given) (day : ℕ) (s new : State) (after : Track) : Ty
   pub entries : after.entries.items ≡ (closed g day).entries
   pub cycles : after.cycles.items ≡ (closed g day).cycles
   pub fees : new.fees ≡ s.fees
-  pub penalties : new.penalties ≡ s.penalties
   pub rates : new.rates ≡ s.rates
   pub segments : new.segments.segments ≡ s.segments.segments
   pub sums : AreBalances after.entries.items new.segments.balances
@@ -92,7 +91,6 @@ closed-of g day s new t after o e h n =
       entries = entries;
       cycles = n.cycles ∙ ap (λ (b : Book). b.cycles) (sym is);
       fees = ap (λ v. v.items) n.fees ∙ (h.stand.fees ∙ sym (ap (λ (b : Book). b.fees) is ∙ closed-fees row (account_in g) (seen_in g day) (posted g day)));
-      penalties = ap (λ v. v.items) n.penalties ∙ (h.stand.penalties ∙ sym penalties);
       rates = n.rates ∙ (h.stand.rates ∙ ap (rates_of g.shared.holidays g.history) (sym penalties));
       segments = n.segments ∙ h.stand.segments;
       sums = subst (λ es. AreBalances es new.segments.balances) entries n.sums;

@@ -69,7 +69,6 @@ pub record IsNew (g : Given) (s : State) : Type 0 where
   pub rows : s.rows.items ≡ replicate (length s.segments.segments - 2) (no_rows (opened_in g))
   pub accruals : s.accruals.items ≡ replicate (length s.segments.segments - 2) nothing_accrued
   pub fees : s.fees.items ≡ []
-  pub penalties : s.penalties.items ≡ []
 
 count : (g : Given) (s : State) → IsNew g s → length s.segments.segments - 2 ≡ length s.rates.segments
 count g s h =
@@ -86,7 +85,6 @@ stand g s t sound h entries cycles =
       entries = entries;
       cycles = cycles;
       fees = h.fees;
-      penalties = h.penalties;
       rates = h.rates;
       segments = h.segments;
       sums = subst (AreBalances []) (sym h.unused) (sums-start (length s.segments.segments));

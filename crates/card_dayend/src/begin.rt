@@ -46,7 +46,6 @@ pub fn start(alloc: Global, inputs: &Inputs) -> Result<State, NoMemory>
         rows: empty_rows(alloc, count, opened)?,
         accruals: no_accruals(alloc, count)?,
         fees: Vec::new(alloc),
-        penalties: Vec::new(alloc),
     })
 }
 

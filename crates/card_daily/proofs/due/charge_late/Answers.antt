@@ -64,7 +64,6 @@ returns-in_ok-charge-clause-charged c =
       sums = at.sums;
       segments = did.segments;
       rates = did.rates;
-      penalties = did.penalties;
       rows = did.rows;
       accruals = did.accruals;
     })
@@ -88,4 +87,4 @@ returns-in_default-clause-charged c =
     let t = c.args.track.now in
     let h = c.requires.before in
     begun c.args.inputs.now c.args.day None s s t t (sym c.fee_due.ensures ∙ c.in_default.is) h
-    (record { entries = h.stand.entries; cycles = refl; fees = h.stand.fees; sums = h.stand.sums; segments = refl; rates = refl; penalties = refl; rows = refl; accruals = refl })
+    (record { entries = h.stand.entries; cycles = refl; fees = h.stand.fees; sums = h.stand.sums; segments = refl; rates = refl; rows = refl; accruals = refl })

@@ -1,4 +1,4 @@
-use Rattle.std.proofs.Common.{List, refl, sym, ap, ◌∙◌}
+use Rattle.std.proofs.Common.{List, refl, ap, ◌∙◌}
 use Rattle.card_model.specs.Cycles.{Cycle, last_cycle}
 use Rattle.card_model.specs.declared.segment.Interval.{Interval}
 use Rattle.card_daily.proofs.DueDay.{charged-cycles, charged-penalties, ended}
@@ -11,11 +11,6 @@ use Rattle.card_daily.proofs.due.due_day.Goals as goal
 pub end_penalties-requires-clause-cycles : goal.end_penalties-requires-clause-cycles
 end_penalties-requires-clause-cycles c = c.deref.ensures.value ∙ (c.in_ok-charge_late.ensures.charged.stand.cycles ∙ charged-cycles c.args.inputs.now c.args.day)
 
-pub end_penalties-requires-clause-same : goal.end_penalties-requires-clause-same
-end_penalties-requires-clause-same c =
-    let h = c.in_ok-charge_late.ensures.charged.stand in
-    ap (λ (r : Rates). r.penalties) h.rates ∙ sym h.penalties
-
 pub returns-clause-amid : goal.returns-clause-amid
 returns-clause-amid c =
     let g = c.args.inputs.now in
@@ -23,8 +18,7 @@ returns-clause-amid c =
     let s = c.charge_late.new.state in
     let h = c.in_ok-charge_late.ensures.charged in
     let cycles = c.deref.ensures.value ∙ (h.stand.cycles ∙ charged-cycles g day) in
-    let old = h.stand.penalties ∙ charged-penalties g day in
-    let ps = c.end_penalties.ensures.penalties
-    ∙ (ap (λ (cs : List Cycle). cured_on (seen_in g day) cs (last_cycle cs) s.penalties.items) cycles ∙ ap (cured_on (seen_in g day) (before g day).cycles (last_cycle (before g day).cycles)) old) in
+    let old = ap (λ (r : Rates). r.penalties) h.stand.rates ∙ charged-penalties g day in
+    let ps = ap (λ (cs : List Cycle). cured_on (seen_in g day) cs (last_cycle cs) s.rates.penalties) cycles ∙ ap (cured_on (seen_in g day) (before g day).cycles (last_cycle (before g day).cycles)) old in
     ended g day s _ c.charge_late.new.track c.requires.opened h
-    (record { segments = refl; rates = c.end_penalties.ensures.rates ∙ ap (λ (is : List Interval). with_penalties is s.rates) ps; penalties = ps; rows = refl; accruals = refl; fees = refl })
+    (record { segments = refl; rates = c.end_penalties.ensures ∙ ap (λ (is : List Interval). with_penalties is s.rates) ps; rows = refl; accruals = refl; fees = refl })

@@ -6,7 +6,4 @@ use Rattle.card_daily.specs.Given.{seen_in}
 use Rattle.card_daily.proofs.penalties.end_cured.Given as goal
 
 abbrev pub invariant-loop-which : goal.invariant-loop-which
-invariant-loop-which l = record {
-  kept : l.penalties.items ≡ done-to (cured_with (seen_in l.inputs l.day) l.cycles l.due) l.which l.fn.penalties.items;
-  rates : l.rates ≡ with_penalties l.penalties.items l.fn.rates;
-}
+invariant-loop-which l = l.rates ≡ with_penalties (done-to (cured_with (seen_in l.inputs l.day) l.cycles l.due) l.which l.fn.rates.penalties) l.fn.rates

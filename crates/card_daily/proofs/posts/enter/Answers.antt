@@ -2,7 +2,6 @@ use Rattle.std.proofs.Common.{◌≡◌, ◌-◌, ◌≤◌, List, length, refl,
 use Rattle.card_daily.proofs.Fronts.{front-small, returnable}
 use Rattle.card_daily.proofs.Holding.{front-moves, of-account, place-held}
 use Rattle.card_daily.proofs.PostDay.{cycles-before, either-way, next-amid, next-begins, next-idle, next-penalty, none-found, place-cycles, post_at_place, place-day, place-found, place-high, place-kind, place-low, place-named, rows-count, told-here}
-use Rattle.card_daily.proofs.Penalized.{both-ok}
 use Rattle.card_daily.proofs.Posting.{on-ok}
 use Rattle.card_daily.proofs.Standing.{rated, within}
 use Rattle.card_bounds.specs.Bounds.{moved}
@@ -147,12 +146,11 @@ returns-in-Penalty-clause-amid c =
     let cycles = c.deref.ensures.value ∙ (h.stand.cycles ∙ cycles-before g day done) in
     let alike : (ps : List Interval) → ps ≡ (amid g day done).penalties → begun_on (seen_in g day) c.deref.result.now ps ≡ begun_on (seen_in g day) (before g day).cycles (amid g day done).penalties =
     λ ps e. ap (λ (cs : List Cycle). begun_on (seen_in g day) cs ps) cycles ∙ ap (begun_on (seen_in g day) (before g day).cycles) e in
-    both-ok c.begin_penalty.result _ _ _ c.begin_penalty.ensures.rates c.begin_penalty.ensures.penalties
-    (λ rates penalties. next-penalty g day place x s _ c.args.track.now c.requires.opened c.requires.from c.requires.within here c.in-Penalty.is h
+    on-ok c.begin_penalty.result _ _ c.begin_penalty.ensures
+    (λ rates. next-penalty g day place x s _ c.args.track.now c.requires.opened c.requires.from c.requires.within here c.in-Penalty.is h
     (record {
       segments = refl;
       rates = rates ∙ ap (λ (is : List Interval). with_penalties is s.rates) (alike s.rates.penalties (ap (λ (r : Rates). r.penalties) h.stand.rates));
-      penalties = penalties ∙ alike s.penalties.items h.stand.penalties;
       rows = refl;
       accruals = refl;
       fees = refl;

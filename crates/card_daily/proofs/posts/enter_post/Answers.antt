@@ -86,7 +86,7 @@ returns-in_default c =
           of-kind row a seen first returned rows_by p x x.post b c.args.state.now c.args.track.now e refl (λ n. returns-none n x.post c.in_default.not-Return)
           (subst (λ (d : Book). StandWith a seen first returned rows_by d c.args.state.now c.args.track.now)
           (sym (nothing-done row a seen p x.post b c.requires.kind c.in_default.not-Charge c.in_default.not-Credit c.in_default.not-Payment c.in_default.not-Refund c.in_default.not-Return c.in_default.not-Dispute c.in_default.not-Resolve)) h);
-      rest = record { segments = refl; rates = refl; penalties = refl; accruals = refl; cycles = refl };
+      rest = record { segments = refl; rates = refl; accruals = refl; cycles = refl };
       err = tt;
     }
 

@@ -10,7 +10,7 @@ use Rattle.card_dayend.proofs.begin.start.Goals as goal
 pub returns : goal.returns
 returns c t entries cycles =
     let g = c.args.inputs.now in
-    starts g (record { segments = c.in_ok-segments.segments; rates = c.in_ok-of.field-0; rows = c.in_ok-empty_rows.field-0; accruals = c.in_ok-no_accruals.field-0; fees = c.new.result; penalties = c.new-2.result }) t c.anchor-opened.ensures.sound
+    starts g (record { segments = c.in_ok-segments.segments; rates = c.in_ok-of.field-0; rows = c.in_ok-empty_rows.field-0; accruals = c.in_ok-no_accruals.field-0; fees = c.new.result }) t c.anchor-opened.ensures.sound
     (record {
       segments = c.in_ok-segments.ensures.segments g.shared.holidays ∙ ap (account_segments g.shared.holidays) c.posts.ensures.history;
       unused = c.in_ok-segments.ensures.unused;
@@ -21,6 +21,5 @@ returns c t entries cycles =
           ∙ ap (λ (a : Anchor). replicate (length c.in_ok-segments.segments.segments - 2) (no_rows a.opened)) c.anchor-opened.ensures.value);
       accruals = c.in_ok-no_accruals.ensures ∙ ap (λ n. replicate (n - 2) nothing_accrued) c.len.ensures.segments;
       fees = c.new.ensures.items;
-      penalties = c.new-2.ensures.items;
     })
     entries cycles

@@ -64,7 +64,6 @@ returns-clause-closed c =
       entries = did.entries row s.rates.segments (is_added day) (account_in g) (seen_in g day) (posted g day) given;
       cycles = c.in_ok-push.ensures.items ∙ (ap (λ (cs : List Cycle). cs ++ c.in_ok-cycle.cycle ∷ []) h.stand.cycles ∙ did.cycle row s.rates.segments (is_added day) (account_in g) (seen_in g day) (posted g day) given);
       fees = refl;
-      penalties = refl;
       rates = refl;
       segments = did.segments;
       sums = did.step.sums;
