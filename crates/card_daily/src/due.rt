@@ -7,7 +7,6 @@ ghost use Rattle.card_daily.specs.Due as spec;
 ghost use Rattle.card_daily.specs.Due.{AreCharged};
 ghost use Rattle.card_events.specs.History.{anchor_of};
 ghost use Rattle.card_model.specs.CycleDays.{HasItsDays};
-ghost use Rattle.card_due.specs.Asked.{asks};
 ghost use Rattle.card_due.specs.Laws.{due_cycle_of, issue_day, issued_fees};
 ghost use Rattle.card_model.specs.Caps.{row_for};
 ghost use Rattle.card_model.specs.Cycles.{Cycle, Seen, last_cycle};
@@ -71,15 +70,6 @@ pub fn due_cycle(inputs: &Inputs, day: Day, cycle: &Cycle) -> DueCycle
     let anchor = inputs.anchor();
     let issued = issue_day(inputs.issued_for(cycle.number));
     with_due_payment(cycle, has_due_payment(&anchor, cycle.number, issued, day))
-}
-
-/// What a closed cycle's due date asks for, in cents: its minimum payment, which is at least 0, and 0 where the cycle has no due
-/// payment (12 CFR 1026.5(b)(2)(ii)).
-pub fn asked(due: &DueCycle) -> Cents
-    requires { pos 0 ≤ℤ due.now.minimum }
-    ensures { result ≡ pos (asks due.now) }
-{
-    if due.has_due_payment { due.minimum } else { 0 }
 }
 
 // The penalty fees that an issued statement has.

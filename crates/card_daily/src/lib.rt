@@ -12,7 +12,7 @@ mod state;
 mod track;
 
 pub use card_closing::{Amounts, Cycle, Entry, Fee, Fees};
-pub use due::{asked, due_cycle, due_day};
+pub use due::{due_cycle, due_day};
 pub use inputs::Inputs;
 pub use penalties::is_sixty_days_late;
 pub use posts::post_day;

@@ -21,11 +21,11 @@ ghost use Rattle.card_daily.specs.Returns.{IsDueBy, SeesPayment, fees_with};
 ghost use Rattle.card_daily.specs.Posts.{IsRestKept, StandWith};
 ghost use Rattle.card_daily.specs.Stands.{Begins, before};
 
-use crate::due::{asked, due_cycle, fees_of, minimum_of, push_fee};
+use crate::due::{due_cycle, fees_of, minimum_of, push_fee};
 use crate::{Inputs, State, Track};
 use card_closing::Cycle;
 use card_days::Day;
-use card_due::capped_fee;
+use card_due::{asked, capped_fee};
 use card_effects::{returned, unpay};
 use card_events::Slot;
 use card_fees::returned_fee;

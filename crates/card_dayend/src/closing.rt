@@ -17,9 +17,9 @@ ghost use Rattle.card_daily.specs.Given.{account_in, opened_in, seen_in};
 ghost use Rattle.card_daily.specs.Stands.{AreBefore, ArePosted, Begins, posted};
 
 use card_closing::{Closing, Cycle, GraceCase, close};
-use card_daily::{Inputs, Issued, State, Track, asked, due_cycle};
+use card_daily::{Inputs, Issued, State, Track, due_cycle};
 use card_days::{Anchor, Day, closing, cycle_of, due};
-use card_due::{DueCycle, purchase_case};
+use card_due::{DueCycle, asked, purchase_case};
 use card_fees::past_due;
 use card_grace::CycleRows;
 use card_units::{Cents, NoMemory};

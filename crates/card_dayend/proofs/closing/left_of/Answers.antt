@@ -29,7 +29,7 @@ returns c =
     let seen = seen_in g c.args.day in
     let a = anchor_of g.history in
     let posts = corrected a g.shared.holidays g.history in
-    let minimum = ap unsigned_abs (to_z-of_z w64 c.asked.result (record { sfits = c.asked.type_inv }) ∙ (c.asked.ensures ∙ ap (λ d. pos (asks d)) c.due_cycle-due.ensures)) in
+    let minimum = ap unsigned_abs (to_z-of_z w64 c.asked.result (record { sfits = c.asked.type_inv }) ∙ (c.asked.ensures.value ∙ ap (λ d. pos (asks d)) c.due_cycle-due.ensures)) in
     let same = left-alike c.anchor-anchor.result a c.posts.result.now.corrected posts c.args.number _ (asked seen.issued (Some c.args.cycle.now)) c.anchor-anchor.ensures.value
     (c.posts.ensures.stands ∙ ap (λ h. corrected (anchor_of h) g.shared.holidays h) c.posts.ensures.history) minimum in
     to_z-of_z w64 c.past_due.result (record { sfits = c.past_due.type_inv })
