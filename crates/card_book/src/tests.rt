@@ -1,11 +1,11 @@
-ghost use Rattle.std.specs.Prelude.{◌≡◌, ◌+◌, ◌<◌, ◌≤◌, [], IfOk, OnOk};
+ghost use Rattle.std.specs.Prelude.{◌≡◌, ◌+◌, ◌<◌, ◌≤◌, [], length, Some, IfOk, OnOk};
 ghost use Rattle.card_events.specs.declared.post.Post.TheVariants as post;
 ghost use Rattle.card_daily.specs.Given.{opened_in};
 ghost use Rattle.card_dayend.specs.TestAccount.{IsGood, IsOn, opening};
 ghost use Rattle.card_posts.specs.Posted.{StandsFor};
 ghost use Rattle.card_book.specs.Stands as kept;
 
-use crate::{Book, Folded, Inputs, Statement, Track, fold};
+use crate::{Book, Folded, Inputs, Issued, Statement, Track, fold};
 use card_days::{Calendar, Channel, Day};
 use card_events::{Name, Num, Place, Post, Terms};
 use card_fees::FeeTable;
@@ -80,6 +80,13 @@ fn payment(rt: &impl Abort, on: u16, cents: u32) -> Post
     }
 }
 
+// Issues the first statement on the day after its closing.
+fn bill(rt: &impl Abort) -> Post
+    ensures { IsOn 19_849 result }
+{
+    Post::Bill { cycle: num(rt, 1) }
+}
+
 // Accepts a post on its day.
 fn push(
     rt: &impl Abort,
@@ -128,14 +135,20 @@ fn of_overpayment(rt: &impl Abort, alloc: Global, calendar: &Calendar) -> Result
     Ok(posts)
 }
 
-fn inputs<'a>(posts: &'a Posts, calendar: &'a Calendar, fees: &'a FeeTable) -> Inputs<'a>
+fn inputs<'a>(
+    posts: &'a Posts,
+    issued: &'a [Issued],
+    calendar: &'a Calendar,
+    fees: &'a FeeTable,
+) -> Inputs<'a>
     requires stands { StandsFor calendar.now posts.now }
     requires good { IsGood posts.now.history }
+    requires single { length issued.now ≤ 1 }
     requires calendar { calendar.now ≡ [] }
     requires fees { fees.now ≡ [] }
     ensures { opened_in result ≡ 19_819 }
 {
-    Inputs::new(posts, &[], calendar, fees)
+    Inputs::new(posts, issued, calendar, fees)
 }
 
 fn no_track(alloc: Global) -> Track
@@ -162,6 +175,7 @@ fn folded<L: Ledger>(
     requires entries { track.old.entries.items ≡ [] }
     requires cycles { track.old.cycles.items ≡ [] }
     ensures stands { IfOk result (λ b. kept.StandsFor inputs.now b track.new) }
+    ensures day { IfOk result (λ b. b.day ≡ Some to) }
     ensures steps { OnOk result (steps.new + 19_819 ≡ steps.old + to + 1) }
 {
     let mut book = Book::start(alloc, inputs)?;
@@ -186,6 +200,7 @@ fn folded_alone<L: Ledger>(
     requires entries { track.old.entries.items ≡ [] }
     requires cycles { track.old.cycles.items ≡ [] }
     ensures stands { IfOk result (λ b. kept.StandsFor inputs.now b track.new) }
+    ensures day { IfOk result (λ b. b.day ≡ Some to) }
 {
     let mut steps = Steps::<L>::new(blank);
     folded(alloc, inputs, track, to, &mut steps)
@@ -198,6 +213,7 @@ fn book_to(alloc: Global, inputs: &Inputs, track: &mut Track, to: Day) -> Result
     requires entries { track.old.entries.items ≡ [] }
     requires cycles { track.old.cycles.items ≡ [] }
     ensures stands { IfOk result (λ b. kept.StandsFor inputs.now b track.new) }
+    ensures day { IfOk result (λ b. b.day ≡ Some to) }
 {
     folded_alone::<Brand>(alloc, inputs, track, to, Blank::new(1))
 }
@@ -211,13 +227,51 @@ fn check_statement(rt: &impl Abort, alloc: Global, statement: &Statement) -> Res
     Ok(())
 }
 
+// The first statement, issued on the day after its closing by the third post.
+fn first_issued(
+    rt: &impl Abort,
+    alloc: Global,
+    posts: &Posts,
+    calendar: &Calendar,
+    fees: &FeeTable,
+) -> Result<Issued, Fail>
+    requires stands { StandsFor calendar.now posts.now }
+    requires good { IsGood posts.now.history }
+    requires calendar { calendar.now ≡ [] }
+    requires fees { fees.now ≡ [] }
+{
+    let inputs = inputs(posts, &[], calendar, fees);
+    let mut track = no_track(alloc);
+    let today = day(rt, 19_849);
+    let book = book_to(alloc, &inputs, &mut track, today)?;
+    assert_eq!(rt; track.cycles.len(), 1);
+    let statement = book.statement(alloc, &inputs, &track, 1, today)?;
+    Ok(Issued {
+        cycle: 1,
+        bill: 3,
+        day: today,
+        statement,
+    })
+}
+
+// Whether an account is sixty days late at the end of a day.
+fn is_late_on(alloc: Global, inputs: &Inputs, to: Day) -> Result<bool, NoMemory>
+    requires opened { opened_in inputs.now ≡ 19_819 }
+    requires first { 19_819 ≤ to }
+    requires last { to ≤ 47_481 }
+{
+    let mut track = no_track(alloc);
+    let book = book_to(alloc, inputs, &mut track, to)?;
+    Ok(book.late_today(inputs, &track))
+}
+
 // 2024-04-06 to 2024-05-05 are 30 days of 1,000 dollars of cash at 19.99%: 30 * 100000 * 547671 billionths of a cent.
 #[test]
 fn a_month_of_cash(rt: HostRuntime) -> Result<(), Fail> {
     let alloc = rt.alloc();
     let (calendar, fees) = (Calendar::new(alloc), FeeTable::new(alloc));
     let posts = of_cash(&rt, alloc, &calendar)?;
-    let inputs = inputs(&posts, &calendar, &fees);
+    let inputs = inputs(&posts, &[], &calendar, &fees);
     let mut track = no_track(alloc);
     let to = day(&rt, 19_848);
     let book = book_to(alloc, &inputs, &mut track, to)?;
@@ -237,13 +291,29 @@ fn a_payment_of_more_than_is_owed(rt: HostRuntime) -> Result<(), Fail> {
     let alloc = rt.alloc();
     let (calendar, fees) = (Calendar::new(alloc), FeeTable::new(alloc));
     let posts = of_overpayment(&rt, alloc, &calendar)?;
-    let inputs = inputs(&posts, &calendar, &fees);
+    let inputs = inputs(&posts, &[], &calendar, &fees);
     let mut track = no_track(alloc);
     let to = day(&rt, 19_821);
     let book = book_to(alloc, &inputs, &mut track, to)?;
     assert_eq!(rt; book.owed(), -2_000);
     assert_eq!(rt; book.balance(0), -2_000);
     assert_eq!(rt; book.credit_since(), Some(day(&rt, 19_820)));
+    Ok(())
+}
+
+// Its minimum payment is due on 2024-06-01, and 2024-07-31 is the sixtieth day after that.
+#[test]
+fn a_minimum_payment_that_is_not_paid(rt: HostRuntime) -> Result<(), Fail> {
+    let alloc = rt.alloc();
+    let (calendar, fees) = (Calendar::new(alloc), FeeTable::new(alloc));
+    let mut posts = of_cash(&rt, alloc, &calendar)?;
+    let mut issued = Vec::new(alloc);
+    issued.push(first_issued(&rt, alloc, &posts, &calendar, &fees)?)?;
+    let bill = bill(&rt);
+    push(&rt, alloc, &mut posts, &calendar, 19_849, &bill)?;
+    let inputs = inputs(&posts, &issued, &calendar, &fees);
+    assert!(rt; !is_late_on(alloc, &inputs, day(&rt, 19_935))?);
+    assert!(rt; is_late_on(alloc, &inputs, day(&rt, 19_936))?);
     Ok(())
 }
 

@@ -60,6 +60,17 @@ plain on (post.Payment day minute by cents) l h = record {
   no_return = λ history n. tt;
   received = λ on low h. let same = h.0 in ((omega (arith, same, low), omega (arith, same)), h.1);
 }
+plain on (post.Bill cycle) l h = record {
+  cents = omega arith;
+  rate = omega arith;
+  resolves_none = λ n. refl;
+  no_segment = refl;
+  dated = refl;
+  no_plan = refl;
+  no_target = refl;
+  no_return = λ history n. tt;
+  received = λ on low h. tt;
+}
 plain on p l h = absurd h
 
 pub no-target : (on : ℕ) (p : Post) → on ≤ 47481 → IsOn on p → target_of p ≡ 0

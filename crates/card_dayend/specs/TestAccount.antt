@@ -10,10 +10,11 @@ use Rattle.card_daily.specs.Given.{Given, IsSound}
 abbrev pub opening : Post
 opening = post.Open 19819 (record { close = 5; purchase = 1999; cash = 1999; transfer = 2199; penalty = 2999; floor = 2500; pct = 100 })
 
--- a charge or a payment of a day, of at most 10^9 cents
+-- a charge or a payment of a day, of at most 10^9 cents, or a Bill
 abbrev pub IsOn : ℕ → Post → Type 0
 IsOn on (post.Charge day _ cents) = (day ≡ on) × (cents ≤ 1000000000)
 IsOn on (post.Payment day minute _ cents) = (day ≡ on) × (minute ≤ 1439) × (cents ≤ 1000000000)
+IsOn on (post.Bill cycle) = Unit {0}
 IsOn on _ = ⊥
 
 -- such an account has no issued statement, and there is no holiday and no fee
