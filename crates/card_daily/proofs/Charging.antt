@@ -30,62 +30,12 @@ use Rattle.card_model.specs.Folds.{cycle_at}
 use Rattle.card_model.specs.Payments.{asked}
 use Rattle.card_model.specs.declared.fee.Fee.{Fee}
 use Rattle.card_model.specs.declared.fee.FeeKind.TheVariants as kind
-use Rattle.card_posts.specs.Order.{before as stands_before}
-use Rattle.card_posts.specs.Order.{in_order, placed}
-use Rattle.card_posts.specs.Posted.{folding_order}
 use Rattle.card_daily.proofs.Books.{before-is}
 use Rattle.card_daily.proofs.Following.{cycle-few}
 use Rattle.card_daily.proofs.LastThat.{found-at}
 use Rattle.card_daily.specs.Given.{Given, IsSound, opened_in, row_in, seen_in}
 use Rattle.card_daily.specs.Returns.{IsDueBy}
 use Rattle.card_daily.specs.Stands.{before}
-
--- ---- the slot with a number
-abbrev with-number : ℕ → List Slot → Option Slot
-with-number n slots = find (λ s. eqb s.number n) slots
-
-find-placed : (n : ℕ) (s : Slot) (xs : List Slot) → (eqb s.number n ≡ true → with-number n xs ≡ None) → with-number n (placed s xs) ≡ cond (eqb s.number n) (Some s) (with-number n xs)
-unfolding placed
-find-placed n s [] h = refl
-find-placed n s (y ∷ ys) h = by (stands_before y s) (eqb y.number n) refl (eqb s.number n) refl h (find-placed n s ys)
-  where
-    none-some : {X : Type 0} (x : Slot) → Some x ≡ None → X
-    none-some x e = cc
-
-    ahead : (t u : Bool) → eqb s.number n ≡ u → (eqb s.number n ≡ true → cond t (Some y) (with-number n ys) ≡ None) → ((eqb s.number n ≡ true → with-number n ys ≡ None) → with-number n (placed s ys) ≡ cond (eqb s.number n) (Some s) (with-number n ys))
-        → cond t (Some y) (with-number n (placed s ys)) ≡ cond u (Some s) (cond t (Some y) (with-number n ys))
-    ahead true true q h ih = none-some y (h q)
-    ahead true false q h ih = refl
-    ahead false u q h ih = ih h ∙ ap (λ v. cond v (Some s) (with-number n ys)) q
-
-    by : (b t : Bool) → eqb y.number n ≡ t → (u : Bool) → eqb s.number n ≡ u → (eqb s.number n ≡ true → cond (eqb y.number n) (Some y) (with-number n ys) ≡ None)
-        → ((eqb s.number n ≡ true → with-number n ys ≡ None) → with-number n (placed s ys) ≡ cond (eqb s.number n) (Some s) (with-number n ys))
-        → with-number n (cond b (y ∷ placed s ys) (s ∷ y ∷ ys)) ≡ cond (eqb s.number n) (Some s) (cond (eqb y.number n) (Some y) (with-number n ys))
-    by true t p u q h ih =
-        ap (λ v. cond v (Some y) (with-number n (placed s ys))) p
-        ∙ (ahead t u q (λ e. ap (λ v. cond v (Some y) (with-number n ys)) (sym p) ∙ h e) ih
-        ∙ (ap (λ v. cond u (Some s) (cond v (Some y) (with-number n ys))) (sym p) ∙ ap (λ v. cond v (Some s) (cond (eqb y.number n) (Some y) (with-number n ys))) (sym q)))
-    by false t p u q h ih = refl
-
-absent : (low n : ℕ) (ps : List CorrectedPost) → Numbers low ps → n < low → post_at n ps ≡ None
-absent low n [] h l = refl
-absent low n (p ∷ ps) h l =
-    let first = h.0 in
-    let other : eqb p.number n ≡ false = ne_eqb p.number n (λ e. omega (arith, first, l, e)) in
-    rw other (absent (suc p.number) n ps h.1 (omega (arith, first, l)))
-
-pub find-order : (n low : ℕ) (ps : List CorrectedPost) → Numbers low ps → find (λ (s : Slot). eqb s.number n) (folding_order ps) ≡ option_map slot_of (post_at n ps)
-unfolding in_order
-find-order n low [] h = refl
-find-order n low (p ∷ ps) h =
-    let rest = find-order n (suc p.number) ps h.1 in
-    find-placed n (slot_of p) (in_order (map slot_of ps))
-    (λ e. rest ∙ ap (option_map slot_of) (absent (suc p.number) n ps h.1 (let same = eqb-true p.number n e in omega (arith, same))))
-    ∙ by (eqb p.number n) rest
-  where
-    by : (t : Bool) → with-number n (in_order (map slot_of ps)) ≡ option_map slot_of (post_at n ps) → cond t (Some (slot_of p)) (with-number n (in_order (map slot_of ps))) ≡ option_map slot_of (cond t (Some p) (post_at n ps))
-    by true e = refl
-    by false e = e
 
 -- ---- the cycle of the last due date before a day
 pub due-by : (g : Given) (day : ℕ) (c : Cycle) (cycles : List Cycle) → IsSound g → opened_in g ≤ day → day ≤ 47481 → cycles ≡ (before g day).cycles → last_due day cycles ≡ Some c → IsDueBy g day c

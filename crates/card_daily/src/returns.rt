@@ -1,6 +1,5 @@
 // A payment that is returned: its parts are owed again, and a fee may be due.
-ghost use Rattle.std.specs.Prelude.{◌≡◌, ◌+◌, ◌-◌, ◌<◌, ◌≤◌, ◌==◌, ℕ, Bool, nat_lt, List, Some, None, Option, OnOk, OnErr, length, pos, ◌≤ℤ◌, option_copied, option_map, vec_len, vec_capacity};
-ghost use Rattle.std.specs.List.{find};
+ghost use Rattle.std.specs.Prelude.{◌≡◌, ◌+◌, ◌-◌, ◌<◌, ◌≤◌, ℕ, Bool, nat_lt, List, Some, None, Option, OnOk, OnErr, length, pos, ◌≤ℤ◌, option_copied, option_map, vec_len, vec_capacity};
 ghost use Rattle.card_effects.specs.Returned.{AreOfThose, AreReturnable, parts_of};
 ghost use Rattle.card_effects.specs.Standing.{AreRated, IsSlotOf};
 ghost use Rattle.card_events.specs.History.{CorrectedPost, slot_of};
@@ -14,7 +13,6 @@ ghost use Rattle.card_model.specs.Fees.{last_due};
 ghost use Rattle.card_model.specs.Payments.{asked};
 ghost use Rattle.card_model.specs.Segments.{SegmentTerms, last_that};
 ghost use Rattle.card_model.specs.declared.fee.FeeKind.TheVariants as kind;
-ghost use Rattle.card_posts.specs.Posted.{folding_order};
 ghost use Rattle.card_segments.specs.Balances.{AreWithin};
 ghost use Rattle.card_daily.specs.Given.{account_in, opened_in, row_in, seen_in};
 ghost use Rattle.card_daily.specs.Returns.{IsDueBy, SeesPayment, fees_with};
@@ -32,18 +30,6 @@ use card_fees::returned_fee;
 use card_model::Fee;
 use card_units::{Cents, NoMemory};
 use std::alloc::Global;
-
-// The slot with a number.
-fn slot_with(slots: &[Slot], number: u32) -> Option<&Slot>
-    ensures { option_copied result ≡ find (λ s. s.number == number) slots.now }
-{
-    for slot in slots {
-        if slot.number == number {
-            return Some(slot);
-        }
-    }
-    None
-}
 
 // Whether a cycle closed before a day.
 fn is_closed(cycle: &Cycle, day: Day) -> bool
@@ -86,8 +72,8 @@ fn due_before(cycles: &[Cycle], day: Day) -> Option<&Cycle>
 }
 
 // The cycle whose due date a payment was for. A void payment has none.
-fn meant_for<'a>(cycles: &'a [Cycle], payment: Option<&Slot>) -> Option<&'a Cycle>
-    ensures { (p : Option CorrectedPost) → option_copied payment.entry ≡ option_map slot_of p → option_copied result ≡ model.meant_for cycles.now p }
+fn meant_for(cycles: &[Cycle], payment: Option<Slot>) -> Option<&Cycle>
+    ensures { (p : Option CorrectedPost) → payment ≡ option_map slot_of p → option_copied result ≡ model.meant_for cycles.now p }
 {
     match payment {
         Some(slot) => {
@@ -146,7 +132,7 @@ fn fee_of(inputs: &Inputs, day: Day, payment: u32, fees: &[Fee], cycles: &[Cycle
     requires seen { SeesPayment inputs.now day payment }
     ensures { (b : Book) → b.cycles ≡ cycles.now → b.fees ≡ fees.now → result ≡ model.returned_fee (row_in inputs.now (day - opened_in inputs.now)) (seen_in inputs.now day) b (model.meant_for b.cycles (model.payment_at payment (seen_in inputs.now day).posts)) }
 {
-    let slot = slot_with(inputs.posts().in_order(), payment);
+    let slot = inputs.posts().slot(payment as u64);
     match meant_for(cycles, slot) {
         Some(meant) => fee_for(inputs, day, fees, cycles, meant),
         None => None,

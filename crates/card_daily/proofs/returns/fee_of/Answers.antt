@@ -1,13 +1,9 @@
 use Rattle.std.proofs.Common.{◌≡◌, ◌-◌, eqb, Some, None, sym, ap, ◌∙◌}
-use Rattle.std.specs.List.{find}
 use Rattle.std.specs.Option.{option_map}
 use Rattle.std.specs.Prelude.{option_copied}
-use Rattle.card_bounds.proofs.Totals.{slots-number}
 use Rattle.card_events.specs.History.{anchor_of, corrected, slot_of}
-use Rattle.card_events.specs.declared.kept.Slot.{Slot}
 use Rattle.card_model.specs.Effects.{meant_for, payment_at, returned_fee}
-use Rattle.card_posts.specs.Posted.{folding_order}
-use Rattle.card_daily.proofs.Charging.{find-order}
+use Rattle.card_posts.specs.Posted.{slot_with}
 use Rattle.card_daily.specs.Given.{opened_in, row_in, seen_in}
 use Rattle.card_daily.proofs.returns.fee_of.Goals as goal
 
@@ -18,9 +14,7 @@ returns-in-Some c b own fees =
     let n = c.args.payment in
     let paid = payment_at n seen.posts in
     let all = c.posts.ensures.stands ∙ ap (λ h. corrected (anchor_of h) g.shared.holidays h) c.posts.ensures.history in
-    let slot = c.slot_with-slot.ensures
-    ∙ (ap (find (λ (s : Slot). eqb s.number n)) (c.in_order.ensures.order ∙ ap folding_order all)
-    ∙ (find-order n 1 (corrected (anchor_of g.history) g.shared.holidays g.history) (slots-number (anchor_of g.history) g.shared.holidays g.history 1 5 g.history) ∙ ap (option_map slot_of) (sym c.requires.seen))) in
+    let slot = c.slot-slot.ensures ∙ (ap (slot_with n) all ∙ ap (option_map slot_of) (sym c.requires.seen)) in
     let meant : meant_for b.cycles paid ≡ Some c.in-Some.meant.now = ap (λ cs. meant_for cs paid) own ∙ (sym (c.meant_for.ensures paid slot) ∙ ap option_copied c.in-Some.is) in
     c.fee_for.ensures b own fees ∙ ap (returned_fee (row_in g (c.args.day - opened_in g)) seen b) (sym meant)
 
@@ -31,8 +25,6 @@ returns-in-None c b own fees =
     let n = c.args.payment in
     let paid = payment_at n seen.posts in
     let all = c.posts.ensures.stands ∙ ap (λ h. corrected (anchor_of h) g.shared.holidays h) c.posts.ensures.history in
-    let slot = c.slot_with-slot.ensures
-    ∙ (ap (find (λ (s : Slot). eqb s.number n)) (c.in_order.ensures.order ∙ ap folding_order all)
-    ∙ (find-order n 1 (corrected (anchor_of g.history) g.shared.holidays g.history) (slots-number (anchor_of g.history) g.shared.holidays g.history 1 5 g.history) ∙ ap (option_map slot_of) (sym c.requires.seen))) in
+    let slot = c.slot-slot.ensures ∙ (ap (slot_with n) all ∙ ap (option_map slot_of) (sym c.requires.seen)) in
     let meant : meant_for b.cycles paid ≡ None = ap (λ cs. meant_for cs paid) own ∙ (sym (c.meant_for.ensures paid slot) ∙ ap option_copied c.in-None.is) in
     ap (returned_fee (row_in g (c.args.day - opened_in g)) seen b) (sym meant)
