@@ -1,5 +1,6 @@
 -- A request concerns one account at most.
 use Rattle.std.proofs.Common.{◌≡◌, ℕ, Bool, true, false, cond, ◌&&◌, List, [], ◌∷◌, refl, ap, ◌∙◌, eqb, Option, Some, None}
+use Rattle.std.specs.Prelude.{option_map}
 use Rattle.std.specs.Str.{bytes_eq}
 use Rattle.std.proofs.lemmas.Bool.{eqb-true}
 use Rattle.card_events.specs.declared.post.Post.{Post}
@@ -9,10 +10,13 @@ use Rattle.card_events.specs.declared.request.Request.{Request}
 use Rattle.card_events.specs.declared.request.Request.TheVariants as request
 use Rattle.card_events.specs.declared.request.Shared.{Shared}
 use Rattle.card_keeper.specs.declared.row.Row.{Row}
+use Rattle.card_model.specs.Isolated.{Own, own_of}
 use Rattle.card_model.specs.Machine.{Accepts, NamedAccount, Outcome, Refuses, Repeats, State, accounts_after, has_accounts, lists_of, outcome_in, reply_to, shared_reason, step, with_lists, with_shared}
-use Rattle.card_model.specs.Refusals.{Lists}
+use Rattle.card_model.specs.Refusals.{Lists, book_today}
 use Rattle.card_desk.specs.Applied.{Steps}
-use Rattle.card_desk.specs.Apart.{IsApart, RequestsStandApart}
+use Rattle.card_desk.specs.Apart.{IsApart, LooksAlike, RequestsStandApart}
+use Rattle.card_desk.specs.Desks.{now_of}
+use Rattle.card_desk.specs.Views.{issued, restated, seen, shown}
 
 names-equal : (a b : List ℕ) → bytes_eq a b ≡ true → a ≡ b
 names-equal [] [] e = refl
@@ -61,3 +65,30 @@ requests_stand_apart s (request.Post other k q) new reply e = record {
 -- so where a step was made
 pub apart_of_step : (before after : Option (List Row)) (s : State) (r : Request) (new : State) (reply : Reply) → Steps before after s r new reply → IsApart s r new reply
 apart_of_step before after s r new reply h = requests_stand_apart s r new reply h.step_is
+
+-- ---- what is told of an account depends on today, the shared requests and its own lists
+shown-same : (s t : State) (o : Option Lists) → s.today ≡ t.today → s.shared ≡ t.shared → shown s o ≡ shown t o
+shown-same s t None e f = refl
+shown-same s t (Some l) e f = rw (e, f) refl
+
+restated-same : (s t : State) (cycle : ℕ) (o : Option Lists) → s.today ≡ t.today → s.shared ≡ t.shared → restated s cycle o ≡ restated t cycle o
+restated-same s t cycle None e f = refl
+restated-same s t cycle (Some l) e f = rw (e, f) refl
+
+cycles-same : (s t : State) (o : Option Lists) → s.today ≡ t.today → s.shared ≡ t.shared
+    → option_map (λ (l : Lists). (book_today (now_of s l)).cycles) o ≡ option_map (λ (l : Lists). (book_today (now_of t l)).cycles) o
+cycles-same s t None e f = refl
+cycles-same s t (Some l) e f = rw (e, f) refl
+
+pub looks-alike : (name : List ℕ) (s t : State) → own_of name s ≡ own_of name t → LooksAlike name s t
+unfolding seen
+looks-alike name s t e =
+    let today : s.today ≡ t.today = ap (λ (o : Own). o.today) e in
+    let rows : s.shared ≡ t.shared = ap (λ (o : Own). o.shared) e in
+    let lists : lists_of name s.accounts ≡ lists_of name t.accounts = ap (λ (o : Own). o.lists) e in
+    record {
+      cycles = cycles-same s t (lists_of name s.accounts) today rows ∙ ap (option_map (λ (l : Lists). (book_today (now_of t l)).cycles)) lists;
+      shown = shown-same s t (lists_of name s.accounts) today rows ∙ ap (shown t) lists;
+      issued = λ cycle. ap (issued cycle) lists;
+      restated = λ cycle. restated-same s t cycle (lists_of name s.accounts) today rows ∙ ap (restated t cycle) lists;
+    }

@@ -6,7 +6,7 @@ ghost use Rattle.card_keeper.specs.declared.row.Row.{Row};
 ghost use Rattle.card_model.specs.Machine.{State, start, step, run, accepted_from};
 ghost use Rattle.card_model.specs.Isolated.{Isolation};
 ghost use Rattle.card_rows.specs.Held.{is_request};
-ghost use Rattle.card_desk.specs.Apart.{RequestsStandApart};
+ghost use Rattle.card_desk.specs.Apart.{LooksIsolated, RequestsStandApart};
 ghost use Rattle.card_desk.specs.Kept.{AreSound, AreDamaged, IsRunOf, rows_of, new_rows};
 
 /// The rows of what is newly accepted of requests are sound, and a run of the accepted ones alone ends in the state of the
@@ -31,10 +31,11 @@ pub fn rows_tell_requests()
 {}
 
 /// Over two lists of requests that agree on one account and on what all accounts share, with equal replies to the latter and
-/// the ledger never full for an Open of that account: all replies on the account are equal, and so are its posts and its issued
-/// statements, and with them its cycles. No other account's requests reach it.
+/// the ledger never full for an Open of that account: all replies on the account are equal, and so are its posts, its issued
+/// statements, its cycles, and the answers to what is asked of it. No other account's requests reach it.
 pub fn isolation()
-    ensures { Isolation }
+    ensures lists { Isolation }
+    ensures cycles { LooksIsolated }
 {}
 
 /// A single request changes the posts and issued statements of no account but the one that it names; and its reply depends on
