@@ -159,7 +159,7 @@ fn account(rt: &impl Abort, alloc: Global, calendar: &Calendar) -> Result<Posts,
     };
     let key = Name::read(alloc, b"o")?.expect(rt, "a name");
     let mut posts = Posts::start(alloc, &key, day(rt, 19_732), &open)?;
-    for row in POSTS {
+    for &row in &POSTS {
         let post = post_of(rt, row);
         push(rt, alloc, &mut posts, &post, calendar)?;
     }
@@ -220,7 +220,7 @@ fn case_of(rt: &impl Abort, posts: &Posts, row: (u32, bool, i64, bool, i64)) -> 
 fn cases_of_purchases(rt: HostRuntime) -> Result<(), Fail> {
     let alloc = rt.alloc();
     let posts = account(&rt, alloc, &Calendar::new(alloc))?;
-    for (cycle, due_before, before, due_last, last, is_paid, case) in CASES {
+    for &(cycle, due_before, before, due_last, last, is_paid, case) in &CASES {
         assert_eq!(rt;
             case_of(&rt, &posts, (cycle, due_before, before, due_last, last)),
             (is_paid, case),
@@ -243,7 +243,7 @@ fn left_for(rt: &impl Abort, posts: &Posts, c: &DueCycle, on: i32, number: u32) 
 fn minimums_left(rt: HostRuntime) -> Result<(), Fail> {
     let alloc = rt.alloc();
     let posts = account(&rt, alloc, &Calendar::new(alloc))?;
-    for (cycle, minimum, due_payment, on, number, left) in LEFT {
+    for &(cycle, minimum, due_payment, on, number, left) in &LEFT {
         let c = asking(cycle, minimum, 0, due_payment);
         assert_eq!(rt;
             left_for(&rt, &posts, &c, on, number),

@@ -163,7 +163,7 @@ fn account(rt: &impl Abort, alloc: Global, calendar: &Calendar) -> Result<Posts,
     ensures { IfOk result (λ posts. StandsFor calendar.now posts) }
 {
     let mut posts = open(rt, alloc, calendar)?;
-    for row in POSTS {
+    for &row in &POSTS {
         let post = post_of(rt, row);
         push(rt, alloc, &mut posts, &post, calendar)?;
     }
@@ -174,7 +174,7 @@ fn account(rt: &impl Abort, alloc: Global, calendar: &Calendar) -> Result<Posts,
 fn payments_of_some_days(rt: HostRuntime) -> Result<(), Fail> {
     let alloc = rt.alloc();
     let posts = account(&rt, alloc, &Calendar::new(alloc))?;
-    for (from, to, cents) in COUNTED {
+    for &(from, to, cents) in &COUNTED {
         assert_eq!(rt;
             counted(&posts, day(&rt, from), day(&rt, to)),
             cents,
@@ -252,7 +252,7 @@ fn payments_before_a_post(rt: HostRuntime) -> Result<(), Fail> {
 fn due_dates(rt: HostRuntime) -> Result<(), Fail> {
     let alloc = rt.alloc();
     let posts = account(&rt, alloc, &Calendar::new(alloc))?;
-    for (k, asked, is_met, before, left) in DUES {
+    for &(k, asked, is_met, before, left) in &DUES {
         let a = anchor(&rt);
         assert!(rt; 1 <= k && 0 <= asked && 0 <= before && (k > 1 || before == 0));
         let _ = closing(a, k).expect(&rt, "a closing");
@@ -275,7 +275,7 @@ fn is_late(rt: &impl Abort, posts: &Posts, minimums: [i64; 5], on: i32) -> bool 
 fn sixty_days(rt: HostRuntime) -> Result<(), Fail> {
     let alloc = rt.alloc();
     let posts = account(&rt, alloc, &Calendar::new(alloc))?;
-    for (on, minimums, late) in LATE {
+    for &(on, minimums, late) in &LATE {
         assert_eq!(rt; is_late(&rt, &posts, minimums, on), late, "on {on}");
     }
     Ok(())
@@ -292,7 +292,7 @@ fn assert_minimum(rt: &impl Abort, row: (i64, i64, u16, i64, i64), cents: i64) {
 
 #[test]
 fn minimum_payments(rt: HostRuntime) {
-    for (nb, floor, pct, charges, past, cents) in MINIMUMS {
+    for &(nb, floor, pct, charges, past, cents) in &MINIMUMS {
         assert_minimum(&rt, (nb, floor, pct, charges, past), cents);
     }
 }

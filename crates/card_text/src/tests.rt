@@ -6,7 +6,7 @@ use card_events::{
 use std::alloc::Global;
 use std::test::Fail;
 
-const BAD_LINES: [(&str, u8); 43] = [
+static BAD_LINES: [(&str, u8); 43] = [
     ("", 1),
     (" ", 1),
     ("hello", 1),
@@ -95,7 +95,7 @@ fn march(day: u8) -> Result<Day, Fail> {
 
 #[test]
 fn names_the_first_bad_field(rt: HostRuntime) -> Result<(), Fail> {
-    for (line, field) in BAD_LINES {
+    for &(line, field) in &BAD_LINES {
         assert_eq!(rt;
             bad_field(rt.alloc(), line.as_bytes())?,
             Some(field),

@@ -2,7 +2,7 @@ use crate::{Anchor, Day, closing, due};
 use std::test::Fail;
 
 // opening day, closing day of the month, cycle, its closing and its due date by their day numbers, 0 where there is none
-const CLOSINGS: [(i32, u8, u32, i32, i32); 100] = [
+static CLOSINGS: [(i32, u8, u32, i32, i32); 100] = [
     (19619, 19, 33, 20592, 20619),
     (20904, 4, 307, 30227, 30251),
     (25730, 23, 28, 26563, 26589),
@@ -114,7 +114,7 @@ fn number(day: Option<Day>) -> i32 {
 
 #[test]
 fn closings_and_due_dates(rt: HostRuntime) -> Result<(), Fail> {
-    for (opened, close_day, k, closes, falls_due) in CLOSINGS {
+    for &(opened, close_day, k, closes, falls_due) in &CLOSINGS {
         let opened = Day::from_number(opened).ok_or("a day")?;
         assert!(rt; 1 <= close_day && close_day <= 28);
         let a = Anchor { opened, close_day };

@@ -1,14 +1,14 @@
 use crate::{Anchor, Calendar, Channel, Day, credit_day};
 use std::test::Fail;
 
-const HOLIDAYS: [i32; 37] = [
+static HOLIDAYS: [i32; 37] = [
     19483, 19513, 19514, 19525, 19533, 19534, 19575, 19576, 19605, 19606, 19617, 19625, 19667,
     19668, 19674, 19675, 19696, 19697, 19708, 19709, 19716, 19717, 19760, 19766, 19767, 19779,
     19850, 19856, 19869, 19870, 19883, 19942, 19961, 19962, 19975, 19976, 20066,
 ];
 
 // opening day, closing day of the month, day and minute of receipt, whether by mail, credit day
-const CREDITS: [(i32, u8, i32, u16, bool, i32); 100] = [
+static CREDITS: [(i32, u8, i32, u16, bool, i32); 100] = [
     (19416, 21, 19831, 1439, true, 19832),
     (19774, 14, 19976, 1021, true, 19977),
     (19469, 17, 19584, 1021, false, 19585),
@@ -114,12 +114,12 @@ const CREDITS: [(i32, u8, i32, u16, bool, i32); 100] = [
 #[test]
 fn credit_days(rt: HostRuntime) -> Result<(), Fail> {
     let mut cal = Calendar::new(rt.alloc());
-    for number in HOLIDAYS {
+    for &number in &HOLIDAYS {
         let day = Day::from_number(number).ok_or("a day")?;
         assert!(rt; day.number() <= 47_481);
         cal.add(day)?;
     }
-    for (opened, close_day, receipt, minute, by_mail, credited) in CREDITS {
+    for &(opened, close_day, receipt, minute, by_mail, credited) in &CREDITS {
         let opened = Day::from_number(opened).ok_or("a day")?;
         let receipt = Day::from_number(receipt).ok_or("a day")?;
         assert!(rt; 1 <= close_day && close_day <= 28 && opened <= receipt);

@@ -4,7 +4,7 @@
 // from this code, from the rules alone.
 
 // kind (0 a payment online, 1 one by mail, 2 a Return, 3 an Amend, 4 a charge, 5 a credit), day, minute or target, cents
-pub const POSTS: [(u8, i32, u64, u64); 60] = [
+pub static POSTS: [(u8, i32, u64, u64); 60] = [
     (0, 19879, 1439, 404_738_825),
     (1, 19878, 600, 2500),
     (0, 20121, 600, 1894),
@@ -69,7 +69,7 @@ pub const POSTS: [(u8, i32, u64, u64); 60] = [
 
 // last cycle, whether the one before had a due payment, its grace amount, both of the last, whether the last was paid, and the
 // case of purchases (0 no interest, 1 lowered, 2 plain)
-pub const CASES: [(u32, bool, i64, bool, i64, bool, u8); 60] = [
+pub static CASES: [(u32, bool, i64, bool, i64, bool, u8); 60] = [
     (0, false, 0, false, 0, true, 0),
     (1, false, 0, true, 0, true, 0),
     (1, false, 0, true, 1, true, 0),
@@ -133,7 +133,7 @@ pub const CASES: [(u32, bool, i64, bool, i64, bool, u8); 60] = [
 ];
 
 // cycle, its minimum payment, whether it is due, day and number of a payment, what is left for it
-pub const LEFT: [(u32, i64, bool, i32, u32, i64); 40] = [
+pub static LEFT: [(u32, i64, bool, i32, u32, i64); 40] = [
     (1, 2500, true, 19784, 16, 2500),
     (1, 5000, true, 19784, 16, 5000),
     (2, 2500, true, 19788, 10, 2500),

@@ -3,7 +3,7 @@
 // date. Each answer was computed by a reference model that was written apart from this code, from the rules alone.
 
 // kind (0 a payment online, 1 one by mail, 2 a Return, 3 an Amend, 4 a charge), day, minute or target, cents
-pub const POSTS: [(u8, i32, u64, u64); 60] = [
+pub static POSTS: [(u8, i32, u64, u64); 60] = [
     (1, 20000, 1021, 2500),
     (1, 19847, 1020, 2500),
     (0, 19895, 0, 466_912_701),
@@ -67,7 +67,7 @@ pub const POSTS: [(u8, i32, u64, u64); 60] = [
 ];
 
 // first and last day, cents counted
-pub const COUNTED: [(i32, i32, i64); 100] = [
+pub static COUNTED: [(i32, i32, i64); 100] = [
     (19737, 19997, 2_120_382_599),
     (19741, 19796, 5000),
     (19753, 19905, 1_725_121_330),
@@ -171,7 +171,7 @@ pub const COUNTED: [(i32, i32, i64); 100] = [
 ];
 
 // cycle, its minimum payment, whether it was met; the minimum payment before, what is past due of it at the closing
-pub const DUES: [(u32, i64, bool, i64, i64); 34] = [
+pub static DUES: [(u32, i64, bool, i64, i64); 34] = [
     (1, 0, true, 0, 0),
     (1, 1, false, 0, 0),
     (2, 0, true, 0, 0),
@@ -209,7 +209,7 @@ pub const DUES: [(u32, i64, bool, i64, i64); 34] = [
 ];
 
 // day, the minimum payments of cycles 1 to 5, whether the account is sixty days late
-pub const LATE: [(i32, [i64; 5], bool); 20] = [
+pub static LATE: [(i32, [i64; 5], bool); 20] = [
     (19843, [940_672_643, 940_672_642, 0, 0, 0], false),
     (19844, [940_672_642, 0, 10634, 1, 0], false),
     (19904, [0, 940_686_624, 24614, 5000, 0], true),
@@ -265,7 +265,7 @@ pub const LATE: [(i32, [i64; 5], bool); 20] = [
 ];
 
 // balance, floor, percentage, charges, past due, minimum payment
-pub const MINIMUMS: [(i64, i64, u16, i64, i64, i64); 44] = [
+pub static MINIMUMS: [(i64, i64, u16, i64, i64, i64); 44] = [
     (80_555, 2_500, 100, 555, 0, 2_500),
     (1_250, 2_500, 100, 0, 0, 1_250),
     (80_555, 2_500, 100, 555, 2_500, 5_000),

@@ -9,7 +9,7 @@ use std::test::Fail;
 // Cycles of segments from the reference model's accounts, of random requests, drawn so that every case stands often:
 // number, first day, and the due date up to which repayments lower the rows, 0 where the rows count as they are and 1
 // where none bears interest; then the sum and the average.
-const CYCLES: [(usize, i32, i32, u128, i64); 100] = [
+static CYCLES: [(usize, i32, i32, u128, i64); 100] = [
     (0, 19441, 19467, 3666116793723, 215936),
     (1, 19575, 19601, 2429582506006, 197422),
     (2, 19612, 19637, 9980208633, 607),
@@ -113,7 +113,7 @@ const CYCLES: [(usize, i32, i32, u128, i64); 100] = [
 ];
 
 // cycle, days, balance and rate
-const RUNS: [(usize, u32, i64, u64); 247] = [
+static RUNS: [(usize, u32, i64, u64); 247] = [
     (0, 4, 85, 1999),
     (0, 1, 4001, 1999),
     (0, 22, 278528, 1999),
@@ -364,7 +364,7 @@ const RUNS: [(usize, u32, i64, u64); 247] = [
 ];
 
 // cycle, day, cents, post, and whether it was returned by the closing
-const REPAYMENTS: [(usize, i32, i64, u32, bool); 106] = [
+static REPAYMENTS: [(usize, i32, i64, u32, bool); 106] = [
     (0, 19470, 281028, 19, false),
     (1, 19589, 785, 34, false),
     (2, 19619, 17337, 10, false),
@@ -488,12 +488,12 @@ fn case(rt: &impl Abort, due: i32) -> GraceCase {
 // The rows and repayments of a cycle, returned payments among them.
 fn kept(rt: &impl Abort, alloc: Global, cycle: usize, first: i32) -> Result<CycleRows, NoMemory> {
     let mut rows = CycleRows::start(alloc, numbered(rt, first));
-    for (of, days, balance, points) in RUNS {
+    for &(of, days, balance, points) in &RUNS {
         if of == cycle {
             add(rt, &mut rows, days, balance, points)?;
         }
     }
-    for (of, on, cents, post, _) in REPAYMENTS {
+    for &(of, on, cents, post, _) in &REPAYMENTS {
         if of == cycle {
             assert!(rt; 0 <= cents && cents <= MOST);
             rows.repaid(numbered(rt, on), cents, post)?;
@@ -504,9 +504,9 @@ fn kept(rt: &impl Abort, alloc: Global, cycle: usize, first: i32) -> Result<Cycl
 
 #[test]
 fn random_cycles(rt: HostRuntime) -> Result<(), Fail> {
-    for (cycle, first, due, sum, average) in CYCLES {
+    for &(cycle, first, due, sum, average) in &CYCLES {
         let mut rows = kept(&rt, rt.alloc(), cycle, first)?;
-        for (of, _, _, post, returned) in REPAYMENTS {
+        for &(of, _, _, post, returned) in &REPAYMENTS {
             if of == cycle && returned {
                 rows.unpaid(post);
             }

@@ -196,7 +196,7 @@ type Answers = (u16, i32, u8, u8, u8);
 
 // Five questions on each, mostly on days on which a rate begins or ends or the day before, answered by an independent model of
 // the rules: account, day, segment and answers.
-const CASES: [(usize, i32, u8, Answers); 100] = [
+static CASES: [(usize, i32, u8, Answers); 100] = [
     (0, 20_436, 2, (2_299, -1, 2, 3, 7)),
     (0, 20_041, 5, (0, -1, 2, 3, 7)),
     (0, 19_927, 3, (2_499, -1, 2, 3, 7)),
@@ -343,7 +343,7 @@ fn answers(rt: &impl Abort, book: &RateBook, segment: u8, n: i32) -> Answers {
 #[test]
 fn rates_of_random_accounts(rt: HostRuntime) -> Result<(), Fail> {
     let alloc = rt.alloc();
-    for (number, n, segment, wanted) in CASES {
+    for &(number, n, segment, wanted) in &CASES {
         let book = account(&rt, alloc, number)?;
         assert_eq!(rt;
             answers(&rt, &book, segment, n),

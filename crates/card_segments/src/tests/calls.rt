@@ -5,7 +5,7 @@ use std::test::Fail;
 
 // A random sequence of calls on seven segments: call, segment and cents; then the balances of Credit, of Held and of the
 // segment, what is owed, and how many entries there are. They come from the slow reference model's own entries.
-const CALLS: [(Call, u8, Cents, Cents, Cents, Cents, Cents, usize); 100] = [
+static CALLS: [(Call, u8, Cents, Cents, Cents, Cents, Cents, usize); 100] = [
     (Debit, 5, 612485, 0, 0, 612485, 612485, 1),
     (Debit, 5, 572285733, 0, 0, 572898218, 572898218, 2),
     (Credit, 5, 548302831, 0, 0, 24595387, 24595387, 3),
@@ -530,7 +530,7 @@ fn random_calls_have_the_models_balances(rt: HostRuntime) -> Result<(), Fail> {
         })?;
     }
     let mut out = Vec::new(alloc);
-    for (call, id, cents, credit, held, balance, owed, entries) in CALLS {
+    for &(call, id, cents, credit, held, balance, owed, entries) in &CALLS {
         make(&rt, &mut segments, call, id, cents, &mut out)?;
         assert!(rt; id < segments.len());
         assert_eq!(rt; (segments.balance(0), segments.balance(1)), (credit, held));
