@@ -6,8 +6,6 @@ mod call;
 mod end;
 mod progress;
 mod run;
-#[cfg(test)]
-mod tests;
 mod write;
 
 pub use call::billctl;

@@ -9,8 +9,6 @@ mod parts;
 mod pay;
 mod rank;
 mod rule;
-#[cfg(test)]
-mod tests;
 
 pub use allocation::{allocate, place_credit};
 pub use moves::{put_back, take};

@@ -9,6 +9,3 @@ pub mod laws;
 pub use card_daily::{Amounts, Cycle, Entry, Fee, Fees, Inputs, Issued, Statement, Track};
 pub use from_opening::{Folded, fold};
 pub use kept_book::Book;
-
-#[cfg(test)]
-mod tests;

@@ -9,8 +9,6 @@ mod fees;
 mod interest;
 pub mod laws;
 mod record;
-#[cfg(test)]
-mod tests;
 mod turn;
 
 pub use amounts::Amounts;

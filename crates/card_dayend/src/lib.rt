@@ -10,6 +10,3 @@ pub use begin::{opening_day, start};
 pub use closing::close_day;
 pub use day::next_day;
 pub use rows::row_day;
-
-#[cfg(test)]
-mod tests;

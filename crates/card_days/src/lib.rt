@@ -17,6 +17,3 @@ pub use credit::credit_day;
 pub use day::Day;
 pub use later::{six_months_after, year_after};
 pub use memory::NoMemory;
-
-#[cfg(test)]
-mod tests;

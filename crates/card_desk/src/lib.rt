@@ -7,8 +7,6 @@ pub mod laws;
 mod load;
 mod reason;
 mod row;
-#[cfg(test)]
-mod tests;
 mod view;
 
 pub use card_account::{Fault, Statement, Task, TaskKind, Tasks};

@@ -10,8 +10,6 @@ mod notice;
 mod order;
 mod review;
 mod tasks;
-#[cfg(test)]
-mod tests;
 
 pub use card_model::{Task, TaskKind};
 pub use deadline::{ack_by, lower_by, refund_by, resolve_by};

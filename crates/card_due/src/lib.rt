@@ -6,8 +6,6 @@ mod fee;
 mod grace;
 pub mod laws;
 mod left;
-#[cfg(test)]
-mod tests;
 
 pub use card_model::{Fee, FeeKind, GraceCase};
 pub use due_cycle::{DueCycle, asked, has_due_payment};

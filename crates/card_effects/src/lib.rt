@@ -8,8 +8,6 @@ mod place;
 mod ranks;
 mod returns;
 mod rows;
-#[cfg(test)]
-mod tests;
 
 pub use debits::{charge, fee, refund};
 pub use payments::{credit, payment};

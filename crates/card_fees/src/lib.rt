@@ -7,8 +7,6 @@ mod due;
 pub mod laws;
 mod required;
 mod table;
-#[cfg(test)]
-mod tests;
 
 pub use card_model::{Fee, FeeKind};
 pub use charge::{late_fee, returned_fee};

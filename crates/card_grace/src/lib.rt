@@ -11,6 +11,3 @@ pub use accrual::Accrual;
 pub use card_model::GraceCase;
 pub use case::{case_of, is_deferred};
 pub use rows::{CycleRows, Repayment};
-
-#[cfg(test)]
-mod tests;

@@ -6,8 +6,6 @@ mod disputes;
 pub mod laws;
 mod resolves;
 mod seen;
-#[cfg(test)]
-mod tests;
 
 pub use disputes::dispute;
 pub use resolves::resolve;

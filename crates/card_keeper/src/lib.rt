@@ -5,8 +5,6 @@ mod failing;
 mod keeper;
 mod memory;
 mod row;
-#[cfg(test)]
-mod tests;
 
 pub use failing::FailingKeeper;
 pub use keeper::{Keeper, KeeperFault};

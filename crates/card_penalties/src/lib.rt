@@ -4,8 +4,6 @@
 mod ending;
 mod late;
 pub mod laws;
-#[cfg(test)]
-mod tests;
 
 pub use ending::{awaits_end, is_due_after, is_met};
 pub use late::{begin_after, owes_sixty_days};

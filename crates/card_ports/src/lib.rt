@@ -5,8 +5,6 @@ mod calls;
 mod memory;
 mod real;
 mod source;
-#[cfg(test)]
-mod tests;
 
 pub use calls::Calls;
 pub use memory::{MemorySink, MemorySource};

@@ -10,7 +10,5 @@ mod make;
 mod order;
 mod posts;
 mod refresh;
-#[cfg(test)]
-mod tests;
 
 pub use posts::{Posts, Pushed};

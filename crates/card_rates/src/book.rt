@@ -132,14 +132,6 @@ impl RateBook {
         newest_of(&self.segments, sort_of(category), day)
     }
 
-    // How many segments there are, Credit and Held among them.
-    #[cfg(test)]
-    pub(crate) fn len(&self) -> usize
-        ensures { result ≡ length self.now.segments + 2 }
-    {
-        self.segments.len() + 2
-    }
-
     // the segment with a number, other than Credit and Held
     fn segment_with(&self, number: u8) -> Option<&RatedSegment>
         requires there { number < length self.now.segments + 2 }

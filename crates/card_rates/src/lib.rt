@@ -6,7 +6,5 @@ pub mod laws;
 mod make;
 mod rate;
 mod segment;
-#[cfg(test)]
-mod tests;
 
 pub use book::RateBook;

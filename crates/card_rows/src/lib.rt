@@ -9,8 +9,6 @@ mod fields;
 mod kinds;
 pub mod laws;
 mod row;
-#[cfg(test)]
-mod tests;
 mod writing;
 
 pub use body::Body;

@@ -4,8 +4,6 @@
 pub mod laws;
 mod moves;
 mod segments;
-#[cfg(test)]
-mod tests;
 
 pub use card_model::{Entry, EntryKind, Note, Segment, Sort};
 pub use segments::Segments;

@@ -5,8 +5,6 @@ mod day;
 pub mod laws;
 mod plan;
 mod segments;
-#[cfg(test)]
-mod tests;
 
 pub use day::{DayPost, end_place, first_place, folded_at, is_folded};
 pub use plan::{plan_segment, segment_at};

@@ -8,8 +8,6 @@ mod line_reading;
 mod post_reading;
 mod refusal;
 mod reply;
-#[cfg(test)]
-mod tests;
 mod word;
 
 pub use forms::{
