@@ -2,7 +2,6 @@ pub mod AtClosing
 pub mod Closed
 pub mod Each
 pub mod NextDay
-pub mod OfTests
 pub mod Opened
 pub mod Planned
 pub mod RowsOfADay

@@ -3,7 +3,6 @@ pub mod Carried
 pub mod DayLaws
 pub mod Empties
 pub mod Named
-pub mod OfTests
 pub mod Places
 pub mod Reached
 pub mod Repaid

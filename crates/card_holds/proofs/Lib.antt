@@ -1,6 +1,5 @@
 pub mod Covers
 pub mod Sums
 pub mod Numbered
-pub mod OfTests
 pub mod Segments
 pub mod Standing

@@ -6,4 +6,3 @@ pub mod OneMore
 pub mod Penalties
 pub mod Runs
 pub mod Spans
-pub mod TestLemmas
