@@ -1,4 +1,4 @@
-ghost use Rattle.std.specs.Prelude.{◌≡◌, ◌<◌, ◌≤◌, ◌-◌, SomeIff, Some, OnSome, IfSome};
+ghost use Rattle.std.specs.Prelude.{◌≡◌, ◌+◌, ◌<◌, ◌≤◌, ◌-◌, SomeIff, Some, OnSome, IfSome};
 ghost use Rattle.card_days.specs.Civil.{date_of};
 ghost use Rattle.card_days.specs.Billing.{IsCloseDay, closing, due_day_of_month, due, cycle_of};
 ghost use Rattle.card_days.specs.Months.{day_in_month, month_from, due_shift};
@@ -32,6 +32,36 @@ pub fn due(a: Anchor, k: u32) -> Option<Day>
     let (later, due_day) = due_place(a.close_day);
     let month = month_from(a.close_day, a.opened) + (k as u64 - 1);
     day_in_month(month + later, due_day)
+}
+
+/// The closing of a cycle, from 1 on, that closes by 2102-12-31.
+pub fn closing_date(a: &Anchor, k: u32) -> Day
+    requires close_day { IsCloseDay a.now.close_day }
+    requires cycle { 1 ≤ k }
+    requires in_calendar { closing a.now k ≤ 48_576 }
+    ensures { result ≡ closing a.now k }
+{
+    closing(*a, k).unwrap()
+}
+
+/// The day after the closing of a cycle, from 1 on, that closes before 2102-12-31.
+pub fn after_closing(a: &Anchor, k: u32) -> Day
+    requires close_day { IsCloseDay a.now.close_day }
+    requires cycle { 1 ≤ k }
+    requires in_calendar { closing a.now k < 48_576 }
+    ensures { result ≡ closing a.now k + 1 }
+{
+    closing_date(a, k).next()
+}
+
+/// The due date of a cycle, from 1 on, that is due by 2102-12-31 (12 CFR 1026.5(b)(2)(ii)).
+pub fn due_date(a: &Anchor, k: u32) -> Day
+    requires close_day { IsCloseDay a.now.close_day }
+    requires cycle { 1 ≤ k }
+    requires in_calendar { due a.now k ≤ 48_576 }
+    ensures { result ≡ due a.now k }
+{
+    due(*a, k).unwrap()
 }
 
 /// The number of the cycle that holds a day, from 1. The day doesn't lie before the opening day, and is at most

@@ -90,13 +90,21 @@ impl Day {
         }
     }
 
-    // the day after
-    pub(crate) fn next(self) -> Day
+    /// The day after.
+    pub fn next(self) -> Day
         requires { self < 48_576 }
         ensures { result ≡ self + 1 }
     {
+        self.plus(1)
+    }
+
+    /// So many days later.
+    pub fn plus(self, days: u32) -> Day
+        requires { self + days ≤ 48_576 }
+        ensures { result ≡ self + days }
+    {
         Day {
-            number: self.number + 1,
+            number: self.number + days,
         }
     }
 

@@ -8,12 +8,11 @@ mod credit;
 mod day;
 mod later;
 pub mod laws;
-mod memory;
 
 pub use anchor::{Anchor, Channel};
-pub use billing::{closing, cycle_of, due};
+pub use billing::{after_closing, closing, closing_date, cycle_of, due, due_date};
 pub use calendar::{Calendar, next_business};
+pub use card_units::NoMemory;
 pub use credit::credit_day;
 pub use day::Day;
 pub use later::{six_months_after, year_after};
-pub use memory::NoMemory;

@@ -5,21 +5,13 @@ ghost use Rattle.card_model.specs.Deadlines as spec;
 
 use card_days::{Anchor, Calendar, Day, closing, cycle_of, next_business};
 
-// so many days after a day
-fn days_after(day: Day, count: u8) -> Day
-    requires { day ≤ 47_481 }
-    ensures { result ≡ day + count }
-{
-    Day::from_number(day.number() + count as i32).unwrap()
-}
-
 /// The last day for the acknowledgement of a Dispute of this day: 30 days after it (12 CFR 1026.13(c)(1)). The day is a day
 /// of requests.
 pub fn ack_by(day: Day) -> Day
     requires { day ≤ 47_481 }
     ensures { result ≡ spec.ack_by day }
 {
-    days_after(day, 30)
+    day.plus(30)
 }
 
 /// The last day for lower rates after a review of this day that found so: 45 days after it (12 CFR 1026.59(a)(2)(i)). The
@@ -28,7 +20,7 @@ pub fn lower_by(day: Day) -> Day
     requires { day ≤ 47_481 }
     ensures { result ≡ spec.lower_by day }
 {
-    days_after(day, 45)
+    day.plus(45)
 }
 
 // The cycle that holds a day, the first for days before the opening.
@@ -66,7 +58,7 @@ pub fn resolve_by(anchor: &Anchor, day: Day) -> Day
     ensures { result ≡ spec.resolve_by anchor.now day }
 {
     let second = closing(*anchor, cycle_on(anchor, day) + 2);
-    sooner(days_after(day, 90), second)
+    sooner(day.plus(90), second)
 }
 
 /// The last day for a refund that was asked for on this day: the seventh business day after it (12 CFR 1026.11(a)(2)). The

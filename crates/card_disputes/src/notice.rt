@@ -104,21 +104,13 @@ fn bills_at(posts: &Posts, number: u32, cycle: u32) -> bool
     }
 }
 
-// 60 days after a day
-fn sixty_days_after(day: Day) -> Day
-    requires { day ≤ 47_481 }
-    ensures { result ≡ day + 60 }
-{
-    Day::from_number(day.number() + 60).unwrap()
-}
-
 // 60 days after the acceptance of the post with a number
 fn notice_end_of(posts: &Posts, number: u32) -> Option<Day>
     requires { last_accepted posts.now.history ≤ 47_481 }
     ensures { result ≡ option_map (λ k. k.accepted + 60) (at_number number posts.now.history) }
 {
     match posts.get(number) {
-        Some(kept) => Some(sixty_days_after(kept.accepted)),
+        Some(kept) => Some(kept.accepted.plus(60)),
         None => None,
     }
 }

@@ -3,7 +3,7 @@ ghost use Rattle.std.specs.Prelude.{◌≡◌, ◌+◌, ◌≤◌, ◌≤ℤ◌,
 ghost use Rattle.card_days.specs.Billing.{IsCloseDay, due};
 ghost use Rattle.card_due.specs.Asked.{asks, is_due_by};
 
-use card_days::{Anchor, Day, due};
+use card_days::{Anchor, Day, due_date};
 use card_units::Cents;
 
 /// A closed cycle as its due date sees it: its number, from 1, and its minimum payment and grace amount in cents, at least
@@ -15,16 +15,6 @@ pub struct DueCycle {
     pub grace_amount: Cents,
     /// Whether its statement was issued at least 21 days before its due date (12 CFR 1026.5(b)(2)(ii)).
     pub has_due_payment: bool,
-}
-
-// The due date of a cycle.
-pub fn due_date(a: &Anchor, cycle: u32) -> Day
-    requires close_day { IsCloseDay a.now.close_day }
-    requires cycle { 1 ≤ cycle }
-    requires in_calendar { due a.now cycle ≤ 48_576 }
-    ensures { result ≡ due a.now cycle }
-{
-    due(*a, cycle).unwrap()
 }
 
 /// What a closed cycle's due date asks for, in cents: its minimum payment, which is at least 0, and 0 where the cycle has no due

@@ -5,23 +5,12 @@ ghost use Rattle.card_due.specs.Asked.{IsInCalendar, case_by, is_paid, paid_befo
 ghost use Rattle.card_due.specs.declared.due_cycle.DueCycle.{DueCycle};
 ghost use Rattle.card_posts.specs.Posted.{StandsFor};
 
-use crate::due_cycle::{DueCycle, due_date};
-use card_days::{Anchor, Day, closing};
+use crate::due_cycle::DueCycle;
+use card_days::{Anchor, Day, after_closing, due_date};
 use card_fees::{counted, credited};
 use card_model::GraceCase;
 use card_posts::Posts;
 use card_units::Cents;
-
-// The day after the closing of a cycle.
-pub fn after_closing(a: &Anchor, cycle: u32) -> Day
-    requires close_day { IsCloseDay a.now.close_day }
-    requires cycle { 1 ≤ cycle }
-    requires in_calendar { closing a.now cycle < 48_576 }
-    ensures { result ≡ closing a.now cycle + 1 }
-{
-    let day = closing(*a, cycle).unwrap();
-    Day::from_number(day.number() + 1).unwrap()
-}
 
 // the payments and credits after the closing of a cycle, up to its due date
 fn repaid_by(posts: &Posts, a: &Anchor, cycle: u32) -> Cents

@@ -7,7 +7,6 @@ ghost use Rattle.card_model.specs.Fees as words;
 ghost use Rattle.card_model.specs.declared.fee.FeeKind.TheVariants as kind;
 
 use crate::FeeTable;
-use crate::due::{day_after, due_date};
 use card_days::{Anchor, Day, cycle_of};
 use card_model::{Fee, FeeKind};
 use card_units::Cents;
@@ -124,7 +123,7 @@ pub fn late_fee(table: &FeeTable, fees: &[Fee], a: Anchor, k: u32, minimum: Cent
     requires low { pos 0 ≤ℤ minimum }
     ensures { result ≡ charged.fee_by table.now fees.now record { kind = kind.Late; due_cycle = k; cycle = cycle_of a (due a k + 1); day = due a k + 1 } (unsigned_abs minimum) (unsigned_abs minimum) }
 {
-    let day = day_after(due_date(&a, k));
+    let day = due_date(&a, k).next();
     let cause = Cause {
         kind: FeeKind::Late,
         due_cycle: k,

@@ -6,37 +6,9 @@ ghost use Rattle.card_model.specs.Payments as payments;
 ghost use Rattle.card_posts.specs.Posted.{StandsFor};
 
 use crate::counting::counted_between;
-use card_days::{Anchor, Day, closing, due};
+use card_days::{Anchor, Day, closing_date, due, due_date};
 use card_posts::Posts;
 use card_units::Cents;
-
-// The day after a day.
-pub fn day_after(day: Day) -> Day
-    requires { day < 48_576 }
-    ensures { result ≡ day + 1 }
-{
-    Day::from_number(day.number() + 1).unwrap()
-}
-
-// The due date of a cycle.
-pub fn due_date(a: &Anchor, k: u32) -> Day
-    requires close_day { IsCloseDay a.now.close_day }
-    requires cycle { 1 ≤ k }
-    requires in_calendar { due a.now k ≤ 48_576 }
-    ensures { result ≡ due a.now k }
-{
-    due(*a, k).unwrap()
-}
-
-// the closing of a cycle
-fn closing_date(a: &Anchor, k: u32) -> Day
-    requires close_day { IsCloseDay a.now.close_day }
-    requires cycle { 1 ≤ k }
-    requires in_calendar { closing a.now k ≤ 48_576 }
-    ensures { result ≡ closing a.now k }
-{
-    closing(*a, k).unwrap()
-}
 
 // the payments since the closing of a cycle, up to a later day
 fn since_closing(posts: &Posts, a: &Anchor, k: u32, to: Day) -> u64
@@ -47,7 +19,7 @@ fn since_closing(posts: &Posts, a: &Anchor, k: u32, to: Day) -> u64
     ensures value { (holidays : List ℕ) → StandsFor holidays posts.now → result ≡ payments.counted posts.now.corrected (closing a.now k + 1) to }
 {
     let _last = to.number();
-    let from = day_after(closing_date(a, k));
+    let from = closing_date(a, k).next();
     counted_between(posts, from, to)
 }
 
@@ -92,15 +64,22 @@ pub fn past_due(posts: &Posts, a: Anchor, k: u32, minimum_before: Cents) -> Cent
     left_of(minimum_before, since_closing(posts, &a, k - 1, end))
 }
 
-// whether a due date lies more than 60 days back
-fn is_long_past(a: &Anchor, k: u32, day: Day) -> bool
+/// Whether a due date lies more than 60 days back (12 CFR 1026.55(b)(4)).
+pub fn is_long_past(due: Day, day: Day) -> bool
+    ensures { result ≡ nat_lt (due + 60) day }
+{
+    due.number() + 60 < day.number()
+}
+
+// whether that of a cycle does
+fn is_cycle_long_past(a: &Anchor, k: u32, day: Day) -> bool
     requires close_day { IsCloseDay a.now.close_day }
     requires cycle { 1 ≤ k }
     ensures { result ≡ nat_lt (due a.now k + 60) day }
 {
-    let day = day.number();
+    let _last = day.number();
     match due(*a, k) {
-        Some(due) => due.number() + 60 < day,
+        Some(due) => is_long_past(due, day),
         None => false,
     }
 }
@@ -114,7 +93,7 @@ fn owes(posts: &Posts, a: &Anchor, k: u32, minimum: Cents, day: Day) -> bool
     if minimum <= 0 {
         return false;
     }
-    if !is_long_past(a, k, day) {
+    if !is_cycle_long_past(a, k, day) {
         return false;
     }
     since_closing(posts, a, k, day) < minimum as u64

@@ -1,6 +1,6 @@
 ghost use Rattle.std.specs.Prelude.{◌≡◌, IfOk};
 
-use card_ports::NoMemory;
+use card_units::NoMemory;
 use std::alloc::Global;
 use std::marker::Model;
 

@@ -5,46 +5,10 @@ ghost use Rattle.card_model.specs.Payments as model;
 ghost use Rattle.card_penalties.specs.Late.{owes_by};
 ghost use Rattle.card_posts.specs.Posted.{StandsFor};
 
-use card_days::{Anchor, Day, closing, due};
+use card_days::{Anchor, Day, after_closing, due_date};
 use card_due::DueCycle;
-use card_fees::counted;
+use card_fees::{counted, is_long_past};
 use card_posts::Posts;
-
-// The day that comes so many days after another.
-fn later(day: Day, days: i32) -> Day
-    requires low { pos 0 ≤ℤ days }
-    requires last { day + unsigned_abs days ≤ 48_576 }
-    ensures { result ≡ day + unsigned_abs days }
-{
-    Day::from_number(day.number() + days).unwrap()
-}
-
-// The due date of a cycle.
-fn due_date(a: &Anchor, cycle: u32) -> Day
-    requires close_day { IsCloseDay a.now.close_day }
-    requires cycle { 1 ≤ cycle }
-    requires in_calendar { due a.now cycle ≤ 48_576 }
-    ensures { result ≡ due a.now cycle }
-{
-    due(*a, cycle).unwrap()
-}
-
-// The day after the closing of a cycle.
-fn after_closing(a: &Anchor, cycle: u32) -> Day
-    requires close_day { IsCloseDay a.now.close_day }
-    requires cycle { 1 ≤ cycle }
-    requires in_calendar { closing a.now cycle < 48_576 }
-    ensures { result ≡ closing a.now cycle + 1 }
-{
-    later(closing(*a, cycle).unwrap(), 1)
-}
-
-// Whether a due date lies more than 60 days back.
-fn is_long_past(due: Day, day: Day) -> bool
-    ensures { result ≡ nat_lt (due + 60) day }
-{
-    due.number() + 60 < day.number()
-}
 
 // Whether the payments since a cycle's closing are below its minimum payment.
 fn is_unpaid(posts: &Posts, a: &Anchor, c: &DueCycle, day: Day) -> bool
@@ -78,5 +42,5 @@ pub fn begin_after(day: Day) -> Day
     requires { day ≤ 48_531 }
     ensures { result ≡ day + 45 }
 {
-    later(day, 45)
+    day.plus(45)
 }

@@ -9,4 +9,4 @@ mod source;
 pub use calls::Calls;
 pub use memory::{MemorySink, MemorySource};
 pub use real::{StdSink, StdSource};
-pub use source::{Failed, NoMemory, Sink, SinkFault, Source};
+pub use source::{Failed, Sink, SinkFault, Source};

@@ -8,3 +8,4 @@ mod rate;
 mod segment;
 
 pub use book::RateBook;
+pub use segment::{plan_sort, sort_of};

@@ -59,7 +59,7 @@ pub fn number_of(day: Day) -> u32
     day.number() as u32
 }
 
-// The sort of a category's vintages.
+/// The sort of a category's vintages.
 pub fn sort_of(category: Category) -> Sort
     ensures { result ≡ sort_of_category category }
 {
@@ -70,6 +70,7 @@ pub fn sort_of(category: Category) -> Sort
     }
 }
 
+/// The sort of a kind of plan.
 pub fn plan_sort(kind: PlanKind) -> Sort
     ensures { result ≡ sort_of_plan kind }
 {

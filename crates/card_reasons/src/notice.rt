@@ -104,7 +104,7 @@ fn noticed_day(day: Day) -> Day
     requires { day ≤ 47_481 }
     ensures { result ≡ day + 45 }
 {
-    Day::from_number(day.number() + 45).unwrap()
+    day.plus(45)
 }
 
 /// Why a Notice of a day isn't accepted with its effective day, or as one more segment.

@@ -12,35 +12,17 @@ use card_days::Day;
 use card_events::{Category, Kept, PlanKind, Post};
 use card_model::{Segment, Sort};
 use card_posts::Posts;
+use card_rates::{plan_sort, sort_of};
 use card_segments::Segments;
 use card_units::NoMemory;
 use std::alloc::Global;
-
-fn sort_of(category: Category) -> Sort
-    ensures { result ≡ sort_of_category category }
-{
-    match category {
-        Category::Purchase => Sort::Purchase,
-        Category::Cash => Sort::Cash,
-        Category::Transfer => Sort::Transfer,
-    }
-}
-
-fn plan_sort(kind: PlanKind) -> Sort
-    ensures { result ≡ sort_of_plan kind }
-{
-    match kind {
-        PlanKind::Promo => Sort::Promo,
-        PlanKind::Deferred => Sort::Deferred,
-    }
-}
 
 // the 15th day after a Notice
 fn vintage_day(notice: Day) -> Day
     requires { notice ≤ 47_481 }
     ensures { result ≡ notice + 15 }
 {
-    Day::from_number(notice.number() + 15).unwrap()
+    notice.plus(15)
 }
 
 // the segment that a post adds

@@ -6,4 +6,4 @@ pub cycle_of-requires-clause-opened : goal.cycle_of-requires-clause-opened
 cycle_of-requires-clause-opened c =
     let l = due-later c.args.a c.args.k in
     let o = opened-before c.args.a c.args.k in
-    omega (arith, l, o, c.due_date.ensures, c.day_after-day.ensures)
+    omega (arith, l, o, c.due_date.ensures, c.next-day.ensures)
