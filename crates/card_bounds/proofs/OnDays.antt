@@ -4,6 +4,7 @@ use Rattle.std.specs.List.{All, last_or}
 use Rattle.std.proofs.lemmas.List.Elements.{All-nil, All-weaker}
 use Rattle.card_bounds.specs.Places.{CyclesBeginInTurn, EntriesHaveDays, book_before}
 use Rattle.card_days.specs.Billing.{closing, closings_among, cycle_of}
+use Rattle.card_days.specs.Range.{last_calendar_day}
 use Rattle.card_events.specs.History.{CorrectedPost, anchor_of}
 use Rattle.card_events.specs.SharedRows.{SharedRows}
 use Rattle.card_events.specs.declared.kept.Kept.{Kept}
@@ -73,7 +74,7 @@ book-first rows acc s n k dated open' l e =
     let same : length cs + 0 ≡ k - 1 = omega arith in
     subst (λ m. first_of acc (last_cycle cs) ≡ closing acc.anchor m + 1) same first
 
-days_begin : (history : List Kept) (issued : List IssuedRow) (shared : SharedRows) (day : ℕ) → IsOpening (anchor_of history) → day ≤ 48576
+days_begin : (history : List Kept) (issued : List IssuedRow) (shared : SharedRows) (day : ℕ) → IsOpening (anchor_of history) → day ≤ last_calendar_day
     → first_day_of (account_of history) (book history issued shared day) ≡ closing (anchor_of history) (cycle_of (anchor_of history) (day + 1) - 1) + 1
 unfolding book
 days_begin history issued shared day open' l =

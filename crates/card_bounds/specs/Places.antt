@@ -3,6 +3,7 @@ use Rattle.std.specs.Prelude.{ℕ, ◌+◌, ◌-◌, ◌==◌, ◌≡◌, ◌≤
 use Rattle.std.specs.List.{All, Contains, filter}
 use Rattle.card_bounds.specs.Bounds.{book_amid}
 use Rattle.card_days.specs.Billing.{closing, cycle_of}
+use Rattle.card_days.specs.Range.{last_calendar_day}
 use Rattle.card_events.specs.History.{CorrectedPost, anchor_of}
 use Rattle.card_events.specs.SharedRows.{SharedRows}
 use Rattle.card_events.specs.declared.kept.Kept.{Kept}
@@ -69,7 +70,7 @@ pub record EntriesHaveDays : Type 0 where
 -- cycle
 pub record CyclesBeginInTurn : Type 0 where
   pub days :
-      (history : List Kept) (issued : List IssuedRow) (shared : SharedRows) (day : ℕ) → IsOpening (anchor_of history) → day ≤ 48576
+      (history : List Kept) (issued : List IssuedRow) (shared : SharedRows) (day : ℕ) → IsOpening (anchor_of history) → day ≤ last_calendar_day
       → first_day_of (account_of history) (book history issued shared day) ≡ closing (anchor_of history) (cycle_of (anchor_of history) (day + 1) - 1) + 1
   pub before :
       (history : List Kept) (issued : List IssuedRow) (shared : SharedRows) (n : ℕ) → IsOpening (anchor_of history) → (anchor_of history).opened + n ≤ 48577

@@ -6,6 +6,7 @@ use Rattle.card_days.specs.Civil.{first_day}
 use Rattle.card_days.specs.Business.{is_holiday, is_business, next_business}
 use Rattle.card_days.specs.Kept.{AreHolidays}
 use Rattle.card_days.proofs.Months.{first_day-from, first_day-below}
+use Rattle.card_days.specs.Range.{last_request_day, last_calendar_day}
 
 -- where some day passes, the first one isn't later
 pub first_day-at_most : (p : ℕ → Bool) (more day x : ℕ) → day ≤ x → p x ≡ true → first_day p more day ≤ x
@@ -31,7 +32,7 @@ first_day-passes p (suc more) day x low l e =
     by none (inr same) rest = let is : x ≡ day = omega arith in absurd (false≢true (sym none ∙ (rw is at e)))
 
 -- no holiday lies after the last one that can be loaded
-pub no_holiday : (low : ℕ) (xs : List ℕ) (day : ℕ) → AreHolidays low xs → 47_481 < day → is_holiday xs day ≡ false
+pub no_holiday : (low : ℕ) (xs : List ℕ) (day : ℕ) → AreHolidays low xs → last_request_day < day → is_holiday xs day ≡ false
 unfolding AreHolidays is_holiday
 no_holiday low [] day h l = refl
 no_holiday low (x ∷ xs) day h l =
@@ -39,7 +40,7 @@ no_holiday low (x ∷ xs) day h l =
     let same : nat_eq day x ≡ false = grind (arith, nat_tests) in
     rw same (no_holiday (x + 1) xs day h.2 l)
 
-late_business : (xs : List ℕ) (day : ℕ) → AreHolidays 0 xs → 47_481 < day → (day + 3) % 7 < 5 → is_business xs day ≡ true
+late_business : (xs : List ℕ) (day : ℕ) → AreHolidays 0 xs → last_request_day < day → (day + 3) % 7 < 5 → is_business xs day ≡ true
 unfolding is_business
 late_business xs day h l w =
     let weekday : nat_lt ((day + 3) % 7) 5 ≡ true = grind (arith, nat_tests) in
@@ -47,9 +48,9 @@ late_business xs day h l w =
 
 -- a business day comes soon after the last holidays
 soon : (xs : List ℕ) (day : ℕ) → AreHolidays 0 xs → (x : ℕ) × (day + 1 ≤ x) × (x ≤ max 47_482 (day + 3)) × (is_business xs x ≡ true)
-soon xs day h = by (cases_lt 47_481 day) (cases_lt ((day + 1 + 3) % 7) 5) (cases_lt ((day + 2 + 3) % 7) 5)
+soon xs day h = by (cases_lt last_request_day day) (cases_lt ((day + 1 + 3) % 7) 5) (cases_lt ((day + 2 + 3) % 7) 5)
   where
-    by : (47_481 < day) ⊎ (day ≤ 47_481) → ((day + 1 + 3) % 7 < 5) ⊎ (5 ≤ (day + 1 + 3) % 7) → ((day + 2 + 3) % 7 < 5) ⊎ (5 ≤ (day + 2 + 3) % 7) → (x : ℕ) × (day + 1 ≤ x) × (x ≤ max 47_482 (day + 3)) × (is_business xs x ≡ true)
+    by : (last_request_day < day) ⊎ (day ≤ last_request_day) → ((day + 1 + 3) % 7 < 5) ⊎ (5 ≤ (day + 1 + 3) % 7) → ((day + 2 + 3) % 7 < 5) ⊎ (5 ≤ (day + 2 + 3) % 7) → (x : ℕ) × (day + 1 ≤ x) × (x ≤ max 47_482 (day + 3)) × (is_business xs x ≡ true)
     by (inr early) a b = (47_482, omega arith, omega arith, late_business xs 47_482 h (omega arith) (omega arith))
     by (inl late) (inl a) b = (day + 1, omega arith, omega arith, late_business xs (day + 1) h (omega arith) a)
     by (inl late) (inr a) (inl b) = (day + 2, omega arith, omega arith, late_business xs (day + 2) h (omega arith) b)
@@ -59,17 +60,17 @@ pub next_business-near : (xs : List ℕ) (day : ℕ) → AreHolidays 0 xs → ne
 unfolding next_business
 next_business-near xs day h =
     let s = soon xs day h in
-    omega (arith, s.2, first_day-at_most (is_business xs) (48_576 - day) (day + 1) s.0 s.1 s.3)
+    omega (arith, s.2, first_day-at_most (is_business xs) (last_calendar_day - day) (day + 1) s.0 s.1 s.3)
 
 pub next_business-later : (xs : List ℕ) (day : ℕ) → day < next_business xs day
 unfolding next_business
-next_business-later xs day = omega (arith, first_day-from (is_business xs) (48_576 - day) (day + 1))
+next_business-later xs day = omega (arith, first_day-from (is_business xs) (last_calendar_day - day) (day + 1))
 
 pub next_business-is : (xs : List ℕ) (day : ℕ) → AreHolidays 0 xs → day ≤ 47_846 → is_business xs (next_business xs day) ≡ true
 unfolding next_business
 next_business-is xs day h small =
     let s = soon xs day h in
-    first_day-passes (is_business xs) (48_576 - day) (day + 1) s.0 s.1 (omega (arith, s.2)) s.3
+    first_day-passes (is_business xs) (last_calendar_day - day) (day + 1) s.0 s.1 (omega (arith, s.2)) s.3
 
 -- the same day is found from a later day, where none passed between
 pub skip : (p : ℕ → Bool) (more day n : ℕ) → n ≡ suc more → p day ≡ false → first_day p n day ≡ first_day p more (day + 1)
@@ -84,7 +85,7 @@ stay p more day n e is = rw (e, is) refl
 pub starts : (xs : List ℕ) (day next : ℕ) → next ≡ day + 1 → first_day (is_business xs) (48_577 - next) next ≡ next_business xs day
 unfolding next_business
 starts xs day next e =
-    let room : 48_577 - (day + 1) ≡ 48_576 - day = omega arith in
+    let room : 48_577 - (day + 1) ≡ last_calendar_day - day = omega arith in
     rw e (ap (λ n. first_day (is_business xs) n (day + 1)) room)
 
 pub small : (xs : List ℕ) (day next : ℕ) → AreHolidays 0 xs → day ≤ 47_846 → first_day (is_business xs) (48_577 - next) next ≡ next_business xs day → next ≤ 47_849

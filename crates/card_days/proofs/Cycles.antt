@@ -2,6 +2,7 @@
 use Rattle.std.proofs.Common.{◌≡◌, ℕ, zero, suc, ◌+◌, ◌-◌, ◌*◌, ◌/◌, ◌%◌, ◌<◌, ◌≤◌, Bool, true, false, cond, eqb, nat_lt, nat_le, nat_eq, refl, sym, ap, ◌∙◌, subst, arith, inl, inr, ◌⊎◌, eq-eqb}
 use Rattle.std.proofs.lemmas.Bool.{cases_lt, false≢true}
 use Rattle.std.proofs.lemmas.Bool.Decides.{nat_tests}
+use Rattle.card_days.specs.Range.{last_calendar_day, first_calendar_day}
 use Rattle.card_days.specs.declared.anchor.Anchor.{Anchor}
 use Rattle.card_days.specs.Civil.{month_length, day_at, date_of, day_of_month, next_month, year_of_next_month, is_date}
 use Rattle.card_days.specs.Billing.{next_on, closing, due_day_of_month, due_after, due, closings_among, cycle_of}
@@ -35,7 +36,7 @@ month-is_date i d low high d1 d2 =
     let parts = in_years i low high in
     from_calendar _ _ _ (record { low_year = parts.0; high_year = parts.1; low_month = parts.2; high_month = parts.3; low_day = d1; high_day = omega (arith, length_bounds (i / 12) (i % 12 + 1)) })
 
-pub day_in_month-range : (i d : ℕ) → 24_132 ≤ i → i ≤ 25_235 → 1 ≤ d → d ≤ 28 → (14_975 ≤ day_in_month i d) × (day_in_month i d ≤ 48_576)
+pub day_in_month-range : (i d : ℕ) → 24_132 ≤ i → i ≤ 25_235 → 1 ≤ d → d ≤ 28 → (first_calendar_day ≤ day_in_month i d) × (day_in_month i d ≤ last_calendar_day)
 unfolding day_in_month
 day_in_month-range i d low high d1 d2 = day_at-range _ _ _ (month-is_date i d low high d1 d2)
 
@@ -53,7 +54,7 @@ next_by y m d c false e h far low high =
     let none : 12 * y + (m - 1) + 0 ≡ 12 * y + (m - 1) = omega arith in
     next_on-here y m d c h less high ∙ sym (at_number y m c h.month_low h.month_high) ∙ ap (λ i. day_in_month i c) (sym none)
 
-pub date_civil : (n : ℕ) → 14_975 ≤ n → n ≤ 48_576 → IsCivil (date_of n).year (date_of n).month (date_of n).day
+pub date_civil : (n : ℕ) → first_calendar_day ≤ n → n ≤ last_calendar_day → IsCivil (date_of n).year (date_of n).month (date_of n).day
 date_civil n low high =
     let h = date_of-in_calendar n low high in
     record {
@@ -65,7 +66,7 @@ date_civil n low high =
       day_high = h.high_day;
     }
 
-pub next_on-number : (n c : ℕ) → 14_975 ≤ n → n ≤ 48_576 → 1 ≤ c → c ≤ 28 → next_on c n ≡ day_in_month (month_from c (date_of n)) c
+pub next_on-number : (n c : ℕ) → first_calendar_day ≤ n → n ≤ last_calendar_day → 1 ≤ c → c ≤ 28 → next_on c n ≡ day_in_month (month_from c (date_of n)) c
 next_on-number n c low high c1 c2 =
     let h = date_of-in_calendar n low high in
     ap (λ x. next_on c x) (sym (day_at-date_of n (omega arith)))
@@ -76,7 +77,7 @@ month_from-test : (b : Bool) (n : ℕ) → (n ≤ n + cond b 1 0) × (n + cond b
 month_from-test true n = (omega arith, omega arith)
 month_from-test false n = (omega arith, omega arith)
 
-pub month_from-bounds : (n c : ℕ) → 14_975 ≤ n → n ≤ 48_576 → (24_132 ≤ month_from c (date_of n)) × (month_from c (date_of n) ≤ 25_236)
+pub month_from-bounds : (n c : ℕ) → first_calendar_day ≤ n → n ≤ last_calendar_day → (24_132 ≤ month_from c (date_of n)) × (month_from c (date_of n) ≤ 25_236)
 month_from-bounds n c low high =
     let h = date_of-in_calendar n low high in
     let t = month_from-test (nat_lt c (date_of n).day) (month_number (date_of n)) in
@@ -85,8 +86,8 @@ month_from-bounds n c low high =
 -- ---- closings
 -- an anchor as accounts have it
 pub record IsAnchor (a : Anchor) : Type 0 where
-  pub first : 14_975 ≤ a.opened
-  pub last : a.opened ≤ 48_576
+  pub first : first_calendar_day ≤ a.opened
+  pub last : a.opened ≤ last_calendar_day
   pub low : 1 ≤ a.close_day
   pub high : a.close_day ≤ 28
 
@@ -194,14 +195,14 @@ step_in y m d c h far low high = by (cases_lt d (month_length y m))
         ∙ ap (λ x. x + cond (nat_lt c 1) 1 0) (number_next y m h.month_low h.month_high)
         ∙ month_over-by c d (12 * y + (m - 1)) low high (omega (arith, length_bounds y m))
 
-pub month_step : (n c : ℕ) → 14_975 ≤ n → n ≤ 48_576 → 1 ≤ c → c ≤ 28 → month_from c (date_of (n + 1)) ≡ month_from c (date_of n) + cond (nat_eq (day_of_month n) c) 1 0
+pub month_step : (n c : ℕ) → first_calendar_day ≤ n → n ≤ last_calendar_day → 1 ≤ c → c ≤ 28 → month_from c (date_of (n + 1)) ≡ month_from c (date_of n) + cond (nat_eq (day_of_month n) c) 1 0
 month_step n c low high c1 c2 =
     let h = date_of-in_calendar n low high in
     ap (λ x. month_from c (date_of (x + 1))) (sym (day_at-date_of n (omega arith)))
     ∙ step_in (date_of n).year (date_of n).month (date_of n).day c (date_civil n low high) (omega (arith, h.high_year)) c1 c2
 
 -- so many closings lie among these days
-pub closings_counted : (c first n : ℕ) → 14_975 ≤ first → first + n ≤ 48_576 → 1 ≤ c → c ≤ 28 → closings_among c first n + month_from c (date_of first) ≡ month_from c (date_of (first + n))
+pub closings_counted : (c first n : ℕ) → first_calendar_day ≤ first → first + n ≤ last_calendar_day → 1 ≤ c → c ≤ 28 → closings_among c first n + month_from c (date_of first) ≡ month_from c (date_of (first + n))
 unfolding closings_among
 closings_counted c first zero low high c1 c2 =
     let none : first + 0 ≡ first = omega arith in
@@ -210,7 +211,7 @@ closings_counted c first (suc n) low high c1 c2 =
     let on : first + n + 1 ≡ first + suc n = omega arith in
     omega (arith, closings_counted c first n low (omega arith) c1 c2, month_step (first + n) c (omega arith) (omega arith) c1 c2, ap (λ x. month_from c (date_of x)) on)
 
-pub cycle_is : (a : Anchor) → IsAnchor a → (day : ℕ) → a.opened ≤ day → day ≤ 48_576 → cycle_of a day + first_month a ≡ month_from a.close_day (date_of day) + 1
+pub cycle_is : (a : Anchor) → IsAnchor a → (day : ℕ) → a.opened ≤ day → day ≤ last_calendar_day → cycle_of a day + first_month a ≡ month_from a.close_day (date_of day) + 1
 unfolding cycle_of first_month
 cycle_is a h day low high =
     let whole : a.opened + (day - a.opened) ≡ day = omega arith in
@@ -223,18 +224,18 @@ closing-day a h k small =
     ap day_of_month (closing_is a h k small) ∙ dated _ _ a.close_day (month_civil (first_month a + k) a.close_day (omega (arith, first_month-bounds a h)) (omega arith) h.low h.high)
 
 -- the next closing day from a day of a cycle on is the closing of that cycle
-cycle_closing : (a : Anchor) → IsAnchor a → (day q : ℕ) → a.opened ≤ day → day ≤ 48_576 → cycle_of a day ≡ suc q → closing a (suc q) ≡ next_on a.close_day day
+cycle_closing : (a : Anchor) → IsAnchor a → (day q : ℕ) → a.opened ≤ day → day ≤ last_calendar_day → cycle_of a day ≡ suc q → closing a (suc q) ≡ next_on a.close_day day
 cycle_closing a h day q low high e =
     let count = cycle_is a h day low high in
     let bounds = month_from-bounds day a.close_day (omega (arith, h.first)) high in
     let month : first_month a + q ≡ month_from a.close_day (date_of day) = omega arith in
     closing_is a h q (omega (arith, bounds.1)) ∙ ap (λ i. day_in_month i a.close_day) month ∙ sym (next_on-number day a.close_day (omega (arith, h.first)) high h.low h.high)
 
-pub within_cycle : (a : Anchor) → IsAnchor a → (day q : ℕ) → a.opened ≤ day → day ≤ 48_576 → cycle_of a day ≡ suc q → day ≤ closing a (suc q)
+pub within_cycle : (a : Anchor) → IsAnchor a → (day q : ℕ) → a.opened ≤ day → day ≤ last_calendar_day → cycle_of a day ≡ suc q → day ≤ closing a (suc q)
 within_cycle a h day q low high e =
     omega (arith, cycle_closing a h day q low high e, first_day-from (λ d. eqb (day_of_month d) a.close_day) 31 day)
 
-pub after_closing : (a : Anchor) → IsAnchor a → (day q : ℕ) → a.opened ≤ day → day ≤ 48_576 → cycle_of a day ≡ suc q → closing a q < day
+pub after_closing : (a : Anchor) → IsAnchor a → (day q : ℕ) → a.opened ≤ day → day ≤ last_calendar_day → cycle_of a day ≡ suc q → closing a q < day
 unfolding closing
 after_closing a h day zero low high e = omega (arith, h.first)
 after_closing a h day (suc r) low high e = by (cases_lt (closing a (suc r)) day)
@@ -257,7 +258,7 @@ unfolding cycle_of
 cycle_from_one a day = omega arith
 
 -- a cycle's number, in one piece with the closings around the day
-pub cycle_around : (a : Anchor) → IsAnchor a → (day k : ℕ) → a.opened ≤ day → day ≤ 48_576 → k ≡ cycle_of a day → (closing a (k - 1) < day) × (day ≤ closing a k)
+pub cycle_around : (a : Anchor) → IsAnchor a → (day k : ℕ) → a.opened ≤ day → day ≤ last_calendar_day → k ≡ cycle_of a day → (closing a (k - 1) < day) × (day ≤ closing a k)
 cycle_around a h day k low high e =
     let one = cycle_from_one a day in
     let back : suc (k - 1) ≡ k = omega arith in

@@ -9,8 +9,9 @@ use Rattle.jiff_core.proofs.SignedLemmas.{signed_arith}
 use Rattle.card_days.specs.Civil.{month_length, days_before_year, days_of_months, day_at, date_of, is_date, IsInCalendar}
 use Rattle.card_days.proofs.Counts.{count_is, number_is}
 use Rattle.card_days.proofs.Dates.{HasDate, date_of-has, date_of-is}
+use Rattle.card_days.specs.Range.{last_calendar_day, first_calendar_day}
 
-day_2011 : day_at 2011 1 1 ≡ 14_975
+day_2011 : day_at 2011 1 1 ≡ first_calendar_day
 unfolding day_at days_before_year days_of_months
 day_2011 = refl
 
@@ -91,14 +92,14 @@ date_of-day_at y m d y1 y2 m1 m2 d1 d2 =
     date_of-is (day_at y m d) (record { year = y; month = m; day = d }) (omega (arith, before_year y m d 2301 y1 (omega arith) m1 m2 d1 d2 (omega arith), day_2301)) (has_date y m d y1 (omega arith) m1 m2 d1 d2)
 
 -- the numbers of the calendar's dates
-pub day_at-range : (y m d : ℕ) → is_date y m d ≡ true → (14_975 ≤ day_at y m d) × (day_at y m d ≤ 48_576)
+pub day_at-range : (y m d : ℕ) → is_date y m d ≡ true → (first_calendar_day ≤ day_at y m d) × (day_at y m d ≤ last_calendar_day)
 day_at-range y m d is =
     let h = in_calendar y m d is in
     let a = after_first y m d 2011 (omega arith) h.low_year h.low_day in
     let b = before_year y m d 2103 (omega (arith, h.low_year)) (omega (arith, h.high_year)) h.low_month h.high_month h.low_day h.high_day (omega (arith, h.high_year)) in
     (omega (arith, day_2011), omega (arith, day_2103))
 
-pub date_of-in_calendar : (n : ℕ) → 14_975 ≤ n → n ≤ 48_576 → IsInCalendar (date_of n).year (date_of n).month (date_of n).day
+pub date_of-in_calendar : (n : ℕ) → first_calendar_day ≤ n → n ≤ last_calendar_day → IsInCalendar (date_of n).year (date_of n).month (date_of n).day
 date_of-in_calendar n low high =
     let h = date_of-has n (omega arith) in
     let not_early : ¬ ((date_of n).year < 2011) = λ l. omega (arith, before_year (date_of n).year (date_of n).month (date_of n).day 2011 h.year_low (omega (arith, h.year_high)) h.month_low h.month_high h.day_low h.day_high l, day_2011, h.number) in

@@ -2,6 +2,7 @@
 use Rattle.std.proofs.Common.{◌≡◌, ℕ, zero, suc, ◌+◌, ◌-◌, ◌<◌, ◌≤◌, Bool, true, false, ◌&&◌, eqb, nat_lt, Some, refl, ap, ◌∙◌, arith, inl, inr, ◌⊎◌, eq-eqb}
 use Rattle.std.proofs.lemmas.Bool.{cases_lt}
 use Rattle.std.proofs.lemmas.Bool.Decides.{nat_tests}
+use Rattle.card_days.specs.Range.{last_calendar_day, first_calendar_day}
 use Rattle.card_days.specs.declared.anchor.Anchor.{Anchor}
 use Rattle.card_days.specs.Civil.{date_of, day_of_month}
 use Rattle.card_days.specs.Billing.{closing, due_day_of_month, due_after, due}
@@ -23,7 +24,7 @@ unfolding day_in_month
 month_day i d low high d1 d2 = dated _ _ d (month_civil i d low (omega arith) d1 d2)
 
 -- the day of the month before the next one lies before the day
-earlier_day : (e day : ℕ) → 14_975 ≤ day → day ≤ 48_576 → 1 ≤ e → e ≤ 28 → day_in_month (month_from e (date_of day) - 1) e < day
+earlier_day : (e day : ℕ) → first_calendar_day ≤ day → day ≤ last_calendar_day → 1 ≤ e → e ≤ 28 → day_in_month (month_from e (date_of day) - 1) e < day
 earlier_day e day low high e1 e2 = by (cases_lt (day_in_month (month_from e (date_of day) - 1) e) day)
   where
     bounds : (24_132 ≤ month_from e (date_of day)) × (month_from e (date_of day) ≤ 25_236)
@@ -42,7 +43,7 @@ earlier_day e day low high e1 e2 = by (cases_lt (day_in_month (month_from e (dat
         absurd (omega (arith, on, most, next_on-number day e low high e1 e2, ap (λ u. day_in_month u e) back, first_day-from (λ x. eqb (day_of_month x) e) 31 (day_in_month i e + 1)))
 
 -- no other day of that number lies between
-between : (e day x : ℕ) → 14_975 ≤ day → day ≤ 48_576 → 1 ≤ e → e ≤ 28 → day_in_month (month_from e (date_of day) - 1) e < x → x < day → eqb (day_of_month x) e ≡ false
+between : (e day x : ℕ) → first_calendar_day ≤ day → day ≤ last_calendar_day → 1 ≤ e → e ≤ 28 → day_in_month (month_from e (date_of day) - 1) e < x → x < day → eqb (day_of_month x) e ≡ false
 between e day x low high e1 e2 after before =
     let bounds = month_from-bounds day e low high in
     let i : ℕ = month_from e (date_of day) - 1 in
@@ -85,7 +86,7 @@ none_before a x l = by (cases_lt (closing a 1) x)
     by (inl after) = no_due a x (first_day-below (λ u. eqb (day_of_month u) (due_day_of_month a.close_day)) 31 (closing a 1 + 1) x (omega arith) l)
     by (inr before) = early_due a x before
 
-pub last_due-none : (a : Anchor) → IsAnchor a → (day : ℕ) → 14_975 ≤ day → day ≤ 48_576 → month_from (due_day_of_month a.close_day) (date_of day) ≤ first_month a + due_shift a.close_day → (x : ℕ) → x < day → is_due a x ≡ false
+pub last_due-none : (a : Anchor) → IsAnchor a → (day : ℕ) → first_calendar_day ≤ day → day ≤ last_calendar_day → month_from (due_day_of_month a.close_day) (date_of day) ≤ first_month a + due_shift a.close_day → (x : ℕ) → x < day → is_due a x ≡ false
 last_due-none a h day low high le x l =
     let e = due_day_of_month a.close_day in
     let e' = due_day-bounds a.close_day h.low h.high in
@@ -95,7 +96,7 @@ last_due-none a h day low high le x l =
     let up = day_in_month-up (month_from e (date_of day)) (first_month a + due_shift a.close_day - month_from e (date_of day)) e (omega (arith, bounds.0)) (omega (arith, first.1, shift_small a.close_day)) e'.0 e'.1 in
     none_before a x (omega (arith, up, ap (λ u. day_in_month u e) whole, first_due a h, next_on-number day e low high e'.0 e'.1, first_day-from (λ u. eqb (day_of_month u) e) 31 day))
 
-pub last_due-some : (a : Anchor) → IsAnchor a → (day : ℕ) → 14_975 ≤ day → day ≤ 48_576 → first_month a + due_shift a.close_day < month_from (due_day_of_month a.close_day) (date_of day) → (i : ℕ) → i ≡ month_from (due_day_of_month a.close_day) (date_of day) - 1 → IsLastDue a day (Some (day_in_month i (due_day_of_month a.close_day)))
+pub last_due-some : (a : Anchor) → IsAnchor a → (day : ℕ) → first_calendar_day ≤ day → day ≤ last_calendar_day → first_month a + due_shift a.close_day < month_from (due_day_of_month a.close_day) (date_of day) → (i : ℕ) → i ≡ month_from (due_day_of_month a.close_day) (date_of day) - 1 → IsLastDue a day (Some (day_in_month i (due_day_of_month a.close_day)))
 unfolding is_due
 last_due-some a h day low high less i is = (
   rw is (earlier_day e day low high e'.0 e'.1),

@@ -2,6 +2,7 @@
 use Rattle.std.proofs.Common.{◌≡◌, ℕ, zero, suc, ◌+◌, ◌-◌, ◌/◌, ◌%◌, ◌<◌, ◌≤◌, Bool, true, false, cond, not, ◌&&◌, eqb, nat_lt, nat_le, nat_eq, List, refl, sym, ap, ◌∙◌, arith, inl, inr, ◌⊎◌, eq-eqb}
 use Rattle.std.proofs.lemmas.Bool.{cases_lt, false≢true, eqb-true}
 use Rattle.std.proofs.lemmas.Bool.Decides.{nat_tests}
+use Rattle.card_days.specs.Range.{last_calendar_day}
 use Rattle.card_days.specs.declared.anchor.Anchor.{Anchor}
 use Rattle.card_days.specs.Civil.{month_length, day_at, date_of, day_of_month, next_month, year_of_next_month}
 use Rattle.card_days.specs.Billing.{next_on, closing, due_day_of_month, due_after, due, cycle_of}
@@ -46,28 +47,28 @@ distance_by i c false e low high c1 c2 =
     (omega (arith, long.1), omega (arith, long.0))
 
 -- within the calendar
-pub month_small : (a : Anchor) → IsAnchor a → (k : ℕ) → due a (suc k) ≤ 48_576 → first_month a + k + due_shift a.close_day < 25_236
+pub month_small : (a : Anchor) → IsAnchor a → (k : ℕ) → due a (suc k) ≤ last_calendar_day → first_month a + k + due_shift a.close_day < 25_236
 month_small a h k small = by (cases_lt (first_month a + k + due_shift a.close_day) 25_236)
   where
     by : (first_month a + k + due_shift a.close_day < 25_236) ⊎ (25_236 ≤ first_month a + k + due_shift a.close_day) → first_month a + k + due_shift a.close_day < 25_236
     by (inl l) = l
     by (inr late) = absurd (omega (arith, due_late a h k late))
 
-pub due_distance : (a : Anchor) → IsAnchor a → (k : ℕ) → due a (suc k) ≤ 48_576 → (closing a (suc k) + 24 ≤ due a (suc k)) × (due a (suc k) ≤ closing a (suc k) + 27)
+pub due_distance : (a : Anchor) → IsAnchor a → (k : ℕ) → due a (suc k) ≤ last_calendar_day → (closing a (suc k) + 24 ≤ due a (suc k)) × (due a (suc k) ≤ closing a (suc k) + 27)
 unfolding due_shift
 due_distance a h k small =
     let l : first_month a + k < 25_236 = omega (arith, month_small a h k small) in
     let d = distance_by (first_month a + k) a.close_day (nat_le a.close_day 4) refl (omega (arith, first_month-bounds a h)) (omega arith) h.low h.high in
     (omega (arith, d.0, closing_is a h k (omega arith), due_is a h k (omega arith)), omega (arith, d.1, closing_is a h k (omega arith), due_is a h k (omega arith)))
 
-pub due_before_next : (a : Anchor) → IsAnchor a → (k : ℕ) → due a (suc k) ≤ 48_576 → due a (suc k) < closing a (suc (suc k))
+pub due_before_next : (a : Anchor) → IsAnchor a → (k : ℕ) → due a (suc k) ≤ last_calendar_day → due a (suc k) < closing a (suc (suc k))
 due_before_next a h k small =
     let l : first_month a + k < 25_236 = omega (arith, month_small a h k small) in
     let i : ℕ = first_month a + k in
     let on : first_month a + k + 1 ≡ first_month a + suc k = omega arith in
     omega (arith, due_distance a h k small, closing_is a h k (omega arith), closing_is a h (suc k) (omega arith), month_later i a.close_day (omega (arith, first_month-bounds a h)) (omega arith) h.low h.high, length_bounds (i / 12) (i % 12 + 1), ap (λ u. day_in_month u a.close_day) on)
 
-pub due_same_day : (a : Anchor) → IsAnchor a → (k : ℕ) → due a (suc k) ≤ 48_576 → day_of_month (due a (suc k)) ≡ due_day_of_month a.close_day
+pub due_same_day : (a : Anchor) → IsAnchor a → (k : ℕ) → due a (suc k) ≤ last_calendar_day → day_of_month (due a (suc k)) ≡ due_day_of_month a.close_day
 due_same_day a h k small =
     let l : first_month a + k + due_shift a.close_day < 25_236 = month_small a h k small in
     let e = due_day-bounds a.close_day h.low h.high in
@@ -80,7 +81,7 @@ month_date i d low high d1 d2 =
     date_of-day_at _ _ d h.year_low (omega (arith, h.year_high)) h.month_low h.month_high h.day_low h.day_high
 
 -- the next due date is that of the next month
-pub due_each_month : (a : Anchor) → IsAnchor a → (k : ℕ) → due a (suc k) ≤ 48_576 → ((date_of (due a (suc (suc k)))).year ≡ year_of_next_month (date_of (due a (suc k))).year (date_of (due a (suc k))).month) × ((date_of (due a (suc (suc k)))).month ≡ next_month (date_of (due a (suc k))).month)
+pub due_each_month : (a : Anchor) → IsAnchor a → (k : ℕ) → due a (suc k) ≤ last_calendar_day → ((date_of (due a (suc (suc k)))).year ≡ year_of_next_month (date_of (due a (suc k))).year (date_of (due a (suc k))).month) × ((date_of (due a (suc (suc k)))).month ≡ next_month (date_of (due a (suc k))).month)
 due_each_month a h k small = (
   ap (λ c. c.year) there ∙ sym (ap (λ c. year_of_next_month c.year c.month) here ∙ next.0),
   ap (λ c. c.month) there ∙ sym (ap (λ c. next_month c.month) here ∙ next.1),
@@ -115,14 +116,14 @@ pub record IsDueOf (a : Anchor) (x k : ℕ) : Type 0 where
   pub numbered : 1 ≤ k
   pub is : due a k ≡ x
 
-closing_small : (a : Anchor) → IsAnchor a → (k x : ℕ) → closing a (suc k) < x → x ≤ 48_576 → first_month a + k < 25_236
+closing_small : (a : Anchor) → IsAnchor a → (k x : ℕ) → closing a (suc k) < x → x ≤ last_calendar_day → first_month a + k < 25_236
 closing_small a h k x after small = by (cases_lt (first_month a + k) 25_236)
   where
     by : (first_month a + k < 25_236) ⊎ (25_236 ≤ first_month a + k) → first_month a + k < 25_236
     by (inl l) = l
     by (inr late) = absurd (omega (arith, closing_late a h k late))
 
-between_closings : (a : Anchor) → IsAnchor a → (x k : ℕ) → is_due a x ≡ true → x ≤ 48_576 → closing a (suc k) < x → x ≤ closing a (suc (suc k)) → due a (suc k) ≡ x
+between_closings : (a : Anchor) → IsAnchor a → (x k : ℕ) → is_due a x ≡ true → x ≤ last_calendar_day → closing a (suc k) < x → x ≤ closing a (suc (suc k)) → due a (suc k) ≡ x
 between_closings a h x k is small after within = by (cases_lt (due a (suc k)) x)
   where
     e : ℕ
@@ -154,14 +155,14 @@ between_closings a h x k is small after within = by (cases_lt (due a (suc k)) x)
         let none = first_day-below (λ d. eqb (day_of_month d) e) 31 (day_in_month i e + 1) x (omega (arith, here)) (omega (arith, next, there, ap (λ u. day_in_month u e) on, due_grows a.close_day (closing a (suc (suc k))), within)) in
         absurd (false≢true (sym none ∙ (due_parts a x is).0))
 
-numbered_by : (a : Anchor) → IsAnchor a → (x q : ℕ) → is_due a x ≡ true → x ≤ 48_576 → closing a 1 < x → (closing a (q - 1) < x) × (x ≤ closing a q) → 1 ≤ q → (k : ℕ) × IsDueOf a x k
+numbered_by : (a : Anchor) → IsAnchor a → (x q : ℕ) → is_due a x ≡ true → x ≤ last_calendar_day → closing a 1 < x → (closing a (q - 1) < x) × (x ≤ closing a q) → 1 ≤ q → (k : ℕ) × IsDueOf a x k
 numbered_by a h x zero is small after around low = absurd (omega arith)
 numbered_by a h x (suc zero) is small after around low = absurd (omega (arith, around.1))
 numbered_by a h x (suc (suc k)) is small after around low =
     let same : suc (suc k) - 1 ≡ suc k = omega arith in
     (suc k, record { numbered = omega arith; is = between_closings a h x k is small (rw same at around.0) around.1 })
 
-pub numbered : (a : Anchor) → IsAnchor a → (x : ℕ) → is_due a x ≡ true → x ≤ 48_576 → (k : ℕ) × IsDueOf a x k
+pub numbered : (a : Anchor) → IsAnchor a → (x : ℕ) → is_due a x ≡ true → x ≤ last_calendar_day → (k : ℕ) × IsDueOf a x k
 numbered a h x is small =
     let test = (due_parts a x is).1 in
     let after : closing a 1 < x = grind (arith, nat_tests) in
@@ -173,7 +174,7 @@ closings_up a zero = omega arith
 closings_up a (suc k) = omega (arith, closings_up a k, closing_grows a (suc k))
 
 -- and the due date of a cycle is one
-pub is_due-due : (a : Anchor) → IsAnchor a → (k : ℕ) → due a (suc k) ≤ 48_576 → is_due a (due a (suc k)) ≡ true
+pub is_due-due : (a : Anchor) → IsAnchor a → (k : ℕ) → due a (suc k) ≤ last_calendar_day → is_due a (due a (suc k)) ≡ true
 unfolding is_due
 is_due-due a h k small =
     let on_day = eq-eqb _ _ (due_same_day a h k small) in
@@ -185,7 +186,7 @@ is_due-due a h k small =
 -- no day before the next business day is one
 pub quiet : (xs : List ℕ) (d x : ℕ) → d < x → x < next_business xs d → is_business xs x ≡ false
 unfolding next_business
-quiet xs d x after less = first_day-below (is_business xs) (48_576 - d) (d + 1) x (omega arith) less
+quiet xs d x after less = first_day-below (is_business xs) (last_calendar_day - d) (d + 1) x (omega arith) less
 
 pub quiet_day : (xs : List ℕ) (receipt d last : ℕ) → IsMet xs receipt d → d ≤ last → last < receipt → is_business xs last ≡ false
 quiet_day xs receipt d last met low less = by (cases_lt d last)
@@ -207,7 +208,7 @@ pub met_by : (b c t : Bool) (last receipt : ℕ) → b ≡ true → c ≡ false 
 met_by b c t last receipt p q r = rw (p, q, r) refl
 
 -- ---- how far from the closings
-due_early : (a : Anchor) → IsAnchor a → (k : ℕ) → due a (suc k) ≤ 48_576 → a.close_day ≤ 4 → due a (suc k) ≡ closing a (suc k) + 24
+due_early : (a : Anchor) → IsAnchor a → (k : ℕ) → due a (suc k) ≤ last_calendar_day → a.close_day ≤ 4 → due a (suc k) ≡ closing a (suc k) + 24
 unfolding due_shift
 due_early a h k small low =
     let l : first_month a + k < 25_236 = omega (arith, month_small a h k small) in
@@ -217,7 +218,7 @@ due_early a h k small low =
     ∙ rw (test, none) (sym (later_here (first_month a + k) a.close_day 24 h.low))
     ∙ ap (λ n. n + 24) (sym (closing_is a h k (omega arith)))
 
-due_late_in_month : (a : Anchor) → IsAnchor a → (k : ℕ) → due a (suc k) ≤ 48_576 → 4 < a.close_day → due a (suc k) + 4 ≡ closing a (suc (suc k))
+due_late_in_month : (a : Anchor) → IsAnchor a → (k : ℕ) → due a (suc k) ≤ last_calendar_day → 4 < a.close_day → due a (suc k) + 4 ≡ closing a (suc (suc k))
 unfolding due_shift
 due_late_in_month a h k small high =
     let l : first_month a + k < 25_236 = omega (arith, month_small a h k small) in
@@ -234,14 +235,14 @@ pub record ClosingLaw (a : Anchor) (k : ℕ) : Type 0 where
   pub on_its_day : day_of_month (closing a (suc k)) ≡ a.close_day
   pub none_between : (x : ℕ) → closing a k < x → x < closing a (suc k) → day_of_month x ≡ a.close_day → ⊥
 
-closing_within : (a : Anchor) → IsAnchor a → (k : ℕ) → closing a (suc k) ≤ 48_576 → first_month a + k < 25_236
+closing_within : (a : Anchor) → IsAnchor a → (k : ℕ) → closing a (suc k) ≤ last_calendar_day → first_month a + k < 25_236
 closing_within a h k small = by (cases_lt (first_month a + k) 25_236)
   where
     by : (first_month a + k < 25_236) ⊎ (25_236 ≤ first_month a + k) → first_month a + k < 25_236
     by (inl l) = l
     by (inr late) = absurd (omega (arith, closing_late a h k late))
 
-pub closing_law : (a : Anchor) → IsAnchor a → (k : ℕ) → closing a (suc k) ≤ 48_576 → ClosingLaw a k
+pub closing_law : (a : Anchor) → IsAnchor a → (k : ℕ) → closing a (suc k) ≤ last_calendar_day → ClosingLaw a k
 unfolding closing
 closing_law a h k small = record {
   on_its_day = closing-day a h k (omega (arith, closing_within a h k small));
@@ -255,7 +256,7 @@ pub record ClosingLaws (a : Anchor) (k : ℕ) : Type 0 where
   pub later : closing a (k - 1) < closing a k
   pub none_between : (x : ℕ) → closing a (k - 1) < x → x < closing a k → day_of_month x ≡ a.close_day → ⊥
 
-pub closing_laws : (a : Anchor) → IsAnchor a → (k : ℕ) → 1 ≤ k → closing a k ≤ 48_576 → ClosingLaws a k
+pub closing_laws : (a : Anchor) → IsAnchor a → (k : ℕ) → 1 ≤ k → closing a k ≤ last_calendar_day → ClosingLaws a k
 closing_laws a h zero low small = absurd (omega arith)
 closing_laws a h (suc k) low small =
     let back : suc k - 1 ≡ k = omega arith in
@@ -278,7 +279,7 @@ pub record DueLaw (a : Anchor) (k : ℕ) : Type 0 where
   pub at_most : due a k ≤ closing a k + 27
   pub before_next : due a k < closing a (k + 1)
 
-pub due_law : (a : Anchor) → IsAnchor a → (k : ℕ) → 1 ≤ k → due a k ≤ 48_576 → DueLaw a k
+pub due_law : (a : Anchor) → IsAnchor a → (k : ℕ) → 1 ≤ k → due a k ≤ last_calendar_day → DueLaw a k
 due_law a h zero low small = absurd (omega arith)
 due_law a h (suc k) low small =
     let on : suc (suc k) ≡ suc k + 1 = omega arith in

@@ -7,8 +7,9 @@ use Rattle.std.specs.Ordering.{nat_cmp}
 use Rattle.std.proofs.lemmas.List.Sorted.{searched}
 use Rattle.card_days.specs.Business.{is_holiday, with_holiday}
 use Rattle.card_days.specs.Kept.{AreHolidays, IsPlaceOf, IsGapFor}
+use Rattle.card_days.specs.Range.{last_request_day}
 
-pub at_least : (low : ℕ) (xs : List ℕ) (i : ℕ) → AreHolidays low xs → i < length xs → (low ≤ get_or xs i 0) × (get_or xs i 0 ≤ 47_481)
+pub at_least : (low : ℕ) (xs : List ℕ) (i : ℕ) → AreHolidays low xs → i < length xs → (low ≤ get_or xs i 0) × (get_or xs i 0 ≤ last_request_day)
 unfolding AreHolidays
 at_least low [] i h l = absurd (omega arith)
 at_least low (x ∷ xs) zero h l = (h.0, h.1)
@@ -70,12 +71,12 @@ inserted (x ∷ xs) day (suc i) h =
     let same : nat_eq day x ≡ false = grind (arith, nat_tests) in
     rw (below, same) (ap (λ r. x ∷ r) (inserted xs day i (record { inside = omega (arith, h.inside); before = λ k l. h.before (suc k) (omega arith); after = λ k m l. h.after (suc k) (omega arith) (omega arith) })))
 
-pub keeps_order : (low : ℕ) (xs : List ℕ) (day : ℕ) → AreHolidays low xs → low ≤ day → day ≤ 47_481 → AreHolidays low (with_holiday day xs)
+pub keeps_order : (low : ℕ) (xs : List ℕ) (day : ℕ) → AreHolidays low xs → low ≤ day → day ≤ last_request_day → AreHolidays low (with_holiday day xs)
 unfolding with_holiday AreHolidays
 keeps_order low [] day h l m = (l, m, tt)
 keeps_order low (x ∷ xs) day h l m = by (nat_lt day x) (nat_eq day x) refl refl (keeps_order (x + 1) xs day h.2)
   where
-    by : (a b : Bool) → nat_lt day x ≡ a → nat_eq day x ≡ b → (x + 1 ≤ day → day ≤ 47_481 → AreHolidays (x + 1) (with_holiday day xs)) → AreHolidays low (cond a (day ∷ x ∷ xs) (cond b (x ∷ xs) (x ∷ with_holiday day xs)))
+    by : (a b : Bool) → nat_lt day x ≡ a → nat_eq day x ≡ b → (x + 1 ≤ day → day ≤ last_request_day → AreHolidays (x + 1) (with_holiday day xs)) → AreHolidays low (cond a (day ∷ x ∷ xs) (cond b (x ∷ xs) (x ∷ with_holiday day xs)))
     by true b e f rest = let less : day < x = grind (arith, nat_tests) in (l, m, (omega arith, h.1, h.2))
     by false true e f rest = h
     by false false e f rest = let more : x < day = grind (arith, nat_tests) in (h.0, h.1, rest (omega arith) m)

@@ -8,8 +8,9 @@ use Rattle.card_days.specs.Later.{clipped_day_at, six_months_on, year_on}
 use Rattle.card_days.proofs.Counts.{number_is}
 use Rattle.card_days.proofs.DateFacts.{day_at-range, from_calendar, date_of-in_calendar, day_at-date_of, after_first}
 use Rattle.card_days.proofs.Months.{length_bounds}
+use Rattle.card_days.specs.Range.{last_calendar_day, first_calendar_day}
 
-pub clipped-range : (y m d : ℕ) → 2011 ≤ y → y ≤ 2102 → 1 ≤ m → m ≤ 12 → 1 ≤ d → (14_975 ≤ clipped_day_at y m d) × (clipped_day_at y m d ≤ 48_576)
+pub clipped-range : (y m d : ℕ) → 2011 ≤ y → y ≤ 2102 → 1 ≤ m → m ≤ 12 → 1 ≤ d → (first_calendar_day ≤ clipped_day_at y m d) × (clipped_day_at y m d ≤ last_calendar_day)
 unfolding clipped_day_at
 clipped-range y m d y1 y2 m1 m2 d1 =
     day_at-range y m (min d (month_length y m)) (from_calendar y m (min d (month_length y m)) (record {
@@ -32,7 +33,7 @@ unfolding day_at days_before_year days_of_months
 day_2101 = refl
 
 -- a day up to 2100-12-31 lies in a year up to 2100
-pub year_small : (n : ℕ) → 14_975 ≤ n → n ≤ 47_846 → (date_of n).year ≤ 2100
+pub year_small : (n : ℕ) → first_calendar_day ≤ n → n ≤ 47_846 → (date_of n).year ≤ 2100
 year_small n low high = by (cases_lt 2100 (date_of n).year)
   where
     h : IsInCalendar (date_of n).year (date_of n).month (date_of n).day

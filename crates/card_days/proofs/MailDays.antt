@@ -2,6 +2,7 @@
 use Rattle.std.proofs.Common.{◌≡◌, ℕ, zero, suc, ◌+◌, ◌-◌, ◌<◌, ◌≤◌, Bool, true, false, cond, not, ◌&&◌, eqb, nat_lt, nat_eq, List, Option, Some, None, SomeIff, IfSome, refl, sym, ◌∙◌, subst, arith, inl, inr, ◌⊎◌}
 use Rattle.std.proofs.lemmas.Bool.{cases_lt, false≢true, and_parts}
 use Rattle.std.proofs.lemmas.Bool.Decides.{nat_tests}
+use Rattle.card_days.specs.Range.{last_request_day}
 use Rattle.card_days.specs.declared.anchor.Anchor.{Anchor}
 use Rattle.card_days.specs.Business.{is_business, next_business, is_due, due_before, mail_day}
 use Rattle.card_days.specs.Months.{IsLastDue}
@@ -39,7 +40,7 @@ past_due true true early late due p q = rw (p refl) refl
 past_due true false early late due p q = refl
 past_due false c early late due p q = rw (q refl) refl
 
-pub due_before-some : (a : Anchor) (xs : List ℕ) (more day due : ℕ) → AreHolidays 0 xs → due ≤ 47_481 → due ≤ day → day - due < more → is_due a due ≡ true → ((x : ℕ) → due < x → x ≤ day → is_due a x ≡ false) → due_before a xs more day ≡ cond (is_quiet xs due day) (Some due) None
+pub due_before-some : (a : Anchor) (xs : List ℕ) (more day due : ℕ) → AreHolidays 0 xs → due ≤ last_request_day → due ≤ day → day - due < more → is_due a due ≡ true → ((x : ℕ) → due < x → x ≤ day → is_due a x ≡ false) → due_before a xs more day ≡ cond (is_quiet xs due day) (Some due) None
 unfolding due_before is_quiet
 due_before-some a xs zero day due h small low room is others = absurd (omega arith)
 due_before-some a xs (suc more) day due h small low room is others = by (cases_lt due day) (λ l r. due_before-some a xs more (day - 1) due h small l r is (λ x after before. others x after (omega arith)))
@@ -69,7 +70,7 @@ outer : (b c : Bool) (late same : Bool) (due receipt : ℕ) → (b ≡ true → 
 outer true c late same due receipt h = rw (h refl) refl
 outer false c late same due receipt h = refl
 
-pub mail_day-some : (a : Anchor) (xs : List ℕ) (receipt due : ℕ) → AreHolidays 0 xs → receipt ≤ 47_481 → a.opened ≤ due → IsLastDue a receipt (Some due) → mail_day a xs receipt ≡ cond (is_business xs receipt && (not (is_business xs due) && nat_eq (next_business xs due) receipt)) due receipt
+pub mail_day-some : (a : Anchor) (xs : List ℕ) (receipt due : ℕ) → AreHolidays 0 xs → receipt ≤ last_request_day → a.opened ≤ due → IsLastDue a receipt (Some due) → mail_day a xs receipt ≡ cond (is_business xs receipt && (not (is_business xs due) && nat_eq (next_business xs due) receipt)) due receipt
 unfolding mail_day is_quiet
 mail_day-some a xs receipt due h small low last =
     let before = due_before-some a xs (receipt - a.opened) (receipt - 1) due h (omega (arith, last.0)) (omega (arith, last.0)) (omega (arith, last.0)) last.1 (λ x after up. last.2 x after (omega (arith, last.0))) in

@@ -2,6 +2,7 @@
 use Rattle.std.proofs.Common.{◌≡◌, ℕ, suc, ◌+◌, ◌-◌, ◌<◌, ◌≤◌, Bool, true, false, cond, not, ◌&&◌, nat_lt, nat_eq, List, Some, refl, sym, ◌∙◌, subst, arith, inl, inr, ◌⊎◌, eq-eqb}
 use Rattle.std.proofs.lemmas.Bool.{cases_lt, false≢true}
 use Rattle.std.proofs.lemmas.Bool.Decides.{nat_tests}
+use Rattle.card_days.specs.Range.{last_request_day}
 use Rattle.card_days.specs.declared.anchor.Anchor.{Anchor}
 use Rattle.card_days.specs.Civil.{date_of}
 use Rattle.card_days.specs.Billing.{due_day_of_month, due}
@@ -14,20 +15,20 @@ use Rattle.card_days.proofs.DueDays.{last_due-none, last_due-some}
 use Rattle.card_days.proofs.MailDays.{mail_day-some, mail_day-none, next_business-at_most, due-opened}
 use Rattle.card_days.proofs.DueLaws.{IsDueOf, numbered, is_due-due, quiet, quiet_day, unmet_by, met_by}
 
-met_due : (a : Anchor) → IsAnchor a → (xs : List ℕ) (receipt k : ℕ) → receipt ≤ 47_481 → 1 ≤ k → IsMet xs receipt (due a k) → (due a k < receipt) × (is_due a (due a k) ≡ true)
+met_due : (a : Anchor) → IsAnchor a → (xs : List ℕ) (receipt k : ℕ) → receipt ≤ last_request_day → 1 ≤ k → IsMet xs receipt (due a k) → (due a k < receipt) × (is_due a (due a k) ≡ true)
 met_due a h xs receipt k small low met =
     let back : suc (k - 1) ≡ k = omega arith in
     let less : due a k < receipt = omega (arith, next_business-later xs (due a k), met.first) in
     (less, subst (λ n. is_due a (due a n) ≡ true) back (is_due-due a h (k - 1) (rw back (omega arith))))
 
-up_to_last : (a : Anchor) → IsAnchor a → (xs : List ℕ) (receipt last k : ℕ) → receipt ≤ 47_481 → IsLastDue a receipt (Some last) → 1 ≤ k → IsMet xs receipt (due a k) → due a k ≤ last
+up_to_last : (a : Anchor) → IsAnchor a → (xs : List ℕ) (receipt last k : ℕ) → receipt ≤ last_request_day → IsLastDue a receipt (Some last) → 1 ≤ k → IsMet xs receipt (due a k) → due a k ≤ last
 up_to_last a h xs receipt last k small is low met = by (cases_lt last (due a k)) (met_due a h xs receipt k small low met)
   where
     by : (last < due a k) ⊎ (due a k ≤ last) → (due a k < receipt) × (is_due a (due a k) ≡ true) → due a k ≤ last
     by (inl after) d = absurd (false≢true (sym (is.2 (due a k) after d.0) ∙ d.1))
     by (inr le) d = le
 
-same_next : (xs : List ℕ) (receipt d last : ℕ) → AreHolidays 0 xs → receipt ≤ 47_481 → is_business xs receipt ≡ true → IsMet xs receipt d → d ≤ last → last < receipt → next_business xs last ≡ receipt
+same_next : (xs : List ℕ) (receipt d last : ℕ) → AreHolidays 0 xs → receipt ≤ last_request_day → is_business xs receipt ≡ true → IsMet xs receipt d → d ≤ last → last < receipt → next_business xs last ≡ receipt
 same_next xs receipt d last h small open_day met low less = by (cases_lt (next_business xs last) receipt)
   where
     most : next_business xs last ≤ receipt
@@ -39,7 +40,7 @@ same_next xs receipt d last h small open_day met low less = by (cases_lt (next_b
         absurd (false≢true (sym closed ∙ next_business-is xs last h (omega arith)))
     by (inr le) = omega (arith, most)
 
-met_last : (a : Anchor) → IsAnchor a → (xs : List ℕ) (receipt last k : ℕ) → AreHolidays 0 xs → receipt ≤ 47_481 → IsLastDue a receipt (Some last) → 1 ≤ k → IsMet xs receipt (due a k) → IsGreatestMet a xs receipt (mail_day a xs receipt)
+met_last : (a : Anchor) → IsAnchor a → (xs : List ℕ) (receipt last k : ℕ) → AreHolidays 0 xs → receipt ≤ last_request_day → IsLastDue a receipt (Some last) → 1 ≤ k → IsMet xs receipt (due a k) → IsGreatestMet a xs receipt (mail_day a xs receipt)
 met_last a h xs receipt last k o small is low met = subst (IsGreatestMet a xs receipt) (sym value) (record {
   cycle = number.0;
   numbered = number.1.numbered;
@@ -67,7 +68,7 @@ met_last a h xs receipt last k o small is low met = subst (IsGreatestMet a xs re
     value = mail_day-some a xs receipt last o small (due-opened a last (omega (arith, h.first)) is.1) is ∙ met_by _ _ _ last receipt open_day closed (eq-eqb _ _ next)
 
 -- where mail still meets a due date, it is credited as of the greatest
-pub mail_met : (a : Anchor) → IsAnchor a → (xs : List ℕ) (receipt k : ℕ) → AreHolidays 0 xs → a.opened ≤ receipt → receipt ≤ 47_481 → 1 ≤ k → IsMet xs receipt (due a k) → IsGreatestMet a xs receipt (mail_day a xs receipt)
+pub mail_met : (a : Anchor) → IsAnchor a → (xs : List ℕ) (receipt k : ℕ) → AreHolidays 0 xs → a.opened ≤ receipt → receipt ≤ last_request_day → 1 ≤ k → IsMet xs receipt (due a k) → IsGreatestMet a xs receipt (mail_day a xs receipt)
 mail_met a h xs receipt k o low small one met = by (cases_lt (first_month a + due_shift a.close_day) (month_from (due_day_of_month a.close_day) (date_of receipt)))
   where
     by : (first_month a + due_shift a.close_day < month_from (due_day_of_month a.close_day) (date_of receipt)) ⊎ (month_from (due_day_of_month a.close_day) (date_of receipt) ≤ first_month a + due_shift a.close_day) → IsGreatestMet a xs receipt (mail_day a xs receipt)
@@ -76,7 +77,7 @@ mail_met a h xs receipt k o low small one met = by (cases_lt (first_month a + du
         let d = met_due a h xs receipt k small one met in
         absurd (false≢true (sym (last_due-none a h receipt (omega (arith, h.first)) (omega arith) none (due a k) d.0) ∙ d.1))
 
-unmet_last : (a : Anchor) → IsAnchor a → (xs : List ℕ) (receipt last : ℕ) → AreHolidays 0 xs → receipt ≤ 47_481 → IsLastDue a receipt (Some last) → ((k : ℕ) → 1 ≤ k → IsMet xs receipt (due a k) → ⊥) → mail_day a xs receipt ≡ receipt
+unmet_last : (a : Anchor) → IsAnchor a → (xs : List ℕ) (receipt last : ℕ) → AreHolidays 0 xs → receipt ≤ last_request_day → IsLastDue a receipt (Some last) → ((k : ℕ) → 1 ≤ k → IsMet xs receipt (due a k) → ⊥) → mail_day a xs receipt ≡ receipt
 unmet_last a h xs receipt last o small is never =
     mail_day-some a xs receipt last o small (due-opened a last (omega (arith, h.first)) is.1) is ∙ by (unmet_by (is_business xs receipt) (is_business xs last) (next_business xs last) receipt last)
   where
@@ -87,7 +88,7 @@ unmet_last a h xs receipt last o small is never =
         absurd (never number.0 number.1.numbered (subst (IsMet xs receipt) (sym number.1.is) (record { closed = met.0; first = met.1 })))
 
 -- and where it meets none, on the day of receipt
-pub mail_unmet : (a : Anchor) → IsAnchor a → (xs : List ℕ) (receipt : ℕ) → AreHolidays 0 xs → a.opened ≤ receipt → receipt ≤ 47_481 → ((k : ℕ) → 1 ≤ k → IsMet xs receipt (due a k) → ⊥) → mail_day a xs receipt ≡ receipt
+pub mail_unmet : (a : Anchor) → IsAnchor a → (xs : List ℕ) (receipt : ℕ) → AreHolidays 0 xs → a.opened ≤ receipt → receipt ≤ last_request_day → ((k : ℕ) → 1 ≤ k → IsMet xs receipt (due a k) → ⊥) → mail_day a xs receipt ≡ receipt
 mail_unmet a h xs receipt o low small never = by (cases_lt (first_month a + due_shift a.close_day) (month_from (due_day_of_month a.close_day) (date_of receipt)))
   where
     by : (first_month a + due_shift a.close_day < month_from (due_day_of_month a.close_day) (date_of receipt)) ⊎ (month_from (due_day_of_month a.close_day) (date_of receipt) ≤ first_month a + due_shift a.close_day) → mail_day a xs receipt ≡ receipt

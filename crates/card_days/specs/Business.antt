@@ -1,5 +1,6 @@
 -- Business days, and the day on which a payment is credited. Holidays are a list of days.
 use Rattle.std.specs.Prelude.{◌≡◌, ℕ, zero, suc, ◌+◌, ◌-◌, ◌%◌, ◌≤◌, Bool, true, false, not, ◌&&◌, ◌||◌, ◌==◌, nat_lt, if◌then◌else◌, List, [], ◌∷◌, Option, Some, None}
+use Rattle.card_days.specs.Range.{last_calendar_day}
 use Rattle.card_days.specs.declared.anchor.Anchor.{Anchor}
 use Rattle.card_days.specs.declared.anchor.Channel.{Channel}
 use Rattle.card_days.specs.declared.anchor.Channel.TheVariants.{Mail, Online}
@@ -19,13 +20,9 @@ is_weekday day = nat_lt ((day + 3) % 7) 5
 unfoldable pub is_business : List ℕ → ℕ → Bool
 is_business holidays day = is_weekday day && not (is_holiday holidays day)
 
--- the number of 2102-12-31
-abbrev pub last_day : ℕ
-last_day = 48576
-
 -- the first business day after a day; one is met long before the last day, since holidays end with 2099
 unfoldable pub next_business : List ℕ → ℕ → ℕ
-next_business holidays day = first_day (is_business holidays) (last_day - day) (day + 1)
+next_business holidays day = first_day (is_business holidays) (last_calendar_day - day) (day + 1)
 
 -- the due date of some cycle: the due day of a month, after the first closing
 unfoldable pub is_due : Anchor → ℕ → Bool

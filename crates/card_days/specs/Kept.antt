@@ -1,10 +1,11 @@
 -- Holidays as a calendar keeps them, and what its search finds.
 use Rattle.std.specs.Prelude.{◌≡◌, ℕ, ◌+◌, ◌<◌, ◌≤◌, List, [], ◌∷◌, length, slice_index}
+use Rattle.card_days.specs.Range.{last_request_day}
 
 -- ascending, each once, from a day on, and none after 2099-12-31
 unfoldable pub AreHolidays : ℕ → List ℕ → Type 0
 AreHolidays low [] = Unit {0}
-AreHolidays low (x ∷ rest) = (low ≤ x) × (x ≤ 47481) × AreHolidays (x + 1) rest
+AreHolidays low (x ∷ rest) = (low ≤ x) × (x ≤ last_request_day) × AreHolidays (x + 1) rest
 
 -- the day stands at this place
 abbrev pub IsPlaceOf : List ℕ → ℕ → ℕ → Type 0

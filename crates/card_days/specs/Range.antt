@@ -1,6 +1,18 @@
 -- The range of days.
-use Rattle.std.specs.Prelude.{ℤ, pos, ◌≤ℤ◌}
+use Rattle.std.specs.Prelude.{ℕ, ℤ, pos, ◌≤ℤ◌}
 
--- a day from 2011-01-01 to 2102-12-31, by its number since 1970-01-01
+-- the first day of the calendar: 2011-01-01, by its number since 1970-01-01
+abbrev pub first_calendar_day : ℕ
+first_calendar_day = 14975
+
+-- the last day of requests: 2099-12-31
+abbrev pub last_request_day : ℕ
+last_request_day = 47481
+
+-- the last day of the calendar: 2102-12-31
+abbrev pub last_calendar_day : ℕ
+last_calendar_day = 48576
+
+-- a day of the calendar
 abbrev pub IsDayNumber : ℤ → Type 0
-IsDayNumber n = (pos 14975 ≤ℤ n) × (n ≤ℤ pos 48576)
+IsDayNumber n = (pos first_calendar_day ≤ℤ n) × (n ≤ℤ pos last_calendar_day)

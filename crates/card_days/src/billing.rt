@@ -1,4 +1,5 @@
 ghost use Rattle.std.specs.Prelude.{◌≡◌, ◌+◌, ◌<◌, ◌≤◌, ◌-◌, SomeIff, Some, OnSome, IfSome};
+ghost use Rattle.card_days.specs.Range.{last_calendar_day, first_calendar_day};
 ghost use Rattle.card_days.specs.Civil.{date_of};
 ghost use Rattle.card_days.specs.Billing.{IsCloseDay, closing, due_day_of_month, due, cycle_of};
 ghost use Rattle.card_days.specs.Months.{day_in_month, month_from, due_shift};
@@ -10,7 +11,7 @@ use crate::{Anchor, Day};
 /// would lie past 2102-12-31.
 pub fn closing(a: Anchor, k: u32) -> Option<Day>
     requires { IsCloseDay a.close_day }
-    ensures { SomeIff result ((1 ≤ k) × (closing a k ≤ 48_576)) (closing a k) }
+    ensures { SomeIff result ((1 ≤ k) × (closing a k ≤ last_calendar_day)) (closing a k) }
 {
     if k == 0 {
         return None;
@@ -24,7 +25,7 @@ pub fn closing(a: Anchor, k: u32) -> Option<Day>
 /// k is 0 or the day would lie past 2102-12-31.
 pub fn due(a: Anchor, k: u32) -> Option<Day>
     requires { IsCloseDay a.close_day }
-    ensures { SomeIff result ((1 ≤ k) × (due a k ≤ 48_576)) (due a k) }
+    ensures { SomeIff result ((1 ≤ k) × (due a k ≤ last_calendar_day)) (due a k) }
 {
     if k == 0 {
         return None;
@@ -38,7 +39,7 @@ pub fn due(a: Anchor, k: u32) -> Option<Day>
 pub fn closing_date(a: &Anchor, k: u32) -> Day
     requires close_day { IsCloseDay a.now.close_day }
     requires cycle { 1 ≤ k }
-    requires in_calendar { closing a.now k ≤ 48_576 }
+    requires in_calendar { closing a.now k ≤ last_calendar_day }
     ensures { result ≡ closing a.now k }
 {
     closing(*a, k).unwrap()
@@ -48,7 +49,7 @@ pub fn closing_date(a: &Anchor, k: u32) -> Day
 pub fn after_closing(a: &Anchor, k: u32) -> Day
     requires close_day { IsCloseDay a.now.close_day }
     requires cycle { 1 ≤ k }
-    requires in_calendar { closing a.now k < 48_576 }
+    requires in_calendar { closing a.now k < last_calendar_day }
     ensures { result ≡ closing a.now k + 1 }
 {
     closing_date(a, k).next()
@@ -58,7 +59,7 @@ pub fn after_closing(a: &Anchor, k: u32) -> Day
 pub fn due_date(a: &Anchor, k: u32) -> Day
     requires close_day { IsCloseDay a.now.close_day }
     requires cycle { 1 ≤ k }
-    requires in_calendar { due a.now k ≤ 48_576 }
+    requires in_calendar { due a.now k ≤ last_calendar_day }
     ensures { result ≡ due a.now k }
 {
     due(*a, k).unwrap()
@@ -99,8 +100,8 @@ pub(crate) fn month_from(c: u8, day: Day) -> u64
     ensures value { result ≡ month_from c (date_of day) }
     ensures low { 24_132 ≤ result }
     ensures high { result ≤ 25_236 }
-    ensures first { 14_975 ≤ day }
-    ensures last { day ≤ 48_576 }
+    ensures first { first_calendar_day ≤ day }
+    ensures last { day ≤ last_calendar_day }
 {
     let (year, month, d) = day.ymd();
     let number = 12 * year as u64 + (month as u64 - 1);

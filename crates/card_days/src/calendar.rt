@@ -1,4 +1,5 @@
 ghost use Rattle.std.specs.Prelude.{◌≡◌, ◌+◌, ◌<◌, ◌≤◌, max, ℕ, List, [], ◌∷◌, true, length, IsOk, IfOk, OnOk, OnErr, MatchResult, slice_index};
+ghost use Rattle.card_days.specs.Range.{last_request_day};
 ghost use Rattle.std.specs.List.{insert};
 ghost use Rattle.card_days.specs.Business.{is_business, is_holiday, is_weekday, with_holiday, next_business};
 ghost use Rattle.card_days.specs.Kept.{AreHolidays, IsPlaceOf, IsGapFor};
@@ -35,7 +36,7 @@ impl Calendar {
     /// Loads a holiday, which is at most 2099-12-31. A day that is there already changes nothing and takes no memory.
     /// After want of memory the calendar is as before.
     pub fn add(&mut self, day: Day) -> Result<(), NoMemory>
-        requires { day ≤ 47_481 }
+        requires { day ≤ last_request_day }
         ensures added { OnOk result (self.new ≡ with_holiday day self.old) }
         ensures known { is_holiday self.old day ≡ true → IsOk result }
         ensures err { OnErr result (self.new ≡ self.old) }

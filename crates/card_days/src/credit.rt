@@ -1,4 +1,5 @@
 ghost use Rattle.std.specs.Prelude.{◌≡◌, ◌+◌, ◌<◌, ◌≤◌, ◌&&◌, ◌==◌, not, IfSome};
+ghost use Rattle.card_days.specs.Range.{last_request_day, first_calendar_day};
 ghost use Rattle.card_days.specs.Billing.{IsCloseDay};
 ghost use Rattle.card_days.specs.Business.{is_business, is_mail, next_business, mail_day, credit_day};
 ghost use Rattle.card_days.specs.Kept.{AreHolidays};
@@ -16,7 +17,7 @@ use crate::{Anchor, Calendar, Channel, Day};
 pub fn credit_day(a: Anchor, receipt: Day, minute: u16, channel: Channel, cal: &Calendar) -> Day
     requires close_day { IsCloseDay a.close_day }
     requires opened { a.opened ≤ receipt }
-    requires last { receipt ≤ 47_481 }
+    requires last { receipt ≤ last_request_day }
     requires minute { minute ≤ 1_439 }
     ensures value { result ≡ credit_day a cal.now receipt minute (is_mail channel) }
     ensures from_opening { a.opened ≤ result }
@@ -35,7 +36,7 @@ pub fn credit_day(a: Anchor, receipt: Day, minute: u16, channel: Channel, cal: &
 fn mail_day(a: Anchor, receipt: Day, cal: &Calendar) -> Day
     requires close_day { IsCloseDay a.close_day }
     requires opened { a.opened ≤ receipt }
-    requires last { receipt ≤ 47_481 }
+    requires last { receipt ≤ last_request_day }
     ensures value { result ≡ mail_day a cal.now receipt }
     ensures from_opening { a.opened ≤ result }
     ensures up_to_receipt { result ≤ receipt }
@@ -54,7 +55,7 @@ fn mail_day(a: Anchor, receipt: Day, cal: &Calendar) -> Day
 
 // whether the receipt is the first business day after a due date that is none
 fn meets(due: Day, receipt: Day, cal: &Calendar) -> bool
-    requires { due ≤ 47_481 }
+    requires { due ≤ last_request_day }
     ensures value { result ≡ (is_business cal.now receipt && (not (is_business cal.now due) && next_business cal.now due == receipt)) }
     ensures holidays { AreHolidays 0 cal.now }
 {
@@ -67,7 +68,7 @@ fn last_due(a: Anchor, day: Day) -> Option<Day>
     requires opened { a.opened ≤ day }
     ensures last { IsLastDue a day result }
     ensures from_opening { IfSome result (λ due. a.opened ≤ due) }
-    ensures first { 14_975 ≤ day }
+    ensures first { first_calendar_day ≤ day }
 {
     let (later, due_day) = due_place(a.close_day);
     let first = month_from(a.close_day, a.opened) + later;

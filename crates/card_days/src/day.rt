@@ -1,5 +1,5 @@
-ghost use Rattle.std.specs.Prelude.{◌≡◌, ◌↔◌, ◌+◌, ◌<◌, ◌≤◌, ℕ, pos, true, IsSome, IfSome, SomeIff, Some, OnSome};
-ghost use Rattle.card_days.specs.Range.{IsDayNumber};
+ghost use Rattle.std.specs.Prelude.{nat_le, ◌≡◌, ◌↔◌, ◌+◌, ◌<◌, ◌≤◌, ℕ, pos, true, IsSome, IfSome, SomeIff, Some, OnSome};
+ghost use Rattle.card_days.specs.Range.{IsDayNumber, first_calendar_day, last_calendar_day, last_request_day};
 ghost use Rattle.card_days.specs.Later.{clipped_day_at};
 ghost use Rattle.card_days.specs.Civil.{IsInCalendar, date_of, is_date, day_at, day_text};
 
@@ -7,6 +7,13 @@ use jiff::civil::date;
 use jiff_core::civil;
 use std::fmt;
 use std::marker::Model;
+
+// the numbers of 2011-01-01, 2099-12-31 and 2102-12-31
+const FIRST_NUMBER: u32 = 14_975;
+
+const LAST_REQUEST_NUMBER: u32 = 47_481;
+
+const LAST_NUMBER: u32 = 48_576;
 
 /// A civil day from 2011-01-01 to 2102-12-31. Clauses see it as its number of days since 1970-01-01.
 #[derive(Clone, Copy, Debug, PartialEq, Eq, PartialOrd, Ord)]
@@ -21,7 +28,7 @@ impl Model for Day {
 
     ghost inverse = { λ n. record { number = n } };
 
-    ghost invariant = { λ d. (14_975 ≤ d.number) × (d.number ≤ 48_576) };
+    ghost invariant = { λ d. (first_calendar_day ≤ d.number) × (d.number ≤ last_calendar_day) };
 }
 
 impl Day {
@@ -47,17 +54,42 @@ impl Day {
         ensures some { IsSome result ↔ IsDayNumber n }
         ensures value { IfSome result (λ d. pos d ≡ n) }
     {
-        if n < 14_975 || n > 48_576 {
+        if n < FIRST_NUMBER as i32 || n > LAST_NUMBER as i32 {
             return None;
         }
         Some(Day { number: n as u32 })
     }
 
+    /// 2011-01-01.
+    pub fn first() -> Day
+        ensures { result ≡ first_calendar_day }
+    {
+        Day {
+            number: FIRST_NUMBER,
+        }
+    }
+
+    /// 2102-12-31.
+    pub fn last() -> Day
+        ensures { result ≡ last_calendar_day }
+    {
+        Day {
+            number: LAST_NUMBER,
+        }
+    }
+
+    /// Whether it is a day of requests: by 2099-12-31.
+    pub fn is_request_day(self) -> bool
+        ensures { result ≡ nat_le self last_request_day }
+    {
+        self.number <= LAST_REQUEST_NUMBER
+    }
+
     /// Days since 1970-01-01.
     pub fn number(self) -> i32
         ensures value { result ≡ pos self }
-        ensures first { 14_975 ≤ self }
-        ensures last { self ≤ 48_576 }
+        ensures first { first_calendar_day ≤ self }
+        ensures last { self ≤ last_calendar_day }
     {
         self.number as i32
     }
@@ -68,8 +100,8 @@ impl Day {
         ensures month { result.1 ≡ (date_of self).month }
         ensures day { result.2 ≡ (date_of self).day }
         ensures in_calendar { IsInCalendar result.0 result.1 result.2 }
-        ensures first { 14_975 ≤ self }
-        ensures last { self ≤ 48_576 }
+        ensures first { first_calendar_day ≤ self }
+        ensures last { self ≤ last_calendar_day }
     {
         let date = self.date();
         (date.year as u16, date.month, date.day)
@@ -92,7 +124,7 @@ impl Day {
 
     /// The day after.
     pub fn next(self) -> Day
-        requires { self < 48_576 }
+        requires { self < last_calendar_day }
         ensures { result ≡ self + 1 }
     {
         self.plus(1)
@@ -100,7 +132,7 @@ impl Day {
 
     /// So many days later.
     pub fn plus(self, days: u32) -> Day
-        requires { self + days ≤ 48_576 }
+        requires { self + days ≤ last_calendar_day }
         ensures { result ≡ self + days }
     {
         Day {
@@ -113,8 +145,8 @@ impl Day {
         ensures month { result.month ≡ (date_of self).month }
         ensures day { result.day ≡ (date_of self).day }
         ensures in_calendar { IsInCalendar (date_of self).year (date_of self).month (date_of self).day }
-        ensures first { 14_975 ≤ self }
-        ensures last { self ≤ 48_576 }
+        ensures first { first_calendar_day ≤ self }
+        ensures last { self ≤ last_calendar_day }
     {
         match civil::Date::from_unix_epoch_day(self.number as i64) {
             Ok(date) => date,

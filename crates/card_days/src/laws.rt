@@ -1,6 +1,7 @@
 //! Laws on due dates and credit days. Their functions do nothing; their clauses are what holds.
 
 ghost use Rattle.std.specs.Prelude.{◌≡◌, ◌≢◌, ℕ, ◌+◌, ◌-◌, ◌<◌, ◌≤◌, true};
+ghost use Rattle.card_days.specs.Range.{last_request_day, last_calendar_day};
 ghost use Rattle.card_days.specs.Civil.{date_of, day_of_month, next_month, year_of_next_month};
 ghost use Rattle.card_days.specs.Billing.{IsCloseDay, closing, due_day_of_month, due, is_timely};
 ghost use Rattle.card_days.specs.Business.{AgreeUpTo, IsMet, IsGreatestMet, credit_day};
@@ -12,7 +13,7 @@ use crate::{Anchor, Calendar, Day};
 pub fn closings(a: Anchor, k: u32)
     requires close_day { IsCloseDay a.close_day }
     requires cycle { 1 ≤ k }
-    requires in_calendar { closing a k ≤ 48_576 }
+    requires in_calendar { closing a k ≤ last_calendar_day }
     ensures before_the_first { closing a 0 + 1 ≡ a.opened }
     ensures on_its_day { day_of_month (closing a k) ≡ a.close_day }
     ensures later { closing a (k - 1) < closing a k }
@@ -28,7 +29,7 @@ pub fn closings(a: Anchor, k: u32)
 pub fn due_dates(a: Anchor, k: u32, issued: Day)
     requires close_day { IsCloseDay a.close_day }
     requires cycle { 1 ≤ k }
-    requires in_calendar { due a k ≤ 48_576 }
+    requires in_calendar { due a k ≤ last_calendar_day }
     ensures same_day { day_of_month (due a k) ≡ due_day_of_month a.close_day }
     ensures next_month { (date_of (due a (k + 1))).month ≡ next_month (date_of (due a k)).month }
     ensures its_year { (date_of (due a (k + 1))).year ≡ year_of_next_month (date_of (due a k)).year (date_of (due a k)).month }
@@ -49,7 +50,7 @@ pub fn due_dates(a: Anchor, k: u32, issued: Day)
 pub fn mail(a: Anchor, receipt: Day, minute: u16, cal: &Calendar)
     requires close_day { IsCloseDay a.close_day }
     requires opened { a.opened ≤ receipt }
-    requires last { receipt ≤ 47_481 }
+    requires last { receipt ≤ last_request_day }
     requires in_time { minute ≤ 1_020 }
     ensures met { (k : ℕ) → 1 ≤ k → IsMet cal.now receipt (due a k) → IsGreatestMet a cal.now receipt (credit_day a cal.now receipt minute true) }
     ensures unmet { ((k : ℕ) → 1 ≤ k → ¬ (IsMet cal.now receipt (due a k))) → credit_day a cal.now receipt minute true ≡ receipt }

@@ -1,5 +1,6 @@
 -- Cycles and business days.
 use Rattle.std.proofs.Common.{◌≡◌, ℕ, zero, suc, ◌+◌, ◌-◌, ◌≤◌, ◌<◌, ◌==◌, min, Bool, true, false, cond, List, refl, sym, ap, ◌∙◌, arith}
+use Rattle.card_days.specs.Range.{last_request_day, last_calendar_day}
 use Rattle.card_days.specs.declared.anchor.Anchor.{Anchor}
 use Rattle.std.specs.Prelude.{Option, Some, None, SomeIff}
 use Rattle.card_days.specs.Billing.{closing, closings_among, cycle_of}
@@ -40,13 +41,13 @@ unfolding business_day_after
 no-more holidays day = refl
 
 -- the earlier of the second closing, where it is in the calendar, and the 90th day
-pub resolve-is : (a : Anchor) (day k : ℕ) (second : Option ℕ) (later result : ℕ) → day ≤ 47_481 → k ≡ cycle_of a day → later ≡ day + 90
-    → SomeIff second ((1 ≤ k + 2) × (closing a (k + 2) ≤ 48_576)) (closing a (k + 2))
+pub resolve-is : (a : Anchor) (day k : ℕ) (second : Option ℕ) (later result : ℕ) → day ≤ last_request_day → k ≡ cycle_of a day → later ≡ day + 90
+    → SomeIff second ((1 ≤ k + 2) × (closing a (k + 2) ≤ last_calendar_day)) (closing a (k + 2))
     → (second ≡ None → result ≡ later) → ((d : ℕ) → second ≡ Some d → result ≡ min d later) → result ≡ resolve_by a day
 unfolding resolve_by
 resolve-is a day k None later result dated is on iff none some =
-    let past : closing a (k + 2) ≤ 48_576 → ⊥ = λ l. iff (omega arith, l) in
-    let far : 48_576 < closing a (k + 2) = omega (arith, past) in
+    let past : closing a (k + 2) ≤ last_calendar_day → ⊥ = λ l. iff (omega arith, l) in
+    let far : last_calendar_day < closing a (k + 2) = omega (arith, past) in
     let least : min (closing a (k + 2)) (day + 90) ≡ day + 90 = omega (arith, far, dated) in
     none refl ∙ on ∙ sym least ∙ ap (λ n. min (closing a (n + 2)) (day + 90)) is
 resolve-is a day k (Some d) later result dated is on iff none some =

@@ -5,6 +5,7 @@ use Rattle.std.specs.List.{find}
 use Rattle.std.specs.Option.{option_map, option_or}
 use Rattle.std.proofs.lemmas.List.Elements.{All-head, All-tail}
 use Rattle.std.proofs.lemmas.Bool.Decides.{nat_tests}
+use Rattle.card_days.specs.Range.{last_request_day}
 use Rattle.card_days.specs.declared.anchor.Anchor.{Anchor}
 use Rattle.card_days.specs.Billing.{cycle_of}
 use Rattle.card_disputes.specs.Notices.{amend_at, amended_at, charge_day, charge_in, charge_own, notice_end_at}
@@ -56,11 +57,11 @@ unfolding last_amend
 amended-none n own = refl
 
 -- ---- days of requests
-amend-dated : (n own : ℕ) (p : Post) → is_dated_post p ≡ true → own ≤ 47_481 → amended_at n p own ≤ 47_481
+amend-dated : (n own : ℕ) (p : Post) → is_dated_post p ≡ true → own ≤ last_request_day → amended_at n p own ≤ last_request_day
 unfolding is_dated_post
 amend-dated n own (post.Amend t d c) e l = at (t == n)
   where
-    at : (b : Bool) → amended_day (cond b (Some (d, c)) None) own ≤ 47_481
+    at : (b : Bool) → amended_day (cond b (Some (d, c)) None) own ≤ last_request_day
     at true = grind (arith, nat_tests, e)
     at false = l
 amend-dated n own (post.Charge d p c) e l = l
@@ -80,16 +81,16 @@ amend-dated n own (post.Refund c) e l = l
 amend-dated n own (post.Open d t) e l = l
 amend-dated n own (post.Return d t) e l = l
 
-last-dated : (n own : ℕ) (ks : List Kept) → ArePostsDated ks → own ≤ 47_481 → amended_day (last_amend n ks) own ≤ 47_481
+last-dated : (n own : ℕ) (ks : List Kept) → ArePostsDated ks → own ≤ last_request_day → amended_day (last_amend n ks) own ≤ last_request_day
 unfolding last_amend
 last-dated n own [] h l = l
 last-dated n own (k ∷ ks) h l =
-    subst (λ d. d ≤ 47_481) (sym (either-day (last_amend n ks) (amend_of n k.post) own))
+    subst (λ d. d ≤ last_request_day) (sym (either-day (last_amend n ks) (amend_of n k.post) own))
     (last-dated n (amended_at n k.post own) ks (All-tail (λ (x : Kept). is_dated_post x.post ≡ true) k ks h) (amend-dated n own k.post (All-head (λ (x : Kept). is_dated_post x.post ≡ true) k ks h) l))
 
-own-dated : (p : Post) (day : ℕ) → is_dated_post p ≡ true → charge_own p ≡ Some day → day ≤ 47_481
+own-dated : (p : Post) (day : ℕ) → is_dated_post p ≡ true → charge_own p ≡ Some day → day ≤ last_request_day
 unfolding is_dated_post
-own-dated (post.Charge d p c) day e s = let same : d ≡ day = cc in subst (λ x. x ≤ 47_481) same (grind (arith, nat_tests, e))
+own-dated (post.Charge d p c) day e s = let same : d ≡ day = cc in subst (λ x. x ≤ last_request_day) same (grind (arith, nat_tests, e))
 own-dated (post.Amend t d c) day e s = cc
 own-dated (post.Credit d p c) day e s = cc
 own-dated (post.Payment d m by c) day e s = cc
@@ -116,18 +117,18 @@ pub number-dated : (ks : List Kept) (n : ℕ) (k : Kept) → ArePostsDated ks �
 number-dated ks zero k h e = cc
 number-dated ks (suc n) k h e = post-dated ks n k h e
 
-pub charge-dated : (n day : ℕ) (ks : List Kept) → ArePostsDated ks → charge_day n ks ≡ Some day → day ≤ 47_481
+pub charge-dated : (n day : ℕ) (ks : List Kept) → ArePostsDated ks → charge_day n ks ≡ Some day → day ≤ last_request_day
 charge-dated n day ks h e = by (at_number n ks) refl e
   where
-    by : (o : Option Kept) → at_number n ks ≡ o → charge_in (last_amend n ks) o ≡ Some day → day ≤ 47_481
+    by : (o : Option Kept) → at_number n ks ≡ o → charge_in (last_amend n ks) o ≡ Some day → day ≤ last_request_day
     by None f g = cc
     by (Some k) f g = own (charge_own k.post) refl g
       where
-        own : (x : Option ℕ) → charge_own k.post ≡ x → option_map (amended_day (last_amend n ks)) x ≡ Some day → day ≤ 47_481
+        own : (x : Option ℕ) → charge_own k.post ≡ x → option_map (amended_day (last_amend n ks)) x ≡ Some day → day ≤ last_request_day
         own None q r = cc
-        own (Some d) q r = let same : amended_day (last_amend n ks) d ≡ day = cc in subst (λ x. x ≤ 47_481) same (last-dated n d ks h (own-dated k.post d (number-dated ks n k h f) q))
+        own (Some d) q r = let same : amended_day (last_amend n ks) d ≡ day = cc in subst (λ x. x ≤ last_request_day) same (last-dated n d ks h (own-dated k.post d (number-dated ks n k h f) q))
 
-first-dated : (p : Post) → is_dated_post p ≡ true → opening_in p ≤ 47_481
+first-dated : (p : Post) → is_dated_post p ≡ true → opening_in p ≤ last_request_day
 unfolding is_dated_post
 first-dated (post.Open d t) e = grind (arith, nat_tests, e)
 first-dated (post.Charge d p c) e = omega arith
@@ -160,7 +161,7 @@ charge-there (suc i) day ks e = by (slice_get ks i) refl e
     by None f g = cc
     by (Some k) f g = let within = place-within i ks k f in omega (arith, within)
 
-pub opening-dated : (ks : List Kept) → ArePostsDated ks → (anchor_of ks).opened ≤ 47_481
+pub opening-dated : (ks : List Kept) → ArePostsDated ks → (anchor_of ks).opened ≤ last_request_day
 opening-dated [] h = omega arith
 opening-dated (k ∷ ks) h = first-dated k.post (All-head (λ (x : Kept). is_dated_post x.post ≡ true) k ks h)
 

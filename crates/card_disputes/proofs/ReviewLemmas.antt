@@ -6,6 +6,7 @@ use Rattle.std.proofs.lemmas.Bool.Decides.{nat_tests}
 use Rattle.std.proofs.lemmas.List.Elements.{All-head, All-tail}
 use Rattle.std.specs.Option.{option_map}
 use Rattle.card_days.specs.Later.{six_months_after}
+use Rattle.card_days.specs.Range.{last_request_day}
 use Rattle.card_days.specs.declared.anchor.Anchor.{Anchor}
 use Rattle.card_disputes.specs.Increases.{increase_at, increase_by, increases_by, latest, least_of, review_at, until}
 use Rattle.card_disputes.proofs.IncreaseLemmas.{days-corrected}
@@ -68,9 +69,9 @@ last-step day i ks l =
     ∙ ap (λ m. fold max day (filter_map (λ k. review_of k.post) (take m ks))) one
 
 -- ---- days of requests
-review-dated : (p : Post) (day : ℕ) → is_dated_post p ≡ true → day ≤ 47_481 → latest (review_of p) day ≤ 47_481
+review-dated : (p : Post) (day : ℕ) → is_dated_post p ≡ true → day ≤ last_request_day → latest (review_of p) day ≤ last_request_day
 unfolding is_dated_post
-review-dated (post.Review d f) day e l = let by : d ≤ 47_481 = grind (arith, nat_tests, e) in omega (arith, by, l)
+review-dated (post.Review d f) day e l = let by : d ≤ last_request_day = grind (arith, nat_tests, e) in omega (arith, by, l)
 review-dated (post.Amend t d c) day e l = l
 review-dated (post.Charge d p c) day e l = l
 review-dated (post.Credit d p c) day e l = l
@@ -88,10 +89,10 @@ review-dated (post.Refund c) day e l = l
 review-dated (post.Open d t) day e l = l
 review-dated (post.Return d t) day e l = l
 
-pub last-dated : (ks : List Kept) (day : ℕ) → ArePostsDated ks → day ≤ 47_481 → fold max day (filter_map (λ k. review_of k.post) ks) ≤ 47_481
+pub last-dated : (ks : List Kept) (day : ℕ) → ArePostsDated ks → day ≤ last_request_day → fold max day (filter_map (λ k. review_of k.post) ks) ≤ last_request_day
 last-dated [] day h l = l
 last-dated (k ∷ ks) day h l =
-    subst (λ x. x ≤ 47_481) (at (review_of k.post))
+    subst (λ x. x ≤ last_request_day) (at (review_of k.post))
     (last-dated ks (latest (review_of k.post) day) (All-tail (λ (x : Kept). is_dated_post x.post ≡ true) k ks h) (review-dated k.post day (All-head (λ (x : Kept). is_dated_post x.post ≡ true) k ks h) l))
   where
     at : (o : Option ℕ) → fold max (latest o day) (filter_map (λ x. review_of x.post) ks) ≡ fold max day (cons_option o (filter_map (λ x. review_of x.post) ks))

@@ -2,7 +2,8 @@
 use Rattle.std.proofs.Common.{◌≡◌, ℕ, zero, suc, ◌+◌, ◌-◌, ◌==◌, Bool, List, refl, ap, ◌∙◌, Option}
 use Rattle.std.specs.Prelude.{◌&&◌, ◌||◌, not, ◌++◌}
 use Rattle.card_days.specs.declared.anchor.Anchor.{Anchor}
-use Rattle.card_days.specs.Business.{is_business, is_holiday, is_weekday, last_day, next_business}
+use Rattle.card_days.specs.Range.{last_calendar_day}
+use Rattle.card_days.specs.Business.{is_business, is_holiday, is_weekday, next_business}
 use Rattle.card_days.specs.Civil.{first_day}
 use Rattle.card_events.specs.History.{CorrectedPost}
 use Rattle.card_events.specs.declared.post.Post.{Post}
@@ -20,7 +21,7 @@ business-same these those h i day = is_weekday day && not (h day i)
 
 next-same : (these those : List ℕ) → AreSame these those → (day : ℕ) → next_business these day ≡ next_business those day
 unfolding next_business
-next-same these those h day = ap (λ (f : ℕ → Bool). first_day f (last_day - day) (day + 1)) (business-same these those h)
+next-same these those h day = ap (λ (f : ℕ → Bool). first_day f (last_calendar_day - day) (day + 1)) (business-same these those h)
 
 after-same : (these those : List ℕ) → AreSame these those → (n day : ℕ) → business_day_after these n day ≡ business_day_after those n day
 unfolding business_day_after

@@ -1,5 +1,6 @@
 // The days by which something is to be done.
 ghost use Rattle.std.specs.Prelude.{◌≡◌, ℕ, ◌+◌, ◌≤◌, Some, None, min};
+ghost use Rattle.card_days.specs.Range.{last_request_day};
 ghost use Rattle.card_days.specs.Billing.{IsCloseDay, closing, cycle_of};
 ghost use Rattle.card_model.specs.Deadlines as spec;
 
@@ -8,7 +9,7 @@ use card_days::{Anchor, Calendar, Day, closing, cycle_of, next_business};
 /// The last day for the acknowledgement of a Dispute of this day: 30 days after it (12 CFR 1026.13(c)(1)). The day is a day
 /// of requests.
 pub fn ack_by(day: Day) -> Day
-    requires { day ≤ 47_481 }
+    requires { day ≤ last_request_day }
     ensures { result ≡ spec.ack_by day }
 {
     day.plus(30)
@@ -17,7 +18,7 @@ pub fn ack_by(day: Day) -> Day
 /// The last day for lower rates after a review of this day that found so: 45 days after it (12 CFR 1026.59(a)(2)(i)). The
 /// day is a day of requests.
 pub fn lower_by(day: Day) -> Day
-    requires { day ≤ 47_481 }
+    requires { day ≤ last_request_day }
     ensures { result ≡ spec.lower_by day }
 {
     day.plus(45)
@@ -53,8 +54,8 @@ fn sooner(day: Day, other: Option<Day>) -> Day
 /// after the day at the latest (12 CFR 1026.13(c)(2)). The day is a day of requests, and so is the opening day.
 pub fn resolve_by(anchor: &Anchor, day: Day) -> Day
     requires close_day { IsCloseDay anchor.now.close_day }
-    requires opened { anchor.now.opened ≤ 47_481 }
-    requires dated { day ≤ 47_481 }
+    requires opened { anchor.now.opened ≤ last_request_day }
+    requires dated { day ≤ last_request_day }
     ensures { result ≡ spec.resolve_by anchor.now day }
 {
     let second = closing(*anchor, cycle_on(anchor, day) + 2);
@@ -64,7 +65,7 @@ pub fn resolve_by(anchor: &Anchor, day: Day) -> Day
 /// The last day for a refund that was asked for on this day: the seventh business day after it (12 CFR 1026.11(a)(2)). The
 /// day is a day of requests.
 pub fn refund_by(day: Day, calendar: &Calendar) -> Day
-    requires { day ≤ 47_481 }
+    requires { day ≤ last_request_day }
     ensures { result ≡ spec.refund_by calendar.now day }
 {
     let mut last = day;

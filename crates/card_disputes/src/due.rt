@@ -1,5 +1,6 @@
 // By when the tasks are due that posts make.
 ghost use Rattle.std.specs.Prelude.{◌≡◌, ℕ, ◌≤◌, ◌==◌, true, List, Option, Some, IfSome};
+ghost use Rattle.card_days.specs.Range.{last_request_day};
 ghost use Rattle.card_days.specs.Billing.{IsCloseDay};
 ghost use Rattle.card_disputes.specs.Dues as dues;
 ghost use Rattle.card_events.specs.Dated.{is_dated_post};
@@ -39,7 +40,7 @@ fn ack_due(posts: &Posts, number: u32, post: &Post) -> Option<Day>
 #[tactic(auto, unfolding(card_events::specs::Dated::is_dated_post))]
 fn resolve_due(posts: &Posts, anchor: &Anchor, number: u32, post: &Post) -> Option<Day>
     requires close_day { IsCloseDay anchor.now.close_day }
-    requires opened { anchor.now.opened ≤ 47_481 }
+    requires opened { anchor.now.opened ≤ last_request_day }
     requires dated { is_dated_post post.now ≡ true }
     ensures { (holidays : List ℕ) → StandsFor holidays posts.now → result ≡ spec.resolve_due anchor.now posts.now.corrected number post.now }
 {
@@ -97,7 +98,7 @@ fn due_by(
     post: &Post,
 ) -> Option<Day>
     requires close_day { IsCloseDay anchor.now.close_day }
-    requires opened { anchor.now.opened ≤ 47_481 }
+    requires opened { anchor.now.opened ≤ last_request_day }
     requires dated { is_dated_post post.now ≡ true }
     ensures { (holidays : List ℕ) → StandsFor holidays posts.now → result ≡ dues.due_by anchor.now calendar.now credit posts.now.corrected kind number post.now }
 {
@@ -120,7 +121,7 @@ pub fn due_at(
     number: u32,
 ) -> Option<Day>
     requires close_day { IsCloseDay anchor.now.close_day }
-    requires opened { anchor.now.opened ≤ 47_481 }
+    requires opened { anchor.now.opened ≤ last_request_day }
     requires dated { ArePostsDated posts.now.history }
     ensures { (holidays : List ℕ) → StandsFor holidays posts.now → result ≡ dues.due_at anchor.now calendar.now credit posts.now.corrected kind number (at_number number posts.now.history) }
 {
@@ -132,7 +133,7 @@ pub fn due_at(
 
 // The last day for a refund of a credit balance that has stood since a day.
 pub fn credit_due(credit: u64, since: Option<Day>) -> Option<Day>
-    requires { IfSome since (λ d. d ≤ 47_481) }
+    requires { IfSome since (λ d. d ≤ last_request_day) }
     ensures { result ≡ spec.credit_due credit since }
 {
     match since {

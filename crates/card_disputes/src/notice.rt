@@ -1,5 +1,6 @@
 // The last day for a Dispute of a charge.
 ghost use Rattle.std.specs.Prelude.{◌≡◌, ℕ, ◌+◌, ◌≤◌, drop, List, option_copied, true};
+ghost use Rattle.card_days.specs.Range.{last_request_day};
 ghost use Rattle.std.specs.List.{find};
 ghost use Rattle.std.specs.Option.{option_map};
 ghost use Rattle.card_days.specs.Billing.{IsCloseDay};
@@ -106,7 +107,7 @@ fn bills_at(posts: &Posts, number: u32, cycle: u32) -> bool
 
 // 60 days after the acceptance of the post with a number
 fn notice_end_of(posts: &Posts, number: u32) -> Option<Day>
-    requires { last_accepted posts.now.history ≤ 47_481 }
+    requires { last_accepted posts.now.history ≤ last_request_day }
     ensures { result ≡ option_map (λ k. k.accepted + 60) (at_number number posts.now.history) }
 {
     match posts.get(number) {
@@ -117,7 +118,7 @@ fn notice_end_of(posts: &Posts, number: u32) -> Option<Day>
 
 // 60 days after the first Bill of this cycle or a later one behind the post with a number
 fn notice_end(posts: &Posts, charge: u32, cycle: u32) -> Option<Day>
-    requires accepted { last_accepted posts.now.history ≤ 47_481 }
+    requires accepted { last_accepted posts.now.history ≤ last_request_day }
     ensures { result ≡ notice_end_at charge cycle posts.now.history }
 {
     for i in charge..posts.len() {
@@ -135,7 +136,7 @@ pub fn last_notice_day(posts: &Posts, anchor: &Anchor, charge: Num) -> Option<Da
     requires anchor { anchor.now ≡ anchor_of posts.now.history }
     requires close_day { IsCloseDay anchor.now.close_day }
     requires dated { ArePostsDated posts.now.history }
-    requires accepted { last_accepted posts.now.history ≤ 47_481 }
+    requires accepted { last_accepted posts.now.history ≤ last_request_day }
     ensures { (holidays : List ℕ) → StandsFor holidays posts.now → result ≡ spec.last_notice_day anchor.now posts.now.corrected charge }
 {
     let _count = posts.len();

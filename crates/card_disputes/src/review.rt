@@ -1,5 +1,6 @@
 // When rate increases are reviewed.
 ghost use Rattle.std.specs.Prelude.{◌≡◌, ℕ, ◌+◌, ◌≤◌, nat_le, if◌then◌else◌, Some, None, max, min, List};
+ghost use Rattle.card_days.specs.Range.{last_request_day};
 ghost use Rattle.std.specs.List.{fold, filter_map, reduce};
 ghost use Rattle.card_disputes.specs.Increases.{increase_at, increase_by, increases_by, least_of, review_at, reviewed_by};
 ghost use Rattle.card_events.specs.History.{at_number};
@@ -102,7 +103,7 @@ fn reviewed(posts: &Posts, day: Day) -> Day
 /// are days of requests. The corrected list is that of the posts under some calendar. It takes no memory.
 pub fn review_by(posts: &Posts, today: Day) -> Option<Day>
     requires dated { ArePostsDated posts.now.history }
-    requires today { today ≤ 47_481 }
+    requires today { today ≤ last_request_day }
     ensures { (holidays : List ℕ) → StandsFor holidays posts.now → result ≡ spec.review_by posts.now.corrected today }
 {
     match first_increase(posts, today) {

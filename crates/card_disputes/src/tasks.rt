@@ -1,5 +1,6 @@
 // The open tasks of an account.
 ghost use Rattle.std.specs.Prelude.{◌≡◌, ◌≤◌, ◌≤ℤ◌, ◌++◌, ℕ, List, IfOk, IfSome, OnOk, pos, unsigned_abs};
+ghost use Rattle.card_days.specs.Range.{last_request_day};
 ghost use Rattle.std.specs.Option.{option_map, option_to_list};
 ghost use Rattle.card_days.specs.Billing.{IsCloseDay};
 ghost use Rattle.card_disputes.specs.Dues as dues;
@@ -71,7 +72,7 @@ fn push_tasks(
     kind: TaskKind,
 ) -> Result<(), NoMemory>
     requires close_day { IsCloseDay basis.now.anchor.now.close_day }
-    requires opened { basis.now.anchor.now.opened ≤ 47_481 }
+    requires opened { basis.now.anchor.now.opened ≤ last_request_day }
     requires dated { ArePostsDated basis.now.posts.now.history }
     ensures { (holidays : List ℕ) → StandsFor holidays basis.now.posts.now → OnOk result (tasks.new.items ≡ tasks.old.items ++ spec.tasks_of basis.now.name.now kind (dues.due_by basis.now.anchor.now basis.now.calendar.now basis.now.credit basis.now.posts.now.corrected kind) basis.now.posts.now.corrected) }
 {
@@ -109,8 +110,8 @@ pub fn work_of(
     requires close_day { IsCloseDay anchor.now.close_day }
     requires dated { ArePostsDated posts.now.history }
     requires low { pos 0 ≤ℤ credit }
-    requires since { IfSome since (λ d. d ≤ 47_481) }
-    requires today { today ≤ 47_481 }
+    requires since { IfSome since (λ d. d ≤ last_request_day) }
+    requires today { today ≤ last_request_day }
     ensures { (holidays : List ℕ) → StandsFor holidays posts.now → IfOk result (λ tasks. tasks.items ≡ spec.open_tasks name.now anchor.now calendar.now posts.now.corrected (unsigned_abs credit) since today) }
 {
     let credit = cents_in(credit);

@@ -2,6 +2,7 @@
 -- without the fold's records (12 CFR 1026.5(b)(2)(ii), .53(a), .54(a)(1)). Days are effective days, amounts cents.
 use Rattle.std.specs.Prelude.{ℕ, ◌+◌, ◌-◌, ◌≤◌, ◌≤ℤ◌, pos, Bool, true, false, ◌&&◌, not, ◌||◌, nat_le, nat_lt, if◌then◌else◌, List, Option, Some, None, unsigned_abs}
 use Rattle.card_days.specs.Billing.{closing, due}
+use Rattle.card_days.specs.Range.{last_calendar_day}
 use Rattle.card_days.specs.declared.anchor.Anchor.{Anchor}
 use Rattle.card_events.specs.History.{CorrectedPost}
 use Rattle.card_fees.specs.Counting.{earlier_posts}
@@ -13,7 +14,7 @@ use Rattle.card_due.specs.declared.due_cycle.DueCycle.{DueCycle}
 -- a cycle's due date is there, and its grace amount isn't below 0
 pub record IsInCalendar (a : Anchor) (c : DueCycle) : Type 0 where
   pub number : 1 ≤ c.cycle
-  pub due : due a c.cycle ≤ 48_576
+  pub due : due a c.cycle ≤ last_calendar_day
   pub low : pos 0 ≤ℤ c.grace_amount
 
 -- the minimum payment that is due

@@ -1,5 +1,6 @@
 // What a closed cycle asks for at its due date.
 ghost use Rattle.std.specs.Prelude.{◌≡◌, ◌+◌, ◌≤◌, ◌≤ℤ◌, nat_le, pos};
+ghost use Rattle.card_days.specs.Range.{last_calendar_day};
 ghost use Rattle.card_days.specs.Billing.{IsCloseDay, due};
 ghost use Rattle.card_due.specs.Asked.{asks, is_due_by};
 
@@ -33,7 +34,7 @@ pub fn asked(c: &DueCycle) -> Cents
 pub fn has_due_payment(a: &Anchor, cycle: u32, issued: Option<Day>, today: Day) -> bool
     requires close_day { IsCloseDay a.now.close_day }
     requires cycle { 1 ≤ cycle }
-    requires in_calendar { due a.now cycle ≤ 48_576 }
+    requires in_calendar { due a.now cycle ≤ last_calendar_day }
     ensures { result ≡ is_due_by a.now cycle today issued }
 {
     match issued {

@@ -1,5 +1,6 @@
 // Whether a statement was paid, and how purchases bear interest after it.
 ghost use Rattle.std.specs.Prelude.{◌≡◌, ℕ, ◌+◌, ◌<◌, ◌≤◌, ◌≤ℤ◌, List, Some, pos};
+ghost use Rattle.card_days.specs.Range.{last_calendar_day};
 ghost use Rattle.card_days.specs.Billing.{IsCloseDay, closing, due};
 ghost use Rattle.card_due.specs.Asked.{IsInCalendar, case_by, is_paid, paid_before, repaid_by};
 ghost use Rattle.card_due.specs.declared.due_cycle.DueCycle.{DueCycle};
@@ -16,7 +17,7 @@ use card_units::Cents;
 fn repaid_by(posts: &Posts, a: &Anchor, cycle: u32) -> Cents
     requires close_day { IsCloseDay a.now.close_day }
     requires cycle { 1 ≤ cycle }
-    requires in_calendar { due a.now cycle ≤ 48_576 }
+    requires in_calendar { due a.now cycle ≤ last_calendar_day }
     ensures { (holidays : List ℕ) → StandsFor holidays posts.now → result ≡ pos (repaid_by a.now posts.now.corrected cycle) }
 {
     let from = after_closing(a, cycle);

@@ -5,8 +5,7 @@ ghost use Rattle.card_due.specs.Asked.{left_by};
 ghost use Rattle.card_posts.specs.Posted.{StandsFor};
 
 use crate::due_cycle::{DueCycle, asked};
-use crate::grace::after_closing;
-use card_days::{Anchor, Day};
+use card_days::{Anchor, Day, after_closing};
 use card_fees::counted_before;
 use card_posts::Posts;
 use card_units::Cents;

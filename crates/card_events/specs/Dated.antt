@@ -1,5 +1,6 @@
 -- Days of requests.
 use Rattle.std.specs.Prelude.{ℕ, Bool, true, ◌&&◌, nat_le}
+use Rattle.card_days.specs.Range.{last_request_day}
 use Rattle.card_events.specs.declared.post.Post.{Post}
 use Rattle.card_events.specs.declared.post.Post.TheVariants as post
 use Rattle.card_events.specs.declared.request.Shared.{Shared}
@@ -9,7 +10,7 @@ use Rattle.card_events.specs.declared.request.Request.TheVariants as request
 
 -- requests have days up to 2099-12-31, and a Day is never before 2011-01-01
 abbrev pub is_request_day : ℕ → Bool
-is_request_day day = nat_le day 47_481
+is_request_day day = nat_le day last_request_day
 
 -- every day in the post is a day of requests
 unfoldable pub is_dated_post : Post → Bool

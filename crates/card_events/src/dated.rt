@@ -7,5 +7,5 @@ use card_days::Day;
 pub fn is_request_day(day: Day) -> bool
     ensures { result ≡ spec.is_request_day day }
 {
-    day.number() <= 47_481
+    day.is_request_day()
 }

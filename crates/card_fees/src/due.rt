@@ -1,5 +1,6 @@
 // What a due date asks for, and what the payments left of it.
 ghost use Rattle.std.specs.Prelude.{◌≡◌, ℕ, ◌+◌, ◌-◌, ◌<◌, ◌≤◌, nat_lt, List, Some, ◌≤ℤ◌, pos, unsigned_abs};
+ghost use Rattle.card_days.specs.Range.{last_calendar_day};
 ghost use Rattle.card_days.specs.Billing.{IsCloseDay, closing, due};
 ghost use Rattle.card_fees.specs.Due.{is_late_from, is_met, is_sixty_days_late, owes_sixty_days, past_due_at};
 ghost use Rattle.card_model.specs.Payments as payments;
@@ -30,7 +31,7 @@ fn since_closing(posts: &Posts, a: &Anchor, k: u32, to: Day) -> u64
 pub fn met(posts: &Posts, a: Anchor, k: u32, minimum: Cents) -> bool
     requires close_day { IsCloseDay a.close_day }
     requires cycle { 1 ≤ k }
-    requires in_calendar { due a k ≤ 48_576 }
+    requires in_calendar { due a k ≤ last_calendar_day }
     requires low { pos 0 ≤ℤ minimum }
     ensures { (holidays : List ℕ) → StandsFor holidays posts.now → result ≡ is_met a posts.now.corrected k (unsigned_abs minimum) }
 {
@@ -52,7 +53,7 @@ fn left_of(minimum: Cents, paid: u64) -> Cents
 pub fn past_due(posts: &Posts, a: Anchor, k: u32, minimum_before: Cents) -> Cents
     requires close_day { IsCloseDay a.close_day }
     requires cycle { 1 ≤ k }
-    requires in_calendar { closing a k ≤ 48_576 }
+    requires in_calendar { closing a k ≤ last_calendar_day }
     requires low { pos 0 ≤ℤ minimum_before }
     requires first { k ≡ 1 → minimum_before ≡ pos 0 }
     ensures { (holidays : List ℕ) → StandsFor holidays posts.now → result ≡ pos (past_due_at a posts.now.corrected k (unsigned_abs minimum_before)) }

@@ -5,6 +5,7 @@ use Rattle.std.specs.List.{last_or}
 use Rattle.std.proofs.lemmas.List.{length-append}
 use Rattle.card_days.specs.Billing.{closing, closings_among, cycle_of, due_after}
 use Rattle.card_days.specs.Civil.{day_of_month}
+use Rattle.card_days.specs.Range.{last_calendar_day}
 use Rattle.card_days.specs.declared.anchor.Anchor.{Anchor}
 use Rattle.card_events.specs.History.{anchor_of}
 use Rattle.card_events.specs.SharedRows.{SharedRows}
@@ -61,7 +62,7 @@ is-anchor a h = record { first = h.first; last = h.last; low = h.close_day.0; hi
 between : (x y : ℕ) → x ≤ y → y ≤ x → x ≡ y
 between x y l m = omega arith
 
-closes-on : (a : Anchor) (d k : ℕ) → IsOpening a → a.opened ≤ d → d ≤ 48576 → suc k ≡ cycle_of a d → eqb (day_of_month d) a.close_day ≡ true → closing a (suc k) ≡ d
+closes-on : (a : Anchor) (d k : ℕ) → IsOpening a → a.opened ≤ d → d ≤ last_calendar_day → suc k ≡ cycle_of a d → eqb (day_of_month d) a.close_day ≡ true → closing a (suc k) ≡ d
 unfolding closing
 closes-on a d k h low high e passes =
     let around = cycle_around a (is-anchor a h) d (suc k) low high e in
@@ -99,7 +100,7 @@ fold-count rows acc seen (suc n) day =
     ∙ ap (λ x. x + cond (eqb (day_of_month d) acc.anchor.close_day) 1 0) (fold-count rows acc seen n day))
 
 -- ---- each with its days
-day-days : (issued : Option IssuedRow) (acc : Account) (seen : Seen) (b : Book) (d : ℕ) → IsOpening acc.anchor → seen.day ≡ d → acc.anchor.opened ≤ d → d ≤ 48576 → suc (length b.cycles) ≡ cycle_of acc.anchor d
+day-days : (issued : Option IssuedRow) (acc : Account) (seen : Seen) (b : Book) (d : ℕ) → IsOpening acc.anchor → seen.day ≡ d → acc.anchor.opened ≤ d → d ≤ last_calendar_day → suc (length b.cycles) ≡ cycle_of acc.anchor d
     → HaveTheirDays acc.anchor 0 b.cycles → HaveTheirDays acc.anchor 0 (day_after issued acc seen b).cycles
 unfolding day_after EndsAt
 day-days issued acc seen b d open' day low high e h =
@@ -151,10 +152,10 @@ unfolding book cycle_of
 counted history issued shared day =
     ap (λ n. n + 1) (fold-count issued (account_of history) (seen_on (anchor_of history) shared history issued) (day + 1 - (anchor_of history).opened) (λ d. refl))
 
-few-days : (day opened : ℕ) → opened ≤ 48576 → day ≤ 48576 → opened + (day + 1 - opened) ≤ 48577
+few-days : (day opened : ℕ) → opened ≤ last_calendar_day → day ≤ last_calendar_day → opened + (day + 1 - opened) ≤ 48577
 few-days day opened l m = omega arith
 
-dated : (history : List Kept) (issued : List IssuedRow) (shared : SharedRows) (day k : ℕ) (c : Cycle) → IsOpening (anchor_of history) → day ≤ 48576 → cycle_at k (book history issued shared day).cycles ≡ Some c → HasItsDays (anchor_of history) k c
+dated : (history : List Kept) (issued : List IssuedRow) (shared : SharedRows) (day k : ℕ) (c : Cycle) → IsOpening (anchor_of history) → day ≤ last_calendar_day → cycle_at k (book history issued shared day).cycles ≡ Some c → HasItsDays (anchor_of history) k c
 unfolding book
 dated history issued shared day zero c open' l e = cc
 dated history issued shared day (suc i) c open' l e =

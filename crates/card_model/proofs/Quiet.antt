@@ -6,6 +6,7 @@ use Rattle.std.proofs.lemmas.Bool.Decides.{nat_tests}
 use Rattle.card_days.specs.Billing.{due}
 use Rattle.card_days.specs.Business.{is_due}
 use Rattle.card_days.specs.Civil.{day_of_month}
+use Rattle.card_days.specs.Range.{last_calendar_day}
 use Rattle.card_days.specs.declared.anchor.Anchor.{Anchor}
 use Rattle.card_events.specs.History.{CorrectedPost, anchor_of, corrected, folded, is_folded}
 use Rattle.card_events.specs.SharedRows.{SharedRows}
@@ -62,7 +63,7 @@ unfolding IsDueOf
 last-due a k o [] e h = e
 last-due a k o (c ∷ cs) e h = last-due a (suc k) (Some c) cs (k, h.0.due) h.1
 
-no-due : (row : Option IssuedRow) (acc : Account) (seen : Seen) (b : Book) (o : Option Cycle) (day : ℕ) → IsOpening acc.anchor → seen.day ≡ day + 1 → day ≤ 48576 → is_due acc.anchor day ≡ false → IsDueOf acc.anchor o → on_due row acc seen b o ≡ b
+no-due : (row : Option IssuedRow) (acc : Account) (seen : Seen) (b : Book) (o : Option Cycle) (day : ℕ) → IsOpening acc.anchor → seen.day ≡ day + 1 → day ≤ last_calendar_day → is_due acc.anchor day ≡ false → IsDueOf acc.anchor o → on_due row acc seen b o ≡ b
 unfolding on_due IsDueOf
 no-due row acc seen b None day open' e l q h = refl
 no-due row acc seen b (Some c) day open' e l q h = by (eqb seen.day (c.due + 1)) refl
@@ -101,7 +102,7 @@ parts acc posts issued penalties day h =
     let e = or-false (list_any (λ p. eqb p.day (day + 1)) posts) (leb acc.anchor.opened (day + 1) && eqb (day_of_month (day + 1)) acc.anchor.close_day) d.0 in
     record { posts = e.0; closing = e.1; due = d.1 }
 
-later-day : (history : List Kept) (issued : List IssuedRow) (shared : SharedRows) (day n : ℕ) → IsOpening (anchor_of history) → day + 1 ≤ 48576 → (anchor_of history).opened + n ≡ day + 1
+later-day : (history : List Kept) (issued : List IssuedRow) (shared : SharedRows) (day n : ℕ) → IsOpening (anchor_of history) → day + 1 ≤ last_calendar_day → (anchor_of history).opened + n ≡ day + 1
     → Parts (account_of history) (corrected (anchor_of history) shared.holidays history) day
     → book_after issued (account_of history) (seen_on (anchor_of history) shared history issued) (suc n) ≡ book_after issued (account_of history) (seen_on (anchor_of history) shared history issued) n
 unfolding book_after

@@ -1,6 +1,7 @@
 -- The cycles of a book are those of the calendar.
 use Rattle.std.specs.Prelude.{ℕ, ◌+◌, ◌-◌, ◌≡◌, ◌≤◌, length, List, Some}
 use Rattle.card_days.specs.Billing.{IsCloseDay, closing, cycle_of, due}
+use Rattle.card_days.specs.Range.{last_calendar_day, first_calendar_day}
 use Rattle.card_days.specs.declared.anchor.Anchor.{Anchor}
 use Rattle.card_events.specs.History.{anchor_of}
 use Rattle.card_events.specs.SharedRows.{SharedRows}
@@ -10,8 +11,8 @@ use Rattle.card_model.specs.Folds.{book, cycle_at}
 
 -- an opening day from 2011 to 2102, and a closing day that every month has
 pub record IsOpening (a : Anchor) : Type 0 where
-  pub first : 14975 ≤ a.opened
-  pub last : a.opened ≤ 48576
+  pub first : first_calendar_day ≤ a.opened
+  pub last : a.opened ≤ last_calendar_day
   pub close_day : IsCloseDay a.close_day
 
 -- the k-th cycle's number and days
@@ -27,5 +28,5 @@ pub record CyclesAreOfTheCalendar : Type 0 where
       (history : List Kept) (issued : List IssuedRow) (shared : SharedRows) (day : ℕ)
       → length (book history issued shared day).cycles + 1 ≡ cycle_of (anchor_of history) (day + 1)
   pub days :
-      (history : List Kept) (issued : List IssuedRow) (shared : SharedRows) (day k : ℕ) (c : Cycle) → IsOpening (anchor_of history) → day ≤ 48576
+      (history : List Kept) (issued : List IssuedRow) (shared : SharedRows) (day k : ℕ) (c : Cycle) → IsOpening (anchor_of history) → day ≤ last_calendar_day
       → cycle_at k (book history issued shared day).cycles ≡ Some c → HasItsDays (anchor_of history) k c

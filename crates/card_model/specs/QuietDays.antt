@@ -1,5 +1,6 @@
 -- Days on which nothing happens.
 use Rattle.std.specs.Prelude.{ℕ, ◌+◌, ◌≡◌, ◌≤◌, false, List}
+use Rattle.card_days.specs.Range.{last_calendar_day}
 use Rattle.card_events.specs.History.{anchor_of, corrected}
 use Rattle.card_events.specs.SharedRows.{SharedRows}
 use Rattle.card_events.specs.declared.kept.Kept.{Kept}
@@ -13,6 +14,6 @@ use Rattle.card_model.specs.declared.segment.Interval.{Interval}
 -- a day that is no break day leaves the book of the day before as it was
 abbrev pub QuietDaysChangeNothing : Type 0
 QuietDaysChangeNothing =
-    (history : List Kept) (issued : List IssuedRow) (shared : SharedRows) (penalties : List Interval) (day : ℕ) → IsOpening (anchor_of history) → day + 1 ≤ 48576
+    (history : List Kept) (issued : List IssuedRow) (shared : SharedRows) (penalties : List Interval) (day : ℕ) → IsOpening (anchor_of history) → day + 1 ≤ last_calendar_day
     → is_break (account_of history) (corrected (anchor_of history) shared.holidays history) issued penalties (day + 1) ≡ false
     → book history issued shared (day + 1) ≡ book history issued shared day

@@ -5,6 +5,7 @@ use Rattle.std.specs.List.{count_by, filter, filter_map, list_any, reduce}
 use Rattle.std.specs.Option.{option_map, option_map_or, option_or}
 use Rattle.card_days.specs.Billing.{closing, next_on}
 use Rattle.card_days.specs.Later.{six_months_after, year_after}
+use Rattle.card_days.specs.Range.{last_request_day}
 use Rattle.card_days.specs.declared.anchor.Anchor.{Anchor}
 use Rattle.card_events.specs.History.{CorrectedPost, adds_segment, anchor_of, at_number, corrected, disputes}
 use Rattle.card_events.specs.Same.{is_same_category}
@@ -118,7 +119,7 @@ is_out_of_range now (post.Resolve _ target cents) = nat_lt 1000000000 cents || h
 is_out_of_range now (post.Plan _ _ rate _ after) = nat_lt 9999 rate || nat_lt 9999 after
 is_out_of_range now (post.Notice _ _ rate _) = nat_lt 9999 rate
 is_out_of_range now (post.Lower _ _ rate) = nat_lt 9999 rate
-is_out_of_range now (post.Bill cycle) = (cycle == 0) || nat_lt 47481 (closing (anchor_now now) cycle)
+is_out_of_range now (post.Bill cycle) = (cycle == 0) || nat_lt last_request_day (closing (anchor_now now) cycle)
 is_out_of_range now _ = false
 
 -- an amount, a rate, a minute or a cycle is out of its range

@@ -1,5 +1,6 @@
 // Whether a penalty ends with a due date.
 ghost use Rattle.std.specs.Prelude.{◌≡◌, ◌≤◌, ◌≤ℤ◌, ℕ, List, length, nat_lt, pos};
+ghost use Rattle.card_days.specs.Range.{last_calendar_day};
 ghost use Rattle.card_days.specs.Billing.{IsCloseDay, due};
 ghost use Rattle.card_model.specs.DueDates.{due_after_day};
 ghost use Rattle.card_penalties.specs.Ending as spec;
@@ -19,7 +20,7 @@ use card_posts::Posts;
 pub fn is_met(posts: &Posts, a: &Anchor, c: &DueCycle) -> bool
     requires close_day { IsCloseDay a.now.close_day }
     requires cycle { 1 ≤ c.now.cycle }
-    requires in_calendar { due a.now c.now.cycle ≤ 48_576 }
+    requires in_calendar { due a.now c.now.cycle ≤ last_calendar_day }
     requires low { pos 0 ≤ℤ c.now.minimum }
     ensures { (holidays : List ℕ) → StandsFor holidays posts.now → result ≡ spec.met_by a.now posts.now.corrected c.now }
 {

@@ -1,5 +1,6 @@
 // Whether a minimum payment is sixty days late, and when a penalty then begins.
 ghost use Rattle.std.specs.Prelude.{◌≡◌, ◌+◌, ◌<◌, ◌≤◌, ◌≤ℤ◌, ℕ, List, nat_lt, pos, unsigned_abs};
+ghost use Rattle.card_days.specs.Range.{last_calendar_day};
 ghost use Rattle.card_days.specs.Billing.{IsCloseDay, closing, due};
 ghost use Rattle.card_model.specs.Payments as model;
 ghost use Rattle.card_penalties.specs.Late.{owes_by};
@@ -14,7 +15,7 @@ use card_posts::Posts;
 fn is_unpaid(posts: &Posts, a: &Anchor, c: &DueCycle, day: Day) -> bool
     requires close_day { IsCloseDay a.now.close_day }
     requires cycle { 1 ≤ c.now.cycle }
-    requires in_calendar { closing a.now c.now.cycle < 48_576 }
+    requires in_calendar { closing a.now c.now.cycle < last_calendar_day }
     requires low { pos 0 ≤ℤ c.now.minimum }
     ensures { (holidays : List ℕ) → StandsFor holidays posts.now → result ≡ nat_lt (model.counted posts.now.corrected (closing a.now c.now.cycle + 1) day) (unsigned_abs c.now.minimum) }
 {
@@ -29,7 +30,7 @@ fn is_unpaid(posts: &Posts, a: &Anchor, c: &DueCycle, day: Day) -> bool
 pub fn owes_sixty_days(posts: &Posts, a: &Anchor, c: &DueCycle, day: Day) -> bool
     requires close_day { IsCloseDay a.now.close_day }
     requires cycle { 1 ≤ c.now.cycle }
-    requires in_calendar { due a.now c.now.cycle ≤ 48_576 }
+    requires in_calendar { due a.now c.now.cycle ≤ last_calendar_day }
     requires low { pos 0 ≤ℤ c.now.minimum }
     ensures { (holidays : List ℕ) → StandsFor holidays posts.now → result ≡ owes_by a.now posts.now.corrected c.now day }
 {

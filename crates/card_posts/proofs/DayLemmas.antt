@@ -1,6 +1,7 @@
 -- Effective days by a post's own day and that of the post it waits for.
 use Rattle.std.proofs.Common.{◌≡◌, ℕ, zero, suc, ◌+◌, ◌<◌, ◌≤◌, max, Bool, true, false, cond, ◌==◌, List, [], ◌∷◌, ◌++◌, length, get_or, refl, ap, arith, Option, Some, None}
 use Rattle.std.specs.Option.{option_or}
+use Rattle.card_days.specs.Range.{last_request_day}
 use Rattle.card_days.specs.declared.anchor.Anchor.{Anchor}
 use Rattle.card_days.specs.declared.anchor.Channel.{Channel}
 use Rattle.card_events.specs.History.{amend_of, at_number, charge_day, dispute_day, effective_day, last_amend, payment_day}
@@ -124,11 +125,11 @@ either opened (Some x) y f g = f
 amend-one : (opened n : ℕ) (k : Kept) → IsTimely opened k → IsAmendDated opened (amend_of n k.post)
 amend-one opened n k h = by k.post k.accepted h.dated h.received
   where
-    if_named : (b : Bool) (d c : ℕ) → opened ≤ d → d ≤ 47_481 → IsAmendDated opened (cond b (Some (d, c)) None)
+    if_named : (b : Bool) (d c : ℕ) → opened ≤ d → d ≤ last_request_day → IsAmendDated opened (cond b (Some (d, c)) None)
     if_named true d c l m = (l, m)
     if_named false d c l m = tt
 
-    by : (q : Post) (accepted : ℕ) → accepted ≤ 47_481 → IsReceived opened accepted q → IsAmendDated opened (amend_of n q)
+    by : (q : Post) (accepted : ℕ) → accepted ≤ last_request_day → IsReceived opened accepted q → IsAmendDated opened (amend_of n q)
     by (post.Open d t) accepted l g = tt
     by (post.Charge d p c) accepted l g = tt
     by (post.Credit d p c) accepted l g = tt

@@ -1,6 +1,7 @@
 -- The corrected list after one more post.
 use Rattle.std.proofs.Common.{◌≡◌, ℕ, zero, suc, ◌+◌, ◌<◌, ◌≤◌, min, false, List, [], ◌∷◌, ◌++◌, take, length, length-append, get_or, map, refl, sym, ap, ◌∙◌, subst, arith, pos}
 use Rattle.std.proofs.lemmas.List.{take_more}
+use Rattle.card_days.specs.Range.{last_calendar_day}
 use Rattle.card_days.specs.declared.anchor.Anchor.{Anchor}
 use Rattle.card_events.specs.History.{CorrectedPost, anchor_of, cents_of, corrected, corrected_from, corrected_post, effective_day, next_segment, slot_of}
 use Rattle.card_events.specs.declared.kept.Kept.{Kept}
@@ -61,11 +62,11 @@ plain-last a holidays h g k d es is now e l f =
     is ∙ (plain-front a holidays h k e l plain ∙ (ap (λ u. take (length u) (effects a holidays (more h k))) (sym is) ∙ ap (λ u. take (length es) (effects a holidays u)) (sym now)))
 
 -- the day of a push is exact
-pub push-from : (ks : List Kept) (k : Kept) (es fs : List Effect) (e : Effect) (from : ℕ) → length ks ≡ length es → length es ≡ length fs → e.day ≤ 48_576 → from ≡ min e.day (first_change 48_576 es fs)
+pub push-from : (ks : List Kept) (k : Kept) (es fs : List Effect) (e : Effect) (from : ℕ) → length ks ≡ length es → length es ≡ length fs → e.day ≤ last_calendar_day → from ≡ min e.day (first_change last_calendar_day es fs)
     → IsFirstChange from (corrected_with 1 5 ks es) (corrected_with 1 5 (ks ++ k ∷ []) (fs ++ e ∷ []))
 push-from ks k es fs e from j l b is =
-    let low : min e.day 48_576 ≡ e.day = omega (arith, b) in
-    let day : from ≡ first_change e.day es fs = is ∙ (change-last e.day 48_576 es fs ∙ ap (λ m. first_change m es fs) low) in
+    let low : min e.day last_calendar_day ≡ e.day = omega (arith, b) in
+    let day : from ≡ first_change e.day es fs = is ∙ (change-last e.day last_calendar_day es fs ∙ ap (λ m. first_change m es fs) low) in
     subst (λ m. IsFirstChange m (corrected_with 1 5 ks es) (corrected_with 1 5 (ks ++ k ∷ []) (fs ++ e ∷ []))) (sym day) (first-change-exact ks k es fs e j l)
 
 -- ---- the corrected list by what is kept by number

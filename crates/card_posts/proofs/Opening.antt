@@ -2,6 +2,7 @@
 use Rattle.std.proofs.Common.{◌≡◌, ℕ, ◌<◌, ◌≤◌, true, List, [], ◌∷◌, refl, sym, ◌∙◌, subst, arith, None}
 use Rattle.std.proofs.lemmas.List.Elements.{All-cons, All-nil}
 use Rattle.card_days.specs.Billing.{IsCloseDay}
+use Rattle.card_days.specs.Range.{last_request_day}
 use Rattle.card_days.specs.declared.anchor.Anchor.{Anchor}
 use Rattle.card_events.specs.History.{amend_of, anchor_of, cents_of, confirmed, confirms, corrected, corrected_from, corrected_post, effective_day, last_amend, opening_in, terms_in}
 use Rattle.card_events.specs.declared.kept.Kept.{Kept}
@@ -95,7 +96,7 @@ no-confirm h (post.Refund c) o = absurd (cc)
 no-confirm h (post.Amend t d c) o = absurd (cc)
 no-confirm h (post.Bill c) o = absurd (cc)
 
-kept-one : (a : Anchor) (k : Kept) → opens k.post ≡ true → IsCloseDay (terms_in k.post).close → k.number ≡ 1 → k.accepted ≤ 47_481 → a ≡ anchor_of (k ∷ []) → IsKept a (k ∷ [])
+kept-one : (a : Anchor) (k : Kept) → opens k.post ≡ true → IsCloseDay (terms_in k.post).close → k.number ≡ 1 → k.accepted ≤ last_request_day → a ≡ anchor_of (k ∷ []) → IsKept a (k ∷ [])
 unfolding AreNumbered NameEarlier AreTimely
 kept-one a k o close number dated is = record {
   few = omega arith;
@@ -125,7 +126,7 @@ pub record AreFirst (a : Anchor) (h : List Kept) (ns : List ℕ) (cs : List Corr
 
 pub first-lists : (a : Anchor) (k : Kept) (e : Effect) (h : List Kept) (ns : List ℕ) (cs : List Correction) (es : List Effect) (slots : List Slot)
     → h ≡ k ∷ [] → ns ≡ 1 ∷ [] → cs ≡ by_parts None 0 ∷ [] → es ≡ e ∷ [] → slots ≡ slot_by 1 e ∷ []
-    → opens k.post ≡ true → IsCloseDay (terms_in k.post).close → k.number ≡ 1 → k.accepted ≤ 47_481 → a ≡ anchor_of (k ∷ []) → e.cents ≤ 999_999_999_999 → AreFirst a h ns cs es slots
+    → opens k.post ≡ true → IsCloseDay (terms_in k.post).close → k.number ≡ 1 → k.accepted ≤ last_request_day → a ≡ anchor_of (k ∷ []) → e.cents ≤ 999_999_999_999 → AreFirst a h ns cs es slots
 first-lists a k e h ns cs es slots h_is ns_is cs_is es_is slots_is o close number dated is small =
     rw (h_is, ns_is, cs_is, es_is, slots_is) (record { kept = kept-one a k o close number dated is; index = index-one k; beside = beside-one k e o small })
 

@@ -1,6 +1,7 @@
 -- The effective day and corrected cents that are kept for each post, by number.
 use Rattle.std.specs.Prelude.{ℕ, suc, ◌≤◌, Bool, true, false, if◌then◌else◌, List, [], ◌∷◌, Option, Some, None, pos}
 use Rattle.std.specs.List.{All}
+use Rattle.card_days.specs.Range.{last_request_day}
 use Rattle.card_days.specs.declared.anchor.Anchor.{Anchor}
 use Rattle.card_events.specs.History.{CorrectedPost, effective_day, cents_of, next_segment}
 use Rattle.card_events.specs.declared.kept.Kept.{Kept}
@@ -45,7 +46,7 @@ awaited_day a holidays history p (Some k) = if awaits p k.post then effective_da
 -- the day that an Amend gives, if there is one, is none before the opening, and a day of requests
 abbrev pub IsAmendDated : ℕ → Option (ℕ × ℕ) → Type 0
 IsAmendDated opened None = Unit {0}
-IsAmendDated opened (Some amend) = (opened ≤ amend.0) × (amend.0 ≤ 47_481)
+IsAmendDated opened (Some amend) = (opened ≤ amend.0) × (amend.0 ≤ last_request_day)
 
 -- what the history says of post n
 abbrev pub effect_of : Anchor → List ℕ → List Kept → ℕ → Kept → Effect

@@ -2,6 +2,7 @@
 use Rattle.std.specs.Prelude.{◌≡◌, ℕ, suc, ◌<◌, ◌≤◌, List, [], ◌∷◌, length, vec_len, vec_capacity}
 use Rattle.std.specs.Global.{Vec}
 use Rattle.card_days.specs.Billing.{IsCloseDay}
+use Rattle.card_days.specs.Range.{last_request_day}
 use Rattle.card_days.specs.declared.anchor.Anchor.{Anchor}
 use Rattle.card_events.specs.History.{anchor_of}
 use Rattle.card_events.specs.declared.kept.Kept.{Kept}
@@ -20,7 +21,7 @@ NameEarlier n (k ∷ ks) = (target_of k.post < n) × NameEarlier (suc n) ks
 
 -- a post was accepted on a day of requests, and payments came in by then
 pub record IsTimely (opened : ℕ) (k : Kept) : Type 0 where
-  pub dated : k.accepted ≤ 47_481
+  pub dated : k.accepted ≤ last_request_day
   pub received : IsReceived opened k.accepted k.post
 
 unfoldable pub AreTimely : ℕ → List Kept → Type 0

@@ -1,5 +1,6 @@
 // What counts for each post now, by number.
 ghost use Rattle.std.specs.Prelude.{◌≡◌, ℕ, ◌+◌, ◌-◌, ◌<◌, ◌≤◌, List, Option, max, length, take, slice_index_or, unwrap_or};
+ghost use Rattle.card_days.specs.Range.{last_request_day};
 ghost use Rattle.card_days.specs.Billing.{IsCloseDay};
 ghost use Rattle.card_days.specs.Business.{credit_day, is_mail};
 ghost use Rattle.card_events.specs.History.{amended_cents, amended_day, at_number, cents_of, effective_day};
@@ -160,7 +161,7 @@ fn credited(
 ) -> Day
     requires close_day { IsCloseDay anchor.now.close_day }
     requires opened { anchor.now.opened ≤ receipt }
-    requires last { receipt ≤ 47_481 }
+    requires last { receipt ≤ last_request_day }
     requires minute { minute ≤ 1_439 }
     ensures { result ≡ credit_day anchor.now calendar.now receipt minute (is_mail channel) }
 {

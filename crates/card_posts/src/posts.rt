@@ -46,6 +46,7 @@ pub struct Pushed {
 
 impl Posts {
     ghost use Rattle.std.specs.Prelude.{◌≡◌, ℕ, ◌+◌, ◌<◌, ◌≤◌, ◌++◌, List, [], ◌∷◌, true, false, length, IsOk, IfOk, OnOk, OnErr, option_copied};
+    ghost use Rattle.card_days.specs.Range.{last_request_day};
     ghost use Rattle.card_days.specs.Billing.{IsCloseDay};
     ghost use Rattle.card_events.specs.History.{anchor_of, at_number, terms_in};
     ghost use Rattle.card_events.specs.Keys.{with_key};
@@ -58,7 +59,7 @@ impl Posts {
     pub fn start(alloc: Global, key: &Name, accepted: Day, post: &Post) -> Result<Posts, NoMemory>
         requires opens { opens post.now ≡ true }
         requires close_day { IsCloseDay (terms_in post.now).close }
-        requires dated { accepted ≤ 47_481 }
+        requires dated { accepted ≤ last_request_day }
         ensures history { IfOk result (λ posts. posts.history ≡ record { number = 1; key = key.now; accepted = accepted; post = post.now } ∷ []) }
         ensures stands { IfOk result (λ posts. (holidays : List ℕ) → StandsFor holidays posts) }
         ensures room { IfOk result (λ posts. posts.has_room ≡ false) }
@@ -159,7 +160,7 @@ impl Posts {
         requires few { length self.old.history < 10_000 }
         requires stands { StandsFor calendar.now self.old }
         requires target { target_of post.now ≤ length self.old.history }
-        requires dated { accepted ≤ 47_481 }
+        requires dated { accepted ≤ last_request_day }
         requires received { IsReceived (anchor_of self.old.history).opened accepted post.now }
         ensures history { self.new.history ≡ self.old.history ++ record { number = length self.old.history + 1; key = key; accepted = accepted; post = post.now } ∷ [] }
         ensures stands { StandsFor calendar.now self.new }
@@ -200,7 +201,7 @@ impl Posts {
         requires few { length self.old.history < 10_000 }
         requires stands { StandsFor calendar.now self.old }
         requires target { target_of post.now ≤ length self.old.history }
-        requires dated { accepted ≤ 47_481 }
+        requires dated { accepted ≤ last_request_day }
         requires received { IsReceived (anchor_of self.old.history).opened accepted post.now }
         ensures history { OnOk result (self.new.history ≡ self.old.history ++ record { number = length self.old.history + 1; key = key; accepted = accepted; post = post.now } ∷ []) }
         ensures stands { OnOk result (StandsFor calendar.now self.new) }

@@ -1,5 +1,6 @@
 // Bringing what counts for earlier posts, and their order, up to a correction.
 ghost use Rattle.std.specs.Prelude.{◌≡◌, ◌+◌, ◌<◌, ◌≤◌, min, false, length, take, slice_index_or, slice_set, vec_len, vec_capacity};
+ghost use Rattle.card_days.specs.Range.{last_calendar_day};
 ghost use Rattle.card_posts.specs.Change.{after_one, first_change, stands};
 ghost use Rattle.card_posts.specs.Corrections.{corrections_from, corrects};
 ghost use Rattle.card_posts.specs.Effect.{AreSmall, slots_from};
@@ -24,7 +25,7 @@ fn stands(before: &Effect, now: &Effect) -> bool
 // The earlier of two days.
 pub fn sooner(a: Day, b: Day) -> Day
     ensures value { result ≡ min a b }
-    ensures bound { a ≤ 48_576 }
+    ensures bound { a ≤ last_calendar_day }
 {
     if a.number() < b.number() { a } else { b }
 }
@@ -34,12 +35,6 @@ fn is_correction(post: &Post) -> bool
     ensures { result ≡ corrects post.now }
 {
     matches!(post, Post::Amend { .. } | Post::Resolve { .. })
-}
-
-fn last_day() -> Day
-    ensures { result ≡ 48_576 }
-{
-    Day::from_number(48_576).unwrap()
 }
 
 // brings one post, and its place in the order, up to what counts now. Answers the first day known to differ
@@ -89,11 +84,11 @@ fn refresh(
     ensures effects { effects.new ≡ take (length effects.old) (spec.effects anchor.now calendar.now history.now) }
     ensures small { AreSmall effects.new }
     ensures order { order.new.items ≡ in_order (slots_from 1 effects.new) }
-    ensures first { result ≡ first_change 48_576 effects.old effects.new }
+    ensures first { result ≡ first_change last_calendar_day effects.old effects.new }
     ensures len { vec_len order.new ≡ vec_len order.old }
     ensures capacity { vec_capacity order.old ≤ vec_capacity order.new }
 {
-    let mut first = last_day();
+    let mut first = Day::last();
     for i in 0..effects.len() {
         let now = effect_now(history, corrections, effects, i, anchor, calendar);
         first = refresh_one(effects, order, i, &now, first);
@@ -121,12 +116,12 @@ pub fn update(
     ensures effects { effects.new ≡ take (length effects.old) (spec.effects anchor.now calendar.now history.now) }
     ensures small { AreSmall effects.new }
     ensures order { order.new.items ≡ in_order (slots_from 1 effects.new) }
-    ensures first { result ≡ first_change 48_576 effects.old effects.new }
+    ensures first { result ≡ first_change last_calendar_day effects.old effects.new }
     ensures len { vec_len order.new ≡ vec_len order.old }
     ensures capacity { vec_capacity order.old ≤ vec_capacity order.new }
 {
     if is_correction(post) {
         return refresh(history, corrections, effects, order, anchor, calendar);
     }
-    last_day()
+    Day::last()
 }

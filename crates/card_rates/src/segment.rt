@@ -1,5 +1,6 @@
 // What rates are read from: segments with their terms, and lowered rates.
 ghost use Rattle.std.specs.Prelude.{◌≡◌, ◌≤◌, ◌||◌, Some, None};
+ghost use Rattle.card_days.specs.Range.{last_calendar_day};
 ghost use Rattle.card_model.specs.Rates.{accrual_rate, after_end};
 ghost use Rattle.card_model.specs.Segments.{is_over, is_sort, sort_of_category, sort_of_plan};
 ghost use Rattle.card_model.specs.declared.segment.Sort.TheVariants.{Promo, Deferred};
@@ -54,7 +55,7 @@ impl Model for RateCap {
 // The number of a day.
 pub fn number_of(day: Day) -> u32
     ensures value { result ≡ day }
-    ensures bound { result ≤ 48_576 }
+    ensures bound { result ≤ last_calendar_day }
 {
     day.number() as u32
 }

@@ -2,6 +2,7 @@
 use Rattle.std.proofs.Common.{◌≡◌, ℕ, zero, suc, ◌<◌, ◌≤◌, Bool, true, false, List, [], ◌∷◌, length, drop, None, refl, sym, ◌∙◌, arith}
 use Rattle.std.specs.Prelude.{nat_lt, ◌||◌, ◌==◌, not, slice_get}
 use Rattle.std.proofs.lemmas.Bool.{leb-false, ltb-false, or_parts}
+use Rattle.card_days.specs.Range.{last_request_day, last_calendar_day}
 use Rattle.card_reasons.proofs.ClosingLemmas.{grown}
 use Rattle.card_reasons.proofs.ReasonLemmas.{none_from, none_head, where_none}
 use Rattle.card_days.specs.Billing.{closing}
@@ -71,11 +72,11 @@ received now (post.AskRefund d) none = tt
 received now (post.Refund c) none = tt
 
 -- a Bill's cycle has no great number
-pub small : (now : Present) (cycle : ℕ) → reason_against now (post.Bill cycle) ≡ None → cycle ≤ 48576
+pub small : (now : Present) (cycle : ℕ) → reason_against now (post.Bill cycle) ≡ None → cycle ≤ last_calendar_day
 unfolding is_out_of_range
 small now cycle none =
-    let range : ((cycle == 0) || nat_lt 47481 (closing (anchor_now now) cycle)) ≡ false = range_none now (post.Bill cycle) none in
-    let by : closing (anchor_now now) cycle ≤ 47481 = ltb-false 47481 (closing (anchor_now now) cycle) (or_parts (cycle == 0) (nat_lt 47481 (closing (anchor_now now) cycle)) range).1 in
+    let range : ((cycle == 0) || nat_lt last_request_day (closing (anchor_now now) cycle)) ≡ false = range_none now (post.Bill cycle) none in
+    let by : closing (anchor_now now) cycle ≤ last_request_day = ltb-false last_request_day (closing (anchor_now now) cycle) (or_parts (cycle == 0) (nat_lt last_request_day (closing (anchor_now now) cycle)) range).1 in
     omega (arith, by, grown (anchor_now now) cycle)
 
 -- a number under which some post passes is that of a post

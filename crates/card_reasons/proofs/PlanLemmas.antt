@@ -3,6 +3,7 @@ use Rattle.std.proofs.Common.{◌≡◌, ℕ, zero, suc, ◌+◌, ◌-◌, ◌<�
 use Rattle.std.specs.Prelude.{IsSome, SomeIff, slice_get, not, nat_le, nat_lt, ◌==◌}
 use Rattle.std.specs.List.{count_by}
 use Rattle.std.proofs.lemmas.List.Sums.{sum_by-cons}
+use Rattle.card_days.specs.Range.{last_request_day, first_calendar_day}
 use Rattle.card_reasons.specs.Reasons.{end_reason}
 use Rattle.card_days.proofs.Cycles.{IsAnchor, closing_is, cycle_from_one, cycle_is, month_from-bounds, next_on-number}
 use Rattle.card_days.specs.Billing.{IsCloseDay, closing, cycle_of, next_on}
@@ -18,7 +19,7 @@ use Rattle.card_events.specs.declared.reply.Refusal.TheVariants as refusal
 use Rattle.card_model.specs.Refusals.{Present, closing_on, first_reason, holds_of, plan_end_not_closing, plan_too_short, where_true}
 
 -- ---- the first closing on or after a day
-pub closing-at : (a : Anchor) → 14_975 ≤ a.opened → a.opened ≤ 47_481 → IsCloseDay a.close_day → (day : ℕ) → a.opened ≤ day → day ≤ 47_481 → closing a (cycle_of a day) ≡ next_on a.close_day day
+pub closing-at : (a : Anchor) → first_calendar_day ≤ a.opened → a.opened ≤ last_request_day → IsCloseDay a.close_day → (day : ℕ) → a.opened ≤ day → day ≤ last_request_day → closing a (cycle_of a day) ≡ next_on a.close_day day
 closing-at a first last close day low high =
     let h : IsAnchor a = record { first = first; last = omega (arith, last); low = close.0; high = close.1 } in
     let one = cycle_from_one a day in

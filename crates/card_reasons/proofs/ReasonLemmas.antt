@@ -3,6 +3,7 @@ use Rattle.std.proofs.Common.{◌≡◌, ℕ, zero, suc, ◌≤◌, Bool, true, 
 use Rattle.std.specs.Prelude.{nat_lt, nat_le, ◌||◌, ◌==◌, pos}
 use Rattle.std.specs.Option.{option_or}
 use Rattle.std.proofs.lemmas.Bool.{and_parts, le-ltb, leb-true, ltb-false, ne_eqb}
+use Rattle.card_days.specs.Range.{last_request_day}
 use Rattle.card_reasons.specs.Reasons.{bill_reason, closed_reason, early_reason, end_reason, full_reason, is_no_cycle, claim_reason, notice_reason, open_dispute_reason, place_reason, returned_reason, target_reason}
 use Rattle.card_days.specs.Billing.{closing}
 use Rattle.card_days.specs.declared.anchor.Anchor.{Anchor}
@@ -202,17 +203,17 @@ by_parts now p day out o added x opened found whole out_is opened_is added_is is
     ∙ ap (λ (y : Option Refusal). option_or (early_reason out now.today (anchor_now now).opened day) (option_or y (full_reason (length now.lists.posts)))) added_is ∙ whole
 
 -- the days of a Plan
-pub plan_dated : (p : Post) (day rate end after : ℕ) (kind : PlanKind) → p ≡ post.Plan day kind rate end after → is_dated_post p ≡ true → (day ≤ 47481) × (end ≤ 47481)
+pub plan_dated : (p : Post) (day rate end after : ℕ) (kind : PlanKind) → p ≡ post.Plan day kind rate end after → is_dated_post p ≡ true → (day ≤ last_request_day) × (end ≤ last_request_day)
 unfolding is_dated_post
 plan_dated p day rate end after kind is dated =
-    let both = and_parts (nat_le day 47481) (nat_le end 47481) (subst (λ (q : Post). is_dated_post q ≡ true) is dated) in
-    (leb-true day 47481 both.0, leb-true end 47481 both.1)
+    let both = and_parts (nat_le day last_request_day) (nat_le end last_request_day) (subst (λ (q : Post). is_dated_post q ≡ true) is dated) in
+    (leb-true day last_request_day both.0, leb-true end last_request_day both.1)
 
-pub notice_dated : (p : Post) (day rate effective : ℕ) (category : Category) → p ≡ post.Notice day category rate effective → is_dated_post p ≡ true → day ≤ 47481
+pub notice_dated : (p : Post) (day rate effective : ℕ) (category : Category) → p ≡ post.Notice day category rate effective → is_dated_post p ≡ true → day ≤ last_request_day
 unfolding is_dated_post
 notice_dated p day rate effective category is dated =
-    let both = and_parts (nat_le day 47481) (nat_le effective 47481) (subst (λ (q : Post). is_dated_post q ≡ true) is dated) in
-    leb-true day 47481 both.0
+    let both = and_parts (nat_le day last_request_day) (nat_le effective last_request_day) (subst (λ (q : Post). is_dated_post q ≡ true) is dated) in
+    leb-true day last_request_day both.0
 
 pub of_bill : (now : Present) (p : Post) (cycle : ℕ) (a : Anchor) (r : Option Refusal) → p ≡ post.Bill cycle → a ≡ anchor_now now → r ≡ bill_reason now.today a now.lists.posts cycle → r ≡ reason_against now p
 of_bill now p cycle a r is same found =
@@ -223,22 +224,22 @@ closing_by : (today : ℕ) (a : Anchor) (posts : List Kept) (cycle : ℕ) (b : B
 unfolding bill_reason
 closing_by today a posts cycle b is = ap (λ (t : Bool). option_or (where_true t refusal.AmountRange) (closed_reason today (closing a cycle) posts cycle)) (sym is)
 
-no_cycle : (a : Anchor) (cycle : ℕ) → (1 ≤ cycle → closing a cycle ≤ 47481 → ⊥) → is_no_cycle a cycle ≡ true
+no_cycle : (a : Anchor) (cycle : ℕ) → (1 ≤ cycle → closing a cycle ≤ last_request_day → ⊥) → is_no_cycle a cycle ≡ true
 no_cycle a zero none = refl
-no_cycle a (suc k) none = by (nat_lt 47481 (closing a (suc k))) refl
+no_cycle a (suc k) none = by (nat_lt last_request_day (closing a (suc k))) refl
   where
-    by : (b : Bool) → nat_lt 47481 (closing a (suc k)) ≡ b → ((suc k == 0) || b) ≡ true
+    by : (b : Bool) → nat_lt last_request_day (closing a (suc k)) ≡ b → ((suc k == 0) || b) ≡ true
     by true is = let e : (suc k == 0) ≡ false = ne_eqb (suc k) 0 (λ e. omega (arith, e)) in rw e refl
-    by false is = absurd (none (omega arith) (ltb-false 47481 (closing a (suc k)) is))
+    by false is = absurd (none (omega arith) (ltb-false last_request_day (closing a (suc k)) is))
 
-some_cycle : (a : Anchor) (cycle : ℕ) → 1 ≤ cycle → closing a cycle ≤ 47481 → is_no_cycle a cycle ≡ false
+some_cycle : (a : Anchor) (cycle : ℕ) → 1 ≤ cycle → closing a cycle ≤ last_request_day → is_no_cycle a cycle ≡ false
 some_cycle a cycle low by =
     let e : (cycle == 0) ≡ false = ne_eqb cycle 0 (λ e. omega (arith, e, low)) in
-    let l : nat_lt 47481 (closing a cycle) ≡ false = le-ltb 47481 (closing a cycle) by in
+    let l : nat_lt last_request_day (closing a cycle) ≡ false = le-ltb last_request_day (closing a cycle) by in
     rw (e, l) refl
 
-pub no_closing : (today : ℕ) (a : Anchor) (posts : List Kept) (cycle : ℕ) → (1 ≤ cycle → closing a cycle ≤ 47481 → ⊥) → Some refusal.AmountRange ≡ bill_reason today a posts cycle
+pub no_closing : (today : ℕ) (a : Anchor) (posts : List Kept) (cycle : ℕ) → (1 ≤ cycle → closing a cycle ≤ last_request_day → ⊥) → Some refusal.AmountRange ≡ bill_reason today a posts cycle
 no_closing today a posts cycle none = closing_by today a posts cycle true (no_cycle a cycle none)
 
-pub some_closing : (today : ℕ) (a : Anchor) (posts : List Kept) (cycle : ℕ) → 1 ≤ cycle → closing a cycle ≤ 47481 → closed_reason today (closing a cycle) posts cycle ≡ bill_reason today a posts cycle
+pub some_closing : (today : ℕ) (a : Anchor) (posts : List Kept) (cycle : ℕ) → 1 ≤ cycle → closing a cycle ≤ last_request_day → closed_reason today (closing a cycle) posts cycle ≡ bill_reason today a posts cycle
 some_closing today a posts cycle low by = closing_by today a posts cycle false (some_cycle a cycle low by)

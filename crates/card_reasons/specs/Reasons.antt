@@ -2,6 +2,7 @@
 use Rattle.std.specs.Prelude.{ℕ, Bool, true, false, nat_lt, nat_le, ◌==◌, ◌||◌, List, [], ◌∷◌, length, Option}
 use Rattle.std.specs.Option.{option_map, option_or}
 use Rattle.card_days.specs.Billing.{closing}
+use Rattle.card_days.specs.Range.{last_request_day}
 use Rattle.card_days.specs.declared.anchor.Anchor.{Anchor}
 use Rattle.card_events.specs.declared.kept.Kept.{Kept}
 use Rattle.card_events.specs.SharedRows.{SharedRows}
@@ -92,7 +93,7 @@ reads_book _ = false
 -- ---- Bills
 -- the cycle of a Bill is none that closes by 2099-12-31
 abbrev pub is_no_cycle : Anchor → ℕ → Bool
-is_no_cycle a cycle = (cycle == 0) || nat_lt 47481 (closing a cycle)
+is_no_cycle a cycle = (cycle == 0) || nat_lt last_request_day (closing a cycle)
 
 -- of a Bill of a cycle that closes on a day
 abbrev pub closed_reason : ℕ → ℕ → List Kept → ℕ → Option Refusal

@@ -1,5 +1,6 @@
 // Why a Bill isn't accepted.
 ghost use Rattle.std.specs.Prelude.{◌≡◌, ◌≤◌, SomeIff, nat_le, [], ◌∷◌};
+ghost use Rattle.card_days.specs.Range.{last_request_day};
 ghost use Rattle.card_days.specs.Billing.{IsCloseDay, closing};
 ghost use Rattle.card_model.specs.Refusals.{first_reason, where_true};
 ghost use Rattle.card_reasons.specs.Reasons as reasons;
@@ -35,10 +36,10 @@ fn later_reason(today: Day, closing: Day, count: u32) -> Option<Refusal>
 // The day on which a cycle closes, where that is at most 2099-12-31.
 fn billed_closing(anchor: &Anchor, cycle: Num) -> Option<Day>
     requires { IsCloseDay anchor.now.close_day }
-    ensures { SomeIff result ((1 ≤ cycle) × (closing anchor.now cycle ≤ 47_481)) (closing anchor.now cycle) }
+    ensures { SomeIff result ((1 ≤ cycle) × (closing anchor.now cycle ≤ last_request_day)) (closing anchor.now cycle) }
 {
     match closing_of(anchor, cycle) {
-        Some(closing) if closing.number() <= 47_481 => Some(closing),
+        Some(closing) if closing.number() <= last_request_day => Some(closing),
         _ => None,
     }
 }

@@ -1,5 +1,6 @@
 // The closings of cycles by their numbers as they are read.
 ghost use Rattle.std.specs.Prelude.{◌≡◌, ◌≤◌, SomeIff};
+ghost use Rattle.card_days.specs.Range.{last_calendar_day};
 ghost use Rattle.card_days.specs.Billing.{IsCloseDay, closing};
 
 use card_days::{Anchor, Day, closing};
@@ -8,9 +9,9 @@ use card_events::Num;
 /// The day on which a cycle closes. None comes exactly where the cycle is 0 or closes past 2102-12-31.
 pub fn closing_of(anchor: &Anchor, cycle: Num) -> Option<Day>
     requires { IsCloseDay anchor.now.close_day }
-    ensures { SomeIff result ((1 ≤ cycle) × (closing anchor.now cycle ≤ 48_576)) (closing anchor.now cycle) }
+    ensures { SomeIff result ((1 ≤ cycle) × (closing anchor.now cycle ≤ last_calendar_day)) (closing anchor.now cycle) }
 {
-    if cycle.get() > 48_576 {
+    if cycle.get() > Day::last().number() as u64 {
         None
     } else {
         closing(*anchor, cycle.get() as u32)

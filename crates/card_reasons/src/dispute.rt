@@ -1,5 +1,6 @@
 // The charge that a Dispute names, and the Dispute that an Ack or a Resolve names (12 CFR 1026.13).
 ghost use Rattle.std.specs.Prelude.{◌≡◌, ◌≤◌, ℕ, nat_lt, not};
+ghost use Rattle.card_days.specs.Range.{last_request_day};
 ghost use Rattle.card_days.specs.Billing.{IsCloseDay};
 ghost use Rattle.card_events.specs.History.{anchor_of, at_number};
 ghost use Rattle.card_events.specs.declared.post.Post.TheVariants as post;
@@ -82,7 +83,7 @@ fn late_reason(posts: &Posts, anchor: &Anchor, day: Day, charge: Num) -> Option<
     requires anchor { anchor.now ≡ anchor_of posts.now.history }
     requires close_day { IsCloseDay anchor.now.close_day }
     requires dated { ArePostsDated posts.now.history }
-    requires accepted { last_accepted posts.now.history ≤ 47_481 }
+    requires accepted { last_accepted posts.now.history ≤ last_request_day }
     ensures { (now : Present) (cents : ℕ) → now.lists.posts ≡ posts.now.history → StandsFor now.shared.holidays posts.now → result ≡ spec.dispute_late now (post.Dispute day charge cents) }
 {
     match last_notice_day(posts, anchor, charge) {
@@ -106,7 +107,7 @@ pub fn disputed_charge(posts: &Posts, anchor: &Anchor, day: Day, charge: Num) ->
     requires anchor { anchor.now ≡ anchor_of posts.now.history }
     requires close_day { IsCloseDay anchor.now.close_day }
     requires dated { ArePostsDated posts.now.history }
-    requires accepted { last_accepted posts.now.history ≤ 47_481 }
+    requires accepted { last_accepted posts.now.history ≤ last_request_day }
     ensures { (now : Present) (cents : ℕ) → now.lists.posts ≡ posts.now.history → StandsFor now.shared.holidays posts.now → result ≡ claim_reason now (post.Dispute day charge cents) }
 {
     let wrong = wrong_target(is_charge_named(posts, charge), charge);

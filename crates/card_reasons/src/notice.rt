@@ -1,5 +1,6 @@
 // The effective day of a Notice.
 ghost use Rattle.std.specs.Prelude.{◌≡◌, ◌≤◌, ◌+◌, ℕ, nat_lt, [], ◌∷◌};
+ghost use Rattle.card_days.specs.Range.{last_request_day};
 ghost use Rattle.card_events.specs.Same.{is_same_category};
 ghost use Rattle.card_days.specs.Later.{year_after};
 ghost use Rattle.card_events.specs.History.{anchor_of, at_number};
@@ -101,7 +102,7 @@ fn reason_for(full: bool, effective: Day, least: Day, first: Day) -> Option<Refu
 
 // The first day on which a rate may take effect, of which notice is given on a day (12 CFR 1026.9(c)(2)(i)).
 fn noticed_day(day: Day) -> Day
-    requires { day ≤ 47_481 }
+    requires { day ≤ last_request_day }
     ensures { result ≡ day + 45 }
 {
     day.plus(45)
@@ -116,8 +117,8 @@ pub fn noticed(
     effective: Day,
 ) -> Option<Refusal>
     requires anchor { anchor.now ≡ anchor_of posts.now.history }
-    requires opened { anchor.now.opened ≤ 47_481 }
-    requires dated { day ≤ 47_481 }
+    requires opened { anchor.now.opened ≤ last_request_day }
+    requires dated { day ≤ last_request_day }
     ensures { (now : Present) (rate : ℕ) → now.lists.posts ≡ posts.now.history → result ≡ notice_reason now (post.Notice day category rate effective) }
 {
     let full = has_all_segments(posts);

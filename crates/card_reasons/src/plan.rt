@@ -1,5 +1,6 @@
 // The end of a Plan, and the segments that an account has.
 ghost use Rattle.std.specs.Prelude.{◌≡◌, ℕ, ◌+◌, ◌≤◌, not, ◌==◌, nat_le, nat_lt, max, [], ◌∷◌};
+ghost use Rattle.card_days.specs.Range.{last_request_day};
 ghost use Rattle.std.specs.List.{count_by};
 ghost use Rattle.card_reasons.specs.Reasons.{end_reason};
 ghost use Rattle.card_days.specs.Billing.{IsCloseDay, next_on};
@@ -24,8 +25,8 @@ fn later_of(a: Day, b: Day) -> Day
 // The first closing on or after a day, from the opening day on.
 fn closing_from(anchor: &Anchor, day: Day) -> Day
     requires close_day { IsCloseDay anchor.now.close_day }
-    requires opened { anchor.now.opened ≤ 47_481 }
-    requires last { day ≤ 47_481 }
+    requires opened { anchor.now.opened ≤ last_request_day }
+    requires last { day ≤ last_request_day }
     ensures { result ≡ next_on anchor.now.close_day (max day anchor.now.opened) }
 {
     let _ = anchor.opened.number();
@@ -91,9 +92,9 @@ fn reason_for(end: Day, closing: Day, least: Day, full: bool) -> Option<Refusal>
 pub fn plan_end(posts: &Posts, anchor: &Anchor, day: Day, end: Day) -> Option<Refusal>
     requires anchor { anchor.now ≡ anchor_of posts.now.history }
     requires close_day { IsCloseDay anchor.now.close_day }
-    requires opened { anchor.now.opened ≤ 47_481 }
-    requires dated { day ≤ 47_481 }
-    requires ends { end ≤ 47_481 }
+    requires opened { anchor.now.opened ≤ last_request_day }
+    requires dated { day ≤ last_request_day }
+    requires ends { end ≤ last_request_day }
     ensures { (now : Present) (kind : PlanKind) (rate after : ℕ) → now.lists.posts ≡ posts.now.history → result ≡ end_reason now (post.Plan day kind rate end after) }
 {
     let next = closing_from(anchor, end);

@@ -1,5 +1,6 @@
 // Why posts aren't accepted: the first reason in order.
 ghost use Rattle.std.specs.Prelude.{◌≡◌, ◌≤◌, true, false, List, nat_lt, ◌||◌};
+ghost use Rattle.card_days.specs.Range.{last_request_day};
 ghost use Rattle.card_days.specs.Billing.{IsCloseDay};
 ghost use Rattle.card_days.specs.declared.anchor.Channel.{Channel};
 ghost use Rattle.card_events.specs.Dated.{is_dated_post};
@@ -143,9 +144,9 @@ fn plan_reason(
 ) -> Option<Refusal>
     requires anchor { anchor.now ≡ anchor_of posts.now.history }
     requires close_day { IsCloseDay anchor.now.close_day }
-    requires opened { anchor.now.opened ≤ 47_481 }
-    requires dated { day ≤ 47_481 }
-    requires ends { end ≤ 47_481 }
+    requires opened { anchor.now.opened ≤ last_request_day }
+    requires dated { day ≤ last_request_day }
+    requires ends { end ≤ last_request_day }
     ensures { (shared : SharedRows) (issued : List IssuedRow) (kind : PlanKind) → result ≡ reason_against (judged_of today shared issued posts.now.history) (post.Plan day kind rate end after) }
 {
     let out = are_no_rates(rate, after);
@@ -164,8 +165,8 @@ fn notice_reason(
     effective: Day,
 ) -> Option<Refusal>
     requires anchor { anchor.now ≡ anchor_of posts.now.history }
-    requires opened { anchor.now.opened ≤ 47_481 }
-    requires dated { day ≤ 47_481 }
+    requires opened { anchor.now.opened ≤ last_request_day }
+    requires dated { day ≤ last_request_day }
     ensures { (shared : SharedRows) (issued : List IssuedRow) → result ≡ reason_against (judged_of today shared issued posts.now.history) (post.Notice day category rate effective) }
 {
     let out = is_no_rate(rate);
@@ -203,7 +204,7 @@ fn dispute_reason(
     requires anchor { anchor.now ≡ anchor_of posts.now.history }
     requires close_day { IsCloseDay anchor.now.close_day }
     requires posted { ArePostsDated posts.now.history }
-    requires accepted { last_accepted posts.now.history ≤ 47_481 }
+    requires accepted { last_accepted posts.now.history ≤ last_request_day }
     ensures { (shared : SharedRows) (issued : List IssuedRow) → StandsFor shared.holidays posts.now → result ≡ reason_against (judged_of today shared issued posts.now.history) (post.Dispute day charge cents) }
 {
     let out = is_no_amount(cents);
@@ -284,7 +285,7 @@ fn rate_reason(posts: &Posts, anchor: &Anchor, today: Day, post: &Post) -> Optio
     requires dated { is_dated_post post.now ≡ true }
     requires anchor { anchor.now ≡ anchor_of posts.now.history }
     requires close_day { IsCloseDay anchor.now.close_day }
-    requires opened { anchor.now.opened ≤ 47_481 }
+    requires opened { anchor.now.opened ≤ last_request_day }
     ensures { (shared : SharedRows) (issued : List IssuedRow) → StandsFor shared.holidays posts.now → result ≡ reason_against (judged_of today shared issued posts.now.history) post.now }
 {
     match post {
@@ -312,7 +313,7 @@ fn claim_reason(posts: &Posts, anchor: &Anchor, today: Day, post: &Post) -> Opti
     requires anchor { anchor.now ≡ anchor_of posts.now.history }
     requires close_day { IsCloseDay anchor.now.close_day }
     requires posted { ArePostsDated posts.now.history }
-    requires accepted { last_accepted posts.now.history ≤ 47_481 }
+    requires accepted { last_accepted posts.now.history ≤ last_request_day }
     ensures { (shared : SharedRows) (issued : List IssuedRow) → StandsFor shared.holidays posts.now → result ≡ reason_against (judged_of today shared issued posts.now.history) post.now }
 {
     match post {
@@ -338,8 +339,8 @@ pub fn post_reason(posts: &Posts, anchor: &Anchor, today: Day, post: &Post) -> O
     requires anchor { anchor.now ≡ anchor_of posts.now.history }
     requires close_day { IsCloseDay anchor.now.close_day }
     requires posted { ArePostsDated posts.now.history }
-    requires accepted { last_accepted posts.now.history ≤ 47_481 }
-    requires opened { anchor.now.opened ≤ 47_481 }
+    requires accepted { last_accepted posts.now.history ≤ last_request_day }
+    requires opened { anchor.now.opened ≤ last_request_day }
     ensures { (shared : SharedRows) (issued : List IssuedRow) → StandsFor shared.holidays posts.now → result ≡ reason_against (record { today = today; shared = shared; lists = record { posts = posts.now.history; issued = issued } }) post.now }
 {
     match post {

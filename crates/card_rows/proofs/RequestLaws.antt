@@ -1,5 +1,6 @@
 -- A request is read from its spelling, and from nothing else.
 use Rattle.std.proofs.Common.{◌≡◌, ℕ, Bool, true, false, ◌&&◌, ltb, nat_lt, nat_le, List, [], ◌∷◌, ◌++◌, Option, None, Some, IfSome, IfNone, IfOk, Result, Ok, Err, ◌↔◌, refl, ap, sym, ◌∙◌, subst, append_assoc, append-nil}
+use Rattle.card_days.specs.Range.{first_calendar_day}
 use Rattle.card_events.specs.Dated.{is_request_day, is_dated_post, is_dated_shared, is_dated}
 use Rattle.card_events.specs.Names.{is_name}
 use Rattle.card_events.specs.declared.post.Post.{Post}
@@ -174,10 +175,10 @@ reading_law bytes r = ((λ e. spelled_of (request_in bytes) bytes r e (request_i
 -- ---- what is read is dated
 
 day_dated : (d : ℕ) (b : Bool) → (is_day d && b) ≡ true → is_request_day d ≡ true
-day_dated d b held = (parts (nat_le 14_975 d) (is_request_day d) (parts (is_day d) b held).0).1
+day_dated d b held = (parts (nat_le first_calendar_day d) (is_request_day d) (parts (is_day d) b held).0).1
 
 only_day_dated : (d : ℕ) → is_day d ≡ true → is_request_day d ≡ true
-only_day_dated d held = (parts (nat_le 14_975 d) (is_request_day d) held).1
+only_day_dated d held = (parts (nat_le first_calendar_day d) (is_request_day d) held).1
 
 post_dated : (p : Post) → is_post p ≡ true → is_dated_post p ≡ true
 unfolding is_post is_dated_post

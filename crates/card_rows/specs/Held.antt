@@ -1,5 +1,6 @@
 -- What a request may hold.
 use Rattle.std.specs.Prelude.{ℕ, Bool, true, ◌&&◌, nat_le}
+use Rattle.card_days.specs.Range.{first_calendar_day}
 use Rattle.card_events.specs.Dated.{is_request_day}
 use Rattle.card_events.specs.Names.{is_name}
 use Rattle.card_events.specs.declared.post.Place.{Place}
@@ -14,7 +15,7 @@ use Rattle.card_events.specs.declared.request.Shared.TheVariants as shared
 
 -- a day from 2011-01-01 to 2099-12-31
 abbrev pub is_day : ℕ → Bool
-is_day d = nat_le 14_975 d && is_request_day d
+is_day d = nat_le first_calendar_day d && is_request_day d
 
 -- a number of at most twelve digits
 abbrev pub is_number : ℕ → Bool

@@ -1,5 +1,6 @@
 // The fields of a row, from left to right.
 ghost use Rattle.std.specs.Prelude.{◌≡◌, IfSome, IfNone};
+ghost use Rattle.card_days.specs.Range.{last_request_day};
 ghost use Rattle.card_rows.specs.Reading.{Gives, GivesSome, read_piece};
 ghost use Rattle.card_rows.specs.Reading as spec;
 
@@ -83,7 +84,7 @@ fn day_in(piece: [u8; 4]) -> Option<Day>
 fn request_day(number: u32) -> Option<Day>
     ensures { result ≡ spec.request_day number }
 {
-    if number > 47_481 {
+    if number > last_request_day {
         return None;
     }
     Day::from_number(number as i32)

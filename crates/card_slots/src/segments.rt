@@ -1,5 +1,6 @@
 // The segments of an account, read from its posts.
 ghost use Rattle.std.specs.Prelude.{◌≡◌, ◌+◌, ◌≤◌, ◌++◌, ℕ, List, [], length, IfOk, OnOk, Some, true};
+ghost use Rattle.card_days.specs.Range.{last_request_day};
 ghost use Rattle.std.specs.List.{cons_option};
 ghost use Rattle.card_events.specs.Dated.{is_dated_post};
 ghost use Rattle.card_events.specs.History.{at_number, opening_in, terms_in, terms_of};
@@ -19,7 +20,7 @@ use std::alloc::Global;
 
 // the 15th day after a Notice
 fn vintage_day(notice: Day) -> Day
-    requires { notice ≤ 47_481 }
+    requires { notice ≤ last_request_day }
     ensures { result ≡ notice + 15 }
 {
     notice.plus(15)

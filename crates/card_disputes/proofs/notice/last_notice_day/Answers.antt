@@ -1,4 +1,5 @@
 use Rattle.std.proofs.Common.{◌≤◌, List, ap, sym, subst, ◌∙◌, arith}
+use Rattle.card_days.specs.Range.{last_request_day}
 use Rattle.card_days.specs.declared.anchor.Anchor.{Anchor}
 use Rattle.card_disputes.specs.Notices.{notice_end_at}
 use Rattle.card_disputes.proofs.NoticeLemmas.{charge-dated, charge-there, no-notice, notice-of, opening-dated}
@@ -13,7 +14,7 @@ overflow_cast-get c =
 
 pub cycle_on-requires-clause-opened : goal.cycle_on-requires-clause-opened
 cycle_on-requires-clause-opened c =
-    let opened = subst (λ (a : Anchor). a.opened ≤ 47_481) (sym c.requires.anchor) (opening-dated c.args.posts.now.history c.requires.dated) in
+    let opened = subst (λ (a : Anchor). a.opened ≤ last_request_day) (sym c.requires.anchor) (opening-dated c.args.posts.now.history c.requires.dated) in
     omega (arith, opened)
 
 pub cycle_on-requires-clause-dated : goal.cycle_on-requires-clause-dated

@@ -2,6 +2,7 @@ use Rattle.std.proofs.Common.{w64, ◌≤◌, ◌++◌, subst, sym, ap, ◌∙�
 use Rattle.std.proofs.lemmas.Int.{to_z-of_z}
 use Rattle.std.specs.Prelude.{unsigned_abs}
 use Rattle.std.specs.Option.{option_map, option_to_list}
+use Rattle.card_days.specs.Range.{last_request_day}
 use Rattle.card_days.specs.declared.anchor.Anchor.{Anchor}
 use Rattle.card_disputes.proofs.NoticeLemmas.{opening-dated}
 use Rattle.card_disputes.proofs.TaskLemmas.{all-kinds, open-is}
@@ -10,16 +11,16 @@ use Rattle.card_model.specs.declared.task.TaskKind.TheVariants as task
 use Rattle.card_disputes.proofs.tasks.work_of.Goals as goal
 
 pub push_tasks-requires-clause-opened : goal.push_tasks-requires-clause-opened
-push_tasks-requires-clause-opened c = subst (λ (a : Anchor). a.opened ≤ 47_481) (sym c.requires.anchor) (opening-dated c.args.posts.now.history c.requires.dated)
+push_tasks-requires-clause-opened c = subst (λ (a : Anchor). a.opened ≤ last_request_day) (sym c.requires.anchor) (opening-dated c.args.posts.now.history c.requires.dated)
 
 pub push_tasks-requires-2-clause-opened : goal.push_tasks-requires-2-clause-opened
-push_tasks-requires-2-clause-opened c = subst (λ (a : Anchor). a.opened ≤ 47_481) (sym c.requires.anchor) (opening-dated c.args.posts.now.history c.requires.dated)
+push_tasks-requires-2-clause-opened c = subst (λ (a : Anchor). a.opened ≤ last_request_day) (sym c.requires.anchor) (opening-dated c.args.posts.now.history c.requires.dated)
 
 pub push_tasks-requires-3-clause-opened : goal.push_tasks-requires-3-clause-opened
-push_tasks-requires-3-clause-opened c = subst (λ (a : Anchor). a.opened ≤ 47_481) (sym c.requires.anchor) (opening-dated c.args.posts.now.history c.requires.dated)
+push_tasks-requires-3-clause-opened c = subst (λ (a : Anchor). a.opened ≤ last_request_day) (sym c.requires.anchor) (opening-dated c.args.posts.now.history c.requires.dated)
 
 pub push_tasks-requires-4-clause-opened : goal.push_tasks-requires-4-clause-opened
-push_tasks-requires-4-clause-opened c = subst (λ (a : Anchor). a.opened ≤ 47_481) (sym c.requires.anchor) (opening-dated c.args.posts.now.history c.requires.dated)
+push_tasks-requires-4-clause-opened c = subst (λ (a : Anchor). a.opened ≤ last_request_day) (sym c.requires.anchor) (opening-dated c.args.posts.now.history c.requires.dated)
 
 pub returns : goal.returns
 returns c holidays stands =

@@ -1,5 +1,6 @@
 use Rattle.std.proofs.lemmas.Grind.{common_steps}
 use Rattle.std.proofs.Common.{◌≡◌, ℕ, ◌+◌, ◌≤◌, min, List, [], ◌∷◌, ◌++◌, length, length-append, take, get_or, arith, sym, ◌∙◌, ap, subst}
+use Rattle.card_days.specs.Range.{last_calendar_day}
 use Rattle.card_posts.specs.Change.{IsFirstChange, first_change}
 use Rattle.card_posts.specs.Effect.{corrected_with, effects, slot_by, slots_from}
 use Rattle.card_posts.specs.Order.{in_order, placed}
@@ -51,8 +52,8 @@ returns-clause-from c h k is =
     let longer : length (h ++ k ∷ []) ≡ length h + 1 = length-append h (k ∷ []) in
     let whole_length : length c.args.history.now ≡ length (h ++ k ∷ []) = ap length is in
     let before : length h ≡ length c.args.effects.now.items = omega (arith, longer, whole_length, c.requires.length) in
-    let first : c.update-changed.result ≡ first_change 48_576 c.args.effects.now.items c.update-changed.new.effects = c.update-changed.ensures.first ∙ ap (λ u. first_change 48_576 u c.update-changed.new.effects) c.deref_mut.ensures.value in
-    let day : c.sooner-from.result ≡ min c.effect_now-effect.result.day (first_change 48_576 c.args.effects.now.items c.update-changed.new.effects) = c.sooner-from.ensures.value ∙ ap (min c.effect_now-effect.result.day) first in
+    let first : c.update-changed.result ≡ first_change last_calendar_day c.args.effects.now.items c.update-changed.new.effects = c.update-changed.ensures.first ∙ ap (λ u. first_change last_calendar_day u c.update-changed.new.effects) c.deref_mut.ensures.value in
+    let day : c.sooner-from.result ≡ min c.effect_now-effect.result.day (first_change last_calendar_day c.args.effects.now.items c.update-changed.new.effects) = c.sooner-from.ensures.value ∙ ap (min c.effect_now-effect.result.day) first in
     let exact = push-from h k c.args.effects.now.items c.update-changed.new.effects c.effect_now-effect.result c.sooner-from.result before many c.sooner-from.ensures.bound day in
     subst (λ u. IsFirstChange c.sooner-from.result (corrected_with 1 5 h c.args.effects.now.items) (corrected_with 1 5 c.args.history.now u)) (sym pushed)
     (subst (λ u. IsFirstChange c.sooner-from.result (corrected_with 1 5 h c.args.effects.now.items) (corrected_with 1 5 u (c.update-changed.new.effects ++ c.effect_now-effect.result ∷ []))) (sym is) exact)

@@ -1,4 +1,5 @@
 use Rattle.std.proofs.Common.{◌≡◌, ◌+◌, ◌<◌, ◌≤◌, length, take, drop, arith, ◌∙◌, ◌++◌, get_or, refl, ap, ℕ, List, set}
+use Rattle.card_days.specs.Range.{last_calendar_day}
 use Rattle.card_posts.specs.Change.{after_one, first_change}
 use Rattle.card_posts.specs.Effect.{effects}
 use Rattle.card_posts.specs.declared.effect.Effect.{Effect}
@@ -12,17 +13,17 @@ loop-i-init c = record {
   renewed = refl;
   small = c.requires.small;
   order = c.requires.order;
-  first = c.last_day-first.ensures;
+  first = c.last-first.ensures;
   len = refl;
   capacity = omega arith;
 }
 
 -- one more post is looked at
 step : (here : ℕ) (first i : ℕ) (now : Effect) (current new old : List Effect) → i < length old → length old ≤ length new → current ≡ take i new ++ drop i old
-    → first ≡ first_change 48_576 (take i old) (take i new) → now ≡ get_or new i now → here ≡ after_one first (get_or current i now) now → here ≡ first_change 48_576 (take (i + 1) old) (take (i + 1) new)
+    → first ≡ first_change last_calendar_day (take i old) (take i new) → now ≡ get_or new i now → here ≡ after_one first (get_or current i now) now → here ≡ first_change last_calendar_day (take (i + 1) old) (take (i + 1) new)
 step here first i now current new old l m is f n h =
     let there : get_or current i now ≡ get_or old i now = ap (λ u. get_or u i now) is ∙ renewed-at i new old now l m in
-    h ∙ (ap (λ e. after_one first e now) there ∙ (ap (λ x. after_one x (get_or old i now) now) f ∙ (ap (λ e. after_one (first_change 48_576 (take i old) (take i new)) (get_or old i now) e) n ∙ change-step 48_576 i old new now l m)))
+    h ∙ (ap (λ e. after_one first e now) there ∙ (ap (λ x. after_one x (get_or old i now) now) f ∙ (ap (λ e. after_one (first_change last_calendar_day (take i old) (take i new)) (get_or old i now) e) n ∙ change-step last_calendar_day i old new now l m)))
 
 pub loop-i-preserved : goal.loop-i-preserved
 loop-i-preserved c =
