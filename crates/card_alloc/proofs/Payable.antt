@@ -5,6 +5,7 @@ use Rattle.std.proofs.lemmas.Int.{ints}
 use Rattle.std.proofs.lemmas.Bool.{ne_eqb}
 use Rattle.std.proofs.lemmas.List.Elements.{All-nil, All-cons, All-head, All-tail}
 use Rattle.card_model.specs.Entries.{credit_in, debit, lowers, negated, posted}
+use Rattle.card_model.specs.Limits.{balance_limit}
 use Rattle.card_model.specs.declared.entry.Entry.{Entry}
 use Rattle.card_model.specs.declared.entry.Note.{Note}
 use Rattle.card_model.specs.declared.segment.Segment.{Segment}
@@ -18,7 +19,7 @@ limit = 10_000_000_000_000_000
 
 -- balances are so small that the parts can still be moved
 pub record HaveRoom (bs : List ℤ) (ps : List (ℕ × ℕ)) : Type 0 where
-  pub sum : parts_sum ps ≤ 1_000_000_000_000_000
+  pub sum : parts_sum ps ≤ balance_limit
   pub small : AreWithin (limit - parts_sum ps) bs
   pub on : AreOnSegments (length bs) ps
 
@@ -44,7 +45,7 @@ cond-within : (t : Bool) (x : ℕ) (m : ℤ) → IsWithin x m → IsWithin x (co
 cond-within true x m w = w
 cond-within false x m w = (omega (arith, ints), omega (arith, ints))
 
-left_after : (x s : ℕ) → x + s ≤ 1_000_000_000_000_000 → (limit - (x + s)) + x ≤ limit - s
+left_after : (x s : ℕ) → x + s ≤ balance_limit → (limit - (x + s)) + x ≤ limit - s
 left_after x s l = omega arith
 
 -- ---- a part that is taken
@@ -87,7 +88,7 @@ payable-step note bs p ps h =
 pub record CanMove (bs : List ℤ) (p : ℕ × ℕ) : Type 0 where
   pub known : p.0 < length bs
   pub not_held : p.0 ≡ 1 → ⊥
-  pub few : p.1 ≤ 1_000_000_000_000_000
+  pub few : p.1 ≤ balance_limit
   pub small : AreWithin limit bs
 
 pub can-move : (bs : List ℤ) (p : ℕ × ℕ) (ps : List (ℕ × ℕ)) → HaveRoom bs (p ∷ ps) → CanMove bs p
@@ -104,7 +105,7 @@ can-move bs p ps h =
 pub head-covered : (bs : List ℤ) (p : ℕ × ℕ) (ps : List (ℕ × ℕ)) → ArePayable bs (p ∷ ps) → 1 ≤ p.0 → pos p.1 ≤ℤ get_or bs p.0 (pos 0)
 head-covered bs p ps h = All-head (Covered bs) p ps h.covered
 
-pub room-start : (bs : List ℤ) (ps : List (ℕ × ℕ)) → AreOnSegments (length bs) ps → parts_sum ps ≤ 1_000_000_000_000_000 → AreWithin 9_000_000_000_000_000 bs → HaveRoom bs ps
+pub room-start : (bs : List ℤ) (ps : List (ℕ × ℕ)) → AreOnSegments (length bs) ps → parts_sum ps ≤ balance_limit → AreWithin 9_000_000_000_000_000 bs → HaveRoom bs ps
 room-start bs ps on sum small =
     record { sum = sum; small = λ s. wider 9_000_000_000_000_000 (limit - parts_sum ps) (get_or bs s (pos 0)) (omega arith) (small s); on = on }
 

@@ -1,4 +1,5 @@
 ghost use Rattle.std.specs.Prelude.{◌≡◌, ℕ, ◌+◌, ◌<◌, ◌≤◌, ◌^◌, ◌++◌, [], ◌∷◌, length, take, OnOk, IfOk, pos, ◌≤ℤ◌, slice_index_or};
+ghost use Rattle.card_model.specs.Limits.{balance_limit};
 ghost use Rattle.std.specs.List.{All, filter_map, list_any};
 ghost use Rattle.card_model.specs.Allocation.{Ascends, allocated, part_of, parts, placed};
 ghost use Rattle.card_model.specs.Entries.{at_least_zero};
@@ -94,7 +95,7 @@ pub fn allocate(
     requires ranks { length ranks.now ≡ length s.now.balances }
     requires minimum { pos 0 ≤ℤ minimum_part }
     requires within { minimum_part ≤ℤ amount }
-    requires limit { amount ≤ℤ pos 1_000_000_000_000_000 }
+    requires limit { amount ≤ℤ pos balance_limit }
     ensures parts { IfOk result (λ parts. parts ≡ allocated (at_least_zero minimum_part) (at_least_zero amount) (holdings [] s.now.balances ranks.now)) }
     ensures whole { IfOk result (λ parts. AreParts s.now.balances (at_least_zero amount) parts) }
 {
@@ -117,7 +118,7 @@ pub fn place_credit(
 ) -> Result<Parts, NoMemory>
     requires ranks { length ranks.now ≡ length s.now.balances }
     requires amount { pos 0 ≤ℤ amount }
-    requires limit { amount ≤ℤ pos 1_000_000_000_000_000 }
+    requires limit { amount ≤ℤ pos balance_limit }
     ensures parts { IfOk result (λ parts. parts ≡ placed (at_least_zero amount) (holdings first.now s.now.balances ranks.now)) }
     ensures whole { IfOk result (λ parts. AreParts s.now.balances (at_least_zero amount) parts) }
 {

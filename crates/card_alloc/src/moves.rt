@@ -1,4 +1,5 @@
 ghost use Rattle.std.specs.Prelude.{◌≡◌, ℕ, ◌+◌, ◌<◌, ◌≤◌, ◌++◌, length, OnOk, OnErr, pos, ◌≤ℤ◌, slice_index_or, vec_len, vec_capacity};
+ghost use Rattle.card_model.specs.Limits.{balance_limit};
 ghost use Rattle.card_model.specs.Effects.{parts_entries};
 ghost use Rattle.card_model.specs.Entries.{credit_in, debit, lowers};
 ghost use Rattle.card_segments.specs.Balances.{AreWithin, after_entries};
@@ -13,7 +14,7 @@ fn take_part(s: &mut Segments, segment: u8, cents: u64, note: &Note, out: &mut V
     requires room { vec_len out.old + 1 ≤ vec_capacity out.old }
     requires known { segment < length s.old.balances }
     requires covered { 1 ≤ segment → pos cents ≤ℤ slice_index_or s.old.balances segment (pos 0) }
-    requires limit { cents ≤ 1_000_000_000_000_000 }
+    requires limit { cents ≤ balance_limit }
     requires small { AreWithin 10_000_000_000_000_000 s.old.balances }
     ensures ok { s.new ≡ after_entries (lowers note.now segment cents) s.old }
     ensures entries { out.new.items ≡ out.old.items ++ lowers note.now segment cents }
@@ -31,7 +32,7 @@ fn return_part(s: &mut Segments, segment: u8, cents: u64, note: &Note, out: &mut
     requires room { vec_len out.old + 2 ≤ vec_capacity out.old }
     requires segment { 2 ≤ segment }
     requires known { segment < length s.old.balances }
-    requires limit { cents ≤ 1_000_000_000_000_000 }
+    requires limit { cents ≤ balance_limit }
     requires small { AreWithin 10_000_000_000_000_000 s.old.balances }
     ensures ok { s.new ≡ after_entries (debit note.now segment cents (credit_in s.old.balances)) s.old }
     ensures entries { out.new.items ≡ out.old.items ++ debit note.now segment cents (credit_in s.old.balances) }
@@ -62,7 +63,7 @@ pub fn take(
 ) -> Result<(), NoMemory>
     requires on_segments { AreOnSegments (length s.old.balances) parts.now }
     requires covered { AreCovered s.old.balances parts.now }
-    requires limit { parts_sum parts.now ≤ 1_000_000_000_000_000 }
+    requires limit { parts_sum parts.now ≤ balance_limit }
     requires small { AreWithin 9_000_000_000_000_000 s.old.balances }
     ensures ok { OnOk result (s.new ≡ after_entries (parts_entries note.now parts.now) s.old) }
     ensures entries { OnOk result (out.new.items ≡ out.old.items ++ parts_entries note.now parts.now) }
@@ -93,7 +94,7 @@ pub fn put_back(
     requires on_segments { AreOnSegments (length s.old.balances) parts.now }
     requires newest { 2 ≤ newest }
     requires newest_known { newest < length s.old.balances }
-    requires limit { parts_sum parts.now ≤ 1_000_000_000_000_000 }
+    requires limit { parts_sum parts.now ≤ balance_limit }
     requires small { AreWithin 9_000_000_000_000_000 s.old.balances }
     ensures ok { OnOk result (s.new ≡ after_entries (back_entries note.now newest parts.now s.old.balances) s.old) }
     ensures entries { OnOk result (out.new.items ≡ out.old.items ++ back_entries note.now newest parts.now s.old.balances) }

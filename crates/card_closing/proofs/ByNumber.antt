@@ -8,6 +8,7 @@ use Rattle.std.proofs.lemmas.List.Sums.{sum_by_more}
 use Rattle.card_model.specs.Closing.{minimum_of}
 use Rattle.card_model.specs.Cycles.{Amounts, Cycle, amount_at}
 use Rattle.card_model.specs.Entries.{at_least_zero}
+use Rattle.card_model.specs.Limits.{balance_limit}
 use Rattle.card_model.specs.declared.entry.Entry.{Entry}
 use Rattle.card_model.specs.declared.entry.Note.{Note}
 use Rattle.card_model.specs.declared.segment.Segment.{Segment}
@@ -82,14 +83,14 @@ sum-next xs id x sum new low high h e k =
     k ∙ (ap (λ m. m + x) h ∙ (ap (λ m. sum_by (λ n. n) (take (id - 2) xs) + m) e ∙ (sym more ∙ ap (λ i. sum_by (λ n. n) (take i xs)) (sym next))))
 
 -- ---- sizes
-pub total-within : (bs : List ℤ) → AreWithin 1_000_000_000_000_000 bs → IsWithin (length bs * 1_000_000_000_000_000) (total bs)
+pub total-within : (bs : List ℤ) → AreWithin balance_limit bs → IsWithin (length bs * balance_limit) (total bs)
 total-within [] w = (omega (arith, ints), omega (arith, ints))
 total-within (b ∷ bs) w = join (length bs) b (total bs) (w 0) (total-within bs (λ i. w (suc i)))
   where
-    join : (n : ℕ) (b s : ℤ) → IsWithin 1_000_000_000_000_000 b → IsWithin (n * 1_000_000_000_000_000) s → IsWithin (suc n * 1_000_000_000_000_000) (b +ℤ s)
+    join : (n : ℕ) (b s : ℤ) → IsWithin balance_limit b → IsWithin (n * balance_limit) s → IsWithin (suc n * balance_limit) (b +ℤ s)
     join n b s h k = (omega (arith, ints, h.0, k.0), omega (arith, ints, h.1, k.1))
 
-pub net-within : (n : ℕ) (t h : ℤ) → n ≤ 64 → IsWithin (n * 1_000_000_000_000_000) t → IsWithin 1_000_000_000_000_000 h → IsWithin 100_000_000_000_000_000 (t -ℤ h)
+pub net-within : (n : ℕ) (t h : ℤ) → n ≤ 64 → IsWithin (n * balance_limit) t → IsWithin balance_limit h → IsWithin 100_000_000_000_000_000 (t -ℤ h)
 net-within n t h few a b = (omega (arith, ints, few, a.0, a.1, b.0, b.1), omega (arith, ints, few, a.0, a.1, b.0, b.1))
 
 -- what is owed and what is held, as numbers of 64 bits
@@ -99,13 +100,13 @@ pub record AreFit (bs : List ℤ) (t h : ℤ) : Type 0 where
   pub within : IsWithin 100_000_000_000_000_000 (t -ℤ h)
   pub rest : FitsSigned w64 (t -ℤ h)
 
-pub are-fit : (bs : List ℤ) (t h : ℤ) → length bs ≤ 64 → AreWithin 1_000_000_000_000_000 bs → t ≡ total bs → h ≡ get_or bs 1 (pos 0) → AreFit bs t h
+pub are-fit : (bs : List ℤ) (t h : ℤ) → length bs ≤ 64 → AreWithin balance_limit bs → t ≡ total bs → h ≡ get_or bs 1 (pos 0) → AreFit bs t h
 are-fit bs t h few w e k =
-    let a : IsWithin (length bs * 1_000_000_000_000_000) t = subst (λ z. IsWithin (length bs * 1_000_000_000_000_000) z) (sym e) (total-within bs w) in
-    let b : IsWithin 1_000_000_000_000_000 h = subst (λ z. IsWithin 1_000_000_000_000_000 z) (sym k) (w 1) in
+    let a : IsWithin (length bs * balance_limit) t = subst (λ z. IsWithin (length bs * balance_limit) z) (sym e) (total-within bs w) in
+    let b : IsWithin balance_limit h = subst (λ z. IsWithin balance_limit z) (sym k) (w 1) in
     record {
-      owed = within-fits (length bs * 1_000_000_000_000_000) t (omega (arith, few)) a;
-      held = within-fits 1_000_000_000_000_000 h (omega arith) b;
+      owed = within-fits (length bs * balance_limit) t (omega (arith, few)) a;
+      held = within-fits balance_limit h (omega arith) b;
       within = net-within (length bs) t h few a b;
       rest = within-fits 100_000_000_000_000_000 (t -ℤ h) (omega arith) (net-within (length bs) t h few a b);
     }

@@ -6,6 +6,7 @@ use Rattle.std.proofs.lemmas.Bool.{eqb-true}
 use Rattle.std.proofs.lemmas.List.{length-take, take-append-le, take-take, take_all}
 use Rattle.card_model.specs.Cycles.{Amounts, Cycle}
 use Rattle.card_model.specs.Entries.{AreBalances, at_least_zero, balance, credit_balance, credit_in, debit}
+use Rattle.card_model.specs.Limits.{balance_limit}
 use Rattle.card_model.specs.declared.entry.Entry.{Entry}
 use Rattle.card_model.specs.declared.entry.Note.{Note}
 use Rattle.card_model.proofs.EntryFacts.{balance-debit}
@@ -21,42 +22,42 @@ pub credit-same : (es : List Entry) (bs : List ℤ) → 0 < length bs → AreBal
 credit-same es bs l a = ap (λ z. at_least_zero (neg_ℤ z)) (a.each 0 l)
 
 most : ℕ
-most = 1_000_000_000_000_000
+most = balance_limit
 
 -- a balance that is raised by what a credit bears
-credit-within : (b : ℤ) (x : ℕ) → IsWithin 1_000_000_000_000_000 b → IsWithin 1_000_000_000_000_000 (b +ℤ pos (min x (at_least_zero (neg_ℤ b))))
+credit-within : (b : ℤ) (x : ℕ) → IsWithin balance_limit b → IsWithin balance_limit (b +ℤ pos (min x (at_least_zero (neg_ℤ b))))
 credit-within (pos zero) x w = (omega (arith, ints), omega (arith, ints))
 credit-within (pos (suc n)) x w = (omega (arith, ints), omega (arith, ints, w.1))
 credit-within (negsuc n) x w = (omega (arith, ints, w.0), omega (arith, ints, w.1))
 
-raised-within : (b : ℤ) (x y : ℕ) → IsWithin 1_000_000_000_000_000 b → x ≤ 10_000_000_000_000 - at_least_zero b → y ≤ x → IsWithin 1_000_000_000_000_000 (b +ℤ pos y)
+raised-within : (b : ℤ) (x y : ℕ) → IsWithin balance_limit b → x ≤ 10_000_000_000_000 - at_least_zero b → y ≤ x → IsWithin balance_limit (b +ℤ pos y)
 raised-within (pos n) x y w h l = (omega (arith, ints), omega (arith, ints, w.1))
 raised-within (negsuc n) x y w h l = (omega (arith, ints, w.0), omega (arith, ints, w.1))
 
-plus-zero : (b m : ℤ) → m ≡ pos 0 → IsWithin 1_000_000_000_000_000 b → IsWithin 1_000_000_000_000_000 (b +ℤ m)
+plus-zero : (b m : ℤ) → m ≡ pos 0 → IsWithin balance_limit b → IsWithin balance_limit (b +ℤ m)
 plus-zero b m e w = rw e (omega (arith, ints, w.0), omega (arith, ints, w.1))
 
 -- each balance after a debit
-debit-within : (note : Note) (bs : List ℤ) (g x s : ℕ) → 2 ≤ g → x ≤ 10_000_000_000_000 - at_least_zero (get_or bs g (pos 0)) → AreWithin 1_000_000_000_000_000 bs
-    → IsWithin 1_000_000_000_000_000 (get_or bs s (pos 0) +ℤ balance s (debit note g x (credit_in bs)))
+debit-within : (note : Note) (bs : List ℤ) (g x s : ℕ) → 2 ≤ g → x ≤ 10_000_000_000_000 - at_least_zero (get_or bs g (pos 0)) → AreWithin balance_limit bs
+    → IsWithin balance_limit (get_or bs s (pos 0) +ℤ balance s (debit note g x (credit_in bs)))
 debit-within note bs g x s k h w = rw (balance-debit note g x (credit_in bs) s) (by (eqb 0 s) (eqb g s) refl refl)
   where
-    by : (p q : Bool) → eqb 0 s ≡ p → eqb g s ≡ q → IsWithin 1_000_000_000_000_000 (get_or bs s (pos 0) +ℤ (cond p (pos (min x (credit_in bs))) (pos 0) +ℤ cond q (pos (x - credit_in bs)) (pos 0)))
+    by : (p q : Bool) → eqb 0 s ≡ p → eqb g s ≡ q → IsWithin balance_limit (get_or bs s (pos 0) +ℤ (cond p (pos (min x (credit_in bs))) (pos 0) +ℤ cond q (pos (x - credit_in bs)) (pos 0)))
     by true true e f =
         let a = eqb-true 0 s e in
         let b = eqb-true g s f in
         absurd (omega arith)
     by true false e f =
-        subst (λ (s : ℕ). IsWithin 1_000_000_000_000_000 (get_or bs s (pos 0) +ℤ (pos (min x (credit_in bs)) +ℤ pos 0))) (eqb-true 0 s e)
+        subst (λ (s : ℕ). IsWithin balance_limit (get_or bs s (pos 0) +ℤ (pos (min x (credit_in bs)) +ℤ pos 0))) (eqb-true 0 s e)
         (first (get_or bs 0 (pos 0)) (pos (min x (credit_in bs))) (credit-within (get_or bs 0 (pos 0)) x (w 0)))
       where
-        first : (b m : ℤ) → IsWithin 1_000_000_000_000_000 (b +ℤ m) → IsWithin 1_000_000_000_000_000 (b +ℤ (m +ℤ pos 0))
+        first : (b m : ℤ) → IsWithin balance_limit (b +ℤ m) → IsWithin balance_limit (b +ℤ (m +ℤ pos 0))
         first b m v = (omega (arith, ints, v.0), omega (arith, ints, v.1))
     by false true e f =
-        subst (λ (s : ℕ). IsWithin 1_000_000_000_000_000 (get_or bs s (pos 0) +ℤ (pos 0 +ℤ pos (x - credit_in bs)))) (eqb-true g s f)
+        subst (λ (s : ℕ). IsWithin balance_limit (get_or bs s (pos 0) +ℤ (pos 0 +ℤ pos (x - credit_in bs)))) (eqb-true g s f)
         (second (get_or bs g (pos 0)) (pos (x - credit_in bs)) (raised-within (get_or bs g (pos 0)) x (x - credit_in bs) (w g) h (omega arith)))
       where
-        second : (b m : ℤ) → IsWithin 1_000_000_000_000_000 (b +ℤ m) → IsWithin 1_000_000_000_000_000 (b +ℤ (pos 0 +ℤ m))
+        second : (b m : ℤ) → IsWithin balance_limit (b +ℤ m) → IsWithin balance_limit (b +ℤ (pos 0 +ℤ m))
         second b m v = (omega (arith, ints, v.0), omega (arith, ints, v.1))
     by false false e f = plus-zero (get_or bs s (pos 0)) _ (omega (arith, ints)) (w s)
 

@@ -4,6 +4,7 @@ use Rattle.card_model.specs.Caps.{capped_by, issued_interest}
 use Rattle.card_model.specs.Closing.{within_limit}
 use Rattle.card_model.specs.Cycles.{Amounts, Cycle, IssuedRow}
 use Rattle.card_model.specs.Entries.{AreBalances, credit_balance, debit, owing}
+use Rattle.card_model.specs.Limits.{balance_limit}
 use Rattle.card_model.specs.declared.entry.Entry.{Entry}
 use Rattle.card_model.specs.declared.entry.Note.{Note}
 use Rattle.card_segments.specs.Balances.{AreWithin, Balances}
@@ -66,7 +67,7 @@ asked_where_owed amounts entries s = if nat_lt 0 (owing s entries) then of_segme
 -- balances are the sums of the entries, each at most 10^15 in size
 pub record AreInStep (balances : Balances) (entries : List Entry) : Type 0 where
   pub sums : AreBalances entries balances.balances
-  pub small : AreWithin 1_000_000_000_000_000 balances.balances
+  pub small : AreWithin balance_limit balances.balances
 
 -- a list that begins with another
 abbrev pub BeginsWith : List Entry → List Entry → Type 0

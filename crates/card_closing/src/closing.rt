@@ -1,4 +1,5 @@
 ghost use Rattle.std.specs.Prelude.{◌≡◌, ℕ, Bool, ◌+◌, ◌≤◌, ◌++◌, [], ◌∷◌, length, List, Option, IfOk, OnOk, pos, ◌≤ℤ◌, option_copied};
+ghost use Rattle.card_model.specs.Limits.{balance_limit};
 ghost use Rattle.card_closing.specs.Closes.{IsGivenFor};
 ghost use Rattle.card_closing.specs.Record.{recorded};
 ghost use Rattle.card_segments.specs.Balances.{AreWithin};
@@ -51,7 +52,7 @@ fn record(
     count: usize,
 ) -> Result<Cycle, NoMemory>
     requires rows { length rows.now + 2 ≡ length segments.now.balances }
-    requires small { AreWithin 1_000_000_000_000_000 segments.now.balances }
+    requires small { AreWithin balance_limit segments.now.balances }
     requires few { (s : ℕ) → amount_at s done.now ≤ 10_000_000_000_000_000 }
     requires floor { pos 0 ≤ℤ closing.now.floor }
     requires part { closing.now.pct ≤ 10_000 }

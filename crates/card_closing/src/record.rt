@@ -1,5 +1,6 @@
 // The record of a closed cycle.
 ghost use Rattle.std.specs.Prelude.{◌≡◌, ℕ, ◌+◌, ◌-◌, ◌<◌, ◌≤◌, ◌&&◌, drop, length, min, IfOk, pos, ◌≤ℤ◌, ◌-ℤ◌, slice_index_or, unsigned_abs, option_copied};
+ghost use Rattle.card_model.specs.Limits.{balance_limit};
 ghost use Rattle.card_model.specs.Closing.{ends_after, minimum_of};
 ghost use Rattle.card_model.specs.Segments.{is_sort};
 ghost use Rattle.card_model.specs.declared.segment.Sort.TheVariants as sort;
@@ -89,9 +90,9 @@ fn ends_later(segment: &Segment, day: Day) -> bool
 #[tactic(auto, unfolding(crate::specs::Record::balance_later))]
 fn balance_later(segments: &Segments, id: u8, day: Day) -> u64
     requires known { id < length segments.now.balances }
-    requires small { AreWithin 1_000_000_000_000_000 segments.now.balances }
+    requires small { AreWithin balance_limit segments.now.balances }
     ensures value { (d : Segment) → result ≡ balance_later day (slice_index_or segments.now.segments id d) (slice_index_or segments.now.balances id (pos 0)) }
-    ensures bound { result ≤ 1_000_000_000_000_000 }
+    ensures bound { result ≤ balance_limit }
 {
     let _count = segments.len();
     if ends_later(segments.get(id), day) {
@@ -103,7 +104,7 @@ fn balance_later(segments: &Segments, id: u8, day: Day) -> u64
 
 // Those of all segments together.
 fn deferred_after(segments: &Segments, day: Day) -> u64
-    requires small { AreWithin 1_000_000_000_000_000 segments.now.balances }
+    requires small { AreWithin balance_limit segments.now.balances }
     ensures value { result ≡ deferred_after day segments.now }
     ensures bound { result ≤ 62_000_000_000_000_000 }
 {
@@ -125,7 +126,7 @@ pub fn held(segments: &Segments) -> Cents
 
 // What is owed, less what is held.
 fn net(segments: &Segments) -> Cents
-    requires small { AreWithin 1_000_000_000_000_000 segments.now.balances }
+    requires small { AreWithin balance_limit segments.now.balances }
     ensures value { result ≡ net_of segments.now }
     ensures size { IsWithin 100_000_000_000_000_000 result }
 {
@@ -149,7 +150,7 @@ fn charges(done: &Amounts, fees: &Fees) -> u64
 
 // The minimum payment by the account's terms.
 fn minimum_by_terms(closing: &Closing, done: &Amounts, fees: &Fees, segments: &Segments) -> u64
-    requires small { AreWithin 1_000_000_000_000_000 segments.now.balances }
+    requires small { AreWithin balance_limit segments.now.balances }
     requires floor { pos 0 ≤ℤ closing.now.floor }
     requires part { closing.now.pct ≤ 10_000 }
     requires past_due { pos 0 ≤ℤ closing.now.past_due }
@@ -181,7 +182,7 @@ fn beyond(balance: Cents, cents: u64) -> u64
 
 // The grace amount, whatever was issued.
 fn grace_by_balances(closing: &Closing, segments: &Segments) -> u64
-    requires small { AreWithin 1_000_000_000_000_000 segments.now.balances }
+    requires small { AreWithin balance_limit segments.now.balances }
     ensures value { result ≡ at_least_zero (net_of segments.now -ℤ pos (deferred_after closing.now.next_closing segments.now)) }
     ensures bound { result ≤ 9_223_372_036_854_775_807 }
 {
@@ -216,7 +217,7 @@ pub fn minimum_of(
     fees: &Fees,
     segments: &Segments,
 ) -> Cents
-    requires small { AreWithin 1_000_000_000_000_000 segments.now.balances }
+    requires small { AreWithin balance_limit segments.now.balances }
     requires floor { pos 0 ≤ℤ closing.now.floor }
     requires part { closing.now.pct ≤ 10_000 }
     requires past_due { pos 0 ≤ℤ closing.now.past_due }
@@ -232,7 +233,7 @@ pub fn minimum_of(
 // The grace amount, at most that of the issued statement.
 #[tactic(auto, unfolding(crate::specs::Record::grace_by))]
 pub fn grace_of(closing: &Closing, issued: Option<&Cycle>, segments: &Segments) -> Cents
-    requires small { AreWithin 1_000_000_000_000_000 segments.now.balances }
+    requires small { AreWithin balance_limit segments.now.balances }
     ensures { result ≡ pos (grace_by closing.now (option_copied issued.entry) segments.now) }
 {
     let asked = grace_by_balances(closing, segments);

@@ -17,6 +17,7 @@ use Rattle.card_model.specs.Books.{Account, Book, newest_purchase, note_of, with
 use Rattle.card_model.specs.Cycles.{IssuedRow, Seen}
 use Rattle.card_model.specs.Effects.{effect, is_part_of, meant_for, payment_at, put_back, returned, returned_fee, size}
 use Rattle.card_model.specs.Entries.{balance, credit_in, debit, posted}
+use Rattle.card_model.specs.Limits.{balance_limit}
 use Rattle.card_model.specs.Segments.{SegmentTerms, newest}
 use Rattle.card_model.specs.declared.entry.Entry.{Entry}
 use Rattle.card_model.specs.declared.entry.EntryKind.TheVariants as kind
@@ -84,10 +85,10 @@ back-room note newest (p ∷ ps) bs l h =
     subst (AreWithin limit) (sym (posted-append ds (back_entries note newest ps (posted ds bs)) bs))
     (back-room note newest ps (posted ds bs) (rw (length-posted ds bs) l) (room-raise note newest bs p ps known h))
 
-wider : (z : ℤ) → IsWithin 1_000_000_000_000_000 z → IsWithin 9_000_000_000_000_000 z
+wider : (z : ℤ) → IsWithin balance_limit z → IsWithin 9_000_000_000_000_000 z
 wider z w = (omega (arith, ints, w.0), omega (arith, ints, w.1))
 
-pub back-small : (note : Note) (newest : ℕ) (ps : List (ℕ × ℕ)) (before after : Balances) → newest < length before.balances → AreOnSegments (length before.balances) ps → parts_sum ps ≤ 1_000_000_000_000_000 → AreWithin 1_000_000_000_000_000 before.balances
+pub back-small : (note : Note) (newest : ℕ) (ps : List (ℕ × ℕ)) (before after : Balances) → newest < length before.balances → AreOnSegments (length before.balances) ps → parts_sum ps ≤ balance_limit → AreWithin balance_limit before.balances
     → after ≡ after_entries (back_entries note newest ps before.balances) before → AreWithin 10_000_000_000_000_000 after.balances
 back-small note newest ps before after l on sum small moved =
     subst (λ (v : Balances). AreWithin 10_000_000_000_000_000 v.balances) (sym moved)

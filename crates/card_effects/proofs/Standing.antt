@@ -14,6 +14,7 @@ use Rattle.card_model.specs.Books.{Account, Book, all_segments, note_of, with_fe
 use Rattle.card_model.specs.Cycles.{IssuedRow, Seen}
 use Rattle.card_model.specs.Effects.{effect}
 use Rattle.card_model.specs.Entries.{AreBalances, at_least_zero, balance, credit_balance, credit_in, debit, posted}
+use Rattle.card_model.specs.Limits.{balance_limit}
 use Rattle.card_model.specs.Rates.{lowerings, rate_on, starts}
 use Rattle.card_model.specs.Segments.{SegmentTerms, newest, opening_vintage, segment_at, segment_of, segments}
 use Rattle.card_model.specs.declared.entry.Entry.{Entry}
@@ -134,8 +135,8 @@ pub slot-note : (seen : Seen) (p : CorrectedPost) (slot : Slot) (k : EntryKind) 
 slot-note seen p slot k is = ap (λ (x : ℕ). the_note x k slot.number) (slot-day seen p slot is) ∙ ap (λ (s : Slot). the_note seen.day k s.number) is.same
 
 -- an amount as it is handed on
-pub handed : (z : ℤ) → pos 0 ≤ℤ z → z ≤ℤ pos 1_000_000_000_000_000 → at_least_zero (to_z w64 (of_z w64 z)) ≡ at_least_zero z
-handed z low high = ap at_least_zero (to_z-of_z w64 z (within-fits 1_000_000_000_000_000 z (omega arith) (omega (arith, ints, low), high)))
+pub handed : (z : ℤ) → pos 0 ≤ℤ z → z ≤ℤ pos balance_limit → at_least_zero (to_z w64 (of_z w64 z)) ≡ at_least_zero z
+handed z low high = ap at_least_zero (to_z-of_z w64 z (within-fits balance_limit z (omega arith) (omega (arith, ints, low), high)))
 
 pub slot-cents : (seen : Seen) (p : CorrectedPost) (slot : Slot) → IsSlotOf seen p slot → at_least_zero slot.cents ≡ p.cents
 slot-cents seen p slot is = ap (λ (s : Slot). at_least_zero s.cents) is.same

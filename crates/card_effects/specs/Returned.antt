@@ -3,6 +3,7 @@ use Rattle.std.specs.Prelude.{ℕ, ◌==◌, ◌≡◌, ◌≤◌, false, List, 
 use Rattle.std.specs.List.{All, Contains, filter}
 use Rattle.card_alloc.specs.Parts.{Ascend, AreOnSegments, parts_in, parts_sum}
 use Rattle.card_model.specs.Effects.{is_part_of}
+use Rattle.card_model.specs.Limits.{balance_limit}
 use Rattle.card_model.specs.Segments.{SegmentTerms}
 use Rattle.card_model.specs.declared.entry.Entry.{Entry}
 use Rattle.card_model.specs.declared.fee.Fee.{Fee}
@@ -17,7 +18,7 @@ parts_of payment entries = parts_in (filter (is_part_of payment) entries)
 pub record AreReturnable (n : ℕ) (parts : List (ℕ × ℕ)) : Type 0 where
   pub ascending : Ascend 0 parts
   pub on_segments : AreOnSegments n parts
-  pub limit : parts_sum parts ≤ 1_000_000_000_000_000
+  pub limit : parts_sum parts ≤ balance_limit
 
 -- no entry is of a segment that is still to come on a day
 abbrev pub AreOfThose : ℕ → Rates → List Entry → Type 0
@@ -25,4 +26,4 @@ AreOfThose day rated entries = (g : SegmentTerms) → Contains rated.segments g 
 
 -- a fee of 0 to 10^15 cents, where there is one
 abbrev pub IsChargeable : Option Fee → Type 0
-IsChargeable charged = (f : Fee) → charged ≡ Some f → (pos 0 ≤ℤ f.cents) × (f.cents ≤ℤ pos 1_000_000_000_000_000)
+IsChargeable charged = (f : Fee) → charged ≡ Some f → (pos 0 ≤ℤ f.cents) × (f.cents ≤ℤ pos balance_limit)

@@ -1,5 +1,6 @@
 // What is debited to a segment.
 ghost use Rattle.std.specs.Prelude.{◌≡◌, ℕ, Option, Some, OnOk, OnErr, pos, ◌≤ℤ◌};
+ghost use Rattle.card_model.specs.Limits.{balance_limit};
 ghost use Rattle.card_effects.specs.Standing.{AreRated, IsSlotOf, StandsAt};
 ghost use Rattle.card_events.specs.History.{CorrectedPost};
 ghost use Rattle.card_events.specs.declared.post.Post.TheVariants as post;
@@ -40,8 +41,8 @@ pub fn charge(
 ) -> Result<(), NoMemory>
     requires rated { AreRated segments.old.segments rates.now }
     requires amount { pos 0 ≤ℤ slot.now.cents }
-    requires limit { slot.now.cents ≤ℤ pos 1_000_000_000_000_000 }
-    requires small { AreWithin 1_000_000_000_000_000 segments.old.balances }
+    requires limit { slot.now.cents ≤ℤ pos balance_limit }
+    requires small { AreWithin balance_limit segments.old.balances }
     ensures stands { OnOk result ((issued : Option IssuedRow) (a : Account) (seen : Seen) (p : CorrectedPost) (b : Book) (day cents : ℕ) → StandsAt a seen b rates.now segments.old.balances out.old.items → IsSlotOf seen p slot.now → StandsAt a seen (effect issued a seen p (post.Charge day place.now cents) b) rates.now segments.new.balances out.new.items) }
     ensures segments { segments.new.segments ≡ segments.old.segments }
     ensures err { OnErr result (segments.new ≡ segments.old) }
@@ -64,8 +65,8 @@ pub fn refund(
 ) -> Result<(), NoMemory>
     requires rated { AreRated segments.old.segments rates.now }
     requires amount { pos 0 ≤ℤ slot.now.cents }
-    requires limit { slot.now.cents ≤ℤ pos 1_000_000_000_000_000 }
-    requires small { AreWithin 1_000_000_000_000_000 segments.old.balances }
+    requires limit { slot.now.cents ≤ℤ pos balance_limit }
+    requires small { AreWithin balance_limit segments.old.balances }
     ensures stands { OnOk result ((issued : Option IssuedRow) (a : Account) (seen : Seen) (p : CorrectedPost) (b : Book) (cents : ℕ) → StandsAt a seen b rates.now segments.old.balances out.old.items → IsSlotOf seen p slot.now → StandsAt a seen (effect issued a seen p (post.Refund cents) b) rates.now segments.new.balances out.new.items) }
     ensures segments { segments.new.segments ≡ segments.old.segments }
     ensures err { OnErr result (segments.new ≡ segments.old) }
@@ -90,8 +91,8 @@ pub fn fee(
 ) -> Result<(), NoMemory>
     requires rated { AreRated segments.old.segments rates.now }
     requires amount { pos 0 ≤ℤ fee.now.cents }
-    requires limit { fee.now.cents ≤ℤ pos 1_000_000_000_000_000 }
-    requires small { AreWithin 1_000_000_000_000_000 segments.old.balances }
+    requires limit { fee.now.cents ≤ℤ pos balance_limit }
+    requires small { AreWithin balance_limit segments.old.balances }
     ensures stands { OnOk result ((a : Account) (seen : Seen) (b : Book) → StandsAt a seen b rates.now segments.old.balances out.old.items → day ≡ seen.day → StandsAt a seen (with_fee a seen number (Some fee.now) b) rates.now segments.new.balances out.new.items) }
     ensures segments { segments.new.segments ≡ segments.old.segments }
     ensures err { OnErr result (segments.new ≡ segments.old) }

@@ -1,5 +1,6 @@
 // What payments and merchants' credits repay.
 ghost use Rattle.std.specs.Prelude.{◌≡◌, ℕ, ◌++◌, Option, IfOk, OnOk, OnErr, min, pos, ◌≤ℤ◌};
+ghost use Rattle.card_model.specs.Limits.{balance_limit};
 ghost use Rattle.card_alloc.specs.Parts.{AreParts};
 ghost use Rattle.card_effects.specs.Standing.{AreRated, IsSlotOf, StandsAt};
 ghost use Rattle.card_days.specs.declared.anchor.Channel.{Channel};
@@ -40,8 +41,8 @@ pub fn payment(
     requires rated { AreRated segments.old.segments rates.now }
     requires minimum { pos 0 ≤ℤ minimum_part }
     requires within { minimum_part ≤ℤ slot.now.cents }
-    requires limit { slot.now.cents ≤ℤ pos 1_000_000_000_000_000 }
-    requires small { AreWithin 1_000_000_000_000_000 segments.old.balances }
+    requires limit { slot.now.cents ≤ℤ pos balance_limit }
+    requires small { AreWithin balance_limit segments.old.balances }
     ensures stands { OnOk result ((issued : Option IssuedRow) (a : Account) (seen : Seen) (p : CorrectedPost) (b : Book) (day minute cents : ℕ) (by : Channel) → StandsAt a seen b rates.now segments.old.balances out.old.items → IsSlotOf seen p slot.now → following_closing ≡ second_closing a seen.day → minimum_part ≡ pos (min p.cents (minimum_left seen p (last_cycle b.cycles))) → StandsAt a seen (effect issued a seen p (post.Payment day minute by cents) b) rates.now segments.new.balances out.new.items) }
     ensures entries { IfOk result (λ parts. out.new.items ≡ out.old.items ++ parts_entries (record { day = slot.now.day; kind = kind.Payment; post = slot.now.number }) parts) }
     ensures whole { IfOk result (λ parts. AreParts segments.old.balances (at_least_zero slot.now.cents) parts) }
@@ -71,8 +72,8 @@ pub fn credit(
 ) -> Result<Parts, NoMemory>
     requires rated { AreRated segments.old.segments rates.now }
     requires amount { pos 0 ≤ℤ slot.now.cents }
-    requires limit { slot.now.cents ≤ℤ pos 1_000_000_000_000_000 }
-    requires small { AreWithin 1_000_000_000_000_000 segments.old.balances }
+    requires limit { slot.now.cents ≤ℤ pos balance_limit }
+    requires small { AreWithin balance_limit segments.old.balances }
     ensures stands { OnOk result ((issued : Option IssuedRow) (a : Account) (seen : Seen) (p : CorrectedPost) (b : Book) (day cents : ℕ) → StandsAt a seen b rates.now segments.old.balances out.old.items → IsSlotOf seen p slot.now → following_closing ≡ second_closing a seen.day → StandsAt a seen (effect issued a seen p (post.Credit day place.now cents) b) rates.now segments.new.balances out.new.items) }
     ensures entries { IfOk result (λ parts. out.new.items ≡ out.old.items ++ parts_entries (record { day = slot.now.day; kind = kind.Credit; post = slot.now.number }) parts) }
     ensures whole { IfOk result (λ parts. AreParts segments.old.balances (at_least_zero slot.now.cents) parts) }

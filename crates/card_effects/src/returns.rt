@@ -1,5 +1,6 @@
 // What a returned payment brings back.
 ghost use Rattle.std.specs.Prelude.{◌≡◌, ℕ, ◌++◌, ◌<◌, ◌≤◌, List, Option, Some, OnOk, OnErr, length, pos, take, ◌≤ℤ◌};
+ghost use Rattle.card_model.specs.Limits.{balance_limit};
 ghost use Rattle.card_alloc.specs.Parts.{back_entries};
 ghost use Rattle.card_effects.specs.Returned.{AreOfThose, AreReturnable, IsChargeable, parts_of};
 ghost use Rattle.card_effects.specs.Standing.{AreRated, IsSlotOf, StandsAt};
@@ -34,7 +35,7 @@ fn put_parts_back(
 ) -> Result<(), NoMemory>
     requires rated { AreRated segments.old.segments rates.now }
     requires parts { AreReturnable (length segments.old.balances) (parts_of payment out.old.items) }
-    requires small { AreWithin 1_000_000_000_000_000 segments.old.balances }
+    requires small { AreWithin balance_limit segments.old.balances }
     ensures stands { OnOk result ((a : Account) (seen : Seen) (p : CorrectedPost) (b : Book) → StandsAt a seen b rates.now segments.old.balances out.old.items → AreOfThose seen.day rates.now b.entries → IsSlotOf seen p slot.now → StandsAt a seen (model.returned a seen p.number payment b) rates.now segments.new.balances out.new.items) }
     ensures segments { segments.new.segments ≡ segments.old.segments }
     ensures small { OnOk result (AreWithin 10_000_000_000_000_000 segments.new.balances) }
@@ -56,7 +57,7 @@ fn charge_fee(
 ) -> Result<(), NoMemory>
     requires rated { AreRated segments.old.segments rates.now }
     requires amount { pos 0 ≤ℤ fee.now.cents }
-    requires limit { fee.now.cents ≤ℤ pos 1_000_000_000_000_000 }
+    requires limit { fee.now.cents ≤ℤ pos balance_limit }
     requires small { AreWithin 10_000_000_000_000_000 segments.old.balances }
     ensures stands { OnOk result ((a : Account) (seen : Seen) (b : Book) → StandsAt a seen b rates.now segments.old.balances out.old.items → slot.now.day ≡ seen.day → StandsAt a seen (with_fee a seen slot.now.number (Some fee.now) b) rates.now segments.new.balances out.new.items) }
     ensures segments { segments.new.segments ≡ segments.old.segments }
@@ -107,7 +108,7 @@ pub fn returned(
     requires rated { AreRated segments.old.segments rates.now }
     requires parts { AreReturnable (length segments.old.balances) (parts_of payment out.old.items) }
     requires charged { IsChargeable charged.now }
-    requires small { AreWithin 1_000_000_000_000_000 segments.old.balances }
+    requires small { AreWithin balance_limit segments.old.balances }
     ensures stands { OnOk result ((issued : Option IssuedRow) (a : Account) (seen : Seen) (p : CorrectedPost) (b : Book) (day : ℕ) → StandsAt a seen b rates.now segments.old.balances out.old.items → AreOfThose seen.day rates.now b.entries → IsSlotOf seen p slot.now → charged.now ≡ model.returned_fee issued seen b (meant_for b.cycles (payment_at payment seen.posts)) → StandsAt a seen (effect issued a seen p (post.Return day payment) b) rates.now segments.new.balances out.new.items) }
     ensures segments { segments.new.segments ≡ segments.old.segments }
     ensures err { OnErr result (take (length out.old.items) out.new.items ≡ out.old.items) }

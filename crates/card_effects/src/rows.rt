@@ -1,5 +1,6 @@
 // What payments and merchants' credits bring to the rows of the cycle.
 ghost use Rattle.std.specs.Prelude.{◌≡◌, ◌+◌, ◌<◌, ◌≤◌, [], ◌∷◌, map, length, OnOk, OnErr};
+ghost use Rattle.card_model.specs.Limits.{balance_limit};
 ghost use Rattle.card_alloc.specs.Parts.{AreOnSegments, parts_sum};
 ghost use Rattle.card_effects.specs.Repaid.{AreRepaid};
 ghost use Rattle.card_grace.specs.Rows.{without_post};
@@ -21,7 +22,7 @@ pub fn unpay(rows: &mut [CycleRows], post: u32)
 // Brings one part to the rows of its segment. Credit has none.
 fn repay_part(rows: &mut [CycleRows], segment: u8, cents: u64, slot: &Slot) -> Result<(), NoMemory>
     requires known { segment < length rows.old + 2 }
-    requires limit { cents ≤ 1_000_000_000_000_000 }
+    requires limit { cents ≤ balance_limit }
     ensures repaid { OnOk result (AreRepaid slot.now.day slot.now.number ((segment, cents) ∷ []) rows.old rows.new) }
     ensures others { OnOk result (map (without_post slot.now.number) rows.new ≡ map (without_post slot.now.number) rows.old) }
     ensures err { OnErr result (rows.new ≡ rows.old) }
@@ -38,7 +39,7 @@ fn repay_part(rows: &mut [CycleRows], segment: u8, cents: u64, slot: &Slot) -> R
 // Brings each part to the rows of its segment, up to want of memory.
 fn repay_parts(rows: &mut [CycleRows], parts: &Parts, slot: &Slot) -> Result<(), NoMemory>
     requires on_segments { AreOnSegments (length rows.old + 2) parts.now }
-    requires limit { parts_sum parts.now ≤ 1_000_000_000_000_000 }
+    requires limit { parts_sum parts.now ≤ balance_limit }
     ensures repaid { OnOk result (AreRepaid slot.now.day slot.now.number parts.now rows.old rows.new) }
     ensures others { map (without_post slot.now.number) rows.new ≡ map (without_post slot.now.number) rows.old }
 {
@@ -57,7 +58,7 @@ fn repay_parts(rows: &mut [CycleRows], parts: &Parts, slot: &Slot) -> Result<(),
 /// had brought nothing are as they were.
 pub fn repay(rows: &mut [CycleRows], parts: &Parts, slot: &Slot) -> Result<(), NoMemory>
     requires on_segments { AreOnSegments (length rows.old + 2) parts.now }
-    requires limit { parts_sum parts.now ≤ 1_000_000_000_000_000 }
+    requires limit { parts_sum parts.now ≤ balance_limit }
     ensures repaid { OnOk result (AreRepaid slot.now.day slot.now.number parts.now rows.old rows.new) }
     ensures err { OnErr result (rows.new ≡ map (without_post slot.now.number) rows.old) }
 {

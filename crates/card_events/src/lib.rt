@@ -3,6 +3,7 @@
 
 mod dated;
 mod kept;
+mod limits;
 mod name;
 mod number;
 mod post;
@@ -10,6 +11,7 @@ mod reply;
 mod request;
 
 pub use kept::{Kept, Slot};
+pub use limits::POST_LIMIT;
 pub use name::Name;
 pub use number::Num;
 pub use post::{Category, Finding, Place, PlanKind, Post, Terms};

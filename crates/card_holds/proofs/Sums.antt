@@ -9,6 +9,7 @@ use Rattle.card_bounds.specs.Bounds.{moved, moves}
 use Rattle.card_model.proofs.Posted.{sum_of-append}
 use Rattle.card_model.specs.Effects.{is_held_by}
 use Rattle.card_model.specs.Entries.{is_kind, sum_of}
+use Rattle.card_model.specs.Limits.{balance_limit}
 use Rattle.card_model.specs.declared.entry.Entry.{Entry}
 use Rattle.card_model.specs.declared.entry.EntryKind.{EntryKind}
 use Rattle.card_model.specs.declared.entry.EntryKind.TheVariants as kind
@@ -67,7 +68,7 @@ next-sum n i es d l =
     ap (sum_of (is_held_by n)) (take_more es i d l)
     ∙ (sum_of-append (is_held_by n) (take i es) (e ∷ []) ∙ ap (λ z. sum_of (is_held_by n) (take i es) +ℤ z) (plus-zero (cond (is_held_by n e) e.cents (pos 0))))
 
-pub front-within : (n i : ℕ) (es : List Entry) → moved es ≤ 1_000_000_000_000_000 → IsWithin 1_000_000_000_000_000 (sum_of (is_held_by n) (take i es))
+pub front-within : (n i : ℕ) (es : List Entry) → moved es ≤ balance_limit → IsWithin balance_limit (sum_of (is_held_by n) (take i es))
 front-within n i es l =
     let here = held-within n (take i es) in
     let front = front-moves i es in
@@ -78,16 +79,16 @@ pub record IsNext (n i : ℕ) (es : List Entry) (s h : ℤ) : Type 0 where
   pub sum : s +ℤ h ≡ sum_of (is_held_by n) (take (i + 1) es)
   pub fits : FitsSigned w64 (s +ℤ h)
 
-pub next-is : (n i : ℕ) (es : List Entry) (e : Entry) (s h : ℤ) → i < length es → moved es ≤ 1_000_000_000_000_000 → e ≡ get_or es i e → s ≡ sum_of (is_held_by n) (take i es) → h ≡ cond (is_held_by n e) e.cents (pos 0) → IsNext n i es s h
+pub next-is : (n i : ℕ) (es : List Entry) (e : Entry) (s h : ℤ) → i < length es → moved es ≤ balance_limit → e ≡ get_or es i e → s ≡ sum_of (is_held_by n) (take i es) → h ≡ cond (is_held_by n e) e.cents (pos 0) → IsNext n i es s h
 next-is n i es e s h l few here so one =
     let whole : s +ℤ h ≡ sum_of (is_held_by n) (take (i + 1) es) =
     ap (λ z. z +ℤ h) so ∙ (ap (λ z. sum_of (is_held_by n) (take i es) +ℤ z) (one ∙ ap (λ (x : Entry). cond (is_held_by n x) x.cents (pos 0)) here) ∙ sym (next-sum n i es e l)) in
     record {
       sum = whole;
-      fits = subst (λ z. FitsSigned w64 z) (sym whole) (within-fits 1_000_000_000_000_000 (sum_of (is_held_by n) (take (i + 1) es)) (omega arith) (front-within n (i + 1) es few));
+      fits = subst (λ z. FitsSigned w64 z) (sym whole) (within-fits balance_limit (sum_of (is_held_by n) (take (i + 1) es)) (omega arith) (front-within n (i + 1) es few));
     }
 
-pub all-high : (n : ℕ) (es : List Entry) → moved es ≤ 1_000_000_000_000_000 → sum_of (is_held_by n) es ≤ℤ pos 1_000_000_000_000_000
+pub all-high : (n : ℕ) (es : List Entry) → moved es ≤ balance_limit → sum_of (is_held_by n) es ≤ℤ pos balance_limit
 all-high n es few = let high = (held-within n es).1 in omega (arith, ints, high, few)
 
 -- entries of at most 10^9 cents each

@@ -1,5 +1,6 @@
 // A charge that is disputed.
 ghost use Rattle.std.specs.Prelude.{◌≡◌, ℕ, List, OnOk, OnErr, min, pos, ◌≤ℤ◌, unsigned_abs, Option};
+ghost use Rattle.card_model.specs.Limits.{balance_limit};
 ghost use Rattle.card_effects.specs.Standing.{IsSlotOf, StandsAt};
 ghost use Rattle.card_events.specs.History.{CorrectedPost};
 ghost use Rattle.card_events.specs.SharedRows.{SharedRows};
@@ -56,7 +57,7 @@ pub fn dispute(
     out: &mut Vec<Entry>,
 ) -> Result<(), NoMemory>
     requires account { AreOf posts.now.history segments.old.segments rates.now }
-    requires small { AreWithin 1_000_000_000_000_000 segments.old.balances }
+    requires small { AreWithin balance_limit segments.old.balances }
     ensures stands { OnOk result ((row : Option IssuedRow) (issued : List IssuedRow) (shared : SharedRows) (p : CorrectedPost) (b : Book) (day : ℕ) → StandsFor shared.holidays posts.now → StandsAt (account_of posts.now.history) (seen_in posts.now.history issued shared slot.now.day) b rates.now segments.old.balances out.old.items → IsSlotOf (seen_in posts.now.history issued shared slot.now.day) p slot.now → StandsAt (account_of posts.now.history) (seen_in posts.now.history issued shared slot.now.day) (effect row (account_of posts.now.history) (seen_in posts.now.history issued shared slot.now.day) p (post.Dispute day charge claim) b) rates.now segments.new.balances out.new.items) }
     ensures segments { segments.new.segments ≡ segments.old.segments }
     ensures err { OnErr result (segments.new ≡ segments.old) }

@@ -1,5 +1,6 @@
 // A dispute that is resolved.
 ghost use Rattle.std.specs.Prelude.{◌≡◌, ◌≤◌, ℕ, List, OnOk, OnErr, pos, ◌≤ℤ◌, cond, Option, slice_index_or};
+ghost use Rattle.card_model.specs.Limits.{balance_limit};
 ghost use Rattle.card_bounds.specs.Bounds.{moved};
 ghost use Rattle.card_effects.specs.Standing.{IsSlotOf, StandsAt};
 ghost use Rattle.card_events.specs.History.{CorrectedPost};
@@ -37,7 +38,7 @@ fn held_of(entry: &Entry, post: Num) -> Cents
 
 // The sum of what entries of a post move to Held.
 fn held_sum(entries: &[Entry], post: Num) -> Cents
-    requires { moved entries.now ≤ 1_000_000_000_000_000 }
+    requires { moved entries.now ≤ balance_limit }
     ensures { result ≡ sum_of (is_held_by post) entries.now }
 {
     let mut sum = 0;
@@ -49,10 +50,10 @@ fn held_sum(entries: &[Entry], post: Num) -> Cents
 
 // What a Dispute moved to Held, as its entries tell it.
 pub fn moved_by(entries: &[Entry], dispute: Num) -> Cents
-    requires { moved entries.now ≤ 1_000_000_000_000_000 }
+    requires { moved entries.now ≤ balance_limit }
     ensures value { result ≡ pos (moved_by dispute entries.now) }
     ensures low { pos 0 ≤ℤ result }
-    ensures high { result ≤ℤ pos 1_000_000_000_000_000 }
+    ensures high { result ≤ℤ pos balance_limit }
 {
     let sum = held_sum(entries, dispute);
     if sum < 0 { 0 } else { sum }
@@ -91,9 +92,9 @@ pub fn resolve(
     out: &mut Vec<Entry>,
 ) -> Result<(), NoMemory>
     requires account { AreOf posts.now.history segments.old.segments rates.now }
-    requires moved { moved out.old.items ≤ 1_000_000_000_000_000 }
+    requires moved { moved out.old.items ≤ balance_limit }
     requires held { pos (moved_by dispute out.old.items) ≤ℤ slice_index_or segments.old.balances 1 (pos 0) }
-    requires small { AreWithin 1_000_000_000_000_000 segments.old.balances }
+    requires small { AreWithin balance_limit segments.old.balances }
     ensures stands { OnOk result ((row : Option IssuedRow) (issued : List IssuedRow) (shared : SharedRows) (p : CorrectedPost) (b : Book) (day cents : ℕ) → StandsFor shared.holidays posts.now → StandsAt (account_of posts.now.history) (seen_in posts.now.history issued shared slot.now.day) b rates.now segments.old.balances out.old.items → IsSlotOf (seen_in posts.now.history issued shared slot.now.day) p slot.now → StandsAt (account_of posts.now.history) (seen_in posts.now.history issued shared slot.now.day) (effect row (account_of posts.now.history) (seen_in posts.now.history issued shared slot.now.day) p (post.Resolve day dispute cents) b) rates.now segments.new.balances out.new.items) }
     ensures segments { segments.new.segments ≡ segments.old.segments }
     ensures err { OnErr result (segments.new ≡ segments.old) }

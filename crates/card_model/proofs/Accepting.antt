@@ -10,6 +10,7 @@ use Rattle.std.proofs.lemmas.List.Elements.{All-nil, All-cons, All-head, All-tai
 use Rattle.std.specs.Str.{bytes_eq}
 use Rattle.card_events.specs.History.{at_number, terms_in, terms_of}
 use Rattle.card_events.specs.Keys.{with_key}
+use Rattle.card_events.specs.Limits.{post_limit}
 use Rattle.card_events.specs.SharedRows.{FeeRow, fee_row_of, shared_rows}
 use Rattle.card_events.specs.declared.kept.Kept.{Kept}
 use Rattle.card_events.specs.declared.post.Post.{Post}
@@ -321,8 +322,8 @@ issues-rows now n key (post.AskRefund d) h s b = no-rows _ _ _ s b
 issues-rows now n key (post.Refund c) h s b = no-rows _ _ _ s b
 issues-rows now n key (post.Amend t d c) h s b = no-rows _ _ _ s b
 
-one-more : (posts : List Kept) (k : Kept) → leb 10000 (length posts) ≡ false → length (posts ++ k ∷ []) ≤ 10000
-one-more posts k h = let more : length posts < 10000 = grind (arith, nat_tests) in rw (length-append posts (k ∷ [])) (omega arith)
+one-more : (posts : List Kept) (k : Kept) → leb post_limit (length posts) ≡ false → length (posts ++ k ∷ []) ≤ post_limit
+one-more posts k h = let more : length posts < post_limit = grind (arith, nat_tests) in rw (length-append posts (k ∷ [])) (omega arith)
 
 same-terms : (posts : List Kept) (k : Kept) → 1 ≤ length posts → terms_of (posts ++ k ∷ []) ≡ terms_of posts
 same-terms [] k l = absurd (omega arith)

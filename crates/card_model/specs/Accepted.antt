@@ -2,6 +2,7 @@
 use Rattle.std.specs.Prelude.{ℕ, ◌≡◌, ◌≤◌, length, max, List, Some}
 use Rattle.std.specs.List.{All, count_by}
 use Rattle.card_events.specs.History.{terms_of}
+use Rattle.card_events.specs.Limits.{post_limit}
 use Rattle.card_events.specs.SharedRows.{FeeRow, shared_rows}
 use Rattle.card_events.specs.declared.kept.Kept.{Kept}
 use Rattle.card_events.specs.declared.post.Post.{Post}
@@ -58,7 +59,7 @@ HasFewRates k = posted_rate k.post ≤ 9999
 
 -- the lists of an account
 pub record AreAccepted (lists : Lists) : Type 0 where
-  pub count : length lists.posts ≤ 10000
+  pub count : length lists.posts ≤ post_limit
   pub terms : AreInRange (terms_of lists.posts)
   pub cents : All HasFewCents lists.posts
   pub rates : All HasFewRates lists.posts

@@ -8,6 +8,7 @@ use Rattle.card_days.specs.Later.{six_months_after, year_after}
 use Rattle.card_days.specs.Range.{last_request_day}
 use Rattle.card_days.specs.declared.anchor.Anchor.{Anchor}
 use Rattle.card_events.specs.History.{CorrectedPost, adds_segment, anchor_of, at_number, corrected, disputes}
+use Rattle.card_events.specs.Limits.{post_limit}
 use Rattle.card_events.specs.Same.{is_same_category}
 use Rattle.card_events.specs.SharedRows.{SharedRows}
 use Rattle.card_events.specs.declared.kept.Kept.{Kept}
@@ -345,7 +346,7 @@ nothing_to_review now _ = None
 
 -- the account has 10,000 posts
 abbrev pub account_full : Present → Option Refusal
-account_full now = where_true (nat_le 10000 (length now.lists.posts)) refusal.AccountFull
+account_full now = where_true (nat_le post_limit (length now.lists.posts)) refusal.AccountFull
 
 -- ---- the first reason
 -- the reasons against a post of an account that is there, under a new key, in order

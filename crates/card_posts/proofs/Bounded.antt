@@ -3,6 +3,7 @@ use Rattle.std.proofs.Common.{◌≡◌, ℕ, suc, ◌≤◌, ◌≤ℤ◌, pos,
 use Rattle.std.proofs.lemmas.Int.{ints}
 use Rattle.std.specs.List.{All}
 use Rattle.std.proofs.lemmas.List.Elements.{All-nil, All-cons, All-head, All-tail}
+use Rattle.card_events.specs.Limits.{post_limit}
 use Rattle.card_events.specs.declared.kept.Slot.{Slot}
 use Rattle.card_posts.specs.Effect.{AreSmall, slot_by, slots_from}
 use Rattle.card_posts.specs.Order.{before, in_order, placed}
@@ -45,7 +46,7 @@ slots-all P n (e ∷ es) each h =
     All-cons P (slot_by n e) (slots_from (suc n) es) (each n e (All-head (λ (x : Effect). x.cents ≤ 999_999_999_999) e es h))
     (slots-all P (suc n) es each (All-tail (λ (x : Effect). x.cents ≤ 999_999_999_999) e es h))
 
-pub bounded : (es : List Effect) → length es ≤ 10_000 → AreSmall es → AreBounded (in_order (slots_from 1 es))
+pub bounded : (es : List Effect) → length es ≤ post_limit → AreSmall es → AreBounded (in_order (slots_from 1 es))
 bounded es few small = record {
   count = let long = in_order-length (slots_from 1 es) ∙ slots-length 1 es in omega (arith, long, few);
   low = in_order-all (λ (s : Slot). pos 0 ≤ℤ s.cents) (slots_from 1 es) (slots-all (λ (s : Slot). pos 0 ≤ℤ s.cents) 1 es (λ n e l. omega (arith, ints)) small);

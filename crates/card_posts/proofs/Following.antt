@@ -4,6 +4,7 @@ use Rattle.std.proofs.lemmas.List.{take_more}
 use Rattle.card_days.specs.Range.{last_calendar_day}
 use Rattle.card_days.specs.declared.anchor.Anchor.{Anchor}
 use Rattle.card_events.specs.History.{CorrectedPost, anchor_of, cents_of, corrected, corrected_from, corrected_post, effective_day, next_segment, slot_of}
+use Rattle.card_events.specs.Limits.{post_limit}
 use Rattle.card_events.specs.declared.kept.Kept.{Kept}
 use Rattle.card_posts.specs.Change.{IsFirstChange, first_change}
 use Rattle.card_posts.specs.Corrections.{corrects}
@@ -122,7 +123,7 @@ same-anchor : (h : List Kept) (k : Kept) → 1 ≤ length h → anchor_of h ≡ 
 same-anchor [] k l = absurd (omega (arith, l))
 same-anchor (q ∷ h) k l = refl
 
-pub kept-more : (a : Anchor) (h : List Kept) (k : Kept) → IsKept a h → length h < 10_000 → k.number ≡ length h + 1 → target_of k.post ≤ length h → IsTimely a.opened k → IsKept a (more h k)
+pub kept-more : (a : Anchor) (h : List Kept) (k : Kept) → IsKept a h → length h < post_limit → k.number ≡ length h + 1 → target_of k.post ≤ length h → IsTimely a.opened k → IsKept a (more h k)
 kept-more a h k kept few number earlier timely =
     let long : length (more h k) ≡ length h + 1 = length-append h (k ∷ []) in
     record {

@@ -2,6 +2,7 @@
 use Rattle.std.specs.Prelude.{◌≡◌, ℕ, suc, ◌≤◌, max, Bool, true, false, ◌==◌, List, [], ◌∷◌, Option, option_map, length, map, pos, ◌≤ℤ◌}
 use Rattle.std.specs.List.{All, find}
 use Rattle.card_events.specs.History.{CorrectedPost, anchor_of, corrected, slot_of}
+use Rattle.card_events.specs.Limits.{post_limit}
 use Rattle.card_events.specs.declared.kept.Kept.{Kept}
 use Rattle.card_events.specs.declared.kept.Slot.{Slot}
 use Rattle.card_events.specs.declared.post.Post.{Post}
@@ -28,7 +29,7 @@ slot_with number posts = option_map slot_of (find (λ p. p.number == number) pos
 
 -- there are at most 10,000 of them, each of 0 to 999,999,999,999 cents
 pub record AreBounded (slots : List Slot) : Type 0 where
-  pub count : length slots ≤ 10_000
+  pub count : length slots ≤ post_limit
   pub low : All (λ s. pos 0 ≤ℤ s.cents) slots
   pub high : All (λ s. s.cents ≤ℤ pos 999_999_999_999) slots
 

@@ -5,6 +5,7 @@ use Rattle.card_days.specs.Billing.{IsCloseDay}
 use Rattle.card_days.specs.Range.{last_request_day}
 use Rattle.card_days.specs.declared.anchor.Anchor.{Anchor}
 use Rattle.card_events.specs.History.{anchor_of}
+use Rattle.card_events.specs.Limits.{post_limit}
 use Rattle.card_events.specs.declared.kept.Kept.{Kept}
 use Rattle.card_events.specs.declared.kept.Slot.{Slot}
 use Rattle.card_posts.specs.Corrections.{corrections}
@@ -30,7 +31,7 @@ AreTimely opened (k ∷ ks) = IsTimely opened k × AreTimely opened ks
 
 -- the history of an account that may be kept
 pub record IsKept (a : Anchor) (history : List Kept) : Type 0 where
-  pub few : length history ≤ 10_000
+  pub few : length history ≤ post_limit
   pub some : 1 ≤ length history
   pub anchor : a ≡ anchor_of history
   pub close_day : IsCloseDay a.close_day

@@ -1,5 +1,6 @@
 // Entering a post, with room made for it.
 ghost use Rattle.std.specs.Prelude.{◌≡◌, ◌+◌, ◌<◌, ◌≤◌, ◌++◌, [], ◌∷◌, List, false, length, take, slice_index_or, vec_len, vec_capacity};
+ghost use Rattle.card_events.specs.Limits.{post_limit};
 ghost use Rattle.card_events.specs.declared.kept.Kept.{Kept};
 ghost use Rattle.card_posts.specs.Change.{IsFirstChange};
 ghost use Rattle.card_posts.specs.Corrections.{corrections_from, corrects};
@@ -19,7 +20,7 @@ use card_events::{Kept, Slot};
 // appends a post, and what later ones say of it, which is nothing
 fn append(history: &mut Vec<Kept>, corrections: &mut Vec<Correction>, anchor: &Anchor, kept: Kept)
     requires kept { IsKept anchor.now history.old.items }
-    requires few { length history.old.items < 10_000 }
+    requires few { length history.old.items < post_limit }
     requires number { kept.number ≡ length history.old.items + 1 }
     requires earlier { target_of kept.post ≤ length history.old.items }
     requires timely { IsTimely anchor.now.opened kept }
@@ -91,7 +92,7 @@ pub fn enter(
     requires kept { IsKept anchor.now history.old.items }
     requires beside { AreBeside history.old.items corrections.old.items effects.old.items order.old.items }
     requires stands { effects.old.items ≡ spec.effects anchor.now calendar.now history.old.items }
-    requires few { length history.old.items < 10_000 }
+    requires few { length history.old.items < post_limit }
     requires number { kept.number ≡ length history.old.items + 1 }
     requires earlier { target_of kept.post ≤ length history.old.items }
     requires timely { IsTimely anchor.now.opened kept }

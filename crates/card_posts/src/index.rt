@@ -1,5 +1,6 @@
 // The numbers of an account's posts, ordered by their keys.
 ghost use Rattle.std.specs.Prelude.{◌≡◌, ◌+◌, ◌<◌, ◌≤◌, ◌++◌, [], ◌∷◌, length, slice_get, vec_len, vec_capacity};
+ghost use Rattle.card_events.specs.Limits.{post_limit};
 ghost use Rattle.card_events.specs.Keys.{with_key};
 ghost use Rattle.card_events.specs.declared.kept.Kept.{Kept};
 ghost use Rattle.card_posts.specs.Index.{IsEnd, IsIndex, IsSorted, IsStart, is_before, is_up_to, key_of};
@@ -69,7 +70,7 @@ pub fn find(history: &[Kept], index: &[u32], key: &Name) -> Option<u32>
 
 // Puts the number of a new post into its place, with room for it.
 pub fn enter_key(history: &[Kept], index: &mut Vec<u32>, key: &Name)
-    requires few { length history.now < 10_000 }
+    requires few { length history.now < post_limit }
     requires index { IsIndex history.now index.old.items }
     requires room { vec_len index.old < vec_capacity index.old }
     ensures { (k : Kept) → k.key ≡ key.now → IsIndex (history.now ++ k ∷ []) index.new.items }

@@ -1,5 +1,6 @@
 // Slots in the order in which they are folded.
 ghost use Rattle.std.specs.Prelude.{◌≡◌, ◌+◌, ◌<◌, ◌≤◌, List, length, slice_set, vec_len, vec_capacity};
+ghost use Rattle.card_events.specs.Limits.{post_limit};
 ghost use Rattle.card_events.specs.declared.kept.Kept.{Kept};
 ghost use Rattle.card_posts.specs.Effect.{corrected_with, slot_by, slots_from};
 ghost use Rattle.card_posts.specs.Order.{before, placed, in_order, IsAscending, IsPlace, without};
@@ -22,7 +23,7 @@ pub fn slot(number: u32, effect: &Effect) -> Slot
 
 // The slot of the post with a number.
 pub fn slot_with(effects: &[Effect], number: u64) -> Option<Slot>
-    requires few { length effects.now ≤ 10_000 }
+    requires few { length effects.now ≤ post_limit }
     ensures { (history : List Kept) → length effects.now ≡ length history → result ≡ slot_with number (corrected_with 1 5 history effects.now) }
 {
     if number == 0 {
@@ -62,7 +63,7 @@ pub fn place(order: &mut Vec<Slot>, slot: Slot)
 
 // Takes the slot of a post out of its place.
 fn take_out(order: &mut Vec<Slot>, effects: &[Effect], i: usize)
-    requires few { length effects.now ≤ 10_000 }
+    requires few { length effects.now ≤ post_limit }
     requires order { order.old.items ≡ in_order (slots_from 1 effects.now) }
     requires known { i < length effects.now }
     ensures order { order.new.items ≡ in_order (without i (slots_from 1 effects.now)) }
@@ -76,7 +77,7 @@ fn take_out(order: &mut Vec<Slot>, effects: &[Effect], i: usize)
 
 // Moves the slot of a post to where it belongs now.
 pub fn change(order: &mut Vec<Slot>, effects: &[Effect], i: usize, now: &Effect)
-    requires few { length effects.now ≤ 10_000 }
+    requires few { length effects.now ≤ post_limit }
     requires order { order.old.items ≡ in_order (slots_from 1 effects.now) }
     requires known { i < length effects.now }
     requires room { vec_len order.old ≤ vec_capacity order.old }

@@ -46,6 +46,7 @@ pub struct Pushed {
 
 impl Posts {
     ghost use Rattle.std.specs.Prelude.{◌≡◌, ℕ, ◌+◌, ◌<◌, ◌≤◌, ◌++◌, List, [], ◌∷◌, true, false, length, IsOk, IfOk, OnOk, OnErr, option_copied};
+    ghost use Rattle.card_events.specs.Limits.{post_limit};
     ghost use Rattle.card_days.specs.Range.{last_request_day};
     ghost use Rattle.card_days.specs.Billing.{IsCloseDay};
     ghost use Rattle.card_events.specs.History.{anchor_of, at_number, terms_in};
@@ -89,7 +90,7 @@ impl Posts {
     /// How many there are. They are numbered from 1 on.
     pub fn len(&self) -> u32
         ensures value { result ≡ length self.now.history }
-        ensures bound { result ≤ 10_000 }
+        ensures bound { result ≤ post_limit }
         ensures numbered { AreNumbered 1 self.now.history }
     {
         self.history.len() as u32
@@ -157,7 +158,7 @@ impl Posts {
     /// acceptance, and an Amend gives no later day.
     pub fn add(&mut self, key: Name, accepted: Day, post: &Post, calendar: &Calendar) -> Pushed
         requires room { self.old.has_room ≡ true }
-        requires few { length self.old.history < 10_000 }
+        requires few { length self.old.history < post_limit }
         requires stands { StandsFor calendar.now self.old }
         requires target { target_of post.now ≤ length self.old.history }
         requires dated { accepted ≤ last_request_day }
@@ -198,7 +199,7 @@ impl Posts {
         post: &Post,
         calendar: &Calendar,
     ) -> Result<Pushed, NoMemory>
-        requires few { length self.old.history < 10_000 }
+        requires few { length self.old.history < post_limit }
         requires stands { StandsFor calendar.now self.old }
         requires target { target_of post.now ≤ length self.old.history }
         requires dated { accepted ≤ last_request_day }

@@ -1,5 +1,6 @@
 // Bringing what counts for earlier posts, and their order, up to a correction.
 ghost use Rattle.std.specs.Prelude.{◌≡◌, ◌+◌, ◌<◌, ◌≤◌, min, false, length, take, slice_index_or, slice_set, vec_len, vec_capacity};
+ghost use Rattle.card_events.specs.Limits.{post_limit};
 ghost use Rattle.card_days.specs.Range.{last_calendar_day};
 ghost use Rattle.card_posts.specs.Change.{after_one, first_change, stands};
 ghost use Rattle.card_posts.specs.Corrections.{corrections_from, corrects};
@@ -45,7 +46,7 @@ fn refresh_one(
     now: &Effect,
     first: Day,
 ) -> Day
-    requires few { length effects.old ≤ 10_000 }
+    requires few { length effects.old ≤ post_limit }
     requires known { i < length effects.old }
     requires order { order.old.items ≡ in_order (slots_from 1 effects.old) }
     requires small { AreSmall effects.old }

@@ -3,6 +3,7 @@ use Rattle.std.proofs.Common.{◌≡◌, ℕ, zero, suc, ◌<◌, ◌≤◌, Boo
 use Rattle.std.specs.Prelude.{nat_lt, ◌||◌, ◌==◌, not, slice_get}
 use Rattle.std.proofs.lemmas.Bool.{leb-false, ltb-false, or_parts}
 use Rattle.card_days.specs.Range.{last_request_day, last_calendar_day}
+use Rattle.card_events.specs.Limits.{post_limit}
 use Rattle.card_reasons.proofs.ClosingLemmas.{grown}
 use Rattle.card_reasons.proofs.ReasonLemmas.{none_from, none_head, where_none}
 use Rattle.card_days.specs.Billing.{closing}
@@ -21,7 +22,7 @@ unfolding reason_against
 against now p n none = none_from n (reasons now p) none
 
 -- the account isn't full
-pub few : (now : Present) (p : Post) → reason_against now p ≡ None → length now.lists.posts < 10000
+pub few : (now : Present) (p : Post) → reason_against now p ≡ None → length now.lists.posts < post_limit
 few now p none = leb-false _ _ (where_none _ _ (none_head (account_full now) [] (against now p 20 none)))
 
 -- nor is anything else at its place in the order

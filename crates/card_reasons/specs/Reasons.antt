@@ -4,6 +4,7 @@ use Rattle.std.specs.Option.{option_map, option_or}
 use Rattle.card_days.specs.Billing.{closing}
 use Rattle.card_days.specs.Range.{last_request_day}
 use Rattle.card_days.specs.declared.anchor.Anchor.{Anchor}
+use Rattle.card_events.specs.Limits.{post_limit}
 use Rattle.card_events.specs.declared.kept.Kept.{Kept}
 use Rattle.card_events.specs.SharedRows.{SharedRows}
 use Rattle.card_events.specs.declared.post.Post.{Post}
@@ -28,7 +29,7 @@ early_reason out today opened day =
 
 -- behind all others: the account has so many posts
 abbrev pub full_reason : ℕ → Option Refusal
-full_reason count = where_true (nat_le 10000 count) refusal.AccountFull
+full_reason count = where_true (nat_le post_limit count) refusal.AccountFull
 
 -- between these two: of a charge or a credit, its plan
 unfoldable pub place_reason : Present → Post → Option Refusal
@@ -101,7 +102,7 @@ closed_reason today day posts cycle =
     first_reason (
     option_map (λ n. refusal.WrongEntry n) (number_from (bills cycle) 1 posts)
     ∷ where_true (nat_le today day) (refusal.NotClosed day)
-    ∷ where_true (nat_le 10000 (length posts)) refusal.AccountFull ∷ [])
+    ∷ where_true (nat_le post_limit (length posts)) refusal.AccountFull ∷ [])
 
 -- of a Bill of a cycle
 unfoldable pub bill_reason : ℕ → Anchor → List Kept → ℕ → Option Refusal

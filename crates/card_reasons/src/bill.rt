@@ -1,5 +1,6 @@
 // Why a Bill isn't accepted.
 ghost use Rattle.std.specs.Prelude.{◌≡◌, ◌≤◌, SomeIff, nat_le, [], ◌∷◌};
+ghost use Rattle.card_events.specs.Limits.{post_limit};
 ghost use Rattle.card_days.specs.Range.{last_request_day};
 ghost use Rattle.card_days.specs.Billing.{IsCloseDay, closing};
 ghost use Rattle.card_model.specs.Refusals.{first_reason, where_true};
@@ -8,7 +9,7 @@ ghost use Rattle.card_reasons.specs.Reasons as reasons;
 use crate::closings::closing_of;
 use crate::search::{Wanted, number_of};
 use card_days::{Anchor, Day};
-use card_events::{Num, Refusal};
+use card_events::{Num, POST_LIMIT, Refusal};
 use card_posts::Posts;
 
 // Why a Bill isn't accepted today, of a cycle that closes on this day.
@@ -22,11 +23,11 @@ fn closed_reason(posts: &Posts, today: Day, cycle: Num, closing: Day) -> Option<
 }
 
 fn later_reason(today: Day, closing: Day, count: u32) -> Option<Refusal>
-    ensures { result ≡ first_reason (where_true (nat_le today closing) (Refusal.NotClosed closing) ∷ where_true (nat_le 10000 count) Refusal.AccountFull ∷ []) }
+    ensures { result ≡ first_reason (where_true (nat_le today closing) (Refusal.NotClosed closing) ∷ where_true (nat_le post_limit count) Refusal.AccountFull ∷ []) }
 {
     if today <= closing {
         Some(Refusal::NotClosed(closing))
-    } else if count >= 10_000 {
+    } else if count >= POST_LIMIT {
         Some(Refusal::AccountFull)
     } else {
         None

@@ -5,7 +5,7 @@ ghost use Rattle.card_model.specs.Refusals as spec;
 ghost use Rattle.card_reasons.specs.Reasons as reasons;
 
 use card_days::Day;
-use card_events::{Num, Refusal};
+use card_events::{Num, POST_LIMIT, Refusal};
 use card_posts::Posts;
 
 // Before what is asked of its kind: an amount or a rate, and the day, in an account that was opened on a day.
@@ -28,7 +28,7 @@ fn early_reason(out: bool, today: Day, opened: Day, day: Day) -> Option<Refusal>
 pub fn full_reason(posts: &Posts) -> Option<Refusal>
     ensures { result ≡ reasons.full_reason (length posts.now.history) }
 {
-    if posts.len() >= 10_000 {
+    if posts.len() >= POST_LIMIT {
         Some(Refusal::AccountFull)
     } else {
         None

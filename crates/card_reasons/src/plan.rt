@@ -1,5 +1,6 @@
 // The end of a Plan, and the segments that an account has.
 ghost use Rattle.std.specs.Prelude.{◌≡◌, ℕ, ◌+◌, ◌≤◌, not, ◌==◌, nat_le, nat_lt, max, [], ◌∷◌};
+ghost use Rattle.card_events.specs.Limits.{post_limit};
 ghost use Rattle.card_days.specs.Range.{last_request_day};
 ghost use Rattle.std.specs.List.{count_by};
 ghost use Rattle.card_reasons.specs.Reasons.{end_reason};
@@ -56,7 +57,7 @@ fn adds_at(posts: &Posts, number: u32) -> bool
 // How many posts add a segment.
 fn added_count(posts: &Posts) -> u32
     ensures value { result ≡ count_by (λ k. adds_segment k.post) posts.now.history }
-    ensures few { result ≤ 10_000 }
+    ensures few { result ≤ post_limit }
 {
     let mut count = 0;
     for i in 0..posts.len() {

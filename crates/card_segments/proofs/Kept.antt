@@ -5,6 +5,7 @@ use Rattle.std.specs.List.{All}
 use Rattle.std.proofs.lemmas.Int.{ints}
 use Rattle.std.proofs.lemmas.Bool.{eqb-true, ne_eqb}
 use Rattle.card_model.specs.Entries.{at_least_zero, balance, credit_in, debit, holds, lowers, negated, posted, raises, releases}
+use Rattle.card_model.specs.Limits.{balance_limit}
 use Rattle.card_model.specs.declared.entry.Entry.{Entry}
 use Rattle.card_model.specs.declared.entry.Note.{Note}
 use Rattle.card_model.specs.declared.segment.Segment.{Segment}
@@ -15,7 +16,7 @@ use Rattle.card_segments.specs.Balances.{AreKept, AreWithin, HaveSigns, IsWithin
 
 -- ---- amounts
 abbrev pub most : ℕ
-most = 1_000_000_000_000_000
+most = balance_limit
 
 -- an amount of a call
 pub record IsAmount (cents : ℤ) : Type 0 where

@@ -1,5 +1,6 @@
 // How balances and entries move together. Room for the entries is made by the caller.
 ghost use Rattle.std.specs.Prelude.{◌≡◌, ℕ, ◌+◌, ◌-◌, ◌<◌, ◌≤◌, ◌++◌, length, min, pos, ◌≤ℤ◌, slice_index_or, vec_len, vec_capacity};
+ghost use Rattle.card_model.specs.Limits.{balance_limit};
 ghost use Rattle.card_model.specs.Entries.{at_least_zero, credit_in, debit, entry_of, holds, lowers, negated, posted, releases};
 ghost use Rattle.card_segments.specs.Balances.{AreWithin, IsWithin, total};
 
@@ -11,7 +12,7 @@ fn post(balances: &mut Vec<Cents>, out: &mut Vec<Entry>, note: &Note, id: u8, ce
     requires room { vec_len out.old < vec_capacity out.old }
     requires known { id < length balances.old.items }
     requires small { IsWithin 11_000_000_000_000_000 (slice_index_or balances.old.items id (pos 0)) }
-    requires amount { IsWithin 1_000_000_000_000_000 cents }
+    requires amount { IsWithin balance_limit cents }
     ensures balances { balances.new.items ≡ posted (entry_of note.now id cents) balances.old.items }
     ensures entries { out.new.items ≡ out.old.items ++ entry_of note.now id cents }
     ensures len { vec_len out.new ≤ vec_len out.old + 1 }
@@ -75,7 +76,7 @@ pub fn raise(balances: &mut Vec<Cents>, out: &mut Vec<Entry>, note: &Note, id: u
     requires known { id < length balances.old.items }
     requires small { AreWithin 11_000_000_000_000_000 balances.old.items }
     requires amount { pos 0 ≤ℤ cents }
-    requires limit { cents ≤ℤ pos 1_000_000_000_000_000 }
+    requires limit { cents ≤ℤ pos balance_limit }
     ensures balances { balances.new.items ≡ posted (debit note.now id (at_least_zero cents) (credit_in balances.old.items)) balances.old.items }
     ensures entries { out.new.items ≡ out.old.items ++ debit note.now id (at_least_zero cents) (credit_in balances.old.items) }
     ensures len { vec_len out.new ≤ vec_len out.old + 2 }
@@ -92,7 +93,7 @@ pub fn lower(balances: &mut Vec<Cents>, out: &mut Vec<Entry>, note: &Note, id: u
     requires known { id < length balances.old.items }
     requires small { AreWithin 11_000_000_000_000_000 balances.old.items }
     requires amount { pos 0 ≤ℤ cents }
-    requires limit { cents ≤ℤ pos 1_000_000_000_000_000 }
+    requires limit { cents ≤ℤ pos balance_limit }
     ensures balances { balances.new.items ≡ posted (lowers note.now id (at_least_zero cents)) balances.old.items }
     ensures entries { out.new.items ≡ out.old.items ++ lowers note.now id (at_least_zero cents) }
     ensures len { vec_len out.new ≤ vec_len out.old + 1 }
@@ -109,7 +110,7 @@ pub fn hold(balances: &mut Vec<Cents>, out: &mut Vec<Entry>, note: &Note, id: u8
     requires known { id < length balances.old.items }
     requires small { AreWithin 11_000_000_000_000_000 balances.old.items }
     requires amount { pos 0 ≤ℤ cents }
-    requires limit { cents ≤ℤ pos 1_000_000_000_000_000 }
+    requires limit { cents ≤ℤ pos balance_limit }
     ensures balances { balances.new.items ≡ posted (holds note.now id (at_least_zero cents)) balances.old.items }
     ensures entries { out.new.items ≡ out.old.items ++ holds note.now id (at_least_zero cents) }
     ensures len { vec_len out.new ≤ vec_len out.old + 2 }
@@ -127,7 +128,7 @@ pub fn release(balances: &mut Vec<Cents>, out: &mut Vec<Entry>, note: &Note, id:
     requires known { id < length balances.old.items }
     requires small { AreWithin 10_000_000_000_000_000 balances.old.items }
     requires amount { pos 0 ≤ℤ cents }
-    requires limit { cents ≤ℤ pos 1_000_000_000_000_000 }
+    requires limit { cents ≤ℤ pos balance_limit }
     ensures balances { balances.new.items ≡ posted (releases note.now id (at_least_zero cents) (credit_in balances.old.items)) balances.old.items }
     ensures entries { out.new.items ≡ out.old.items ++ releases note.now id (at_least_zero cents) (credit_in balances.old.items) }
     ensures len { vec_len out.new ≤ vec_len out.old + 3 }

@@ -4,10 +4,11 @@ use Rattle.std.proofs.lemmas.Int.{ints}
 use Rattle.card_effects.proofs.Repaid.{payment-stands}
 use Rattle.card_effects.proofs.Standing.{handed}
 use Rattle.card_effects.proofs.payments.payment.Goals as goal
+use Rattle.card_model.specs.Limits.{balance_limit}
 
 pub returns-clause-stands : goal.returns-clause-stands
 returns-clause-stands c issued a seen p b day minute cents by s is u m =
-    let high : c.args.minimum_part ≤ℤ pos 1_000_000_000_000_000 = omega (arith, ints, c.requires.within, c.requires.limit) in
+    let high : c.args.minimum_part ≤ℤ pos balance_limit = omega (arith, ints, c.requires.within, c.requires.limit) in
     let low : pos 0 ≤ℤ c.args.slot.now.cents = omega (arith, ints, c.requires.within, c.requires.minimum) in
     payment-stands issued a seen p b day minute cents by c.args.rates.now c.args.segments.now c.take.new.s c.args.out.now.items c.take.new.out.items c.args.slot.now c.args.following_closing _ _ c.args.minimum_part c.deref.result.now c.note_of-note.result c.in_ok-parts.parts
     c.requires.rated.numbers (ap length c.deref.ensures.value ∙ c.in_ok-ranks.ensures.all) s is u m (c.deref.ensures.value ∙ c.in_ok-ranks.ensures.items)

@@ -4,6 +4,7 @@ use Rattle.std.specs.Prelude.{◌≤◌}
 use Rattle.card_effects.proofs.Back.{back-small, back-stands, both-ok}
 use Rattle.card_effects.specs.Returned.{parts_of}
 use Rattle.card_effects.proofs.returns.put_parts_back.Goals as goal
+use Rattle.card_model.specs.Limits.{balance_limit}
 
 pub returns-clause-stands : goal.returns-clause-stands
 returns-clause-stands c =
@@ -17,6 +18,6 @@ pub returns-clause-small : goal.returns-clause-small
 returns-clause-small c =
     let same = sym (c.in_ok-parts.ensures ∙ ap (parts_of c.args.payment) c.deref.ensures.value) in
     let on = subst (λ ps. AreOnSegments (length c.args.segments.now.balances) ps) same c.requires.parts.on_segments in
-    let sum = subst (λ ps. parts_sum ps ≤ 1_000_000_000_000_000) same c.requires.parts.limit in
+    let sum = subst (λ ps. parts_sum ps ≤ balance_limit) same c.requires.parts.limit in
     both-ok c.put_back.result _ _ _ c.put_back.ensures.ok c.put_back.ensures.entries
     (λ ok entries. back-small c.note_of-note.result c.newest-newest.result c.in_ok-parts.parts c.args.segments.now c.put_back.new.s c.newest-newest.ensures.known on sum c.requires.small ok)

@@ -7,8 +7,9 @@ use Rattle.card_effects.specs.Repaid.{AreRepaid}
 use Rattle.card_effects.proofs.Carried.{none-repaid, one-repaid, others-stay}
 use Rattle.card_effects.proofs.rows.repay_part.Goals as goal
 use Rattle.card_effects.proofs.rows.repay_part.Goals.{then-segment-lt2-via-then-segment-lt2, then-segment-lt2-via-else-segment-lt2+then-cents-eq0}
+use Rattle.card_model.specs.Limits.{balance_limit}
 
-handed : (n : ℕ) → n ≤ 1_000_000_000_000_000 → unsigned_abs (to_z w64 n) ≡ n
+handed : (n : ℕ) → n ≤ balance_limit → unsigned_abs (to_z w64 n) ≡ n
 handed n l = ap unsigned_abs (to_z_pos w64 n (omega (arith, l)))
 
 pub returns-then-segment-lt2-clause-repaid : goal.returns-then-segment-lt2-clause-repaid

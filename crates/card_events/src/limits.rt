@@ -1,0 +1,2 @@
+/// The most posts of an account, its Open among them.
+pub const POST_LIMIT: u32 = 10_000;
