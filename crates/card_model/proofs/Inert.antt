@@ -256,7 +256,7 @@ confirms-same n history new h (post.Refund c) = refl
 confirms-same n history new h (post.Amend t d c) = refl
 confirms-same n history new h (post.Bill c) = refl
 
-confirmed-same : (n : ℕ) (history new : List Kept) → Blind (dispute_names n) new → ((hs : List Kept) → sum_by (λ k. confirms n hs k.post) new ≡ 0) → confirmed n (history ++ new) ≡ confirmed n history
+pub confirmed-same : (n : ℕ) (history new : List Kept) → Blind (dispute_names n) new → ((hs : List Kept) → sum_by (λ k. confirms n hs k.post) new ≡ 0) → confirmed n (history ++ new) ≡ confirmed n history
 unfolding confirmed
 confirmed-same n history new h none =
     let parts = sum_by-append (λ (k : Kept). confirms n (history ++ new) k.post) history new in
@@ -271,7 +271,7 @@ first-none : {A : Type 0} (a : Option A) → option_or a None ≡ a
 first-none None = refl
 first-none (Some x) = refl
 
-last_amend-append : (n : ℕ) (xs ys : List Kept) → last_amend n (xs ++ ys) ≡ option_or (last_amend n ys) (last_amend n xs)
+pub last_amend-append : (n : ℕ) (xs ys : List Kept) → last_amend n (xs ++ ys) ≡ option_or (last_amend n ys) (last_amend n xs)
 unfolding last_amend
 last_amend-append n [] ys = sym (first-none (last_amend n ys))
 last_amend-append n (x ∷ xs) ys = ap (λ o. option_or o (amend_of n x.post)) (last_amend-append n xs ys) ∙ first-append (last_amend n ys) (last_amend n xs) (amend_of n x.post)
@@ -314,7 +314,7 @@ leaves-back history i j key other accepted later target to before stood = record
     by n own e false q = refl
 
 -- ---- the laws
-agree : (day : ℕ) (shared : SharedRows) (history new : List Kept) → Leaves history new → AreNotFolded new → anchor_of (history ++ new) ≡ anchor_of history → terms_of (history ++ new) ≡ terms_of history
+pub agree : (day : ℕ) (shared : SharedRows) (history new : List Kept) → Leaves history new → AreNotFolded new → anchor_of (history ++ new) ≡ anchor_of history → terms_of (history ++ new) ≡ terms_of history
     → HistoriesAgree day shared shared history (history ++ new)
 agree day shared history new r h anchor terms =
     let same : folded (anchor_of (history ++ new)) shared.holidays (history ++ new) ≡ folded (anchor_of history) shared.holidays history =

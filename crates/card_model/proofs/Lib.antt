@@ -1,7 +1,9 @@
 pub mod Accepting
 pub mod Balance
+pub mod BreakDays
 pub mod Calendar
 pub mod Caps
+pub mod Cuts
 pub mod EntryFacts
 pub mod Grows
 pub mod Inert
@@ -9,9 +11,12 @@ pub mod Isolation
 pub mod Issue
 pub mod PartsSum
 pub mod Past
+pub mod Penalties
 pub mod Posted
 pub mod Quiet
 pub mod Settled
 pub mod Signs
 pub mod Sound
+pub mod Spans
+pub mod Unread
 pub mod WholeParts

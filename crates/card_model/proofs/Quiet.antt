@@ -50,20 +50,20 @@ no-posts a shared history issued d h =
 
 -- ---- due dates
 -- the due date of a cycle
-IsDueOf : Anchor → Option Cycle → Type 0
+pub IsDueOf : Anchor → Option Cycle → Type 0
 IsDueOf a None = Unit {0}
 IsDueOf a (Some c) = (k : ℕ) × (c.due ≡ due a (suc k))
 
-nothing-due : (a : Anchor) → IsDueOf a None
+pub nothing-due : (a : Anchor) → IsDueOf a None
 unfolding IsDueOf
 nothing-due a = tt
 
-last-due : (a : Anchor) (k : ℕ) (o : Option Cycle) (cs : List Cycle) → IsDueOf a o → HaveTheirDays a k cs → IsDueOf a (last_or o cs)
+pub last-due : (a : Anchor) (k : ℕ) (o : Option Cycle) (cs : List Cycle) → IsDueOf a o → HaveTheirDays a k cs → IsDueOf a (last_or o cs)
 unfolding IsDueOf
 last-due a k o [] e h = e
 last-due a k o (c ∷ cs) e h = last-due a (suc k) (Some c) cs (k, h.0.due) h.1
 
-no-due : (row : Option IssuedRow) (acc : Account) (seen : Seen) (b : Book) (o : Option Cycle) (day : ℕ) → IsOpening acc.anchor → seen.day ≡ day + 1 → day ≤ last_calendar_day → is_due acc.anchor day ≡ false → IsDueOf acc.anchor o → on_due row acc seen b o ≡ b
+pub no-due : (row : Option IssuedRow) (acc : Account) (seen : Seen) (b : Book) (o : Option Cycle) (day : ℕ) → IsOpening acc.anchor → seen.day ≡ day + 1 → day ≤ last_calendar_day → is_due acc.anchor day ≡ false → IsDueOf acc.anchor o → on_due row acc seen b o ≡ b
 unfolding on_due IsDueOf
 no-due row acc seen b None day open' e l q h = refl
 no-due row acc seen b (Some c) day open' e l q h = by (eqb seen.day (c.due + 1)) refl

@@ -50,7 +50,7 @@ pub record Adds (n : ℕ) (old new : List Fee) : Type 0 where
 adds_none : (n : ℕ) (fs : List Fee) → Adds n fs fs
 adds_none n fs = record { rest = []; is = sym (append-nil fs); of_cycle = All-nil (λ (f : Fee). f.cycle ≡ n) }
 
-adds_then : (n : ℕ) (xs ys zs : List Fee) → Adds n xs ys → Adds n ys zs → Adds n xs zs
+pub adds_then : (n : ℕ) (xs ys zs : List Fee) → Adds n xs ys → Adds n ys zs → Adds n xs zs
 adds_then n xs ys zs a b = record {
   rest = a.rest ++ b.rest;
   is = b.is ∙ (ap (λ l. l ++ b.rest) a.is ∙ append_assoc xs a.rest b.rest);
@@ -101,7 +101,7 @@ effect-adds issued a seen p (post.AskRefund d) b = adds_none _ b.fees
 effect-adds issued a seen p (post.Amend t d c) b = adds_none _ b.fees
 effect-adds issued a seen p (post.Bill c) b = adds_none _ b.fees
 
-posts-add : (issued : Option IssuedRow) (a : Account) (seen : Seen) (ps : List CorrectedPost) (b : Book) (n : ℕ) → present_cycle b ≡ n → Adds n b.fees (after_posts issued a seen ps b).fees
+pub posts-add : (issued : Option IssuedRow) (a : Account) (seen : Seen) (ps : List CorrectedPost) (b : Book) (n : ℕ) → present_cycle b ≡ n → Adds n b.fees (after_posts issued a seen ps b).fees
 unfolding after_posts
 posts-add issued a seen [] b n e = adds_none n b.fees
 posts-add issued a seen (p ∷ ps) b n e =
@@ -109,7 +109,7 @@ posts-add issued a seen (p ∷ ps) b n e =
     let same : present_cycle next ≡ n = ap (λ (cs : List Cycle). length cs + 1) (effect-cycles issued a seen p p.post b) ∙ e in
     adds_then n b.fees next.fees _ (subst (λ m. Adds m b.fees next.fees) e (effect-adds issued a seen p p.post b)) (posts-add issued a seen ps next n same)
 
-due-adds : (issued : Option IssuedRow) (a : Account) (seen : Seen) (b : Book) (o : Option Cycle) → Adds (present_cycle b) b.fees (on_due issued a seen b o).fees
+pub due-adds : (issued : Option IssuedRow) (a : Account) (seen : Seen) (b : Book) (o : Option Cycle) → Adds (present_cycle b) b.fees (on_due issued a seen b o).fees
 unfolding on_due
 due-adds issued a seen b None = adds_none _ b.fees
 due-adds issued a seen b (Some c) = by (eqb seen.day (c.due + 1)) (fee-adds a seen 0 (present_cycle b) (late_fee issued seen b c) b (late-cycle issued seen b c))

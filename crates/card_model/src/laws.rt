@@ -1,9 +1,12 @@
 //! Laws of the fold, for all lists of posts.
 ghost use Rattle.card_model.specs.Accepted.{RunsAreAccepted};
+ghost use Rattle.card_model.specs.Cuts.{BreakDaysStay, ClosingsAreCuts};
 ghost use Rattle.card_model.specs.CycleDays.{CyclesAreOfTheCalendar};
 ghost use Rattle.card_model.specs.Isolated.{Isolation};
 ghost use Rattle.card_model.specs.Laws.{BalanceIdentity, CorrectionBack, IssuedCaps, IssuingChangesNoPastDay, PastIsEnough, Signs};
 ghost use Rattle.card_model.specs.QuietDays.{QuietDaysChangeNothing};
+ghost use Rattle.card_model.specs.Spans.{SpansAreSteps, SpansAreTold};
+ghost use Rattle.card_model.specs.Unread.{UnfoldedPostsAgree};
 
 /// The book of a day depends on the corrected posts and the fee rows up to that day alone.
 pub fn past_is_enough()
@@ -57,4 +60,32 @@ pub fn cycles_are_of_the_calendar()
 /// A day that is no break day leaves the book of the day before as it was.
 pub fn quiet_days_change_nothing()
     ensures { QuietDaysChangeNothing }
+{}
+
+/// The book of the day on which a cycle closed is a cut of the book of every later day: the entries that the cycle counts,
+/// the cycles up to it, the fees of these cycles, and the penalties that had begun, each with its end where that lay before
+/// the closing.
+pub fn closings_are_cuts()
+    ensures { ClosingsAreCuts }
+{}
+
+/// By the penalties in the book of every later day, a day is a break day where it is one by those of the day before it.
+pub fn break_days_stay()
+    ensures { BreakDaysStay }
+{}
+
+/// A Review, an Ack, an AskRefund or a Bill that is accepted last leaves what is folded up to every day as it was.
+pub fn unfolded_posts_agree()
+    ensures { UnfoldedPostsAgree }
+{}
+
+/// Of the steps of a fold, each span of days without a break is one, with the day that ends it.
+pub fn spans_are_steps()
+    ensures { SpansAreSteps }
+{}
+
+/// Behind days without a break, the penalties of the book before them tell whether a day is a break day as those of every
+/// later book do.
+pub fn spans_are_told()
+    ensures { SpansAreTold }
 {}

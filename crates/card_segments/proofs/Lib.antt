@@ -2,3 +2,4 @@ pub mod Known
 pub mod Kept
 pub mod Totals
 pub mod Sums
+pub mod Unposted

@@ -9,6 +9,7 @@ ghost use Rattle.card_model.specs.Segments.{kept_segments};
 ghost use Rattle.card_model.specs.declared.entry.Entry.{Entry};
 ghost use Rattle.card_model.specs.declared.entry.Note.{Note};
 ghost use Rattle.card_segments.specs.Balances.{AreOn, opening_segments, total};
+ghost use Rattle.card_segments.specs.Unposted.{BalancesGoBack};
 
 /// Where each balance is the sum of its segment's entries, so it is after more entries on segments that are there, and
 /// after a segment is added.
@@ -34,4 +35,9 @@ pub fn owed_is_the_sum()
 /// An account without posts has the opening segments.
 pub fn opening()
     ensures { (anchor : Anchor) (terms : Terms) → kept_segments anchor terms [] ≡ opening_segments anchor.opened }
+{}
+
+/// Where each balance is the sum of its segment's entries, so it was before the last of these.
+pub fn balances_go_back()
+    ensures { BalancesGoBack }
 {}
