@@ -29,7 +29,7 @@ on-earlier old new x y l h =
     ap credit_balance (filter-append (λ e. nat_le e.day y) old new ∙ (ap (λ l. filter (λ e. nat_le e.day y) old ++ l) (none-kept x y new l h) ∙ append-nil (filter (λ e. nat_le e.day y) old)))
 
 -- and of the day itself
-on-last : (es : List Entry) (x : ℕ) → All (λ e. e.day ≤ x) es → credit_on es x ≡ credit_balance es
+pub on-last : (es : List Entry) (x : ℕ) → All (λ e. e.day ≤ x) es → credit_on es x ≡ credit_balance es
 unfolding credit_on
 on-last es x h = ap credit_balance (all-kept x es h)
 

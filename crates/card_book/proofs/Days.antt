@@ -17,7 +17,7 @@ use Rattle.card_book.specs.Stands.{BookIsTheFold, book_through, day_to_fold, sin
 use Rattle.card_book.proofs.Credit.{since-first, since-next}
 
 -- ---- books
-after-is : (g : Given) (day : ℕ) → before g (day + 1) ≡ book_on g day
+pub after-is : (g : Given) (day : ℕ) → before g (day + 1) ≡ book_on g day
 unfolding book
 after-is g day = refl
 

@@ -1,10 +1,15 @@
+pub mod Agreement
 pub mod Balances
 pub mod Credit
 pub mod Days
 pub mod Disputed
 pub mod EveryEntry
+pub mod GoingOn
 pub mod IssuedRows
 pub mod More
 pub mod Notices
 pub mod PenaltyFees
+pub mod QuietSpans
+pub mod RatesGoOn
+pub mod Rewound
 pub mod Told

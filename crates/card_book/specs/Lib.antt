@@ -1,3 +1,7 @@
+pub mod Agreement
 pub mod Compliance
+pub mod GoingOn
 pub mod Laws
+pub mod QuietSpans
+pub mod Rewound
 pub mod Stands

@@ -1,6 +1,10 @@
 //! Laws on the books of accounts. Their functions do nothing; their clauses are what holds.
+ghost use Rattle.card_book.specs.Agreement.{LaterChangesAgree, LaterRowsAgree};
 ghost use Rattle.card_book.specs.Compliance.{DisputedAmountsAreLeftAlone, NoticesKeepEarlierRates, PenaltyFeesAreReasonable};
+ghost use Rattle.card_book.specs.GoingOn.{AgreementGoesOn, BillsGoOn, BooksGoOn, RatesGoOn};
 ghost use Rattle.card_book.specs.Laws.{IssuedRowsStay, OnlyBillsIssue};
+ghost use Rattle.card_book.specs.QuietSpans.{QuietSpansChangeNothing};
+ghost use Rattle.card_book.specs.Rewound.{RewoundBooksStand};
 ghost use Rattle.card_book.specs.Stands.{BookIsTheFold};
 ghost use Rattle.card_model.specs.Laws.{BalanceIdentity, CorrectionBack, IssuedCaps, IssuingChangesNoPastDay, PastIsEnough};
 
@@ -65,4 +69,46 @@ pub fn notices_keep_earlier_rates()
 /// or credit is allocated to a disputed amount, and it bears no interest and no fee (12 CFR 1026.13(d)).
 pub fn disputed_amounts_are_left_alone()
     ensures { DisputedAmountsAreLeftAlone }
+{}
+
+/// A post that is accepted last leaves what is folded up to each day before the first on which the corrected list changes.
+pub fn later_changes_agree()
+    ensures { LaterChangesAgree }
+{}
+
+/// Holidays after the last day of acceptance, and fee rows after a day, leave what is folded up to that day.
+pub fn later_rows_agree()
+    ensures { LaterRowsAgree }
+{}
+
+/// Over days of which none is a break day, the book stays what it was before them, and so does the first day of the run of
+/// days that end with a credit balance.
+pub fn quiet_spans_change_nothing()
+    ensures { QuietSpansChangeNothing }
+{}
+
+/// A Book and its track that stand for the book of an account stand for it over other posts and shared rows too, where these
+/// are the same up to the last day folded and give the same segments and rates.
+pub fn books_go_on()
+    ensures { BooksGoOn }
+{}
+
+/// Where what is folded agrees up to a day and no row was issued, the account goes on from that day.
+pub fn agreement_goes_on()
+    ensures { AgreementGoesOn }
+{}
+
+/// After a Bill with the row that it adds, the account goes on from each day up to the one on which it was accepted.
+pub fn bills_go_on()
+    ensures { BillsGoOn }
+{}
+
+/// Posts that are no Plan, Notice or Lower leave all segments and rates.
+pub fn rates_go_on()
+    ensures { RatesGoOn }
+{}
+
+/// A Book and its track taken back to the closing of a cycle stand for the account's book at that closing.
+pub fn rewound_books_stand()
+    ensures { RewoundBooksStand }
 {}
