@@ -7,7 +7,7 @@ ghost use Rattle.card_model.specs.Fees as words;
 ghost use Rattle.card_model.specs.declared.fee.FeeKind.TheVariants as kind;
 
 use crate::FeeTable;
-use card_days::{Anchor, Day, cycle_of};
+use card_days::{Anchor, Day, cycle_of, due_date};
 use card_model::{Fee, FeeKind};
 use card_units::Cents;
 

@@ -1,6 +1,5 @@
 // The fields of a row, from left to right.
 ghost use Rattle.std.specs.Prelude.{◌≡◌, IfSome, IfNone};
-ghost use Rattle.card_days.specs.Range.{last_request_day};
 ghost use Rattle.card_rows.specs.Reading.{Gives, GivesSome, read_piece};
 ghost use Rattle.card_rows.specs.Reading as spec;
 
@@ -84,10 +83,13 @@ fn day_in(piece: [u8; 4]) -> Option<Day>
 fn request_day(number: u32) -> Option<Day>
     ensures { result ≡ spec.request_day number }
 {
-    if number > last_request_day {
+    if number > Day::last().number() as u32 {
         return None;
     }
-    Day::from_number(number as i32)
+    match Day::from_number(number as i32) {
+        Some(day) if day.is_request_day() => Some(day),
+        _ => None,
+    }
 }
 
 /// A number.
