@@ -1,4 +1,4 @@
--- The interest of all segments at a closing, and accruals whose period ends (12 CFR 1026.7(b)(14), .14(b), .54), from what the
+-- The interest of all segments at a closing, and accruals whose period ends (12 CFR 1026.14(b), .54, .55(b)(1)), from what the
 -- ledger keeps: segments, rows and accruals. Days are day numbers, amounts cents.
 use Rattle.std.specs.Prelude.{ℕ, ◌≡◌, ◌+◌, ◌-◌, ◌==◌, ◌&&◌, true, false, Bool, if◌then◌else◌, map, length, List, [], ◌∷◌, Option, Some, None, slice_index_or}
 use Rattle.std.specs.List.{All, Contains, filter}

@@ -1,4 +1,4 @@
--- Worked values of deferred interest (12 CFR 1026.7(b)(14), .54, .55(b)(1)).
+-- Worked values of deferred interest (12 CFR 1026.54, .55(b)(1) and its comment 55(b)(1)-3).
 use Rattle.std.specs.Prelude.{ℕ, ◌+◌, ◌*◌, ◌≡◌, List, [], ◌∷◌, ◌++◌, Some, pos, map}
 use Rattle.card_days.specs.Civil.{day_at}
 use Rattle.card_events.specs.declared.post.Place.TheVariants as place

@@ -46,7 +46,7 @@ pub fn rates()
     ensures { RatesAreWorked }
 {}
 
-/// Deferred interest (12 CFR 1026.7(b)(14), .54).
+/// Deferred interest (12 CFR 1026.54; comment 55(b)(1)-3).
 pub fn deferred()
     ensures { DeferredIsWorked }
 {}

@@ -1,4 +1,4 @@
--- How a segment bears interest on a day, as the ledger keeps segments (12 CFR 1026.54, .7(b)(14)).
+-- How a segment bears interest on a day, as the ledger keeps segments (12 CFR 1026.54, .55(b)(1)).
 use Rattle.std.specs.Prelude.{ℕ, ◌≡◌, Bool, ◌&&◌, not, nat_le, if◌then◌else◌}
 use Rattle.card_model.specs.Interest.{case_of}
 use Rattle.card_model.specs.Segments.{SegmentTerms, is_deferred_on, is_over, is_sort, kept_segment}

@@ -4,7 +4,7 @@ ghost use Rattle.card_grace.specs.Accruals.{nothing_accrued, with_accrual};
 use card_units::{Bp, Cents, daily};
 use std::marker::Model;
 
-/// The interest that a deferred balance accrues over the whole period of its plan (12 CFR 1026.7(b)(14)). Clauses see the
+/// The interest that a deferred balance accrues over the whole period of its plan (12 CFR 1026.55(b)(1), comment 55(b)(1)-3). Clauses see the
 /// number of its days, and the sum of their balances in cents, each times the daily rate in units of 10^-9.
 #[derive(Clone, Copy, Debug, PartialEq, Eq)]
 pub struct Accrual {

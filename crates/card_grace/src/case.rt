@@ -5,7 +5,7 @@ use crate::GraceCase;
 use card_days::Day;
 use card_model::{Segment, Sort};
 
-/// Whether it is a deferred balance on a day of its plan's period (12 CFR 1026.7(b)(14)).
+/// Whether it is a deferred balance on a day of its plan's period (12 CFR 1026.55(b)(1), comment 55(b)(1)-3).
 pub fn is_deferred(segment: &Segment, day: Day) -> bool
     ensures { result ≡ is_deferred_in day segment.now }
 {
