@@ -40,7 +40,7 @@ fn billed_closing(anchor: &Anchor, cycle: Num) -> Option<Day>
     ensures { SomeIff result ((1 ≤ cycle) × (closing anchor.now cycle ≤ last_request_day)) (closing anchor.now cycle) }
 {
     match closing_of(anchor, cycle) {
-        Some(closing) if closing.number() <= last_request_day => Some(closing),
+        Some(closing) if closing.is_request_day() => Some(closing),
         _ => None,
     }
 }
