@@ -11,9 +11,8 @@ pub fn closing_of(anchor: &Anchor, cycle: Num) -> Option<Day>
     requires { IsCloseDay anchor.now.close_day }
     ensures { SomeIff result ((1 ≤ cycle) × (closing anchor.now cycle ≤ last_calendar_day)) (closing anchor.now cycle) }
 {
-    if cycle.get() > Day::last().number() as u64 {
-        None
-    } else {
-        closing(*anchor, cycle.get() as u32)
+    match u32::try_from(cycle.get()) {
+        Ok(cycle) => closing(*anchor, cycle),
+        Err(_) => None,
     }
 }
