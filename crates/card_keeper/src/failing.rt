@@ -57,6 +57,7 @@ impl Keeper for FailingKeeper {
         ensures calls { self.new.calls ≡ after_call self.old.calls }
         ensures count { self.old.calls.faults ≤ self.new.calls.faults }
         ensures cause { IsErrOf result KeeperFault.Failed → Rose self.old.calls.faults self.new.calls.faults }
+        ensures memory { IsErrOf result KeeperFault.Memory → self.new.calls.faults ≡ self.old.calls.faults }
     {
         if self.calls.fails_now() {
             return Err(KeeperFault::Failed);
@@ -72,6 +73,7 @@ impl Keeper for FailingKeeper {
         ensures calls { self.new.calls ≡ after_call self.old.calls }
         ensures count { self.old.calls.faults ≤ self.new.calls.faults }
         ensures cause { IsErrOf result KeeperFault.Failed → Rose self.old.calls.faults self.new.calls.faults }
+        ensures memory { IsErrOf result KeeperFault.Memory → self.new.calls.faults ≡ self.old.calls.faults }
     {
         if self.calls.fails_now() {
             return Err(KeeperFault::Failed);

@@ -146,6 +146,7 @@ impl Sink for MemorySink {
         ensures told { SameTold (Some self.old.taken) (Some self.new.taken) }
         ensures count { self.old.calls.faults ≤ self.new.calls.faults }
         ensures cause { IsErrOf result SinkFault.Failed → Rose self.old.calls.faults self.new.calls.faults }
+        ensures memory { IsErrOf result SinkFault.Memory → self.new.calls.faults ≡ self.old.calls.faults }
 
         // It takes all, fails at the listed calls, and counts these alone.
         ensures all { IfOk result (λ n. n ≡ length bytes.now) }
