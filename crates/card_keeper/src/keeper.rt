@@ -46,7 +46,7 @@ pub trait Keeper {
     /// The rows, where the form tells them.
     ghost rows: { Self → Option (List Row) };
 
-    /// How often the outside failed.
+    /// How often the outside failed. No other call counts.
     ghost faults: { Self → ℕ };
 
     /// All rows, in order. They stay.
@@ -55,6 +55,7 @@ pub trait Keeper {
         ensures kept { KeepsRows (rows self.old) (rows self.new) }
         ensures told { SameRowsTold (rows self.old) (rows self.new) }
         ensures count { faults self.old ≤ faults self.new }
+        ensures unfailed { OnOk result (faults self.new ≡ faults self.old) }
         ensures cause { IsErrOf result KeeperFault.Failed → Rose (faults self.old) (faults self.new) }
         ensures memory { IsErrOf result KeeperFault.Memory → faults self.new ≡ faults self.old };
 
@@ -65,6 +66,7 @@ pub trait Keeper {
         ensures err { OnErr result (KeepsRows (rows self.old) (rows self.new)) }
         ensures told { SameRowsTold (rows self.old) (rows self.new) }
         ensures count { faults self.old ≤ faults self.new }
+        ensures unfailed { OnOk result (faults self.new ≡ faults self.old) }
         ensures cause { IsErrOf result KeeperFault.Failed → Rose (faults self.old) (faults self.new) }
         ensures memory { IsErrOf result KeeperFault.Memory → faults self.new ≡ faults self.old };
 }
