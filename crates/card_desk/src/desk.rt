@@ -118,7 +118,9 @@ impl Desk {
         ensures rows_stay { OnErr result (KeepsRows (K.rows keeper.old) (K.rows keeper.new)) }
         ensures told { SameRowsTold (K.rows keeper.old) (K.rows keeper.new) }
         ensures count { K.faults keeper.old ≤ K.faults keeper.new }
+        ensures unfailed { OnOk result (K.faults keeper.new ≡ K.faults keeper.old) }
         ensures cause { IsErrOf result Fault.Keeper → Rose (K.faults keeper.old) (K.faults keeper.new) }
+        ensures memory { IsErrOf result Fault.Memory → K.faults keeper.new ≡ K.faults keeper.old }
     {
         let row = self.next_row(alloc, request)?;
         self.shared.reserve(1)?;
@@ -146,7 +148,9 @@ impl Desk {
         ensures rows_stay { OnErr result (KeepsRows (K.rows keeper.old) (K.rows keeper.new)) }
         ensures told { SameRowsTold (K.rows keeper.old) (K.rows keeper.new) }
         ensures count { K.faults keeper.old ≤ K.faults keeper.new }
+        ensures unfailed { OnOk result (K.faults keeper.new ≡ K.faults keeper.old) }
         ensures cause { IsErrOf result Fault.Keeper → Rose (K.faults keeper.old) (K.faults keeper.new) }
+        ensures memory { IsErrOf result Fault.Memory → K.faults keeper.new ≡ K.faults keeper.old }
     {
         let row = self.next_row(alloc, request)?;
         self.shared.reserve(1)?;
@@ -177,7 +181,9 @@ impl Desk {
         ensures rows_stay { OnErr result (KeepsRows (K.rows keeper.old) (K.rows keeper.new)) }
         ensures told { SameRowsTold (K.rows keeper.old) (K.rows keeper.new) }
         ensures count { K.faults keeper.old ≤ K.faults keeper.new }
+        ensures unfailed { OnOk result (K.faults keeper.new ≡ K.faults keeper.old) }
         ensures cause { IsErrOf result Fault.Keeper → Rose (K.faults keeper.old) (K.faults keeper.new) }
+        ensures memory { IsErrOf result Fault.Memory → K.faults keeper.new ≡ K.faults keeper.old }
     {
         let row = self.next_row(alloc, request)?;
         self.shared.reserve(1)?;
@@ -205,7 +211,9 @@ impl Desk {
         ensures rows_stay { OnErr result (KeepsRows (K.rows keeper.old) (K.rows keeper.new)) }
         ensures told { SameRowsTold (K.rows keeper.old) (K.rows keeper.new) }
         ensures count { K.faults keeper.old ≤ K.faults keeper.new }
+        ensures unfailed { OnOk result (K.faults keeper.new ≡ K.faults keeper.old) }
         ensures cause { IsErrOf result Fault.Keeper → Rose (K.faults keeper.old) (K.faults keeper.new) }
+        ensures memory { IsErrOf result Fault.Memory → K.faults keeper.new ≡ K.faults keeper.old }
     {
         match roll_reason(self.today, self.accounts.len(), day) {
             Some(refusal) => Ok(Reply::Refused(refusal)),
@@ -229,7 +237,9 @@ impl Desk {
         ensures rows_stay { OnErr result (KeepsRows (K.rows keeper.old) (K.rows keeper.new)) }
         ensures told { SameRowsTold (K.rows keeper.old) (K.rows keeper.new) }
         ensures count { K.faults keeper.old ≤ K.faults keeper.new }
+        ensures unfailed { OnOk result (K.faults keeper.new ≡ K.faults keeper.old) }
         ensures cause { IsErrOf result Fault.Keeper → Rose (K.faults keeper.old) (K.faults keeper.new) }
+        ensures memory { IsErrOf result Fault.Memory → K.faults keeper.new ≡ K.faults keeper.old }
     {
         match holiday_reason(self.today, day) {
             Some(refusal) => Ok(Reply::Refused(refusal)),
@@ -255,7 +265,9 @@ impl Desk {
         ensures rows_stay { OnErr result (KeepsRows (K.rows keeper.old) (K.rows keeper.new)) }
         ensures told { SameRowsTold (K.rows keeper.old) (K.rows keeper.new) }
         ensures count { K.faults keeper.old ≤ K.faults keeper.new }
+        ensures unfailed { OnOk result (K.faults keeper.new ≡ K.faults keeper.old) }
         ensures cause { IsErrOf result Fault.Keeper → Rose (K.faults keeper.old) (K.faults keeper.new) }
+        ensures memory { IsErrOf result Fault.Memory → K.faults keeper.new ≡ K.faults keeper.old }
     {
         match fees_reason(self.today, day, first, repeat) {
             Some(refusal) => Ok(Reply::Refused(refusal)),
@@ -278,7 +290,9 @@ impl Desk {
         ensures rows_stay { OnErr result (KeepsRows (K.rows keeper.old) (K.rows keeper.new)) }
         ensures told { SameRowsTold (K.rows keeper.old) (K.rows keeper.new) }
         ensures count { K.faults keeper.old ≤ K.faults keeper.new }
+        ensures unfailed { OnOk result (K.faults keeper.new ≡ K.faults keeper.old) }
         ensures cause { IsErrOf result Fault.Keeper → Rose (K.faults keeper.old) (K.faults keeper.new) }
+        ensures memory { IsErrOf result Fault.Memory → K.faults keeper.new ≡ K.faults keeper.old }
     {
         match shared {
             Shared::Roll(day) => self.roll(alloc, keeper, request, *day),
@@ -312,7 +326,9 @@ impl Desk {
         ensures rows_stay { OnErr result (KeepsRows (K.rows keeper.old) (K.rows keeper.new)) }
         ensures told { SameRowsTold (K.rows keeper.old) (K.rows keeper.new) }
         ensures count { K.faults keeper.old ≤ K.faults keeper.new }
+        ensures unfailed { OnOk result (K.faults keeper.new ≡ K.faults keeper.old) }
         ensures cause { IsErrOf result Fault.Keeper → Rose (K.faults keeper.old) (K.faults keeper.new) }
+        ensures memory { IsErrOf result Fault.Memory → K.faults keeper.new ≡ K.faults keeper.old }
     {
         let row = self.next_row(alloc, request)?;
         let name = account.copy(alloc)?;
@@ -352,7 +368,9 @@ impl Desk {
         ensures rows_stay { OnErr result (KeepsRows (K.rows keeper.old) (K.rows keeper.new)) }
         ensures told { SameRowsTold (K.rows keeper.old) (K.rows keeper.new) }
         ensures count { K.faults keeper.old ≤ K.faults keeper.new }
+        ensures unfailed { OnOk result (K.faults keeper.new ≡ K.faults keeper.old) }
         ensures cause { IsErrOf result Fault.Keeper → Rose (K.faults keeper.old) (K.faults keeper.new) }
+        ensures memory { IsErrOf result Fault.Memory → K.faults keeper.new ≡ K.faults keeper.old }
     {
         match post {
             Post::Open { day, terms } => {
@@ -387,7 +405,9 @@ impl Desk {
         ensures rows_stay { OnErr result (KeepsRows (K.rows keeper.old) (K.rows keeper.new)) }
         ensures told { SameRowsTold (K.rows keeper.old) (K.rows keeper.new) }
         ensures count { K.faults keeper.old ≤ K.faults keeper.new }
+        ensures unfailed { OnOk result (K.faults keeper.new ≡ K.faults keeper.old) }
         ensures cause { IsErrOf result Fault.Keeper → Rose (K.faults keeper.old) (K.faults keeper.new) }
+        ensures memory { IsErrOf result Fault.Memory → K.faults keeper.new ≡ K.faults keeper.old }
     {
         let row = self.next_row(alloc, request)?;
         let key = key.copy(alloc)?;
@@ -426,7 +446,9 @@ impl Desk {
         ensures rows_stay { OnErr result (KeepsRows (K.rows keeper.old) (K.rows keeper.new)) }
         ensures told { SameRowsTold (K.rows keeper.old) (K.rows keeper.new) }
         ensures count { K.faults keeper.old ≤ K.faults keeper.new }
+        ensures unfailed { OnOk result (K.faults keeper.new ≡ K.faults keeper.old) }
         ensures cause { IsErrOf result Fault.Keeper → Rose (K.faults keeper.old) (K.faults keeper.new) }
+        ensures memory { IsErrOf result Fault.Memory → K.faults keeper.new ≡ K.faults keeper.old }
     {
         let known = &self.accounts[at];
         match known.judge(alloc, self.today, key, post, &self.calendar, &self.fees) {
@@ -455,7 +477,9 @@ impl Desk {
         ensures rows_stay { OnErr result (KeepsRows (K.rows keeper.old) (K.rows keeper.new)) }
         ensures told { SameRowsTold (K.rows keeper.old) (K.rows keeper.new) }
         ensures count { K.faults keeper.old ≤ K.faults keeper.new }
+        ensures unfailed { OnOk result (K.faults keeper.new ≡ K.faults keeper.old) }
         ensures cause { IsErrOf result Fault.Keeper → Rose (K.faults keeper.old) (K.faults keeper.new) }
+        ensures memory { IsErrOf result Fault.Memory → K.faults keeper.new ≡ K.faults keeper.old }
     {
         match self.index.find(account.bytes()) {
             Some(at) => { self.post_known(alloc, keeper, request, at as usize, account, key, post) }
@@ -467,7 +491,7 @@ impl Desk {
     /// memory; a refusal or a repeat changes nothing. No account but the one that the request names is touched, and the reply
     /// depends on no other. After a fault the desk and the rows are as they were.
     ///
-    /// `Keeper`: the keeper failed. `Memory`: memory was wanted and isn't there.
+    /// `Keeper`: the keeper failed, which alone raises its count. `Memory`: memory was wanted and isn't there.
     #[tactic(auto, using(crate::proofs::Apart::apart_of_step))]
     pub fn apply<K: Keeper>(
         &mut self,
@@ -483,7 +507,9 @@ impl Desk {
         ensures rows_stay { OnErr result (KeepsRows (K.rows keeper.old) (K.rows keeper.new)) }
         ensures told { SameRowsTold (K.rows keeper.old) (K.rows keeper.new) }
         ensures count { K.faults keeper.old ≤ K.faults keeper.new }
+        ensures unfailed { OnOk result (K.faults keeper.new ≡ K.faults keeper.old) }
         ensures cause { IsErrOf result Fault.Keeper → Rose (K.faults keeper.old) (K.faults keeper.new) }
+        ensures memory { IsErrOf result Fault.Memory → K.faults keeper.new ≡ K.faults keeper.old }
     {
         match request {
             Request::Shared(shared) => self.share(alloc, keeper, request, shared),

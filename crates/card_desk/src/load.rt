@@ -38,7 +38,7 @@ impl Keeper for Untold {
 }
 
 impl Desk {
-    ghost use Rattle.std.specs.Prelude.{◌≡◌, ◌≤◌, ℕ, Err, IfOk, IsErrOf};
+    ghost use Rattle.std.specs.Prelude.{◌≡◌, ◌≤◌, ℕ, Err, IfOk, OnOk, IsErrOf};
     ghost use Rattle.card_keeper.specs.Rows.{KeepsRows, SameRowsTold};
     ghost use Rattle.card_ports.specs.Counts.{Rose};
     ghost use Rattle.card_desk.specs.Kept.{AreDamagedAt, IsLoadedOf, Fits};
@@ -47,7 +47,7 @@ impl Desk {
     ///
     /// `Damaged(n)`: row n, counted from 1, is the first whose number isn't n, whose body is no spelling, or whose request
     /// is refused or a repeat in its place; it never comes for rows that a desk wrote.
-    /// `Keeper`: the keeper failed. `Memory`: memory was wanted and isn't there.
+    /// `Keeper`: the keeper failed, which alone raises its count. `Memory`: memory was wanted and isn't there.
     pub fn load<K: Keeper>(alloc: Global, keeper: &mut K) -> Result<Desk, LoadFault>
         ensures ok { IfOk result (IsLoadedOf (K.rows keeper.old)) }
         ensures fits { IfOk result (Fits (K.rows keeper.new)) }
@@ -55,7 +55,10 @@ impl Desk {
         ensures rows_stay { KeepsRows (K.rows keeper.old) (K.rows keeper.new) }
         ensures told { SameRowsTold (K.rows keeper.old) (K.rows keeper.new) }
         ensures count { K.faults keeper.old ≤ K.faults keeper.new }
+        ensures unfailed { OnOk result (K.faults keeper.new ≡ K.faults keeper.old) }
         ensures cause { IsErrOf result LoadFault.Keeper → Rose (K.faults keeper.old) (K.faults keeper.new) }
+        ensures memory { IsErrOf result LoadFault.Memory → K.faults keeper.new ≡ K.faults keeper.old }
+        ensures damaged_count { (n : ℕ) → result ≡ Err (LoadFault.Damaged n) → K.faults keeper.new ≡ K.faults keeper.old }
     {
         let rows = kept_rows(alloc, keeper)?;
         run_rows(alloc, &rows)
@@ -69,7 +72,9 @@ fn kept_rows<K: Keeper>(alloc: Global, keeper: &mut K) -> Result<Vec<Row>, LoadF
     ensures rows_stay { KeepsRows (K.rows keeper.old) (K.rows keeper.new) }
     ensures told { SameRowsTold (K.rows keeper.old) (K.rows keeper.new) }
     ensures count { K.faults keeper.old ≤ K.faults keeper.new }
+    ensures unfailed { OnOk result (K.faults keeper.new ≡ K.faults keeper.old) }
     ensures cause { IsErrOf result LoadFault.Keeper → Rose (K.faults keeper.old) (K.faults keeper.new) }
+    ensures memory { IsErrOf result LoadFault.Memory → K.faults keeper.new ≡ K.faults keeper.old }
 {
     match keeper.load(alloc) {
         Ok(rows) => Ok(rows),
