@@ -99,11 +99,7 @@ impl<'a> Inputs<'a> {
     ghost use Rattle.card_posts.specs.Posted.{StandsFor};
 
     /// The inputs of an account.
-    pub fn new(
-        posts: &'a Posts,
-        issued: &'a [Issued],
-        shared: &'a SharedRows,
-    ) -> Inputs<'a>
+    pub fn new(posts: &'a Posts, issued: &'a [Issued], shared: &'a SharedRows) -> Inputs<'a>
         requires stands { StandsFor shared.now.holidays posts.now }
         requires sound { IsSound (record { history = posts.now.history; issued = issued.now; shared = shared.now }) }
         ensures { result ≡ record { history = posts.now.history; issued = issued.now; shared = shared.now } }
