@@ -17,5 +17,5 @@ is_sixty_days_late-requires c =
     let g = given_today now in
     let reached = c.today.ensures.reached in
     let cycles = c.deref.ensures.value ∙ (ap (λ (f : FoldedBook). f.book.cycles) c.self.view_is ∙ ap (λ (b : Book). b.cycles) c.requires.book) in
-    let closed = all-closed g now.today c.anchor.ensures.sound (omega (arith, reached.opened)) reached.dated in
+    let closed = all-closed g now.today c.anchor-anchor.ensures.sound (omega (arith, reached.opened)) reached.dated in
     record { closed = subst (λ (h : Given). All (IsClosed h) c.deref.result.now) (sym c.inputs.ensures) (subst (All (IsClosed g)) (sym cycles) closed) }
