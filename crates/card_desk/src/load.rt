@@ -8,9 +8,8 @@ ghost use Rattle.card_ports.specs.Counts.{Rose};
 ghost use Rattle.card_desk.specs.Kept.{AreDamaged, IsNewRow, IsRunOf, accepted_count};
 ghost use Rattle.card_desk.specs.Loads.{GoesOn};
 
-use crate::Desk;
 use crate::fault::LoadFault;
-use card_account::Fault;
+use crate::{Desk, Fault};
 use card_events::Request;
 use card_keeper::{Keeper, KeeperFault, Row};
 use card_rows::decode;
@@ -49,8 +48,8 @@ impl Desk {
     /// is refused or a repeat in its place; it never comes for rows that a desk wrote.
     /// `Keeper`: the keeper failed, which alone raises its count. `Memory`: memory was wanted and isn't there.
     pub fn load<K: Keeper>(alloc: Global, keeper: &mut K) -> Result<Desk, LoadFault>
-        ensures ok { IfOk result (IsLoadedOf (K.rows keeper.old)) }
-        ensures fits { IfOk result (Fits (K.rows keeper.new)) }
+        ensures ok { IfOk result (λ d. IsLoadedOf (K.rows keeper.old) d.state) }
+        ensures fits { IfOk result (λ d. Fits (K.rows keeper.new) d.state) }
         ensures damaged { (n : ℕ) → result ≡ Err (LoadFault.Damaged n) → AreDamagedAt (K.rows keeper.old) n }
         ensures rows_stay { KeepsRows (K.rows keeper.old) (K.rows keeper.new) }
         ensures told { SameRowsTold (K.rows keeper.old) (K.rows keeper.new) }
@@ -85,7 +84,7 @@ fn kept_rows<K: Keeper>(alloc: Global, keeper: &mut K) -> Result<Vec<Row>, LoadF
 
 // Carries out the requests of rows, from the first day on.
 fn run_rows(alloc: Global, rows: &[Row]) -> Result<Desk, LoadFault>
-    ensures ok { IfOk result (IsRunOf rows.now) }
+    ensures ok { IfOk result (λ d. IsRunOf rows.now d.state) }
     ensures damaged { (n : ℕ) → IsErrOf result (LoadFault.Damaged n) → AreDamaged rows.now n }
     ensures never { IsErrOf result LoadFault.Keeper → ⊥ }
 {
@@ -101,8 +100,8 @@ fn run_rows(alloc: Global, rows: &[Row]) -> Result<Desk, LoadFault>
 
 // Carries out the request of the row that has this place, and says whether it is one that is newly accepted.
 fn run_row(alloc: Global, desk: &mut Desk, number: u64, row: &Row) -> Result<bool, NoMemory>
-    ensures new { IfOk result (λ new. new ≡ true → GoesOn desk.old number row.now desk.new) }
-    ensures bad { IfOk result (λ new. new ≡ false → (r : Request) → IsNewRow desk.old number row.now r → ⊥) }
+    ensures new { IfOk result (λ new. new ≡ true → GoesOn desk.old.state number row.now desk.new.state) }
+    ensures bad { IfOk result (λ new. new ≡ false → (r : Request) → IsNewRow desk.old.state number row.now r → ⊥) }
 {
     if row.seq != number {
         return Ok(false);
@@ -116,8 +115,8 @@ fn run_row(alloc: Global, desk: &mut Desk, number: u64, row: &Row) -> Result<boo
 // Carries out a request, and says whether it was newly accepted.
 fn run_request(alloc: Global, desk: &mut Desk, request: &Request) -> Result<bool, NoMemory>
     requires dated { is_dated request.now ≡ true }
-    ensures new { IfOk result (λ new. new ≡ is_new desk.old request.now) }
-    ensures step { OnOk result (desk.new ≡ (step desk.old request.now).0) }
+    ensures new { IfOk result (λ new. new ≡ is_new desk.old.state request.now) }
+    ensures step { OnOk result (desk.new.state ≡ (step desk.old.state request.now).0) }
 {
     let count = desk.count();
     let mut keeper = Untold {};
