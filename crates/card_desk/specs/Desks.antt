@@ -1,5 +1,5 @@
 -- A desk, by its parts.
-use Rattle.std.specs.Prelude.{◌≡◌, ◌≤◌, ℕ, true, map, length, List}
+use Rattle.std.specs.Prelude.{◌≡◌, ◌≤◌, ℕ, true, map, length, slice_index_or, List}
 use Rattle.std.specs.List.{All, list_all}
 use Rattle.card_account.specs.Accounts.{IsCorrected, OpenAccount}
 use Rattle.card_days.specs.Business.{is_holiday}
@@ -28,6 +28,10 @@ pub record OpenDesk : Type 0 where
 -- what an account with these lists is judged and shown by, in a state
 abbrev pub now_of : State → Lists → Present
 now_of s lists = record { today = s.today; shared = shared_rows s.shared; lists = lists }
+
+-- the same of the account at a place
+abbrev pub now_at : State → ℕ → NamedAccount → Present
+now_at s i d = now_of s (slice_index_or s.accounts i d).lists
 
 -- some requests that may be spelled lead to the state
 pub record IsRun (s : State) : Type 0 where

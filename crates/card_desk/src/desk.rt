@@ -40,11 +40,11 @@ impl Model for Desk {
 }
 
 impl Desk {
-    ghost use Rattle.std.specs.Prelude.{◌≡◌, ◌≤◌, ◌<◌, ◌+◌, ◌++◌, [], ◌∷◌, true, Some, None, length, slice_index_or, IfOk, OnOk, OnErr, IsErrOf};
+    ghost use Rattle.std.specs.Prelude.{◌≡◌, ◌≤◌, ◌<◌, ◌+◌, ◌++◌, [], ◌∷◌, true, Some, None, length, IfOk, OnOk, OnErr, IsErrOf};
     ghost use Rattle.card_account.specs.Accounts.{present_of};
     ghost use Rattle.card_events.specs.SharedRows.{SharedRows};
     ghost use Rattle.card_rows.specs.Held.{is_request};
-    ghost use Rattle.card_desk.specs.Desks.{now_of};
+    ghost use Rattle.card_desk.specs.Desks.{now_at};
     ghost use Rattle.card_days.specs.Billing.{IsCloseDay};
     ghost use Rattle.card_events.specs.Dated.{is_dated};
     ghost use Rattle.card_events.specs.History.{terms_in};
@@ -55,7 +55,7 @@ impl Desk {
     ghost use Rattle.card_ports.specs.Counts.{Rose};
     ghost use Rattle.card_posts.specs.Posted.{opens};
     ghost use Rattle.card_desk.specs.Apart.{IsApart};
-    ghost use Rattle.card_desk.specs.Applied.{Steps};
+    ghost use Rattle.card_desk.specs.Applied.{Carried, IsAsked, Steps};
     ghost use Rattle.card_desk.specs.Kept.{Fits, accepted_count};
     ghost use Rattle.card_desk.specs.Places.{IsPlace, place_from};
     ghost use Rattle.card_desk.specs.Views.{issued, restated, seen, shown};
@@ -106,17 +106,9 @@ impl Desk {
         day: Day,
     ) -> Result<Reply, Fault>
         requires request { request.now ≡ Request.Shared (Shared.Roll day) }
-        requires dated { is_dated request.now ≡ true }
-        requires fits { Fits (K.rows keeper.old) self.old.state }
+        requires asked { IsAsked (K.rows keeper.old) self.old.state request.now }
         requires no_reason { shared_reason self.old.state.today (has_accounts self.old.state) (Shared.Roll day) ≡ None }
-        ensures ok { IfOk result (Steps (K.rows keeper.old) (K.rows keeper.new) self.old.state request.now self.new.state) }
-        ensures err { OnErr result (self.new.state ≡ self.old.state) }
-        ensures rows_stay { OnErr result (KeepsRows (K.rows keeper.old) (K.rows keeper.new)) }
-        ensures told { SameRowsTold (K.rows keeper.old) (K.rows keeper.new) }
-        ensures count { K.faults keeper.old ≤ K.faults keeper.new }
-        ensures unfailed { OnOk result (K.faults keeper.new ≡ K.faults keeper.old) }
-        ensures cause { IsErrOf result Fault.Keeper → Rose (K.faults keeper.old) (K.faults keeper.new) }
-        ensures memory { IsErrOf result Fault.Memory → K.faults keeper.new ≡ K.faults keeper.old }
+        ensures { Carried (K.rows keeper.old) (K.rows keeper.new) (K.faults keeper.old) (K.faults keeper.new) self.old.state request.now self.new.state result }
     {
         let row = self.next_row(alloc, request)?;
         self.shared.reserve(1)?;
@@ -136,17 +128,9 @@ impl Desk {
         day: Day,
     ) -> Result<Reply, Fault>
         requires request { request.now ≡ Request.Shared (Shared.Holiday day) }
-        requires dated { is_dated request.now ≡ true }
-        requires fits { Fits (K.rows keeper.old) self.old.state }
+        requires asked { IsAsked (K.rows keeper.old) self.old.state request.now }
         requires no_reason { shared_reason self.old.state.today (has_accounts self.old.state) (Shared.Holiday day) ≡ None }
-        ensures ok { IfOk result (Steps (K.rows keeper.old) (K.rows keeper.new) self.old.state request.now self.new.state) }
-        ensures err { OnErr result (self.new.state ≡ self.old.state) }
-        ensures rows_stay { OnErr result (KeepsRows (K.rows keeper.old) (K.rows keeper.new)) }
-        ensures told { SameRowsTold (K.rows keeper.old) (K.rows keeper.new) }
-        ensures count { K.faults keeper.old ≤ K.faults keeper.new }
-        ensures unfailed { OnOk result (K.faults keeper.new ≡ K.faults keeper.old) }
-        ensures cause { IsErrOf result Fault.Keeper → Rose (K.faults keeper.old) (K.faults keeper.new) }
-        ensures memory { IsErrOf result Fault.Memory → K.faults keeper.new ≡ K.faults keeper.old }
+        ensures { Carried (K.rows keeper.old) (K.rows keeper.new) (K.faults keeper.old) (K.faults keeper.new) self.old.state request.now self.new.state result }
     {
         let row = self.next_row(alloc, request)?;
         self.shared.reserve(1)?;
@@ -169,17 +153,9 @@ impl Desk {
         repeat: Num,
     ) -> Result<Reply, Fault>
         requires request { request.now ≡ Request.Shared (Shared.FeeRow day first repeat) }
-        requires dated { is_dated request.now ≡ true }
-        requires fits { Fits (K.rows keeper.old) self.old.state }
+        requires asked { IsAsked (K.rows keeper.old) self.old.state request.now }
         requires no_reason { shared_reason self.old.state.today (has_accounts self.old.state) (Shared.FeeRow day first repeat) ≡ None }
-        ensures ok { IfOk result (Steps (K.rows keeper.old) (K.rows keeper.new) self.old.state request.now self.new.state) }
-        ensures err { OnErr result (self.new.state ≡ self.old.state) }
-        ensures rows_stay { OnErr result (KeepsRows (K.rows keeper.old) (K.rows keeper.new)) }
-        ensures told { SameRowsTold (K.rows keeper.old) (K.rows keeper.new) }
-        ensures count { K.faults keeper.old ≤ K.faults keeper.new }
-        ensures unfailed { OnOk result (K.faults keeper.new ≡ K.faults keeper.old) }
-        ensures cause { IsErrOf result Fault.Keeper → Rose (K.faults keeper.old) (K.faults keeper.new) }
-        ensures memory { IsErrOf result Fault.Memory → K.faults keeper.new ≡ K.faults keeper.old }
+        ensures { Carried (K.rows keeper.old) (K.rows keeper.new) (K.faults keeper.old) (K.faults keeper.new) self.old.state request.now self.new.state result }
     {
         let row = self.next_row(alloc, request)?;
         self.shared.reserve(1)?;
@@ -200,16 +176,8 @@ impl Desk {
         day: Day,
     ) -> Result<Reply, Fault>
         requires request { request.now ≡ Request.Shared (Shared.Roll day) }
-        requires dated { is_dated request.now ≡ true }
-        requires fits { Fits (K.rows keeper.old) self.old.state }
-        ensures ok { IfOk result (Steps (K.rows keeper.old) (K.rows keeper.new) self.old.state request.now self.new.state) }
-        ensures err { OnErr result (self.new.state ≡ self.old.state) }
-        ensures rows_stay { OnErr result (KeepsRows (K.rows keeper.old) (K.rows keeper.new)) }
-        ensures told { SameRowsTold (K.rows keeper.old) (K.rows keeper.new) }
-        ensures count { K.faults keeper.old ≤ K.faults keeper.new }
-        ensures unfailed { OnOk result (K.faults keeper.new ≡ K.faults keeper.old) }
-        ensures cause { IsErrOf result Fault.Keeper → Rose (K.faults keeper.old) (K.faults keeper.new) }
-        ensures memory { IsErrOf result Fault.Memory → K.faults keeper.new ≡ K.faults keeper.old }
+        requires asked { IsAsked (K.rows keeper.old) self.old.state request.now }
+        ensures { Carried (K.rows keeper.old) (K.rows keeper.new) (K.faults keeper.old) (K.faults keeper.new) self.old.state request.now self.new.state result }
     {
         match roll_reason(self.today, self.accounts.len(), day) {
             Some(refusal) => Ok(Reply::Refused(refusal)),
@@ -226,16 +194,8 @@ impl Desk {
         day: Day,
     ) -> Result<Reply, Fault>
         requires request { request.now ≡ Request.Shared (Shared.Holiday day) }
-        requires dated { is_dated request.now ≡ true }
-        requires fits { Fits (K.rows keeper.old) self.old.state }
-        ensures ok { IfOk result (Steps (K.rows keeper.old) (K.rows keeper.new) self.old.state request.now self.new.state) }
-        ensures err { OnErr result (self.new.state ≡ self.old.state) }
-        ensures rows_stay { OnErr result (KeepsRows (K.rows keeper.old) (K.rows keeper.new)) }
-        ensures told { SameRowsTold (K.rows keeper.old) (K.rows keeper.new) }
-        ensures count { K.faults keeper.old ≤ K.faults keeper.new }
-        ensures unfailed { OnOk result (K.faults keeper.new ≡ K.faults keeper.old) }
-        ensures cause { IsErrOf result Fault.Keeper → Rose (K.faults keeper.old) (K.faults keeper.new) }
-        ensures memory { IsErrOf result Fault.Memory → K.faults keeper.new ≡ K.faults keeper.old }
+        requires asked { IsAsked (K.rows keeper.old) self.old.state request.now }
+        ensures { Carried (K.rows keeper.old) (K.rows keeper.new) (K.faults keeper.old) (K.faults keeper.new) self.old.state request.now self.new.state result }
     {
         match holiday_reason(self.today, day) {
             Some(refusal) => Ok(Reply::Refused(refusal)),
@@ -254,16 +214,8 @@ impl Desk {
         repeat: Num,
     ) -> Result<Reply, Fault>
         requires request { request.now ≡ Request.Shared (Shared.FeeRow day first repeat) }
-        requires dated { is_dated request.now ≡ true }
-        requires fits { Fits (K.rows keeper.old) self.old.state }
-        ensures ok { IfOk result (Steps (K.rows keeper.old) (K.rows keeper.new) self.old.state request.now self.new.state) }
-        ensures err { OnErr result (self.new.state ≡ self.old.state) }
-        ensures rows_stay { OnErr result (KeepsRows (K.rows keeper.old) (K.rows keeper.new)) }
-        ensures told { SameRowsTold (K.rows keeper.old) (K.rows keeper.new) }
-        ensures count { K.faults keeper.old ≤ K.faults keeper.new }
-        ensures unfailed { OnOk result (K.faults keeper.new ≡ K.faults keeper.old) }
-        ensures cause { IsErrOf result Fault.Keeper → Rose (K.faults keeper.old) (K.faults keeper.new) }
-        ensures memory { IsErrOf result Fault.Memory → K.faults keeper.new ≡ K.faults keeper.old }
+        requires asked { IsAsked (K.rows keeper.old) self.old.state request.now }
+        ensures { Carried (K.rows keeper.old) (K.rows keeper.new) (K.faults keeper.old) (K.faults keeper.new) self.old.state request.now self.new.state result }
     {
         match fees_reason(self.today, day, first, repeat) {
             Some(refusal) => Ok(Reply::Refused(refusal)),
@@ -279,16 +231,8 @@ impl Desk {
         shared: &Shared,
     ) -> Result<Reply, Fault>
         requires request { request.now ≡ Request.Shared shared.now }
-        requires dated { is_dated request.now ≡ true }
-        requires fits { Fits (K.rows keeper.old) self.old.state }
-        ensures ok { IfOk result (Steps (K.rows keeper.old) (K.rows keeper.new) self.old.state request.now self.new.state) }
-        ensures err { OnErr result (self.new.state ≡ self.old.state) }
-        ensures rows_stay { OnErr result (KeepsRows (K.rows keeper.old) (K.rows keeper.new)) }
-        ensures told { SameRowsTold (K.rows keeper.old) (K.rows keeper.new) }
-        ensures count { K.faults keeper.old ≤ K.faults keeper.new }
-        ensures unfailed { OnOk result (K.faults keeper.new ≡ K.faults keeper.old) }
-        ensures cause { IsErrOf result Fault.Keeper → Rose (K.faults keeper.old) (K.faults keeper.new) }
-        ensures memory { IsErrOf result Fault.Memory → K.faults keeper.new ≡ K.faults keeper.old }
+        requires asked { IsAsked (K.rows keeper.old) self.old.state request.now }
+        ensures { Carried (K.rows keeper.old) (K.rows keeper.new) (K.faults keeper.old) (K.faults keeper.new) self.old.state request.now self.new.state result }
     {
         match shared {
             Shared::Roll(day) => self.roll(alloc, keeper, request, *day),
@@ -312,19 +256,11 @@ impl Desk {
         requires request { request.now ≡ Request.Post account.now key.now post.now }
         requires open { opens post.now ≡ true }
         requires close_day { IsCloseDay (terms_in post.now).close }
-        requires dated { is_dated request.now ≡ true }
-        requires fits { Fits (K.rows keeper.old) self.old.state }
+        requires asked { IsAsked (K.rows keeper.old) self.old.state request.now }
         requires absent { place_from account.now 0 self.old.state.accounts ≡ None }
         requires room { length self.old.state.accounts < 1_000_000 }
         requires no_reason { reason_to_open self.old.state.today (length self.old.state.accounts) post.now ≡ None }
-        ensures ok { IfOk result (Steps (K.rows keeper.old) (K.rows keeper.new) self.old.state request.now self.new.state) }
-        ensures err { OnErr result (self.new.state ≡ self.old.state) }
-        ensures rows_stay { OnErr result (KeepsRows (K.rows keeper.old) (K.rows keeper.new)) }
-        ensures told { SameRowsTold (K.rows keeper.old) (K.rows keeper.new) }
-        ensures count { K.faults keeper.old ≤ K.faults keeper.new }
-        ensures unfailed { OnOk result (K.faults keeper.new ≡ K.faults keeper.old) }
-        ensures cause { IsErrOf result Fault.Keeper → Rose (K.faults keeper.old) (K.faults keeper.new) }
-        ensures memory { IsErrOf result Fault.Memory → K.faults keeper.new ≡ K.faults keeper.old }
+        ensures { Carried (K.rows keeper.old) (K.rows keeper.new) (K.faults keeper.old) (K.faults keeper.new) self.old.state request.now self.new.state result }
     {
         let row = self.next_row(alloc, request)?;
         let name = account.copy(alloc)?;
@@ -356,17 +292,9 @@ impl Desk {
         post: &Post,
     ) -> Result<Reply, Fault>
         requires request { request.now ≡ Request.Post account.now key.now post.now }
-        requires dated { is_dated request.now ≡ true }
-        requires fits { Fits (K.rows keeper.old) self.old.state }
+        requires asked { IsAsked (K.rows keeper.old) self.old.state request.now }
         requires absent { place_from account.now 0 self.old.state.accounts ≡ None }
-        ensures ok { IfOk result (Steps (K.rows keeper.old) (K.rows keeper.new) self.old.state request.now self.new.state) }
-        ensures err { OnErr result (self.new.state ≡ self.old.state) }
-        ensures rows_stay { OnErr result (KeepsRows (K.rows keeper.old) (K.rows keeper.new)) }
-        ensures told { SameRowsTold (K.rows keeper.old) (K.rows keeper.new) }
-        ensures count { K.faults keeper.old ≤ K.faults keeper.new }
-        ensures unfailed { OnOk result (K.faults keeper.new ≡ K.faults keeper.old) }
-        ensures cause { IsErrOf result Fault.Keeper → Rose (K.faults keeper.old) (K.faults keeper.new) }
-        ensures memory { IsErrOf result Fault.Memory → K.faults keeper.new ≡ K.faults keeper.old }
+        ensures { Carried (K.rows keeper.old) (K.rows keeper.new) (K.faults keeper.old) (K.faults keeper.new) self.old.state request.now self.new.state result }
     {
         match post {
             Post::Open { day, terms } => {
@@ -391,19 +319,11 @@ impl Desk {
         post: &Post,
     ) -> Result<Reply, Fault>
         requires request { request.now ≡ Request.Post account.now key.now post.now }
-        requires dated { is_dated request.now ≡ true }
-        requires fits { Fits (K.rows keeper.old) self.old.state }
+        requires asked { IsAsked (K.rows keeper.old) self.old.state request.now }
         requires place { IsPlace account.now self.old.state.accounts at }
-        requires no_reason { (d : NamedAccount) → reason_against (now_of self.old.state (slice_index_or self.old.state.accounts at d).lists) post.now ≡ None }
-        requires accepted { (d : NamedAccount) → outcome_in self.old.state account.now key.now post.now ≡ Accepts (accepted (now_of self.old.state (slice_index_or self.old.state.accounts at d).lists) key.now post.now) }
-        ensures ok { IfOk result (Steps (K.rows keeper.old) (K.rows keeper.new) self.old.state request.now self.new.state) }
-        ensures err { OnErr result (self.new.state ≡ self.old.state) }
-        ensures rows_stay { OnErr result (KeepsRows (K.rows keeper.old) (K.rows keeper.new)) }
-        ensures told { SameRowsTold (K.rows keeper.old) (K.rows keeper.new) }
-        ensures count { K.faults keeper.old ≤ K.faults keeper.new }
-        ensures unfailed { OnOk result (K.faults keeper.new ≡ K.faults keeper.old) }
-        ensures cause { IsErrOf result Fault.Keeper → Rose (K.faults keeper.old) (K.faults keeper.new) }
-        ensures memory { IsErrOf result Fault.Memory → K.faults keeper.new ≡ K.faults keeper.old }
+        requires no_reason { (d : NamedAccount) → reason_against (now_at self.old.state at d) post.now ≡ None }
+        requires accepted { (d : NamedAccount) → outcome_in self.old.state account.now key.now post.now ≡ Accepts (accepted (now_at self.old.state at d) key.now post.now) }
+        ensures { Carried (K.rows keeper.old) (K.rows keeper.new) (K.faults keeper.old) (K.faults keeper.new) self.old.state request.now self.new.state result }
     {
         let row = self.next_row(alloc, request)?;
         let key = key.copy(alloc)?;
@@ -427,17 +347,9 @@ impl Desk {
         post: &Post,
     ) -> Result<Reply, Fault>
         requires request { request.now ≡ Request.Post account.now key.now post.now }
-        requires dated { is_dated request.now ≡ true }
-        requires fits { Fits (K.rows keeper.old) self.old.state }
+        requires asked { IsAsked (K.rows keeper.old) self.old.state request.now }
         requires place { IsPlace account.now self.old.state.accounts at }
-        ensures ok { IfOk result (Steps (K.rows keeper.old) (K.rows keeper.new) self.old.state request.now self.new.state) }
-        ensures err { OnErr result (self.new.state ≡ self.old.state) }
-        ensures rows_stay { OnErr result (KeepsRows (K.rows keeper.old) (K.rows keeper.new)) }
-        ensures told { SameRowsTold (K.rows keeper.old) (K.rows keeper.new) }
-        ensures count { K.faults keeper.old ≤ K.faults keeper.new }
-        ensures unfailed { OnOk result (K.faults keeper.new ≡ K.faults keeper.old) }
-        ensures cause { IsErrOf result Fault.Keeper → Rose (K.faults keeper.old) (K.faults keeper.new) }
-        ensures memory { IsErrOf result Fault.Memory → K.faults keeper.new ≡ K.faults keeper.old }
+        ensures { Carried (K.rows keeper.old) (K.rows keeper.new) (K.faults keeper.old) (K.faults keeper.new) self.old.state request.now self.new.state result }
     {
         let known = &self.accounts[at];
         match known.judge(alloc, self.today, key, post, &self.common) {
@@ -459,16 +371,8 @@ impl Desk {
         post: &Post,
     ) -> Result<Reply, Fault>
         requires request { request.now ≡ Request.Post account.now key.now post.now }
-        requires dated { is_dated request.now ≡ true }
-        requires fits { Fits (K.rows keeper.old) self.old.state }
-        ensures ok { IfOk result (Steps (K.rows keeper.old) (K.rows keeper.new) self.old.state request.now self.new.state) }
-        ensures err { OnErr result (self.new.state ≡ self.old.state) }
-        ensures rows_stay { OnErr result (KeepsRows (K.rows keeper.old) (K.rows keeper.new)) }
-        ensures told { SameRowsTold (K.rows keeper.old) (K.rows keeper.new) }
-        ensures count { K.faults keeper.old ≤ K.faults keeper.new }
-        ensures unfailed { OnOk result (K.faults keeper.new ≡ K.faults keeper.old) }
-        ensures cause { IsErrOf result Fault.Keeper → Rose (K.faults keeper.old) (K.faults keeper.new) }
-        ensures memory { IsErrOf result Fault.Memory → K.faults keeper.new ≡ K.faults keeper.old }
+        requires asked { IsAsked (K.rows keeper.old) self.old.state request.now }
+        ensures { Carried (K.rows keeper.old) (K.rows keeper.new) (K.faults keeper.old) (K.faults keeper.new) self.old.state request.now self.new.state result }
     {
         match self.index.find(account.bytes()) {
             Some(at) => { self.post_known(alloc, keeper, request, at as usize, account, key, post) }

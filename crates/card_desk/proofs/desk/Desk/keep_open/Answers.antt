@@ -16,12 +16,12 @@ use Rattle.card_index.specs.Places.{Places}
 use Rattle.card_desk.proofs.KeptLemmas.{index_desk, opened_desk}
 use Rattle.card_desk.proofs.OutcomeLemmas.{open_accepted}
 use Rattle.card_desk.proofs.PlaceLemmas.{no_place}
-use Rattle.card_desk.proofs.StepLemmas.{goes_on, post_accepted}
+use Rattle.card_desk.proofs.StepLemmas.{goes_on, kept, post_accepted}
 use Rattle.card_rows.specs.Held.{is_request}
 use Rattle.card_desk.proofs.desk.Desk.keep_open.Goals as goal
 
 pub keep_row-requires : goal.keep_row-requires
-keep_row-requires g c = goes_on _ c.args.self.now.state c.args.request.now c.in_ok-row.row c.requires.fits c.in_ok-row.ensures.value
+keep_row-requires g c = goes_on _ c.args.self.now.state c.args.request.now c.in_ok-row.row c.requires.asked.fits c.in_ok-row.ensures.value
 
 pub invariant_of-self-in-Ok : goal.invariant_of-self-in-Ok
 invariant_of-self-in-Ok g c =
@@ -48,8 +48,8 @@ invariant_of-self-in-Ok g c =
     (opened_desk d.index c.insert.new.self d.common d.count d.today d.shared.items items made name key p c.self.invariant taken absent c.requires.open none made_is index room
     (c.in_ok-made.ensures.stands d.common.holidays))
 
-pub returns-in-Ok-clause-ok : goal.returns-in-Ok-clause-ok
-returns-in-Ok-clause-ok g c =
+pub returns-in-Ok : goal.returns-in-Ok
+returns-in-Ok g c =
     let s = c.args.self.now.state in
     let d = c.self.inside in
     let name = c.args.account.now in
@@ -70,9 +70,10 @@ returns-in-Ok-clause-ok g c =
     let state = opened_state s t name l made.named today (ap (λ (x : State). x.shared) (state_by _ _ c.self.view_is)) accounts made_is c.requires.absent in
     let one : length made.named.lists.posts ≡ 1 = ap (λ (a : NamedAccount). length a.lists.posts) made_is in
     let outcome = open_accepted s name key p (no_place name 0 s.accounts c.requires.absent).0 c.requires.open c.requires.no_reason in
-    subst (λ (x : Request). Steps rows grown s x t (reply.Accepted 1)) (sym c.requires.request)
+    kept (g.K.Keeper.rows c.args.keeper.now) (g.K.Keeper.rows c.keep_row.new.keeper) (g.K.Keeper.faults c.args.keeper.now) (g.K.Keeper.faults c.keep_row.new.keeper) s t c.args.request.now (reply.Accepted 1) c.keep_row.ensures.told c.in-Ok.ensures.unfailed
+    (subst (λ (x : Request). Steps rows grown s x t (reply.Accepted 1)) (sym c.requires.request)
     (post_accepted rows grown s t name key p l 1 c.in_ok-row.row c.keep_row.ensures.told c.in-Ok.ensures.ok (c.in_ok-row.ensures.value ∙ ap (λ (x : Request). row_of (accepted_count s + 1) x) c.requires.request)
-    outcome state refl (count_opened s t made.named (ap (λ (x : State). x.shared) (state_by _ _ c.self.view_is)) accounts one))
+    outcome state refl (count_opened s t made.named (ap (λ (x : State). x.shared) (state_by _ _ c.self.view_is)) accounts one)))
 
 pub invariant_of-self-in-Err-1 : goal.invariant_of-self-in-Err-1
 invariant_of-self-in-Err-1 g c =

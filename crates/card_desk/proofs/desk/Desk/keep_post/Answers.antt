@@ -14,12 +14,12 @@ use Rattle.card_desk.specs.Places.{IsPlace}
 use Rattle.card_desk.proofs.DeskLemmas.{changed_state, count_added, read_at, state_by}
 use Rattle.card_desk.proofs.FoldLemmas.{accepted_in, may_be_folded, roomy, same_reason_at}
 use Rattle.card_desk.proofs.KeptLemmas.{longer, posted_desk, roomy_desk}
-use Rattle.card_desk.proofs.StepLemmas.{goes_on, post_accepted}
+use Rattle.card_desk.proofs.StepLemmas.{goes_on, kept, post_accepted}
 use Rattle.card_rows.specs.Held.{is_request}
 use Rattle.card_desk.proofs.desk.Desk.keep_post.Goals as goal
 
 pub keep_row-requires : goal.keep_row-requires
-keep_row-requires g c = goes_on _ c.args.self.now.state c.args.request.now c.in_ok-row.row c.requires.fits c.in_ok-row.ensures.value
+keep_row-requires g c = goes_on _ c.args.self.now.state c.args.request.now c.in_ok-row.row c.requires.asked.fits c.in_ok-row.ensures.value
 
 pub prepare-requires-clause-no_reason : goal.prepare-requires-clause-no_reason
 prepare-requires-clause-no_reason g c =
@@ -86,8 +86,8 @@ invariant_of-self-2 g c =
     posted_desk d.index d.common d.count d.today d.shared.items items at a b name key p c.self.invariant taken place low named outcome
     (more ∙ ap (λ (x : OpenAccount). length x.named.lists.posts + 1) c.index_mut-account.ensures.value) short c.commit-number.ensures.stands
 
-pub returns-clause-ok : goal.returns-clause-ok
-returns-clause-ok g c =
+pub returns : goal.returns
+returns g c =
     let s = c.args.self.now.state in
     let d = c.self.inside in
     let items = d.accounts.items in
@@ -116,7 +116,8 @@ returns-clause-ok g c =
     let grew : length a.named.lists.posts ≡ length b.named.lists.posts + 1 = ap (λ (l : Lists). length l.posts) lists ∙ longer (present_of d.today d.common b.named.lists) key p in
     let more : length a.named.lists.posts ≡ length (get_or s.accounts at b.named).lists.posts + 1 = grew ∙ ap (λ (x : NamedAccount). length x.lists.posts + 1) read in
     let number : c.commit-number.result ≡ length a.named.lists.posts = c.commit-number.ensures.number ∙ ap (λ (x : OpenAccount). length x.named.lists.posts + 1) ready ∙ sym grew in
-    subst (λ (x : Request). Steps rows grown s x t (reply.Accepted c.commit-number.result)) (sym c.requires.request)
+    kept (g.K.Keeper.rows c.args.keeper.now) (g.K.Keeper.rows c.keep_row.new.keeper) (g.K.Keeper.faults c.args.keeper.now) (g.K.Keeper.faults c.keep_row.new.keeper) s t c.args.request.now (reply.Accepted c.commit-number.result) c.keep_row.ensures.told c.in_ok-keep_row.ensures.unfailed
+    (subst (λ (x : Request). Steps rows grown s x t (reply.Accepted c.commit-number.result)) (sym c.requires.request)
     (post_accepted rows grown s t name key p a.named.lists c.commit-number.result c.in_ok-row.row c.keep_row.ensures.told c.in_ok-keep_row.ensures.ok
     (c.in_ok-row.ensures.value ∙ ap (λ (x : Request). row_of (accepted_count s + 1) x) c.requires.request)
-    allows state number (count_added s t at a.named b.named shared accounts c.requires.place.bound more))
+    allows state number (count_added s t at a.named b.named shared accounts c.requires.place.bound more)))

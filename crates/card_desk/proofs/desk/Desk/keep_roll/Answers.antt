@@ -9,12 +9,12 @@ use Rattle.card_desk.specs.Desks.{IsDesk, named_all, state_of}
 use Rattle.card_desk.specs.Kept.{row_of, accepted_count}
 use Rattle.card_desk.proofs.DeskLemmas.{count_shared, state_by}
 use Rattle.card_desk.proofs.KeptLemmas.{same_fees, same_holidays, shared_desk}
-use Rattle.card_desk.proofs.StepLemmas.{goes_on, shared_accepted}
+use Rattle.card_desk.proofs.StepLemmas.{goes_on, kept, shared_accepted}
 use Rattle.card_rows.specs.Held.{is_request}
 use Rattle.card_desk.proofs.desk.Desk.keep_roll.Goals as goal
 
 pub keep_row-requires : goal.keep_row-requires
-keep_row-requires g c = goes_on _ c.args.self.now.state c.args.request.now c.in_ok-row.row c.requires.fits c.in_ok-row.ensures.value
+keep_row-requires g c = goes_on _ c.args.self.now.state c.args.request.now c.in_ok-row.row c.requires.asked.fits c.in_ok-row.ensures.value
 
 pub invariant_of-self-2 : goal.invariant_of-self-2
 invariant_of-self-2 g c =
@@ -27,8 +27,8 @@ invariant_of-self-2 g c =
     (shared_desk d.index d.common d.common d.count d.today d.shared.items d.accounts.items r c.self.invariant held none
     (same_holidays d.common.holidays d.shared.items r refl c.self.invariant.holidays) (same_fees d.common.fees d.shared.items r refl c.self.invariant.table) c.self.invariant.corrected)
 
-pub returns-clause-ok : goal.returns-clause-ok
-returns-clause-ok g c =
+pub returns : goal.returns
+returns g c =
     let s = c.args.self.now.state in
     let r = shared.Roll c.args.day in
     let t : State = state_of c.args.day c.push_shared.new.list.items c.self.inside.accounts.items in
@@ -36,6 +36,7 @@ returns-clause-ok g c =
     let accounts = ap (λ (x : State). x.accounts) (state_by _ _ c.self.view_is) in
     let state : t ≡ record { today = c.args.day; shared = s.shared ++ r ∷ []; accounts = s.accounts } =
     ap (λ l. record { today = c.args.day; shared = l; accounts = named_all c.self.inside.accounts.items }) lists ∙ ap (λ l. record { today = c.args.day; shared = s.shared ++ r ∷ []; accounts = l }) accounts in
-    subst (λ (x : Request). Steps (g.K.Keeper.rows c.args.keeper.now) (g.K.Keeper.rows c.keep_row.new.keeper) s x t reply.Done) (sym c.requires.request)
+    kept (g.K.Keeper.rows c.args.keeper.now) (g.K.Keeper.rows c.keep_row.new.keeper) (g.K.Keeper.faults c.args.keeper.now) (g.K.Keeper.faults c.keep_row.new.keeper) s t c.args.request.now reply.Done c.keep_row.ensures.told c.in_ok-keep_row.ensures.unfailed
+    (subst (λ (x : Request). Steps (g.K.Keeper.rows c.args.keeper.now) (g.K.Keeper.rows c.keep_row.new.keeper) s x t reply.Done) (sym c.requires.request)
     (shared_accepted _ _ s t r c.in_ok-row.row c.keep_row.ensures.told c.in_ok-keep_row.ensures.ok
-    (c.in_ok-row.ensures.value ∙ ap (λ (x : Request). row_of (accepted_count s + 1) x) c.requires.request) c.requires.no_reason state (count_shared s t r state))
+    (c.in_ok-row.ensures.value ∙ ap (λ (x : Request). row_of (accepted_count s + 1) x) c.requires.request) c.requires.no_reason state (count_shared s t r state)))
