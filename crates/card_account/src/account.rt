@@ -213,7 +213,12 @@ impl Account {
     }
 
     /// Its open tasks today, by day, kind and post (12 CFR 1026.11(a), .13(c), .59).
-    pub fn tasks(&self, alloc: Global, today: Day, shared: &SharedRows) -> Result<Vec<Task>, NoMemory>
+    pub fn tasks(
+        &self,
+        alloc: Global,
+        today: Day,
+        shared: &SharedRows,
+    ) -> Result<Vec<Task>, NoMemory>
         requires { MayBeFolded today shared.now self.now }
         ensures { IfOk result (λ tasks. tasks.items ≡ tasks_of today shared.now self.now) }
     {

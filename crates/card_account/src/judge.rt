@@ -51,11 +51,7 @@ fn penalty_today(alloc: Global, now: &Present) -> Result<Option<Refusal>, NoMemo
 
 /// Why a post isn't accepted today under a new key: the first reason, and None where it is accepted. Memory is wanted for a
 /// Penalty or a Refund alone.
-pub fn reason_today(
-    alloc: Global,
-    now: &Present,
-    post: &Post,
-) -> Result<Option<Refusal>, NoMemory>
+pub fn reason_today(alloc: Global, now: &Present, post: &Post) -> Result<Option<Refusal>, NoMemory>
     requires not_open { is_open post.now ≡ false }
     requires dated { is_dated_post post.now ≡ true }
     ensures value { IfOk result (λ reason. reason ≡ reason_against now.now post.now) }

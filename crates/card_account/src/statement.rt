@@ -1,5 +1,5 @@
 // Statements of an account, as they were issued and as they are now.
-ghost use Rattle.std.specs.Prelude.{◌≡◌, ◌≤◌, true, IfOk, option_copied};
+ghost use Rattle.std.specs.Prelude.{◌≡◌, ◌≤◌, true, IfOk, option_copied, option_map};
 ghost use Rattle.card_account.specs.Accounts.{is_closed, issued_statement, restated_as, restated_statement, statement_of};
 
 use crate::cycles::closed_cycle;
@@ -46,13 +46,28 @@ fn restated_as(alloc: Global, issued: Option<&Issued>, cycle: &Cycle) -> Result<
     })
 }
 
+// A cycle as a statement, none where it isn't closed.
+fn restated_of(
+    alloc: Global,
+    issued: Option<&Issued>,
+    closed: Option<&Cycle>,
+) -> Result<Option<Statement>, NoMemory>
+    ensures { IfOk result (λ s. s ≡ option_map (restated_as (option_copied issued.entry)) (option_copied closed.entry)) }
+{
+    match closed {
+        Some(closed) => Ok(Some(restated_as(alloc, issued, closed)?)),
+        None => Ok(None),
+    }
+}
+
 // Whether a cycle is closed before today.
 fn is_closed(now: &Present, cycle: Num) -> bool
     ensures value { result ≡ is_closed now.now.today now.now.lists cycle }
     ensures small { result ≡ true → cycle ≤ 48_576 }
 {
+    let today = now.today();
     match closing_of(&now.anchor(), cycle) {
-        Some(closing) => closing < now.today(),
+        Some(closing) => closing < today,
         None => false,
     }
 }
@@ -70,8 +85,9 @@ pub fn restated_today(
         return Ok(None);
     }
     let folded = fold(alloc, now)?;
-    match closed_cycle(&folded, cycle) {
-        Some(closed) => Ok(Some(restated_as(alloc, now.issued_for(cycle.get()), closed)?)),
-        None => Ok(None),
-    }
+    restated_of(
+        alloc,
+        now.issued_for(cycle.get()),
+        closed_cycle(&folded, cycle),
+    )
 }

@@ -7,21 +7,21 @@ use Rattle.card_posts.specs.Posted.{IsReceived}
 use Rattle.card_account.proofs.account.Account.commit.Goals as goal
 
 pub add-pushed-requires-clause-few : goal.add-pushed-requires-clause-few
-add-pushed-requires-clause-few g c =
+add-pushed-requires-clause-few c =
     let now = present_of c.args.today c.args.shared.now c.args.self.now.named.lists in
     let same : c.self.inside.posts.history ≡ c.args.self.now.named.lists.posts =
     ap (λ (a : OpenAccount). a.named.lists.posts) c.self.view_is in
     omega (arith, few now c.args.post.now c.requires.no_reason, ap (λ (h : List Kept). length h) same)
 
 pub add-pushed-requires-clause-target : goal.add-pushed-requires-clause-target
-add-pushed-requires-clause-target g c =
+add-pushed-requires-clause-target c =
     let now = present_of c.args.today c.args.shared.now c.args.self.now.named.lists in
     let same : c.self.inside.posts.history ≡ c.args.self.now.named.lists.posts =
     ap (λ (a : OpenAccount). a.named.lists.posts) c.self.view_is in
     omega (arith, target_there now c.args.post.now c.requires.no_reason, ap (λ (h : List Kept). length h) same)
 
 pub add-pushed-requires-clause-received : goal.add-pushed-requires-clause-received
-add-pushed-requires-clause-received g c =
+add-pushed-requires-clause-received c =
     let now = present_of c.args.today c.args.shared.now c.args.self.now.named.lists in
     let same : c.self.inside.posts.history ≡ c.args.self.now.named.lists.posts =
     ap (λ (a : OpenAccount). a.named.lists.posts) c.self.view_is in
