@@ -3,7 +3,7 @@ use Rattle.std.proofs.Common.{◌≡◌, ℕ, zero, suc, ◌+◌, ◌<◌, ◌�
 use Rattle.std.specs.Prelude.{IsSomeAnd, is_some, if◌then◌else◌, nat_lt, not, ◌==◌, slice_get}
 use Rattle.std.specs.Option.{option_map}
 use Rattle.std.proofs.lemmas.Bool.{and_parts, cases_lt, ltb-true}
-use Rattle.card_account.specs.Accounts.{is_closed, present_of, restated_as, restated_statement, shared_by}
+use Rattle.card_account.specs.Accounts.{is_closed, present_of, restated_as, restated_statement}
 use Rattle.card_account.specs.Closed.{ClosedCyclesAreInTheBook}
 use Rattle.card_days.specs.Billing.{closing}
 use Rattle.card_days.specs.declared.anchor.Anchor.{Anchor}
@@ -80,10 +80,10 @@ unfolding restated_statement
 restated_there now cycle there = some_where (row_for cycle now.lists.issued) (cycle_at cycle (book_today now).cycles) (is_closed now.today now.lists cycle) there
 
 pub closed_cycles_are_in_the_book : ClosedCyclesAreInTheBook
-closed_cycles_are_in_the_book today holidays fees a may =
-    let now = present_of today (shared_by holidays fees) a.named.lists in
+closed_cycles_are_in_the_book today shared a may =
+    let now = present_of today shared a.named.lists in
     record {
-      there = λ cycle e. in_book now cycle may.sound.opening may.opened may.dated e;
+      there = λ cycle e. in_book now cycle may.sound.opening may.reached.opened may.reached.dated e;
       restated = λ cycle. restated_there now cycle
-          (λ e. some_of (HasItsDays (anchor_of now.lists.posts) cycle) (cycle_at cycle (book_today now).cycles) (in_book now cycle may.sound.opening may.opened may.dated e));
+          (λ e. some_of (HasItsDays (anchor_of now.lists.posts) cycle) (cycle_at cycle (book_today now).cycles) (in_book now cycle may.sound.opening may.reached.opened may.reached.dated e));
     }

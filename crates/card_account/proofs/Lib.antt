@@ -2,5 +2,4 @@ mod CreditLemmas
 pub mod ClosedCycles
 pub mod Held
 pub mod NamingLemmas
-pub mod RowLemmas
 pub mod Runs

@@ -2,11 +2,11 @@
 use Rattle.std.specs.Prelude.{◌≡◌, ◌≤◌, ℕ, Bool, ◌&&◌, ◌==◌, not, nat_lt, if◌then◌else◌, pos, List, [], ◌∷◌, Option, Some, None}
 use Rattle.std.specs.Option.{option_map, option_map_or}
 use Rattle.card_account.specs.declared.owing.Owing.{Owing}
-use Rattle.card_daily.specs.Given.{Given, IsSound, opened_in}
+use Rattle.card_daily.specs.Given.{Given, IsSound, ReachesToday, given_today}
 use Rattle.card_daily.specs.declared.track.Statement.{Statement}
 use Rattle.card_days.specs.Billing.{closing}
 use Rattle.card_events.specs.History.{CorrectedPost, anchor_of, corrected}
-use Rattle.card_events.specs.SharedRows.{FeeRow, SharedRows}
+use Rattle.card_events.specs.SharedRows.{SharedRows}
 use Rattle.card_model.specs.Books.{Book}
 use Rattle.card_model.specs.Caps.{row_for}
 use Rattle.card_model.specs.Cycles.{Cycle, IssuedRow}
@@ -14,16 +14,13 @@ use Rattle.card_model.specs.Entries.{credit_balance, owed, owing}
 use Rattle.card_model.specs.Folds.{cycle_at}
 use Rattle.card_model.specs.Machine.{NamedAccount}
 use Rattle.card_model.specs.Refusals.{Lists, Present, book_today}
-use Rattle.card_posts.specs.Posted.{last_accepted}
 
--- the account as the machine has it, with the corrected list that is kept of it
+-- the account as the machine has it, with the corrected list that is kept of it, and whether there is room for one more post
+-- with its statement
 pub record OpenAccount : Type 0 where
   pub named : NamedAccount
   pub corrected : List CorrectedPost
-
--- what all accounts share: the holidays and the fee rows
-abbrev pub shared_by : List ℕ → List FeeRow → SharedRows
-shared_by holidays fees = record { holidays = holidays; fees = fees }
+  pub has_room : Bool
 
 -- what the fold of the account is given
 abbrev pub given_of : Lists → SharedRows → Given
@@ -38,12 +35,10 @@ abbrev pub IsCorrected : List ℕ → OpenAccount → Type 0
 IsCorrected holidays a = a.corrected ≡ corrected (anchor_of a.named.lists.posts) holidays a.named.lists.posts
 
 -- the account may be folded to the end of today
-pub record MayBeFolded (today : ℕ) (holidays : List ℕ) (fees : List FeeRow) (a : OpenAccount) : Type 0 where
-  pub stands : IsCorrected holidays a
-  pub sound : IsSound (given_of a.named.lists (shared_by holidays fees))
-  pub opened : opened_in (given_of a.named.lists (shared_by holidays fees)) ≤ today
-  pub accepted : last_accepted a.named.lists.posts ≤ today
-  pub dated : today ≤ 47481
+pub record MayBeFolded (today : ℕ) (shared : SharedRows) (a : OpenAccount) : Type 0 where
+  pub stands : IsCorrected shared.holidays a
+  pub sound : IsSound (given_today (present_of today shared a.named.lists))
+  pub reached : ReachesToday (present_of today shared a.named.lists)
 
 -- the row that was issued, if one was
 abbrev pub issued_as : Option IssuedRow → List IssuedRow

@@ -1,8 +1,8 @@
 -- Which cycles the book of today has.
 use Rattle.std.specs.Prelude.{◌≡◌, ℕ, true, List, IsSomeAnd, is_some}
-use Rattle.card_account.specs.Accounts.{MayBeFolded, OpenAccount, is_closed, present_of, restated_statement, shared_by}
+use Rattle.card_account.specs.Accounts.{MayBeFolded, OpenAccount, is_closed, present_of, restated_statement}
 use Rattle.card_events.specs.History.{anchor_of}
-use Rattle.card_events.specs.SharedRows.{FeeRow}
+use Rattle.card_events.specs.SharedRows.{SharedRows}
 use Rattle.card_model.specs.CycleDays.{HasItsDays}
 use Rattle.card_model.specs.Folds.{cycle_at}
 use Rattle.card_model.specs.Refusals.{Present, book_today}
@@ -16,5 +16,4 @@ pub record HasClosedCycles (now : Present) : Type 0 where
 -- so it is in every account that may be folded today
 abbrev pub ClosedCyclesAreInTheBook : Type 0
 ClosedCyclesAreInTheBook =
-    (today : ℕ) (holidays : List ℕ) (fees : List FeeRow) (a : OpenAccount) → MayBeFolded today holidays fees a
-    → HasClosedCycles (present_of today (shared_by holidays fees) a.named.lists)
+    (today : ℕ) (shared : SharedRows) (a : OpenAccount) → MayBeFolded today shared a → HasClosedCycles (present_of today shared a.named.lists)

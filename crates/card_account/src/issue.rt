@@ -1,43 +1,26 @@
 // What a Bill issues.
-ghost use Rattle.std.specs.Prelude.{◌≡◌, ◌≤◌, ◌<◌, ◌++◌, [], ◌∷◌, List, None, IfOk, length, vec_len, vec_capacity};
-ghost use Rattle.card_account.specs.Accounts.{given_of, issued_as, present_of, shared_by};
-ghost use Rattle.card_daily.specs.Given.{IsSound, opened_in};
+ghost use Rattle.std.specs.Prelude.{◌≡◌, ◌≤◌, ◌<◌, ◌++◌, [], ◌∷◌, List, None, IfOk, vec_len, vec_capacity};
+ghost use Rattle.card_account.specs.Accounts.{issued_as};
 ghost use Rattle.card_model.specs.Folds.{rows_issued};
 ghost use Rattle.card_model.specs.Machine.{issues};
 ghost use Rattle.card_model.specs.Refusals.{reason_against};
-ghost use Rattle.card_posts.specs.Posted.{StandsFor};
 
 use crate::cycles::closed_cycle;
-use card_book::{Folded, Issued, Statement, fold};
-use card_days::{Calendar, Day};
+use card_book::{Folded, Issued, Present, Statement, fold};
+use card_days::Day;
 use card_events::{Num, Post};
-use card_fees::FeeTable;
-use card_posts::Posts;
 use card_units::NoMemory;
 use std::alloc::Global;
 
 /// The row that a post issues today, where it is a Bill that may be accepted.
-#[tactic(auto, unfolding(card_model::specs::Refusals::book_today))]
-pub fn issued_by(
-    alloc: Global,
-    posts: &Posts,
-    issued: &[Issued],
-    today: Day,
-    post: &Post,
-    calendar: &Calendar,
-    fees: &FeeTable,
-) -> Result<Option<Issued>, NoMemory>
-    requires no_reason { reason_against (present_of today (shared_by calendar.now fees.now) (record { posts = posts.now.history; issued = issued.now })) post.now ≡ None }
-    requires stands { StandsFor calendar.now posts.now }
-    requires sound { IsSound (record { history = posts.now.history; issued = issued.now; shared = record { holidays = calendar.now; fees = fees.now } }) }
-    requires opened { opened_in (record { history = posts.now.history; issued = issued.now; shared = record { holidays = calendar.now; fees = fees.now } }) ≤ today }
-    requires dated { today ≤ 47_481 }
-    ensures { IfOk result (λ made. issued_as made ≡ issues (present_of today (shared_by calendar.now fees.now) (record { posts = posts.now.history; issued = issued.now })) post.now) }
+pub fn issued_by(alloc: Global, now: &Present, post: &Post) -> Result<Option<Issued>, NoMemory>
+    requires no_reason { reason_against now.now post.now ≡ None }
+    ensures { IfOk result (λ made. issued_as made ≡ issues now.now post.now) }
 {
     match post {
         Post::Bill { cycle } => {
-            let folded = fold(alloc, posts, issued, calendar, fees, today)?;
-            row_of(alloc, &folded, *cycle, posts.len() + 1, today)
+            let folded = fold(alloc, now)?;
+            row_of(alloc, &folded, *cycle, now.posts().len() + 1, now.today())
         }
         _ => Ok(None),
     }

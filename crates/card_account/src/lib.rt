@@ -3,10 +3,8 @@
 
 mod account;
 mod cycles;
-mod fault;
 mod issue;
 mod judge;
-mod keep;
 pub mod laws;
 mod owing;
 mod statement;
@@ -15,11 +13,9 @@ mod verdict;
 mod work;
 
 pub use account::Account;
-pub use card_daily::Statement;
+pub use card_daily::{Issued, Statement};
 pub use card_disputes::{Task, TaskKind};
 pub use card_reasons::open_reason;
-pub use fault::Fault;
-pub use keep::keep_row;
 pub use owing::Owing;
 pub use tasks::{Tasks, work_today};
 pub use verdict::Verdict;

@@ -1,24 +1,13 @@
 // Statements of an account, as they were issued and as they are now.
-ghost use Rattle.std.specs.Prelude.{◌≡◌, ◌≤◌, ℕ, IfOk, length, option_copied, option_map};
-ghost use Rattle.card_account.specs.Accounts.{MayBeFolded, OpenAccount, issued_statement, present_of, restated_as, restated_statement, shared_by, statement_of};
-ghost use Rattle.card_model.specs.Caps.{row_for};
+ghost use Rattle.std.specs.Prelude.{◌≡◌, ◌≤◌, true, IfOk, option_copied, option_map};
+ghost use Rattle.card_account.specs.Accounts.{is_closed, issued_statement, restated_as, restated_statement, statement_of};
 
-use card_book::{Cycle, Issued, Statement};
+use crate::cycles::closed_cycle;
+use card_book::{Cycle, Issued, Present, Statement, fold, row_for};
 use card_events::Num;
+use card_reasons::closing_of;
 use card_units::NoMemory;
 use std::alloc::Global;
-
-/// The row of a cycle, the first where it has several.
-pub fn row_for(issued: &[Issued], cycle: Num) -> Option<&Issued>
-    ensures { option_copied result ≡ row_for cycle issued.now }
-{
-    for row in issued {
-        if row.cycle as u64 == cycle.get() {
-            return Some(row);
-        }
-    }
-    None
-}
 
 /// The statement of a cycle as it was issued.
 pub fn issued_of(
@@ -28,7 +17,7 @@ pub fn issued_of(
 ) -> Result<Option<Statement>, NoMemory>
     ensures { IfOk result (λ s. s ≡ issued_statement cycle issued.now) }
 {
-    match row_for(issued, cycle) {
+    match row_for(issued, cycle.get()) {
         Some(row) => Ok(Some(as_issued(alloc, row)?)),
         None => Ok(None),
     }
@@ -57,17 +46,48 @@ fn restated_as(alloc: Global, issued: Option<&Issued>, cycle: &Cycle) -> Result<
     })
 }
 
-/// A cycle of the book as a statement, none where it isn't closed.
-pub fn restated_of(
+// A cycle as a statement, none where it isn't closed.
+fn restated_of(
     alloc: Global,
-    issued: &[Issued],
+    issued: Option<&Issued>,
     closed: Option<&Cycle>,
-    cycle: Num,
 ) -> Result<Option<Statement>, NoMemory>
-    ensures { IfOk result (λ s. s ≡ option_map (restated_as (row_for cycle issued.now)) (option_copied closed.entry)) }
+    ensures { IfOk result (λ s. s ≡ option_map (restated_as (option_copied issued.entry)) (option_copied closed.entry)) }
 {
     match closed {
-        Some(closed) => Ok(Some(restated_as(alloc, row_for(issued, cycle), closed)?)),
+        Some(closed) => Ok(Some(restated_as(alloc, issued, closed)?)),
         None => Ok(None),
     }
+}
+
+// Whether a cycle is closed before today.
+fn is_closed(now: &Present, cycle: Num) -> bool
+    ensures value { result ≡ is_closed now.now.today now.now.lists cycle }
+    ensures small { result ≡ true → cycle ≤ 48_576 }
+{
+    let today = now.today();
+    match closing_of(&now.anchor(), cycle) {
+        Some(closing) => closing < today,
+        None => false,
+    }
+}
+
+/// The statement of a cycle as the book of today has it, none where the cycle isn't closed before today. Its day of issue is
+/// that of the Bill that issued it; without one it is the due date, so that no payment is due.
+pub fn restated_today(
+    alloc: Global,
+    now: &Present,
+    cycle: Num,
+) -> Result<Option<Statement>, NoMemory>
+    ensures { IfOk result (λ s. s ≡ restated_statement now.now cycle) }
+{
+    if !is_closed(now, cycle) {
+        return Ok(None);
+    }
+    let folded = fold(alloc, now)?;
+    restated_of(
+        alloc,
+        now.issued_for(cycle.get()),
+        closed_cycle(&folded, cycle),
+    )
 }

@@ -1,13 +1,13 @@
 // The open tasks of many accounts.
 ghost use Rattle.std.specs.Prelude.{◌≡◌, ◌++◌, IfOk, OnOk};
 ghost use Rattle.std.specs.List.{All, flat_map};
-ghost use Rattle.card_account.specs.Accounts.{MayBeFolded, shared_by};
+ghost use Rattle.card_account.specs.Accounts.{MayBeFolded};
 ghost use Rattle.card_account.specs.Works.{tasks_of, work_of};
 
 use crate::Account;
-use card_days::{Calendar, Day};
+use card_days::Day;
 use card_disputes::{Task, in_work_order};
-use card_fees::FeeTable;
+use card_shared::SharedRows;
 use card_units::NoMemory;
 use std::alloc::Global;
 use std::marker::Model;
@@ -42,13 +42,12 @@ fn push_tasks(
     alloc: Global,
     account: &Account,
     today: Day,
-    calendar: &Calendar,
-    fees: &FeeTable,
+    shared: &SharedRows,
 ) -> Result<(), NoMemory>
-    requires { MayBeFolded today calendar.now fees.now account.now }
-    ensures { OnOk result (tasks.new.items ≡ tasks.old.items ++ tasks_of today (shared_by calendar.now fees.now) account.now) }
+    requires { MayBeFolded today shared.now account.now }
+    ensures { OnOk result (tasks.new.items ≡ tasks.old.items ++ tasks_of today shared.now account.now) }
 {
-    let mut more = account.tasks(alloc, today, calendar, fees)?;
+    let mut more = account.tasks(alloc, today, shared)?;
     tasks.append(&mut more)?;
     Ok(())
 }
@@ -58,15 +57,14 @@ fn tasks_of(
     alloc: Global,
     accounts: &[Account],
     today: Day,
-    calendar: &Calendar,
-    fees: &FeeTable,
+    shared: &SharedRows,
 ) -> Result<Vec<Task>, NoMemory>
-    requires { All (MayBeFolded today calendar.now fees.now) accounts.now }
-    ensures { IfOk result (λ tasks. tasks.items ≡ flat_map (tasks_of today (shared_by calendar.now fees.now)) accounts.now) }
+    requires { All (MayBeFolded today shared.now) accounts.now }
+    ensures { IfOk result (λ tasks. tasks.items ≡ flat_map (tasks_of today shared.now) accounts.now) }
 {
     let mut tasks = Vec::new(alloc);
     for i in 0..accounts.len() {
-        push_tasks(&mut tasks, alloc, &accounts[i], today, calendar, fees)?;
+        push_tasks(&mut tasks, alloc, &accounts[i], today, shared)?;
     }
     Ok(tasks)
 }
@@ -77,13 +75,12 @@ pub fn work_today(
     alloc: Global,
     accounts: &[Account],
     today: Day,
-    calendar: &Calendar,
-    fees: &FeeTable,
+    shared: &SharedRows,
 ) -> Result<Tasks, NoMemory>
-    requires { All (MayBeFolded today calendar.now fees.now) accounts.now }
-    ensures { IfOk result (λ tasks. tasks ≡ work_of today (shared_by calendar.now fees.now) accounts.now) }
+    requires { All (MayBeFolded today shared.now) accounts.now }
+    ensures { IfOk result (λ tasks. tasks ≡ work_of today shared.now accounts.now) }
 {
-    let mut tasks = tasks_of(alloc, accounts, today, calendar, fees)?;
+    let mut tasks = tasks_of(alloc, accounts, today, shared)?;
     in_work_order(&mut tasks)?;
     Ok(Tasks { tasks })
 }

@@ -1,18 +1,16 @@
 ghost use Rattle.std.specs.Prelude.{◌≡◌, ◌<◌, ◌≤◌, IfOk, neg_ℤ, option_copied, pos, slice_index_or};
-ghost use Rattle.card_daily.specs.Given.{IsSound, book_on, opened_in, seen_in};
+ghost use Rattle.card_daily.specs.Given.{book_on, given_today, opened_in};
 ghost use Rattle.card_model.specs.Deadlines.{credit_since};
 ghost use Rattle.card_model.specs.Payments.{sixty_days_late};
 ghost use Rattle.card_model.specs.Entries.{at_least_zero};
 ghost use Rattle.card_model.specs.Folds.{cycle_at};
 ghost use Rattle.card_segments.specs.Balances.{AreWithin};
-ghost use Rattle.card_posts.specs.Posted.{StandsFor};
+ghost use Rattle.card_model.specs.Refusals.{book_today, seen_today};
 
 use crate::Book;
-use card_daily::{Cycle, Inputs, Issued, Track, is_sixty_days_late};
+use card_daily::{Cycle, Inputs, Present, Track, is_sixty_days_late};
 use card_dayend::opening_day;
-use card_days::{Calendar, Day};
-use card_fees::FeeTable;
-use card_posts::Posts;
+use card_days::Day;
 use card_segments::Segments;
 use card_steps::Steps;
 use card_units::{Cents, NoMemory};
@@ -83,25 +81,13 @@ fn fold_counted<L: Ledger>(
     Ok(Folded { book, track })
 }
 
-/// The book of an account at the end of a day, folded from its opening day on. The day isn't before the opening day and at
-/// most 2099-12-31.
-pub fn fold(
-    alloc: Global,
-    posts: &Posts,
-    issued: &[Issued],
-    calendar: &Calendar,
-    fees: &FeeTable,
-    to: Day,
-) -> Result<Folded, NoMemory>
-    requires stands { StandsFor calendar.now posts.now }
-    requires sound { IsSound (record { history = posts.now.history; issued = issued.now; shared = record { holidays = calendar.now; fees = fees.now } }) }
-    requires opened { opened_in (record { history = posts.now.history; issued = issued.now; shared = record { holidays = calendar.now; fees = fees.now } }) ≤ to }
-    requires last { to ≤ 47_481 }
-    ensures book { IfOk result (λ f. f.book ≡ book_on (record { history = posts.now.history; issued = issued.now; shared = record { holidays = calendar.now; fees = fees.now } }) to) }
-    ensures since { IfOk result (λ f. f.since ≡ credit_since (book_on (record { history = posts.now.history; issued = issued.now; shared = record { holidays = calendar.now; fees = fees.now } }) to).entries (opened_in (record { history = posts.now.history; issued = issued.now; shared = record { holidays = calendar.now; fees = fees.now } })) to) }
+/// The book of an account at the end of today, folded from its opening day on.
+#[tactic(auto, unfolding(card_model::specs::Refusals::book_today))]
+pub fn fold(alloc: Global, now: &Present) -> Result<Folded, NoMemory>
+    ensures book { IfOk result (λ f. f.book ≡ book_today now.now) }
+    ensures since { IfOk result (λ f. f.since ≡ credit_since (book_today now.now).entries (opened_in (given_today now.now)) now.now.today) }
 {
-    let inputs = Inputs::new(posts, issued, calendar, fees);
-    fold_counted::<Brand>(alloc, &inputs, to, Blank::new(1))
+    fold_counted::<Brand>(alloc, now.inputs(), now.today(), Blank::new(1))
 }
 
 impl Folded {
@@ -138,27 +124,15 @@ impl Folded {
         self.book.credit_since()
     }
 
-    /// Whether the account is sixty days late at the end of a day (12 CFR 1026.55(b)(4)): some due date lies more than 60 days
-    /// back, and the payments since its closing are below its minimum payment. This is the book of that day, folded from the
-    /// same posts, issued statements, calendar and fees; the day isn't before the opening day and at most 2099-12-31. It takes
-    /// no memory.
-    pub fn late_today(
-        &self,
-        posts: &Posts,
-        issued: &[Issued],
-        calendar: &Calendar,
-        fees: &FeeTable,
-        today: Day,
-    ) -> bool
-        requires stands { StandsFor calendar.now posts.now }
-        requires sound { IsSound (record { history = posts.now.history; issued = issued.now; shared = record { holidays = calendar.now; fees = fees.now } }) }
-        requires opened { opened_in (record { history = posts.now.history; issued = issued.now; shared = record { holidays = calendar.now; fees = fees.now } }) ≤ today }
-        requires last { today ≤ 47_481 }
-        requires book { self.now.book ≡ book_on (record { history = posts.now.history; issued = issued.now; shared = record { holidays = calendar.now; fees = fees.now } }) today }
-        ensures { result ≡ sixty_days_late (seen_in (record { history = posts.now.history; issued = issued.now; shared = record { holidays = calendar.now; fees = fees.now } }) today) (book_on (record { history = posts.now.history; issued = issued.now; shared = record { holidays = calendar.now; fees = fees.now } }) today).cycles }
+    /// Whether the account is sixty days late at the end of today (12 CFR 1026.55(b)(4)): some due date lies more than 60 days
+    /// back, and the payments since its closing are below its minimum payment. This is the book of today. It takes no memory.
+    #[tactic(auto, unfolding(card_model::specs::Refusals::book_today))]
+    pub fn late_today(&self, now: &Present) -> bool
+        requires book { self.now.book ≡ book_today now.now }
+        ensures { result ≡ sixty_days_late (seen_today now.now) (book_today now.now).cycles }
     {
-        let inputs = Inputs::new(posts, issued, calendar, fees);
-        is_sixty_days_late(&inputs, today, &self.track.cycles)
+        let _anchor = now.anchor();
+        is_sixty_days_late(now.inputs(), now.today(), &self.track.cycles)
     }
 
     /// The closed cycle with a number, from 1; None where it isn't closed.

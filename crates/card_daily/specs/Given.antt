@@ -15,7 +15,8 @@ use Rattle.card_model.specs.Caps.{row_for}
 use Rattle.card_model.specs.CycleDays.{IsOpening}
 use Rattle.card_model.specs.Cycles.{IssuedRow, Seen, seen_on}
 use Rattle.card_model.specs.Folds.{book, book_after}
-use Rattle.card_model.specs.Refusals.{plan_days}
+use Rattle.card_model.specs.Refusals.{Present, plan_days}
+use Rattle.card_posts.specs.Posted.{last_accepted}
 use Rattle.card_rates.specs.RateBooks.{HasFewSegments}
 use Rattle.card_slots.specs.Segments.{ArePostsDated}
 
@@ -78,3 +79,14 @@ pub record IsSound (g : Given) : Type 0 where
   pub opening : IsOpening (anchor_of g.history)
   pub plans : ArePlanned g.history
   pub returns : NamePayments g.history 1 g.history
+
+-- ---- an account today
+-- what the fold to today is given
+abbrev pub given_today : Present → Given
+given_today now = record { history = now.lists.posts; issued = now.lists.issued; shared = now.shared }
+
+-- its fold goes to the end of today: no post was accepted later
+pub record ReachesToday (now : Present) : Type 0 where
+  pub opened : opened_in (given_today now) ≤ now.today
+  pub accepted : last_accepted now.lists.posts ≤ now.today
+  pub dated : now.today ≤ 47_481

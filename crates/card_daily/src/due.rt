@@ -68,7 +68,7 @@ pub fn due_cycle(inputs: &Inputs, day: Day, cycle: &Cycle) -> DueCycle
     ensures { result ≡ due_cycle_of (seen_in inputs.now day) cycle.now }
 {
     let anchor = inputs.anchor();
-    let issued = issue_day(inputs.issued_for(cycle.number));
+    let issued = issue_day(inputs.issued_for(cycle.number as u64));
     with_due_payment(cycle, has_due_payment(&anchor, cycle.number, issued, day))
 }
 
@@ -93,7 +93,7 @@ fn late_fee(inputs: &Inputs, day: Day, fees: &[Fee], cycle: &Cycle) -> Option<Fe
 {
     let anchor = inputs.anchor();
     let due = due_cycle(inputs, day, cycle);
-    let issued = fees_of(inputs.issued_for(cycle.number + 1));
+    let issued = fees_of(inputs.issued_for(cycle.number as u64 + 1));
     due_fee(inputs.fees(), fees, inputs.posts(), &anchor, &due, issued)
 }
 

@@ -9,6 +9,7 @@ use card_days::{Anchor, Calendar};
 use card_events::{Post, Terms};
 use card_fees::FeeTable;
 use card_posts::Posts;
+use card_shared::SharedRows;
 use std::marker::Model;
 
 // The opening day of an Open, and the day of the month on which its cycles close.
@@ -59,12 +60,12 @@ fn terms_of_first(posts: &Posts) -> Terms
     }
 }
 
-// The issued statement of a cycle.
-fn find(issued: &[Issued], cycle: u32) -> Option<&Issued>
+/// The issued statement of a cycle, the first where it has several.
+pub fn row_for(issued: &[Issued], cycle: u64) -> Option<&Issued>
     ensures { option_copied result ≡ row_for cycle issued.now }
 {
     for row in issued {
-        if row.cycle == cycle {
+        if row.cycle as u64 == cycle {
             return Some(row);
         }
     }
@@ -76,8 +77,7 @@ fn find(issued: &[Issued], cycle: u32) -> Option<&Issued>
 pub struct Inputs<'a> {
     posts: &'a Posts,
     issued: &'a [Issued],
-    calendar: &'a Calendar,
-    fees: &'a FeeTable,
+    shared: &'a SharedRows,
 }
 
 impl<'a> Model for Inputs<'a> {
@@ -86,9 +86,9 @@ impl<'a> Model for Inputs<'a> {
 
     ghost Value = { Given };
 
-    ghost view = { λ i. record { history = i.posts.now.history; issued = i.issued.now; shared = record { holidays = i.calendar.now; fees = i.fees.now } } };
+    ghost view = { λ i. record { history = i.posts.now.history; issued = i.issued.now; shared = i.shared.now } };
 
-    ghost invariant = { λ i. StandsFor i.calendar.now i.posts.now × IsSound (record { history = i.posts.now.history; issued = i.issued.now; shared = record { holidays = i.calendar.now; fees = i.fees.now } }) };
+    ghost invariant = { λ i. StandsFor i.shared.now.holidays i.posts.now × IsSound (record { history = i.posts.now.history; issued = i.issued.now; shared = i.shared.now }) };
 }
 
 impl<'a> Inputs<'a> {
@@ -99,21 +99,15 @@ impl<'a> Inputs<'a> {
     ghost use Rattle.card_posts.specs.Posted.{StandsFor};
 
     /// The inputs of an account.
-    pub fn new(
-        posts: &'a Posts,
-        issued: &'a [Issued],
-        calendar: &'a Calendar,
-        fees: &'a FeeTable,
-    ) -> Inputs<'a>
-        requires stands { StandsFor calendar.now posts.now }
-        requires sound { IsSound (record { history = posts.now.history; issued = issued.now; shared = record { holidays = calendar.now; fees = fees.now } }) }
-        ensures { result ≡ record { history = posts.now.history; issued = issued.now; shared = record { holidays = calendar.now; fees = fees.now } } }
+    pub fn new(posts: &'a Posts, issued: &'a [Issued], shared: &'a SharedRows) -> Inputs<'a>
+        requires stands { StandsFor shared.now.holidays posts.now }
+        requires sound { IsSound (record { history = posts.now.history; issued = issued.now; shared = shared.now }) }
+        ensures { result ≡ record { history = posts.now.history; issued = issued.now; shared = shared.now } }
     {
         Inputs {
             posts,
             issued,
-            calendar,
-            fees,
+            shared,
         }
     }
 
@@ -140,17 +134,24 @@ impl<'a> Inputs<'a> {
         self.posts
     }
 
+    /// The loaded holidays.
+    pub fn calendar(&self) -> &Calendar
+        ensures { result.now ≡ self.now.shared.holidays }
+    {
+        self.shared.calendar()
+    }
+
     /// The fee table.
     pub fn fees(&self) -> &FeeTable
         ensures { result.now ≡ self.now.shared.fees }
     {
-        self.fees
+        self.shared.fees()
     }
 
     /// The issued statement of a cycle.
-    pub fn issued_for(&self, cycle: u32) -> Option<&Issued>
+    pub fn issued_for(&self, cycle: u64) -> Option<&Issued>
         ensures { option_copied result ≡ row_for cycle self.now.issued }
     {
-        find(self.issued, cycle)
+        row_for(self.issued, cycle)
     }
 }

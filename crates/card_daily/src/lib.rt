@@ -7,14 +7,16 @@ mod inputs;
 pub mod laws;
 mod penalties;
 mod posts;
+mod present;
 mod returns;
 mod state;
 mod track;
 
 pub use card_closing::{Amounts, Cycle, Entry, Fee, Fees};
 pub use due::{due_cycle, due_day};
-pub use inputs::Inputs;
+pub use inputs::{Inputs, row_for};
 pub use penalties::is_sixty_days_late;
 pub use posts::post_day;
+pub use present::Present;
 pub use state::State;
 pub use track::{Issued, Statement, Track};

@@ -109,7 +109,7 @@ fn fee_for(inputs: &Inputs, day: Day, fees: &[Fee], cycles: &[Cycle], meant: &Cy
 {
     let anchor = inputs.anchor();
     let least = asked_by(inputs, day, due_before(cycles, day));
-    let issued = fees_of(inputs.issued_for(cycles.len() as u32 + 1));
+    let issued = fees_of(inputs.issued_for(cycles.len() as u64 + 1));
     match returned_fee(
         inputs.fees(),
         fees,

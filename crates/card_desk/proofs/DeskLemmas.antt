@@ -13,9 +13,13 @@ use Rattle.card_account.specs.declared.verdict.Verdict.{Verdict}
 use Rattle.card_desk.proofs.CountLemmas.{sum_pushed, sum_set}
 use Rattle.card_desk.proofs.OutcomeLemmas.{known_outcome}
 use Rattle.card_account.specs.Accounts.{OpenAccount}
-use Rattle.card_desk.specs.Desks.{named_all, now_of}
+use Rattle.card_desk.specs.Desks.{OpenDesk, named_all, now_of}
 use Rattle.std.proofs.lemmas.List.{get_or-map, length-map}
 use Rattle.card_desk.proofs.PlaceLemmas.{is_place, no_place}
+
+-- the state of a desk
+abbrev pub state_by : (a b : OpenDesk) → a ≡ b → a.state ≡ b.state
+state_by a b is = ap (λ (d : OpenDesk). d.state) is
 
 -- the place that the index gives
 pub found_at : (index : List (List ℕ × ℕ)) (accounts : List NamedAccount) (name given : List ℕ) (i : ℕ) → IsIndex index accounts → given ≡ name → Some i ≡ place_of given index → IsPlace name accounts i

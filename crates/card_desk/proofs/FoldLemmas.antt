@@ -6,7 +6,7 @@ use Rattle.std.proofs.lemmas.List.Elements.{All-cons, All-get_or, All-head, All-
 use Rattle.std.specs.List.{All, filter, list_all}
 use Rattle.std.specs.Prelude.{nat_le, nat_lt, ◌&&◌, ◌++◌, ◌+◌, ◌-◌, if◌then◌else◌, None}
 use Rattle.std.specs.Option.{option_map}
-use Rattle.card_account.specs.Accounts.{IsCorrected, MayBeFolded, OpenAccount, is_closed, present_of, restated_as, restated_statement, shared_by}
+use Rattle.card_account.specs.Accounts.{IsCorrected, MayBeFolded, OpenAccount, is_closed, present_of, restated_as, restated_statement}
 use Rattle.card_account.specs.Verdicts.{verdict_of}
 use Rattle.card_account.specs.declared.verdict.Verdict.{Verdict}
 use Rattle.card_account.specs.Runs.{AreRunning, IsTaken}
@@ -98,12 +98,12 @@ running_at s accounts i d low all =
     subst (λ (x : NamedAccount). AreRunning s x.lists) (get_or-map (λ (x : OpenAccount). x.named) accounts i d d.named low)
     (All-get_or (λ (x : NamedAccount). AreRunning s x.lists) (named_all accounts) i d.named (omega (arith, low, long)) all)
 
-pub may_be_folded : (places : List (List ℕ × ℕ)) (calendar : List ℕ) (fees : List FeeRow) (count today : ℕ) (rows : List Shared) (accounts : List OpenAccount) (i : ℕ) (d : OpenAccount)
-    → IsDesk places calendar fees count today rows accounts → i < length accounts → MayBeFolded today calendar fees (get_or accounts i d)
-may_be_folded places calendar fees count today rows accounts i d desk low =
+pub may_be_folded : (places : List (List ℕ × ℕ)) (common : SharedRows) (count today : ℕ) (rows : List Shared) (accounts : List OpenAccount) (i : ℕ) (d : OpenAccount)
+    → IsDesk places common count today rows accounts → i < length accounts → MayBeFolded today common (get_or accounts i d)
+may_be_folded places common count today rows accounts i d desk low =
     let one = running_at (state_of today rows accounts) accounts i d low (all_running (state_of today rows accounts) desk.ran) in
     record {
-      stands = All-get_or (IsCorrected calendar) accounts i d low desk.corrected;
+      stands = All-get_or (IsCorrected common.holidays) accounts i d low desk.corrected;
       sound = record {
         accepted = one.sound.accepted;
         fees = subst (λ (f : List FeeRow). All HasFewFees f) (sym desk.table) one.sound.fees;
@@ -113,52 +113,55 @@ may_be_folded places calendar fees count today rows accounts i d desk low =
         plans = one.sound.plans;
         returns = one.sound.returns;
       };
-      opened = one.opened;
-      accepted = one.last;
-      dated = desk.dated;
+      reached = record { opened = one.opened; accepted = one.last; dated = desk.dated };
     }
+
+-- one with room for a post more may be folded as well
+pub roomy : (today : ℕ) (common : SharedRows) (a b : OpenAccount) → a ≡ record b { has_room = true } → MayBeFolded today common b → MayBeFolded today common a
+roomy today common a b is may = subst (MayBeFolded today common) (sym is) (record { stands = may.stands; sound = may.sound; reached = may.reached })
 
 -- ---- books under the same holidays
 -- one corrected list gives one book
-one_book : (lists : Lists) (today : ℕ) (these those : List ℕ) (fees : List FeeRow) → corrected (anchor_of lists.posts) these lists.posts ≡ corrected (anchor_of lists.posts) those lists.posts
-    → book_today (present_of today (shared_by these fees) lists) ≡ book_today (present_of today (shared_by those fees) lists)
+one_book : (lists : Lists) (today : ℕ) (these those : SharedRows) → corrected (anchor_of lists.posts) these.holidays lists.posts ≡ corrected (anchor_of lists.posts) those.holidays lists.posts
+    → these.fees ≡ those.fees → book_today (present_of today these lists) ≡ book_today (present_of today those lists)
 unfolding book_today book
-one_book lists today these those fees same =
-    ap (λ (posts : List CorrectedPost). book_after lists.issued (account_of lists.posts)
-    (λ day. record {
-      day = day;
-      posts = filter (λ p. nat_le p.day day) (filter (λ p. is_folded p.post) posts);
-      fees = filter (λ r. nat_le r.day day) fees;
-      issued = filter (λ r. nat_lt r.day day) lists.issued;
-    }) (today + 1 - (anchor_of lists.posts).opened)) same
+one_book lists today these those same fees =
+    ap (λ (posts : List CorrectedPost). on posts these.fees) same ∙ ap (λ (rows : List FeeRow). on (corrected (anchor_of lists.posts) those.holidays lists.posts) rows) fees
+  where
+    on : List CorrectedPost → List FeeRow → Book
+    on posts rows = book_after lists.issued (account_of lists.posts)
+        (λ day. record {
+          day = day;
+          posts = filter (λ p. nat_le p.day day) (filter (λ p. is_folded p.post) posts);
+          fees = filter (λ r. nat_le r.day day) rows;
+          issued = filter (λ r. nat_lt r.day day) lists.issued;
+        }) (today + 1 - (anchor_of lists.posts).opened)
 
-pub same_book : (places : List (List ℕ × ℕ)) (calendar : List ℕ) (fees : List FeeRow) (count today : ℕ) (rows : List Shared) (accounts : List OpenAccount) (i : ℕ) (d : OpenAccount)
-    → IsDesk places calendar fees count today rows accounts → i < length accounts
-    → book_today (present_of today (shared_by calendar fees) (get_or accounts i d).named.lists) ≡ book_today (now_of (state_of today rows accounts) (get_or accounts i d).named.lists)
-same_book places calendar fees count today rows accounts i d desk low =
+pub same_book : (places : List (List ℕ × ℕ)) (common : SharedRows) (count today : ℕ) (rows : List Shared) (accounts : List OpenAccount) (i : ℕ) (d : OpenAccount)
+    → IsDesk places common count today rows accounts → i < length accounts
+    → book_today (present_of today common (get_or accounts i d).named.lists) ≡ book_today (now_of (state_of today rows accounts) (get_or accounts i d).named.lists)
+same_book places common count today rows accounts i d desk low =
     let lists = (get_or accounts i d).named.lists in
     let one = running_at (state_of today rows accounts) accounts i d low (all_running (state_of today rows accounts) desk.ran) in
-    let same = same-corrected (anchor_of lists.posts) calendar (shared_rows rows).holidays lists.posts one.timely (λ x l. desk.holidays x) in
-    one_book lists today calendar (shared_rows rows).holidays fees same
-    ∙ ap (λ (f : List FeeRow). book_today (present_of today (shared_by (shared_rows rows).holidays f) lists)) desk.table
+    one_book lists today common (shared_rows rows) (same-corrected (anchor_of lists.posts) common.holidays (shared_rows rows).holidays lists.posts one.timely (λ x l. desk.holidays x)) desk.table
 
 -- so the account is judged alike
-alike_at : (places : List (List ℕ × ℕ)) (calendar : List ℕ) (fees : List FeeRow) (count today : ℕ) (rows : List Shared) (accounts : List OpenAccount) (i : ℕ) (d : OpenAccount)
-    → IsDesk places calendar fees count today rows accounts → i < length accounts → AreAlike today (get_or accounts i d).named.lists (shared_by calendar fees) (shared_rows rows)
-alike_at places calendar fees count today rows accounts i d desk low =
+alike_at : (places : List (List ℕ × ℕ)) (common : SharedRows) (count today : ℕ) (rows : List Shared) (accounts : List OpenAccount) (i : ℕ) (d : OpenAccount)
+    → IsDesk places common count today rows accounts → i < length accounts → AreAlike today (get_or accounts i d).named.lists common (shared_rows rows)
+alike_at places common count today rows accounts i d desk low =
     let lists = (get_or accounts i d).named.lists in
     let one = running_at (state_of today rows accounts) accounts i d low (all_running (state_of today rows accounts) desk.ran) in
     record {
-      posts = same-corrected (anchor_of lists.posts) calendar (shared_rows rows).holidays lists.posts one.timely (λ x l. desk.holidays x);
-      books = same_book places calendar fees count today rows accounts i d desk low;
+      posts = same-corrected (anchor_of lists.posts) common.holidays (shared_rows rows).holidays lists.posts one.timely (λ x l. desk.holidays x);
+      books = same_book places common count today rows accounts i d desk low;
       fees = desk.table;
     }
 
-pub same_reason_at : (places : List (List ℕ × ℕ)) (calendar : List ℕ) (fees : List FeeRow) (count today : ℕ) (rows : List Shared) (accounts : List OpenAccount) (i : ℕ) (d : OpenAccount) (p : Post)
-    → IsDesk places calendar fees count today rows accounts → i < length accounts
-    → reason_against (present_of today (shared_by calendar fees) (get_or accounts i d).named.lists) p ≡ reason_against (now_of (state_of today rows accounts) (get_or accounts i d).named.lists) p
-same_reason_at places calendar fees count today rows accounts i d p desk low =
-    same_reason today (get_or accounts i d).named.lists (shared_by calendar fees) (shared_rows rows) p (alike_at places calendar fees count today rows accounts i d desk low)
+pub same_reason_at : (places : List (List ℕ × ℕ)) (common : SharedRows) (count today : ℕ) (rows : List Shared) (accounts : List OpenAccount) (i : ℕ) (d : OpenAccount) (p : Post)
+    → IsDesk places common count today rows accounts → i < length accounts
+    → reason_against (present_of today common (get_or accounts i d).named.lists) p ≡ reason_against (now_of (state_of today rows accounts) (get_or accounts i d).named.lists) p
+same_reason_at places common count today rows accounts i d p desk low =
+    same_reason today (get_or accounts i d).named.lists common (shared_rows rows) p (alike_at places common count today rows accounts i d desk low)
 
 -- and its verdict is one
 verdict_by : (a b : Present) (key : List ℕ) (p : Post) (k : Option ℕ) → a.lists ≡ b.lists → reason_against a p ≡ reason_against b p → verdict_of (at_key a key p k) ≡ verdict_of (at_key b key p k)
@@ -173,27 +176,27 @@ verdict_by a b key p None lists same = new_by (is_open p) (reason_against a p) (
     new_by true r q e = refl
     new_by false r q e = reason_by r ∙ ap (λ x. verdict_of (judged b key p x)) e
 
-pub same_verdict : (places : List (List ℕ × ℕ)) (calendar : List ℕ) (fees : List FeeRow) (count today : ℕ) (rows : List Shared) (accounts : List OpenAccount) (i : ℕ) (a : OpenAccount) (key : List ℕ) (p : Post) (v : Verdict)
-    → IsDesk places calendar fees count today rows accounts → i < length accounts → a ≡ get_or accounts i a
-    → v ≡ verdict_of (at_key (present_of today (shared_by calendar fees) a.named.lists) key p (with_key key a.named.lists.posts))
+pub same_verdict : (places : List (List ℕ × ℕ)) (common : SharedRows) (count today : ℕ) (rows : List Shared) (accounts : List OpenAccount) (i : ℕ) (a : OpenAccount) (key : List ℕ) (p : Post) (v : Verdict)
+    → IsDesk places common count today rows accounts → i < length accounts → a ≡ get_or accounts i a
+    → v ≡ verdict_of (at_key (present_of today common a.named.lists) key p (with_key key a.named.lists.posts))
     → v ≡ verdict_of (at_key (now_of (state_of today rows accounts) a.named.lists) key p (with_key key a.named.lists.posts))
-same_verdict places calendar fees count today rows accounts i a key p v desk low is found =
+same_verdict places common count today rows accounts i a key p v desk low is found =
     let s = state_of today rows accounts in
-    let same = same_reason_at places calendar fees count today rows accounts i a p desk low in
+    let same = same_reason_at places common count today rows accounts i a p desk low in
     found
-    ∙ verdict_by (present_of today (shared_by calendar fees) a.named.lists) (now_of s a.named.lists) key p (with_key key a.named.lists.posts) refl
-    (subst (λ (x : OpenAccount). reason_against (present_of today (shared_by calendar fees) x.named.lists) p ≡ reason_against (now_of s x.named.lists) p) (sym is) same)
+    ∙ verdict_by (present_of today common a.named.lists) (now_of s a.named.lists) key p (with_key key a.named.lists.posts) refl
+    (subst (λ (x : OpenAccount). reason_against (present_of today common x.named.lists) p ≡ reason_against (now_of s x.named.lists) p) (sym is) same)
 
 -- by its verdict, what a post of the account at a place comes to
-pub judged_at : (places : List (List ℕ × ℕ)) (calendar : List ℕ) (fees : List FeeRow) (count today : ℕ) (rows : List Shared) (accounts : List OpenAccount) (i : ℕ) (a : OpenAccount) (s : State) (d : NamedAccount) (key : List ℕ) (p : Post) (v : Verdict)
-    → IsDesk places calendar fees count today rows accounts → state_of today rows accounts ≡ s → i < length s.accounts → a ≡ get_or accounts i a
-    → v ≡ verdict_of (at_key (present_of today (shared_by calendar fees) a.named.lists) key p (with_key key a.named.lists.posts))
+pub judged_at : (places : List (List ℕ × ℕ)) (common : SharedRows) (count today : ℕ) (rows : List Shared) (accounts : List OpenAccount) (i : ℕ) (a : OpenAccount) (s : State) (d : NamedAccount) (key : List ℕ) (p : Post) (v : Verdict)
+    → IsDesk places common count today rows accounts → state_of today rows accounts ≡ s → i < length s.accounts → a ≡ get_or accounts i a
+    → v ≡ verdict_of (at_key (present_of today common a.named.lists) key p (with_key key a.named.lists.posts))
     → v ≡ verdict_of (at_key (now_of s (get_or s.accounts i d).lists) key p (with_key key (get_or s.accounts i d).lists.posts))
-judged_at places calendar fees count today rows accounts i a s d key p v desk state low is found =
+judged_at places common count today rows accounts i a s d key p v desk state low is found =
     let listed = ap (λ (x : State). x.accounts) state in
     let here : i < length accounts = omega (arith, low, ap (λ (l : List NamedAccount). length l) listed, length-map accounts (λ (x : OpenAccount). x.named)) in
     verdict_at s (state_of today rows accounts) key p a.named (get_or s.accounts i d) v state (read_at accounts s.accounts i a d is listed low)
-    (same_verdict places calendar fees count today rows accounts i a key p v desk here is found)
+    (same_verdict places common count today rows accounts i a key p v desk here is found)
 
 -- and so does what a post brings
 same_issues : (today : ℕ) (lists : Lists) (a b : SharedRows) (p : Post) → book_today (present_of today a lists) ≡ book_today (present_of today b lists) → issues (present_of today a lists) p ≡ issues (present_of today b lists) p
@@ -207,27 +210,27 @@ same_accepted today lists a b key p same =
     ap (λ more. record { posts = lists.posts ++ kept_as (length lists.posts + 1) key today p ∷ []; issued = lists.issued ++ more }) (same_issues today lists a b p same)
 
 -- what the account has after a post is what the machine gives it
-pub accepted_in : (places : List (List ℕ × ℕ)) (calendar : List ℕ) (fees : List FeeRow) (count today : ℕ) (rows : List Shared) (accounts : List OpenAccount) (i : ℕ) (a b : OpenAccount) (name key : List ℕ) (p : Post)
-    → IsDesk places calendar fees count today rows accounts → i < length accounts → b ≡ get_or accounts i b
-    → a.named.lists ≡ accepted (present_of today (shared_by calendar fees) b.named.lists) key p
+pub accepted_in : (places : List (List ℕ × ℕ)) (common : SharedRows) (count today : ℕ) (rows : List Shared) (accounts : List OpenAccount) (i : ℕ) (a b : OpenAccount) (name key : List ℕ) (p : Post)
+    → IsDesk places common count today rows accounts → i < length accounts → b ≡ get_or accounts i b
+    → a.named.lists ≡ accepted (present_of today common b.named.lists) key p
     → ((e : NamedAccount) → outcome_in (state_of today rows accounts) name key p ≡ Accepts (accepted (now_of (state_of today rows accounts) (get_or (named_all accounts) i e).lists) key p))
     → outcome_in (state_of today rows accounts) name key p ≡ Accepts a.named.lists
-accepted_in places calendar fees count today rows accounts i a b name key p desk low is lists allowed =
+accepted_in places common count today rows accounts i a b name key p desk low is lists allowed =
     let s = state_of today rows accounts in
     let here = (get_or accounts i b).named.lists in
     let read : (get_or (named_all accounts) i b.named).lists ≡ here = ap (λ (x : NamedAccount). x.lists) (get_or-map (λ (x : OpenAccount). x.named) accounts i b b.named low) in
-    let same = same_accepted today here (shared_by calendar fees) (shared_rows rows) key p (same_book places calendar fees count today rows accounts i b desk low) in
+    let same = same_accepted today here common (shared_rows rows) key p (same_book places common count today rows accounts i b desk low) in
     allowed b.named ∙ ap (λ (l : Lists). Accepts (accepted (now_of s l) key p)) read ∙ ap (λ (l : Lists). Accepts l) (sym same)
-    ∙ ap (λ (x : OpenAccount). Accepts (accepted (present_of today (shared_by calendar fees) x.named.lists) key p)) (sym is) ∙ ap (λ (l : Lists). Accepts l) (sym lists)
+    ∙ ap (λ (x : OpenAccount). Accepts (accepted (present_of today common x.named.lists) key p)) (sym is) ∙ ap (λ (l : Lists). Accepts l) (sym lists)
 
 -- ---- what is shown
 -- the account that is read at a place, and its book
-pub book_at : (places : List (List ℕ × ℕ)) (calendar : List ℕ) (fees : List FeeRow) (count today : ℕ) (rows : List Shared) (accounts : List OpenAccount) (i : ℕ) (a : OpenAccount)
-    → IsDesk places calendar fees count today rows accounts → i < length accounts → a ≡ get_or accounts i a
-    → book_today (present_of today (shared_by calendar fees) a.named.lists) ≡ book_today (now_of (state_of today rows accounts) a.named.lists)
-book_at places calendar fees count today rows accounts i a desk low is =
-    subst (λ (x : OpenAccount). book_today (present_of today (shared_by calendar fees) x.named.lists) ≡ book_today (now_of (state_of today rows accounts) x.named.lists)) (sym is)
-    (same_book places calendar fees count today rows accounts i a desk low)
+pub book_at : (places : List (List ℕ × ℕ)) (common : SharedRows) (count today : ℕ) (rows : List Shared) (accounts : List OpenAccount) (i : ℕ) (a : OpenAccount)
+    → IsDesk places common count today rows accounts → i < length accounts → a ≡ get_or accounts i a
+    → book_today (present_of today common a.named.lists) ≡ book_today (now_of (state_of today rows accounts) a.named.lists)
+book_at places common count today rows accounts i a desk low is =
+    subst (λ (x : OpenAccount). book_today (present_of today common x.named.lists) ≡ book_today (now_of (state_of today rows accounts) x.named.lists)) (sym is)
+    (same_book places common count today rows accounts i a desk low)
 
 -- and a cycle of it as a statement
 pub same_restated : (today : ℕ) (lists : Lists) (a b : SharedRows) (cycle : ℕ) → book_today (present_of today a lists) ≡ book_today (present_of today b lists)

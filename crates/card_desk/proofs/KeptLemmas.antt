@@ -2,7 +2,8 @@
 use Rattle.std.proofs.Common.{◌≡◌, ℕ, ◌+◌, ◌<◌, ◌≤◌, true, List, [], ◌∷◌, ◌++◌, length, get_or, set, None, refl, ap, sym, ◌∙◌, subst, arith, length-append, append-nil, nat_eq, ◌||◌, Bool, false}
 use Rattle.std.proofs.lemmas.Bool.{and_from, leb-false, leb-true, ltb-false, or_parts}
 use Rattle.std.proofs.lemmas.List.{get_or-map, length-set, map-append, map-set}
-use Rattle.std.proofs.lemmas.List.Elements.{All-nil, All-push, All-set, filter_map-append}
+use Rattle.std.proofs.Math.Seq.{map-set_same}
+use Rattle.std.proofs.lemmas.List.Elements.{All-get_or, All-nil, All-push, All-set, filter_map-append}
 use Rattle.std.proofs.lemmas.List.Folds.{list_all-append}
 use Rattle.std.specs.List.{filter_map, list_all}
 use Rattle.std.specs.Prelude.{nat_le, nat_lt, ◌&&◌}
@@ -12,7 +13,7 @@ use Rattle.card_account.specs.Accounts.{IsCorrected, OpenAccount}
 use Rattle.card_days.specs.Business.{is_holiday, with_holiday}
 use Rattle.card_days.proofs.Holidays.{with_holiday-is}
 use Rattle.card_desk.specs.Desks.{AreCorrected, AreSameHolidays, IsDesk, IsRun, named_all, state_of}
-use Rattle.card_desk.specs.Kept.{posts_in}
+use Rattle.card_desk.specs.Kept.{accepted_count, posts_in}
 use Rattle.card_index.specs.Places.{place_of}
 use Rattle.card_desk.specs.Applied.{are_short}
 use Rattle.card_desk.specs.Places.{IsIndex, IsPlace, place_from}
@@ -25,7 +26,8 @@ use Rattle.card_desk.proofs.StepLemmas.{post_step}
 use Rattle.card_desk.proofs.FoldLemmas.{shared_day}
 use Rattle.card_desk.proofs.RunLemmas.{run_more}
 use Rattle.card_events.specs.Dated.{is_dated_shared}
-use Rattle.card_events.specs.SharedRows.{FeeRow, fee_row_of, holiday_of, shared_rows}
+use Rattle.card_events.specs.History.{anchor_of, corrected}
+use Rattle.card_events.specs.SharedRows.{FeeRow, SharedRows, fee_row_of, holiday_of, shared_rows}
 use Rattle.card_events.specs.declared.post.Post.{Post}
 use Rattle.card_events.specs.declared.reply.Reply.{Reply}
 use Rattle.card_events.specs.declared.reply.Reply.TheVariants as reply
@@ -102,12 +104,12 @@ shared_step : (s : State) (r : Shared) → shared_reason s.today (has_accounts s
 unfolding step
 shared_step s r none = ap (with_shared s r) none
 
-pub shared_desk : (places : List (List ℕ × ℕ)) (calendar new_calendar : List ℕ) (fees new_fees : List FeeRow) (count today : ℕ) (rows : List Shared) (accounts : List OpenAccount) (r : Shared)
-    → IsDesk places calendar fees count today rows accounts → is_request (request.Shared r) ≡ true → shared_reason today (has_accounts (state_of today rows accounts)) r ≡ None
-    → AreSameHolidays new_calendar (shared_rows (rows ++ r ∷ [])).holidays → new_fees ≡ (shared_rows (rows ++ r ∷ [])).fees → AreCorrected new_calendar accounts
-    → IsDesk places new_calendar new_fees (count + 1) (rolled today r) (rows ++ r ∷ []) accounts
+pub shared_desk : (places : List (List ℕ × ℕ)) (common more : SharedRows) (count today : ℕ) (rows : List Shared) (accounts : List OpenAccount) (r : Shared)
+    → IsDesk places common count today rows accounts → is_request (request.Shared r) ≡ true → shared_reason today (has_accounts (state_of today rows accounts)) r ≡ None
+    → AreSameHolidays more.holidays (shared_rows (rows ++ r ∷ [])).holidays → more.fees ≡ (shared_rows (rows ++ r ∷ [])).fees → AreCorrected more.holidays accounts
+    → IsDesk places more (count + 1) (rolled today r) (rows ++ r ∷ []) accounts
 unfolding is_request
-shared_desk places calendar new_calendar fees new_fees count today rows accounts r desk held none holidays table corrected =
+shared_desk places common more count today rows accounts r desk held none holidays table corrected =
     let s = state_of today rows accounts in
     let t = state_of (rolled today r) (rows ++ r ∷ []) accounts in
     record {
@@ -145,11 +147,11 @@ opened_is s name key p made absent opens_is none is =
     ap (λ (x : State). (x, reply.Accepted 1)) (opened_state s t name l made refl refl refl is absent)
     ∙ sym (post_step s name key p (Accepts l) (open_accepted s name key p (no_place name 0 s.accounts absent).0 opens_is none))
 
-pub opened_desk : (places more : List (List ℕ × ℕ)) (calendar : List ℕ) (fees : List FeeRow) (count today : ℕ) (rows : List Shared) (accounts : List OpenAccount) (made : OpenAccount) (name key : List ℕ) (p : Post)
-    → IsDesk places calendar fees count today rows accounts → is_request (request.Post name key p) ≡ true → place_from name 0 (named_all accounts) ≡ None → is_open p ≡ true
+pub opened_desk : (places more : List (List ℕ × ℕ)) (common : SharedRows) (count today : ℕ) (rows : List Shared) (accounts : List OpenAccount) (made : OpenAccount) (name key : List ℕ) (p : Post)
+    → IsDesk places common count today rows accounts → is_request (request.Post name key p) ≡ true → place_from name 0 (named_all accounts) ≡ None → is_open p ≡ true
     → reason_to_open today (length (named_all accounts)) p ≡ None → made.named ≡ record { name = name; lists = record { posts = kept_as 1 key today p ∷ []; issued = [] } }
-    → IsIndex more (named_all accounts ++ made.named ∷ []) → length accounts < 1000000 → IsCorrected calendar made → IsDesk more calendar fees (count + 1) today rows (accounts ++ made ∷ [])
-opened_desk places more calendar fees count today rows accounts made name key p desk taken absent opens_is none is index room stands =
+    → IsIndex more (named_all accounts ++ made.named ∷ []) → length accounts < 1000000 → IsCorrected common.holidays made → IsDesk more common (count + 1) today rows (accounts ++ made ∷ [])
+opened_desk places more common count today rows accounts made name key p desk taken absent opens_is none is index room stands =
     let s = state_of today rows accounts in
     let t = state_of today rows (accounts ++ made ∷ []) in
     let all : named_all (accounts ++ made ∷ []) ≡ named_all accounts ++ made.named ∷ [] = map-append (λ (x : OpenAccount). x.named) accounts (made ∷ []) in
@@ -163,7 +165,7 @@ opened_desk places more calendar fees count today rows accounts made name key p 
       dated = desk.dated;
       holidays = desk.holidays;
       table = desk.table;
-      corrected = All-push (IsCorrected calendar) accounts made desk.corrected stands;
+      corrected = All-push (IsCorrected common.holidays) accounts made desk.corrected stands;
       counted = ap (λ (n : ℕ). n + 1) desk.counted ∙ sym (count_opened s t made.named refl all one);
       ran = run_on s t (request.Post name key p) (reply.Accepted 1) desk.ran taken next;
     }
@@ -180,12 +182,12 @@ posted_is s name key p i a d place named accepts =
     ap (λ (x : State). (x, reply.Accepted (length a.lists.posts))) (changed_state s t name a.lists i a d place refl refl refl named refl)
     ∙ sym (post_step s name key p (Accepts a.lists) accepts)
 
-pub posted_desk : (places : List (List ℕ × ℕ)) (calendar : List ℕ) (fees : List FeeRow) (count today : ℕ) (rows : List Shared) (accounts : List OpenAccount) (i : ℕ) (a d : OpenAccount) (name key : List ℕ) (p : Post)
-    → IsDesk places calendar fees count today rows accounts → is_request (request.Post name key p) ≡ true → IsPlace name (named_all accounts) i → i < length accounts
+pub posted_desk : (places : List (List ℕ × ℕ)) (common : SharedRows) (count today : ℕ) (rows : List Shared) (accounts : List OpenAccount) (i : ℕ) (a d : OpenAccount) (name key : List ℕ) (p : Post)
+    → IsDesk places common count today rows accounts → is_request (request.Post name key p) ≡ true → IsPlace name (named_all accounts) i → i < length accounts
     → a.named.name ≡ (get_or accounts i d).named.name → outcome_in (state_of today rows accounts) name key p ≡ Accepts a.named.lists
-    → length a.named.lists.posts ≡ length (get_or accounts i d).named.lists.posts + 1 → length a.named.lists.posts ≤ 10000 → IsCorrected calendar a
-    → IsDesk places calendar fees (count + 1) today rows (set accounts i a)
-posted_desk places calendar fees count today rows accounts i a d name key p desk taken place low named accepts longer few stands =
+    → length a.named.lists.posts ≡ length (get_or accounts i d).named.lists.posts + 1 → length a.named.lists.posts ≤ 10000 → IsCorrected common.holidays a
+    → IsDesk places common (count + 1) today rows (set accounts i a)
+posted_desk places common count today rows accounts i a d name key p desk taken place low named accepts longer few stands =
     let s = state_of today rows accounts in
     let t = state_of today rows (set accounts i a) in
     let f : OpenAccount → NamedAccount = λ x. x.named in
@@ -202,13 +204,34 @@ posted_desk places calendar fees count today rows accounts i a d name key p desk
       dated = desk.dated;
       holidays = desk.holidays;
       table = desk.table;
-      corrected = All-set (IsCorrected calendar) accounts i a stands desk.corrected;
+      corrected = All-set (IsCorrected common.holidays) accounts i a stands desk.corrected;
       counted = ap (λ (n : ℕ). n + 1) desk.counted ∙ sym (count_added s t i a.named d.named refl all place.bound more);
       ran = run_on s t (request.Post name key p) (reply.Accepted (length a.named.lists.posts)) desk.ran taken next;
     }
 
+-- an account in which room was made
+pub roomy_desk : (places : List (List ℕ × ℕ)) (common : SharedRows) (count today : ℕ) (rows : List Shared) (accounts : List OpenAccount) (i : ℕ) (a b : OpenAccount)
+    → IsDesk places common count today rows accounts → i < length accounts → b ≡ get_or accounts i b → a.named ≡ b.named → a.corrected ≡ b.corrected
+    → (named_all (set accounts i a) ≡ named_all accounts) × IsDesk places common count today rows (set accounts i a)
+roomy_desk places common count today rows accounts i a b desk low is named listed =
+    let f : OpenAccount → NamedAccount = λ x. x.named in
+    let all : named_all (set accounts i a) ≡ named_all accounts = map-set_same f accounts i a b (named ∙ ap f is) in
+    let state : List NamedAccount → State = λ l. record { today = today; shared = rows; accounts = l } in
+    let stands : IsCorrected common.holidays b = subst (IsCorrected common.holidays) (sym is) (All-get_or (IsCorrected common.holidays) accounts i b low desk.corrected) in
+    (all, record {
+      index = subst (λ (l : List NamedAccount). IsIndex places l) (sym all) desk.index;
+      few = omega (arith, length-set accounts i a, desk.few);
+      short = ap are_short all ∙ desk.short;
+      dated = desk.dated;
+      holidays = desk.holidays;
+      table = desk.table;
+      corrected = All-set (IsCorrected common.holidays) accounts i a (listed ∙ stands ∙ ap (λ (x : NamedAccount). corrected (anchor_of x.lists.posts) common.holidays x.lists.posts) (sym named)) desk.corrected;
+      counted = desk.counted ∙ ap (λ (l : List NamedAccount). accepted_count (state l)) (sym all);
+      ran = subst (λ (l : List NamedAccount). IsRun (state l)) (sym all) desk.ran;
+    })
+
 -- a new desk
-pub first_desk : IsDesk [] [] [] 0 14975 [] []
+pub first_desk : IsDesk [] (record { holidays = []; fees = [] }) 0 14975 [] []
 unfolding place_of place_from posts_in run_from
 first_desk = record {
   index = λ name. refl;
@@ -223,9 +246,9 @@ first_desk = record {
 }
 
 -- other places that say the same
-pub index_desk : (places less : List (List ℕ × ℕ)) (calendar : List ℕ) (fees : List FeeRow) (count today : ℕ) (rows : List Shared) (accounts : List OpenAccount)
-    → IsDesk places calendar fees count today rows accounts → IsIndex less (named_all accounts) → IsDesk less calendar fees count today rows accounts
-index_desk places less calendar fees count today rows accounts desk index = record {
+pub index_desk : (places less : List (List ℕ × ℕ)) (common : SharedRows) (count today : ℕ) (rows : List Shared) (accounts : List OpenAccount)
+    → IsDesk places common count today rows accounts → IsIndex less (named_all accounts) → IsDesk less common count today rows accounts
+index_desk places less common count today rows accounts desk index = record {
   index = index;
   few = desk.few;
   short = desk.short;

@@ -13,6 +13,7 @@ use Rattle.card_rows.proofs.RequestLaws.{one_request}
 use Rattle.card_rows.specs.Spelling.{IsSpelling}
 use Rattle.card_desk.specs.declared.fault.LoadFault.{LoadFault}
 use Rattle.card_desk.specs.declared.fault.LoadFault.TheVariants as fault
+use Rattle.card_desk.specs.Desks.{OpenDesk}
 use Rattle.card_desk.specs.Kept.{IsNewRow, IsRunOf, Fits}
 use Rattle.card_desk.proofs.SoundLemmas.{fits_told}
 
@@ -37,8 +38,9 @@ pub not_spelled : (s : State) (n : ℕ) (row : Row) (bytes : List ℕ) (r : Requ
 not_spelled s n row bytes r is none fresh = none r (the_bytes s n row bytes r is fresh)
 
 -- what is loaded fits the rows
-pub fits_result : {E : Type 0} (old new : Option (List Row)) (given : List Row) (found : Result State E) → KeepsRows old new → SameRowsTold old new → GivesRows old given → IfOk found (IsRunOf given) → IfOk found (Fits new)
-fits_result old new given (Ok s) kept told gives is = fits_told old new given s kept told gives is
+pub fits_result : {E : Type 0} (old new : Option (List Row)) (given : List Row) (found : Result OpenDesk E) → KeepsRows old new → SameRowsTold old new → GivesRows old given
+    → IfOk found (λ (d : OpenDesk). IsRunOf given d.state) → IfOk found (λ (d : OpenDesk). Fits new d.state)
+fits_result old new given (Ok d) kept told gives is = fits_told old new given d.state kept told gives is
 fits_result old new given (Err e) kept told gives is = tt
 
 dated_holiday : (day : ℕ) → is_dated (request.Shared (shared.Holiday day)) ≡ true → day ≤ 47481
@@ -50,7 +52,7 @@ pub holiday_day : (day : ℕ) (r : Request) → r ≡ request.Shared (shared.Hol
 holiday_day day r is dated = dated_holiday day (ap is_dated (sym is) ∙ dated)
 
 -- the row that a Damaged tells
-pub told_number : (found : Result State LoadFault) (m n : ℕ) → found ≡ Err (fault.Damaged m) → found ≡ Err (fault.Damaged n) → m ≡ n
+pub told_number : (found : Result OpenDesk LoadFault) (m n : ℕ) → found ≡ Err (fault.Damaged m) → found ≡ Err (fault.Damaged n) → m ≡ n
 told_number found m n one other = cc
 
 -- the row at a place

@@ -3,14 +3,14 @@ use Rattle.std.proofs.Common.{◌≡◌, ℕ, suc, ◌<◌, List, [], ◌∷◌,
 use Rattle.std.proofs.lemmas.List.{get_or-map, length-map}
 use Rattle.std.proofs.lemmas.List.Elements.{All-cons, All-get_or, All-nil}
 use Rattle.std.specs.List.{All, flat_map}
-use Rattle.card_account.specs.Accounts.{MayBeFolded, OpenAccount, shared_by}
+use Rattle.card_account.specs.Accounts.{MayBeFolded, OpenAccount}
 use Rattle.card_account.specs.Runs.{AreRunning}
 use Rattle.card_account.specs.Works.{tasks_of, work_of}
 use Rattle.card_desk.proofs.FoldLemmas.{all_running, may_be_folded, same_book}
 use Rattle.card_desk.specs.Desks.{IsDesk, named_all, state_of}
 use Rattle.card_disputes.proofs.SameHolidays.{tasks-same}
 use Rattle.card_events.specs.History.{CorrectedPost, anchor_of, corrected}
-use Rattle.card_events.specs.SharedRows.{FeeRow, shared_rows}
+use Rattle.card_events.specs.SharedRows.{SharedRows, shared_rows}
 use Rattle.card_events.specs.declared.request.Shared.{Shared}
 use Rattle.card_model.specs.Books.{Book}
 use Rattle.card_model.specs.Deadlines.{credit_since, open_tasks}
@@ -26,10 +26,10 @@ all-at : (P : OpenAccount → Type 0) (xs : List OpenAccount) → ((i : ℕ) (d 
 all-at P [] h = All-nil P
 all-at P (x ∷ xs) h = All-cons P x xs (h 0 x (omega arith)) (all-at P xs (λ i d l. h (suc i) d (omega (arith, l))))
 
-pub all_may_be_folded : (places : List (List ℕ × ℕ)) (calendar : List ℕ) (fees : List FeeRow) (count today : ℕ) (rows : List Shared) (accounts : List OpenAccount)
-    → IsDesk places calendar fees count today rows accounts → All (MayBeFolded today calendar fees) accounts
-all_may_be_folded places calendar fees count today rows accounts desk =
-    all-at (MayBeFolded today calendar fees) accounts (λ i d l. may_be_folded places calendar fees count today rows accounts i d desk l)
+pub all_may_be_folded : (places : List (List ℕ × ℕ)) (common : SharedRows) (count today : ℕ) (rows : List Shared) (accounts : List OpenAccount)
+    → IsDesk places common count today rows accounts → All (MayBeFolded today common) accounts
+all_may_be_folded places common count today rows accounts desk =
+    all-at (MayBeFolded today common) accounts (λ i d l. may_be_folded places common count today rows accounts i d desk l)
 
 -- ---- the tasks of one account
 running_at : (s : State) (accounts : List OpenAccount) (i : ℕ) (d : OpenAccount) → i < length accounts → All (λ (x : NamedAccount). AreRunning s x.lists) (named_all accounts) → AreRunning s (get_or accounts i d).named.lists
@@ -38,22 +38,22 @@ running_at s accounts i d low all =
     subst (λ (x : NamedAccount). AreRunning s x.lists) (get_or-map (λ (x : OpenAccount). x.named) accounts i d d.named low)
     (All-get_or (λ (x : NamedAccount). AreRunning s x.lists) (named_all accounts) i d.named (omega (arith, low, long)) all)
 
-same_tasks : (places : List (List ℕ × ℕ)) (calendar : List ℕ) (fees : List FeeRow) (count today : ℕ) (rows : List Shared) (accounts : List OpenAccount) (i : ℕ) (d : OpenAccount)
-    → IsDesk places calendar fees count today rows accounts → i < length accounts
-    → tasks_of today (shared_by calendar fees) (get_or accounts i d) ≡ account_tasks (state_of today rows accounts) (get_or accounts i d).named
+same_tasks : (places : List (List ℕ × ℕ)) (common : SharedRows) (count today : ℕ) (rows : List Shared) (accounts : List OpenAccount) (i : ℕ) (d : OpenAccount)
+    → IsDesk places common count today rows accounts → i < length accounts
+    → tasks_of today common (get_or accounts i d) ≡ account_tasks (state_of today rows accounts) (get_or accounts i d).named
 unfolding account_tasks
-same_tasks places calendar fees count today rows accounts i d desk low =
+same_tasks places common count today rows accounts i d desk low =
     let s = state_of today rows accounts in
     let a = get_or accounts i d in
     let lists = a.named.lists in
     let anchor = anchor_of lists.posts in
     let those = (shared_rows rows).holidays in
     let one = running_at s accounts i d low (all_running s desk.ran) in
-    let listed : corrected anchor calendar lists.posts ≡ corrected anchor those lists.posts = same-corrected anchor calendar those lists.posts one.timely (λ x l. desk.holidays x) in
+    let listed : corrected anchor common.holidays lists.posts ≡ corrected anchor those lists.posts = same-corrected anchor common.holidays those lists.posts one.timely (λ x l. desk.holidays x) in
     let here = book_today (present_in s lists) in
-    ap (λ (b : Book). open_tasks a.named.name anchor calendar (corrected anchor calendar lists.posts) (credit_balance b.entries) (credit_since b.entries anchor.opened today) today) (same_book places calendar fees count today rows accounts i d desk low)
-    ∙ ap (λ (l : List CorrectedPost). open_tasks a.named.name anchor calendar l (credit_balance here.entries) (credit_since here.entries anchor.opened today) today) listed
-    ∙ tasks-same calendar those desk.holidays a.named.name anchor (corrected anchor those lists.posts) (credit_balance here.entries) (credit_since here.entries anchor.opened today) today
+    ap (λ (b : Book). open_tasks a.named.name anchor common.holidays (corrected anchor common.holidays lists.posts) (credit_balance b.entries) (credit_since b.entries anchor.opened today) today) (same_book places common count today rows accounts i d desk low)
+    ∙ ap (λ (l : List CorrectedPost). open_tasks a.named.name anchor common.holidays l (credit_balance here.entries) (credit_since here.entries anchor.opened today) today) listed
+    ∙ tasks-same common.holidays those desk.holidays a.named.name anchor (corrected anchor those lists.posts) (credit_balance here.entries) (credit_since here.entries anchor.opened today) today
 
 -- ---- of all accounts
 flat-same : (f : OpenAccount → List Task) (g : NamedAccount → List Task) (xs : List OpenAccount) → ((i : ℕ) (d : OpenAccount) → i < length xs → f (get_or xs i d) ≡ g (get_or xs i d).named) → flat_map f xs ≡ flat_map g (named_all xs)
@@ -61,8 +61,8 @@ flat-same f g [] h = refl
 flat-same f g (x ∷ xs) h =
     ap (λ (l : List Task). l ++ flat_map f xs) (h 0 x (omega arith)) ∙ ap (λ (l : List Task). g x.named ++ l) (flat-same f g xs (λ i d l. h (suc i) d (omega (arith, l))))
 
-pub work-is : (places : List (List ℕ × ℕ)) (calendar : List ℕ) (fees : List FeeRow) (count today : ℕ) (rows : List Shared) (accounts : List OpenAccount)
-    → IsDesk places calendar fees count today rows accounts → work_of today (shared_by calendar fees) accounts ≡ work (state_of today rows accounts)
+pub work-is : (places : List (List ℕ × ℕ)) (common : SharedRows) (count today : ℕ) (rows : List Shared) (accounts : List OpenAccount)
+    → IsDesk places common count today rows accounts → work_of today common accounts ≡ work (state_of today rows accounts)
 unfolding work
-work-is places calendar fees count today rows accounts desk =
-    ap in_work_order (flat-same (tasks_of today (shared_by calendar fees)) (account_tasks (state_of today rows accounts)) accounts (λ i d l. same_tasks places calendar fees count today rows accounts i d desk l))
+work-is places common count today rows accounts desk =
+    ap in_work_order (flat-same (tasks_of today common) (account_tasks (state_of today rows accounts)) accounts (λ i d l. same_tasks places common count today rows accounts i d desk l))

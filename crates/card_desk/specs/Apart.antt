@@ -1,5 +1,5 @@
 -- One account, apart from all others: what a single request does, and what whole lists of requests do.
-use Rattle.std.specs.Prelude.{ℕ, ◌≡◌, false, List, Option, length, option_map}
+use Rattle.std.specs.Prelude.{ℕ, ◌≡◌, false, List, Option, Some, length, option_map}
 use Rattle.std.specs.List.{filter}
 use Rattle.card_desk.specs.Desks.{now_of}
 use Rattle.card_desk.specs.Views.{seen}
@@ -10,16 +10,24 @@ use Rattle.card_events.specs.declared.request.Request.{Request}
 use Rattle.card_events.specs.declared.request.Request.TheVariants as request
 use Rattle.card_model.specs.Cycles.{Cycle}
 use Rattle.card_model.specs.Isolated.{NeverFull, concerns, is_on, is_shared, replies_where}
-use Rattle.card_model.specs.Machine.{State, lists_of, outcome, reply_to, run_from, step}
-use Rattle.card_model.specs.Refusals.{book_today}
+use Rattle.card_model.specs.Machine.{Accepts, Outcome, State, lists_of, outcome, reply_to, run_from, step}
+use Rattle.card_model.specs.Refusals.{Lists, book_today}
 
--- A request changes the lists of no account but the one that it names. Its reply is that of today, the shared requests, the
--- lists of that account and, for its Open, the number of accounts
+-- what an account has after an outcome
+abbrev pub lists_after : Outcome → Option Lists → Option Lists
+lists_after (Accepts new) old = Some new
+lists_after _ old = old
+
+-- A request changes the lists of no account but the one that it names. Its reply, and what that account has afterwards, are
+-- those of today, the shared requests, the lists of that account and, for its Open, the number of accounts
 pub record IsApart (s : State) (r : Request) (new : State) (reply : Reply) : Type 0 where
   pub others : (name : List ℕ) → is_on name r ≡ false → lists_of name new.accounts ≡ lists_of name s.accounts
   pub own :
       (name key : List ℕ) (p : Post) → r ≡ request.Post name key p
       → reply ≡ reply_to (outcome s.today s.shared (length s.accounts) key p (lists_of name s.accounts))
+  pub lists :
+      (name key : List ℕ) (p : Post) → r ≡ request.Post name key p
+      → lists_of name new.accounts ≡ lists_after (outcome s.today s.shared (length s.accounts) key p (lists_of name s.accounts)) (lists_of name s.accounts)
 
 -- of every request, in every state
 abbrev pub RequestsStandApart : Type 0

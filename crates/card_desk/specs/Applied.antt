@@ -1,11 +1,15 @@
 -- What a request does to a desk and its keeper.
-use Rattle.std.specs.Prelude.{◌≡◌, Bool, nat_le, List, length, Option}
+use Rattle.std.specs.Prelude.{◌≡◌, ◌≤◌, ℕ, Bool, true, nat_le, List, length, Option, Result, IfOk, OnOk, OnErr, IsErrOf}
 use Rattle.std.specs.List.{list_all}
+use Rattle.card_desk.specs.declared.fault.Fault.{Fault}
+use Rattle.card_desk.specs.declared.fault.Fault.TheVariants as fault
+use Rattle.card_events.specs.Dated.{is_dated}
 use Rattle.card_events.specs.declared.reply.Reply.{Reply}
 use Rattle.card_events.specs.declared.request.Request.{Request}
-use Rattle.card_keeper.specs.Rows.{AddsRows}
+use Rattle.card_keeper.specs.Rows.{AddsRows, KeepsRows, SameRowsTold}
 use Rattle.card_keeper.specs.declared.row.Row.{Row}
 use Rattle.card_model.specs.Machine.{State, NamedAccount, step}
+use Rattle.card_ports.specs.Counts.{Rose}
 use Rattle.card_desk.specs.Kept.{new_rows, Fits}
 
 -- the state and the reply are those of one step of the machine, and the rows grow by the row of a newly accepted request
@@ -17,3 +21,20 @@ pub record Steps (rows_old rows_new : Option (List Row)) (s : State) (r : Reques
 -- no account has more than 10,000 posts
 abbrev pub are_short : List NamedAccount → Bool
 are_short accounts = list_all (λ a. nat_le (length a.lists.posts) 10_000) accounts
+
+-- a request of days that are requests' may be carried out over rows that go on from the state
+pub record IsAsked (rows : Option (List Row)) (s : State) (r : Request) : Type 0 where
+  pub dated : is_dated r ≡ true
+  pub fits : Fits rows s
+
+-- What a request leaves, whatever comes of it: one step of the machine, or after a fault the state and the rows as they were.
+-- The keeper's count rises where the keeper fails, and stays after want of memory
+pub record Carried (rows_old rows_new : Option (List Row)) (faults_old faults_new : ℕ) (s : State) (r : Request) (new : State) (result : Result Reply Fault) : Type 0 where
+  pub ok : IfOk result (Steps rows_old rows_new s r new)
+  pub err : OnErr result (new ≡ s)
+  pub rows_stay : OnErr result (KeepsRows rows_old rows_new)
+  pub told : SameRowsTold rows_old rows_new
+  pub count : faults_old ≤ faults_new
+  pub unfailed : OnOk result (faults_new ≡ faults_old)
+  pub cause : IsErrOf result fault.Keeper → Rose faults_old faults_new
+  pub memory : IsErrOf result fault.Memory → faults_new ≡ faults_old

@@ -1,5 +1,5 @@
 -- A desk, by its parts.
-use Rattle.std.specs.Prelude.{◌≡◌, ◌≤◌, ℕ, true, map, length, List}
+use Rattle.std.specs.Prelude.{◌≡◌, ◌≤◌, ℕ, true, map, length, slice_index_or, List}
 use Rattle.std.specs.List.{All, list_all}
 use Rattle.card_account.specs.Accounts.{IsCorrected, OpenAccount}
 use Rattle.card_days.specs.Business.{is_holiday}
@@ -7,7 +7,7 @@ use Rattle.card_rows.specs.Held.{is_request}
 use Rattle.card_desk.specs.Applied.{are_short}
 use Rattle.card_desk.specs.Kept.{accepted_count}
 use Rattle.card_desk.specs.Places.{IsIndex}
-use Rattle.card_events.specs.SharedRows.{FeeRow, shared_rows}
+use Rattle.card_events.specs.SharedRows.{SharedRows, shared_rows}
 use Rattle.card_events.specs.declared.request.Request.{Request}
 use Rattle.card_events.specs.declared.request.Shared.{Shared}
 use Rattle.card_model.specs.Machine.{NamedAccount, State, run}
@@ -21,9 +21,17 @@ named_all accounts = map (λ a. a.named) accounts
 abbrev pub state_of : ℕ → List Shared → List OpenAccount → State
 state_of today rows accounts = record { today = today; shared = rows; accounts = named_all accounts }
 
+-- a desk, as clauses see it
+pub record OpenDesk : Type 0 where
+  pub state : State
+
 -- what an account with these lists is judged and shown by, in a state
 abbrev pub now_of : State → Lists → Present
 now_of s lists = record { today = s.today; shared = shared_rows s.shared; lists = lists }
+
+-- the same of the account at a place
+abbrev pub now_at : State → ℕ → NamedAccount → Present
+now_at s i d = now_of s (slice_index_or s.accounts i d).lists
 
 -- some requests that may be spelled lead to the state
 pub record IsRun (s : State) : Type 0 where
@@ -40,13 +48,13 @@ abbrev pub AreCorrected : List ℕ → List OpenAccount → Type 0
 AreCorrected holidays accounts = All (IsCorrected holidays) accounts
 
 -- what is kept stands for the state
-pub record IsDesk (places : List (List ℕ × ℕ)) (calendar : List ℕ) (fees : List FeeRow) (count today : ℕ) (rows : List Shared) (accounts : List OpenAccount) : Type 0 where
+pub record IsDesk (places : List (List ℕ × ℕ)) (common : SharedRows) (count today : ℕ) (rows : List Shared) (accounts : List OpenAccount) : Type 0 where
   pub index : IsIndex places (named_all accounts)
   pub few : length accounts ≤ 1_000_000
   pub short : are_short (named_all accounts) ≡ true
   pub dated : today ≤ 47_481
-  pub holidays : AreSameHolidays calendar (shared_rows rows).holidays
-  pub table : fees ≡ (shared_rows rows).fees
-  pub corrected : AreCorrected calendar accounts
+  pub holidays : AreSameHolidays common.holidays (shared_rows rows).holidays
+  pub table : common.fees ≡ (shared_rows rows).fees
+  pub corrected : AreCorrected common.holidays accounts
   pub counted : count ≡ accepted_count (state_of today rows accounts)
   pub ran : IsRun (state_of today rows accounts)

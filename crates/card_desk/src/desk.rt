@@ -1,53 +1,50 @@
 // All accounts.
 ghost use Rattle.std.specs.Prelude.{◌≡◌, ◌<◌, ◌≤◌, ◌++◌, [], ◌∷◌, IfOk, vec_len, vec_capacity};
-ghost use Rattle.card_days.specs.Business.{with_holiday};
-ghost use Rattle.card_desk.specs.Views.{stated};
 ghost use Rattle.card_account.specs.Accounts.{OpenAccount};
+ghost use Rattle.card_desk.specs.Views.{stated};
 ghost use Rattle.card_desk.specs.Kept as spec;
 
-use crate::reason::{fees_reason, holiday_reason, roll_reason};
+use crate::keep::keep_row;
 use crate::row::row_of;
-use crate::{Ask, View};
-use card_account::{Account, Fault, Owing, Statement, Verdict, keep_row, open_reason, work_today};
-use card_days::{Calendar, Day};
+use crate::{Ask, Fault, View};
+use card_account::{Account, Owing, Statement, Verdict, open_reason, work_today};
+use card_days::Day;
 use card_events::{Name, Num, Post, Refusal, Reply, Request, Shared};
-use card_fees::FeeTable;
 use card_index::NameIndex;
 use card_keeper::{Keeper, Row};
+use card_shared::{SharedRows, fees_reason, holiday_reason, roll_reason};
 use card_units::NoMemory;
 use std::alloc::Global;
 use std::marker::Model;
 
 /// Today, the accepted shared requests with the holidays and the fee rows in them, and all accounts in the order of their
-/// opening.
+/// opening. Clauses see it as a record of its state.
 #[derive(Drop)]
 pub struct Desk {
     today: Day,
     shared: Vec<Shared>,
     accounts: Vec<Account>,
     index: NameIndex,
-    calendar: Calendar,
-    fees: FeeTable,
+    common: SharedRows,
     count: u64,
 }
 
 impl Model for Desk {
-    ghost use Rattle.card_desk.specs.Desks.{IsDesk, state_of};
-    ghost use Rattle.card_model.specs.Machine.{State};
+    ghost use Rattle.card_desk.specs.Desks.{IsDesk, OpenDesk, state_of};
 
-    ghost Value = { State };
+    ghost Value = { OpenDesk };
 
-    ghost view = { λ d. state_of d.today d.shared.items d.accounts.items };
+    ghost view = { λ d. record { state = state_of d.today d.shared.items d.accounts.items } };
 
-    ghost invariant = { λ d. IsDesk d.index d.calendar d.fees d.count d.today d.shared.items d.accounts.items };
+    ghost invariant = { λ d. IsDesk d.index d.common d.count d.today d.shared.items d.accounts.items };
 }
 
 impl Desk {
-    ghost use Rattle.std.specs.Prelude.{◌≡◌, ◌≤◌, ◌<◌, ◌+◌, ◌++◌, [], ◌∷◌, true, Some, None, length, slice_index_or, IfOk, OnOk, OnErr, IsErrOf};
+    ghost use Rattle.std.specs.Prelude.{◌≡◌, ◌≤◌, ◌<◌, ◌+◌, ◌++◌, [], ◌∷◌, true, Some, None, length, IfOk, OnOk, OnErr, IsErrOf};
     ghost use Rattle.card_account.specs.Accounts.{present_of};
     ghost use Rattle.card_events.specs.SharedRows.{SharedRows};
     ghost use Rattle.card_rows.specs.Held.{is_request};
-    ghost use Rattle.card_desk.specs.Desks.{now_of};
+    ghost use Rattle.card_desk.specs.Desks.{now_at};
     ghost use Rattle.card_days.specs.Billing.{IsCloseDay};
     ghost use Rattle.card_events.specs.Dated.{is_dated};
     ghost use Rattle.card_events.specs.History.{terms_in};
@@ -58,36 +55,35 @@ impl Desk {
     ghost use Rattle.card_ports.specs.Counts.{Rose};
     ghost use Rattle.card_posts.specs.Posted.{opens};
     ghost use Rattle.card_desk.specs.Apart.{IsApart};
-    ghost use Rattle.card_desk.specs.Applied.{Steps};
+    ghost use Rattle.card_desk.specs.Applied.{Carried, IsAsked, Steps};
     ghost use Rattle.card_desk.specs.Kept.{Fits, accepted_count};
     ghost use Rattle.card_desk.specs.Places.{IsPlace, place_from};
     ghost use Rattle.card_desk.specs.Views.{issued, restated, seen, shown};
 
     /// 2011-01-01 for today, and nothing else.
     pub fn new(alloc: Global) -> Desk
-        ensures { result ≡ start }
+        ensures { result.state ≡ start }
     {
         Desk {
             today: first_day(),
             shared: Vec::new(alloc),
             accounts: Vec::new(alloc),
             index: NameIndex::new(alloc),
-            calendar: Calendar::new(alloc),
-            fees: FeeTable::new(alloc),
+            common: SharedRows::new(alloc),
             count: 0,
         }
     }
 
     /// The day that was rolled to last.
     pub fn today(&self) -> Day
-        ensures { result ≡ self.now.today }
+        ensures { result ≡ self.now.state.today }
     {
         self.today
     }
 
     /// How many requests were accepted: as many as rows were kept.
     pub fn count(&self) -> u64
-        ensures { result ≡ accepted_count self.now }
+        ensures { result ≡ accepted_count self.now.state }
     {
         self.count
     }
@@ -95,7 +91,7 @@ impl Desk {
     // The row of the next accepted request.
     fn next_row(&self, alloc: Global, request: &Request) -> Result<Row, NoMemory>
         requires { is_dated request.now ≡ true }
-        ensures value { IfOk result (λ row. row ≡ spec.row_of (accepted_count self.now + 1) request.now) }
+        ensures value { IfOk result (λ row. row ≡ spec.row_of (accepted_count self.now.state + 1) request.now) }
         ensures held { OnOk result (is_request request.now ≡ true) }
     {
         row_of(alloc, self.count + 1, request)
@@ -110,15 +106,9 @@ impl Desk {
         day: Day,
     ) -> Result<Reply, Fault>
         requires request { request.now ≡ Request.Shared (Shared.Roll day) }
-        requires dated { is_dated request.now ≡ true }
-        requires fits { Fits (K.rows keeper.old) self.old }
-        requires no_reason { shared_reason self.old.today (has_accounts self.old) (Shared.Roll day) ≡ None }
-        ensures ok { IfOk result (Steps (K.rows keeper.old) (K.rows keeper.new) self.old request.now self.new) }
-        ensures err { OnErr result (self.new ≡ self.old) }
-        ensures rows_stay { OnErr result (KeepsRows (K.rows keeper.old) (K.rows keeper.new)) }
-        ensures told { SameRowsTold (K.rows keeper.old) (K.rows keeper.new) }
-        ensures count { K.faults keeper.old ≤ K.faults keeper.new }
-        ensures cause { IsErrOf result Fault.Keeper → Rose (K.faults keeper.old) (K.faults keeper.new) }
+        requires asked { IsAsked (K.rows keeper.old) self.old.state request.now }
+        requires no_reason { shared_reason self.old.state.today (has_accounts self.old.state) (Shared.Roll day) ≡ None }
+        ensures { Carried (K.rows keeper.old) (K.rows keeper.new) (K.faults keeper.old) (K.faults keeper.new) self.old.state request.now self.new.state result }
     {
         let row = self.next_row(alloc, request)?;
         self.shared.reserve(1)?;
@@ -138,22 +128,16 @@ impl Desk {
         day: Day,
     ) -> Result<Reply, Fault>
         requires request { request.now ≡ Request.Shared (Shared.Holiday day) }
-        requires dated { is_dated request.now ≡ true }
-        requires fits { Fits (K.rows keeper.old) self.old }
-        requires no_reason { shared_reason self.old.today (has_accounts self.old) (Shared.Holiday day) ≡ None }
-        ensures ok { IfOk result (Steps (K.rows keeper.old) (K.rows keeper.new) self.old request.now self.new) }
-        ensures err { OnErr result (self.new ≡ self.old) }
-        ensures rows_stay { OnErr result (KeepsRows (K.rows keeper.old) (K.rows keeper.new)) }
-        ensures told { SameRowsTold (K.rows keeper.old) (K.rows keeper.new) }
-        ensures count { K.faults keeper.old ≤ K.faults keeper.new }
-        ensures cause { IsErrOf result Fault.Keeper → Rose (K.faults keeper.old) (K.faults keeper.new) }
+        requires asked { IsAsked (K.rows keeper.old) self.old.state request.now }
+        requires no_reason { shared_reason self.old.state.today (has_accounts self.old.state) (Shared.Holiday day) ≡ None }
+        ensures { Carried (K.rows keeper.old) (K.rows keeper.new) (K.faults keeper.old) (K.faults keeper.new) self.old.state request.now self.new.state result }
     {
         let row = self.next_row(alloc, request)?;
         self.shared.reserve(1)?;
-        let calendar = with_holiday(alloc, &self.calendar, day)?;
+        let common = self.common.with_holiday(alloc, day)?;
         keep_row(alloc, keeper, row)?;
         push_shared(&mut self.shared, Shared::Holiday(day));
-        self.calendar = calendar;
+        self.common = common;
         self.count += 1;
         Ok(Reply::Done)
     }
@@ -169,22 +153,16 @@ impl Desk {
         repeat: Num,
     ) -> Result<Reply, Fault>
         requires request { request.now ≡ Request.Shared (Shared.FeeRow day first repeat) }
-        requires dated { is_dated request.now ≡ true }
-        requires fits { Fits (K.rows keeper.old) self.old }
-        requires no_reason { shared_reason self.old.today (has_accounts self.old) (Shared.FeeRow day first repeat) ≡ None }
-        ensures ok { IfOk result (Steps (K.rows keeper.old) (K.rows keeper.new) self.old request.now self.new) }
-        ensures err { OnErr result (self.new ≡ self.old) }
-        ensures rows_stay { OnErr result (KeepsRows (K.rows keeper.old) (K.rows keeper.new)) }
-        ensures told { SameRowsTold (K.rows keeper.old) (K.rows keeper.new) }
-        ensures count { K.faults keeper.old ≤ K.faults keeper.new }
-        ensures cause { IsErrOf result Fault.Keeper → Rose (K.faults keeper.old) (K.faults keeper.new) }
+        requires asked { IsAsked (K.rows keeper.old) self.old.state request.now }
+        requires no_reason { shared_reason self.old.state.today (has_accounts self.old.state) (Shared.FeeRow day first repeat) ≡ None }
+        ensures { Carried (K.rows keeper.old) (K.rows keeper.new) (K.faults keeper.old) (K.faults keeper.new) self.old.state request.now self.new.state result }
     {
         let row = self.next_row(alloc, request)?;
         self.shared.reserve(1)?;
-        let fees = with_fees(alloc, &self.fees, day, first, repeat)?;
+        let common = self.common.with_fees(alloc, day, first, repeat)?;
         keep_row(alloc, keeper, row)?;
         push_shared(&mut self.shared, Shared::FeeRow { day, first, repeat });
-        self.fees = fees;
+        self.common = common;
         self.count += 1;
         Ok(Reply::Done)
     }
@@ -198,14 +176,8 @@ impl Desk {
         day: Day,
     ) -> Result<Reply, Fault>
         requires request { request.now ≡ Request.Shared (Shared.Roll day) }
-        requires dated { is_dated request.now ≡ true }
-        requires fits { Fits (K.rows keeper.old) self.old }
-        ensures ok { IfOk result (Steps (K.rows keeper.old) (K.rows keeper.new) self.old request.now self.new) }
-        ensures err { OnErr result (self.new ≡ self.old) }
-        ensures rows_stay { OnErr result (KeepsRows (K.rows keeper.old) (K.rows keeper.new)) }
-        ensures told { SameRowsTold (K.rows keeper.old) (K.rows keeper.new) }
-        ensures count { K.faults keeper.old ≤ K.faults keeper.new }
-        ensures cause { IsErrOf result Fault.Keeper → Rose (K.faults keeper.old) (K.faults keeper.new) }
+        requires asked { IsAsked (K.rows keeper.old) self.old.state request.now }
+        ensures { Carried (K.rows keeper.old) (K.rows keeper.new) (K.faults keeper.old) (K.faults keeper.new) self.old.state request.now self.new.state result }
     {
         match roll_reason(self.today, self.accounts.len(), day) {
             Some(refusal) => Ok(Reply::Refused(refusal)),
@@ -222,14 +194,8 @@ impl Desk {
         day: Day,
     ) -> Result<Reply, Fault>
         requires request { request.now ≡ Request.Shared (Shared.Holiday day) }
-        requires dated { is_dated request.now ≡ true }
-        requires fits { Fits (K.rows keeper.old) self.old }
-        ensures ok { IfOk result (Steps (K.rows keeper.old) (K.rows keeper.new) self.old request.now self.new) }
-        ensures err { OnErr result (self.new ≡ self.old) }
-        ensures rows_stay { OnErr result (KeepsRows (K.rows keeper.old) (K.rows keeper.new)) }
-        ensures told { SameRowsTold (K.rows keeper.old) (K.rows keeper.new) }
-        ensures count { K.faults keeper.old ≤ K.faults keeper.new }
-        ensures cause { IsErrOf result Fault.Keeper → Rose (K.faults keeper.old) (K.faults keeper.new) }
+        requires asked { IsAsked (K.rows keeper.old) self.old.state request.now }
+        ensures { Carried (K.rows keeper.old) (K.rows keeper.new) (K.faults keeper.old) (K.faults keeper.new) self.old.state request.now self.new.state result }
     {
         match holiday_reason(self.today, day) {
             Some(refusal) => Ok(Reply::Refused(refusal)),
@@ -248,14 +214,8 @@ impl Desk {
         repeat: Num,
     ) -> Result<Reply, Fault>
         requires request { request.now ≡ Request.Shared (Shared.FeeRow day first repeat) }
-        requires dated { is_dated request.now ≡ true }
-        requires fits { Fits (K.rows keeper.old) self.old }
-        ensures ok { IfOk result (Steps (K.rows keeper.old) (K.rows keeper.new) self.old request.now self.new) }
-        ensures err { OnErr result (self.new ≡ self.old) }
-        ensures rows_stay { OnErr result (KeepsRows (K.rows keeper.old) (K.rows keeper.new)) }
-        ensures told { SameRowsTold (K.rows keeper.old) (K.rows keeper.new) }
-        ensures count { K.faults keeper.old ≤ K.faults keeper.new }
-        ensures cause { IsErrOf result Fault.Keeper → Rose (K.faults keeper.old) (K.faults keeper.new) }
+        requires asked { IsAsked (K.rows keeper.old) self.old.state request.now }
+        ensures { Carried (K.rows keeper.old) (K.rows keeper.new) (K.faults keeper.old) (K.faults keeper.new) self.old.state request.now self.new.state result }
     {
         match fees_reason(self.today, day, first, repeat) {
             Some(refusal) => Ok(Reply::Refused(refusal)),
@@ -271,14 +231,8 @@ impl Desk {
         shared: &Shared,
     ) -> Result<Reply, Fault>
         requires request { request.now ≡ Request.Shared shared.now }
-        requires dated { is_dated request.now ≡ true }
-        requires fits { Fits (K.rows keeper.old) self.old }
-        ensures ok { IfOk result (Steps (K.rows keeper.old) (K.rows keeper.new) self.old request.now self.new) }
-        ensures err { OnErr result (self.new ≡ self.old) }
-        ensures rows_stay { OnErr result (KeepsRows (K.rows keeper.old) (K.rows keeper.new)) }
-        ensures told { SameRowsTold (K.rows keeper.old) (K.rows keeper.new) }
-        ensures count { K.faults keeper.old ≤ K.faults keeper.new }
-        ensures cause { IsErrOf result Fault.Keeper → Rose (K.faults keeper.old) (K.faults keeper.new) }
+        requires asked { IsAsked (K.rows keeper.old) self.old.state request.now }
+        ensures { Carried (K.rows keeper.old) (K.rows keeper.new) (K.faults keeper.old) (K.faults keeper.new) self.old.state request.now self.new.state result }
     {
         match shared {
             Shared::Roll(day) => self.roll(alloc, keeper, request, *day),
@@ -302,17 +256,11 @@ impl Desk {
         requires request { request.now ≡ Request.Post account.now key.now post.now }
         requires open { opens post.now ≡ true }
         requires close_day { IsCloseDay (terms_in post.now).close }
-        requires dated { is_dated request.now ≡ true }
-        requires fits { Fits (K.rows keeper.old) self.old }
-        requires absent { place_from account.now 0 self.old.accounts ≡ None }
-        requires room { length self.old.accounts < 1_000_000 }
-        requires no_reason { reason_to_open self.old.today (length self.old.accounts) post.now ≡ None }
-        ensures ok { IfOk result (Steps (K.rows keeper.old) (K.rows keeper.new) self.old request.now self.new) }
-        ensures err { OnErr result (self.new ≡ self.old) }
-        ensures rows_stay { OnErr result (KeepsRows (K.rows keeper.old) (K.rows keeper.new)) }
-        ensures told { SameRowsTold (K.rows keeper.old) (K.rows keeper.new) }
-        ensures count { K.faults keeper.old ≤ K.faults keeper.new }
-        ensures cause { IsErrOf result Fault.Keeper → Rose (K.faults keeper.old) (K.faults keeper.new) }
+        requires asked { IsAsked (K.rows keeper.old) self.old.state request.now }
+        requires absent { place_from account.now 0 self.old.state.accounts ≡ None }
+        requires room { length self.old.state.accounts < 1_000_000 }
+        requires no_reason { reason_to_open self.old.state.today (length self.old.state.accounts) post.now ≡ None }
+        ensures { Carried (K.rows keeper.old) (K.rows keeper.new) (K.faults keeper.old) (K.faults keeper.new) self.old.state request.now self.new.state result }
     {
         let row = self.next_row(alloc, request)?;
         let name = account.copy(alloc)?;
@@ -344,15 +292,9 @@ impl Desk {
         post: &Post,
     ) -> Result<Reply, Fault>
         requires request { request.now ≡ Request.Post account.now key.now post.now }
-        requires dated { is_dated request.now ≡ true }
-        requires fits { Fits (K.rows keeper.old) self.old }
-        requires absent { place_from account.now 0 self.old.accounts ≡ None }
-        ensures ok { IfOk result (Steps (K.rows keeper.old) (K.rows keeper.new) self.old request.now self.new) }
-        ensures err { OnErr result (self.new ≡ self.old) }
-        ensures rows_stay { OnErr result (KeepsRows (K.rows keeper.old) (K.rows keeper.new)) }
-        ensures told { SameRowsTold (K.rows keeper.old) (K.rows keeper.new) }
-        ensures count { K.faults keeper.old ≤ K.faults keeper.new }
-        ensures cause { IsErrOf result Fault.Keeper → Rose (K.faults keeper.old) (K.faults keeper.new) }
+        requires asked { IsAsked (K.rows keeper.old) self.old.state request.now }
+        requires absent { place_from account.now 0 self.old.state.accounts ≡ None }
+        ensures { Carried (K.rows keeper.old) (K.rows keeper.new) (K.faults keeper.old) (K.faults keeper.new) self.old.state request.now self.new.state result }
     {
         match post {
             Post::Open { day, terms } => {
@@ -377,31 +319,18 @@ impl Desk {
         post: &Post,
     ) -> Result<Reply, Fault>
         requires request { request.now ≡ Request.Post account.now key.now post.now }
-        requires dated { is_dated request.now ≡ true }
-        requires fits { Fits (K.rows keeper.old) self.old }
-        requires place { IsPlace account.now self.old.accounts at }
-        requires no_reason { (d : NamedAccount) → reason_against (now_of self.old (slice_index_or self.old.accounts at d).lists) post.now ≡ None }
-        requires accepted { (d : NamedAccount) → outcome_in self.old account.now key.now post.now ≡ Accepts (accepted (now_of self.old (slice_index_or self.old.accounts at d).lists) key.now post.now) }
-        ensures ok { IfOk result (Steps (K.rows keeper.old) (K.rows keeper.new) self.old request.now self.new) }
-        ensures err { OnErr result (self.new ≡ self.old) }
-        ensures rows_stay { OnErr result (KeepsRows (K.rows keeper.old) (K.rows keeper.new)) }
-        ensures told { SameRowsTold (K.rows keeper.old) (K.rows keeper.new) }
-        ensures count { K.faults keeper.old ≤ K.faults keeper.new }
-        ensures cause { IsErrOf result Fault.Keeper → Rose (K.faults keeper.old) (K.faults keeper.new) }
+        requires asked { IsAsked (K.rows keeper.old) self.old.state request.now }
+        requires place { IsPlace account.now self.old.state.accounts at }
+        requires no_reason { (d : NamedAccount) → reason_against (now_at self.old.state at d) post.now ≡ None }
+        requires accepted { (d : NamedAccount) → outcome_in self.old.state account.now key.now post.now ≡ Accepts (accepted (now_at self.old.state at d) key.now post.now) }
+        ensures { Carried (K.rows keeper.old) (K.rows keeper.new) (K.faults keeper.old) (K.faults keeper.new) self.old.state request.now self.new.state result }
     {
         let row = self.next_row(alloc, request)?;
         let key = key.copy(alloc)?;
         let account = &mut self.accounts[at];
-        let number = account.accept(
-            alloc,
-            keeper,
-            row,
-            key,
-            self.today,
-            post,
-            &self.calendar,
-            &self.fees,
-        )?;
+        let issued = account.prepare(alloc, self.today, post, &self.common)?;
+        keep_row(alloc, keeper, row)?;
+        let number = account.commit(key, self.today, post, issued, &self.common);
         self.count += 1;
         Ok(Reply::Accepted(number))
     }
@@ -418,18 +347,12 @@ impl Desk {
         post: &Post,
     ) -> Result<Reply, Fault>
         requires request { request.now ≡ Request.Post account.now key.now post.now }
-        requires dated { is_dated request.now ≡ true }
-        requires fits { Fits (K.rows keeper.old) self.old }
-        requires place { IsPlace account.now self.old.accounts at }
-        ensures ok { IfOk result (Steps (K.rows keeper.old) (K.rows keeper.new) self.old request.now self.new) }
-        ensures err { OnErr result (self.new ≡ self.old) }
-        ensures rows_stay { OnErr result (KeepsRows (K.rows keeper.old) (K.rows keeper.new)) }
-        ensures told { SameRowsTold (K.rows keeper.old) (K.rows keeper.new) }
-        ensures count { K.faults keeper.old ≤ K.faults keeper.new }
-        ensures cause { IsErrOf result Fault.Keeper → Rose (K.faults keeper.old) (K.faults keeper.new) }
+        requires asked { IsAsked (K.rows keeper.old) self.old.state request.now }
+        requires place { IsPlace account.now self.old.state.accounts at }
+        ensures { Carried (K.rows keeper.old) (K.rows keeper.new) (K.faults keeper.old) (K.faults keeper.new) self.old.state request.now self.new.state result }
     {
         let known = &self.accounts[at];
-        match known.judge(alloc, self.today, key, post, &self.calendar, &self.fees) {
+        match known.judge(alloc, self.today, key, post, &self.common) {
             Ok(Verdict::Refused(refusal)) => Ok(Reply::Refused(refusal)),
             Ok(Verdict::Repeat(number)) => Ok(Reply::Accepted(number)),
             Ok(Verdict::New) => self.keep_post(alloc, keeper, request, at, account, key, post),
@@ -448,14 +371,8 @@ impl Desk {
         post: &Post,
     ) -> Result<Reply, Fault>
         requires request { request.now ≡ Request.Post account.now key.now post.now }
-        requires dated { is_dated request.now ≡ true }
-        requires fits { Fits (K.rows keeper.old) self.old }
-        ensures ok { IfOk result (Steps (K.rows keeper.old) (K.rows keeper.new) self.old request.now self.new) }
-        ensures err { OnErr result (self.new ≡ self.old) }
-        ensures rows_stay { OnErr result (KeepsRows (K.rows keeper.old) (K.rows keeper.new)) }
-        ensures told { SameRowsTold (K.rows keeper.old) (K.rows keeper.new) }
-        ensures count { K.faults keeper.old ≤ K.faults keeper.new }
-        ensures cause { IsErrOf result Fault.Keeper → Rose (K.faults keeper.old) (K.faults keeper.new) }
+        requires asked { IsAsked (K.rows keeper.old) self.old.state request.now }
+        ensures { Carried (K.rows keeper.old) (K.rows keeper.new) (K.faults keeper.old) (K.faults keeper.new) self.old.state request.now self.new.state result }
     {
         match self.index.find(account.bytes()) {
             Some(at) => { self.post_known(alloc, keeper, request, at as usize, account, key, post) }
@@ -467,7 +384,7 @@ impl Desk {
     /// memory; a refusal or a repeat changes nothing. No account but the one that the request names is touched, and the reply
     /// depends on no other. After a fault the desk and the rows are as they were.
     ///
-    /// `Keeper`: the keeper failed. `Memory`: memory was wanted and isn't there.
+    /// `Keeper`: the keeper failed, which alone raises its count. `Memory`: memory was wanted and isn't there.
     #[tactic(auto, using(crate::proofs::Apart::apart_of_step))]
     pub fn apply<K: Keeper>(
         &mut self,
@@ -476,14 +393,16 @@ impl Desk {
         request: &Request,
     ) -> Result<Reply, Fault>
         requires dated { is_dated request.now ≡ true }
-        requires fits { Fits (K.rows keeper.old) self.old }
-        ensures ok { IfOk result (Steps (K.rows keeper.old) (K.rows keeper.new) self.old request.now self.new) }
-        ensures apart { IfOk result (IsApart self.old request.now self.new) }
-        ensures err { OnErr result (self.new ≡ self.old) }
+        requires fits { Fits (K.rows keeper.old) self.old.state }
+        ensures ok { IfOk result (Steps (K.rows keeper.old) (K.rows keeper.new) self.old.state request.now self.new.state) }
+        ensures apart { IfOk result (IsApart self.old.state request.now self.new.state) }
+        ensures err { OnErr result (self.new.state ≡ self.old.state) }
         ensures rows_stay { OnErr result (KeepsRows (K.rows keeper.old) (K.rows keeper.new)) }
         ensures told { SameRowsTold (K.rows keeper.old) (K.rows keeper.new) }
         ensures count { K.faults keeper.old ≤ K.faults keeper.new }
+        ensures unfailed { OnOk result (K.faults keeper.new ≡ K.faults keeper.old) }
         ensures cause { IsErrOf result Fault.Keeper → Rose (K.faults keeper.old) (K.faults keeper.new) }
+        ensures memory { IsErrOf result Fault.Memory → K.faults keeper.new ≡ K.faults keeper.old }
     {
         match request {
             Request::Shared(shared) => self.share(alloc, keeper, request, shared),
@@ -495,13 +414,13 @@ impl Desk {
 
     /// What is owed on an account today, in cents, or that it isn't there.
     pub fn show(&self, alloc: Global, account: &Name) -> Result<View, NoMemory>
-        ensures { IfOk result (λ view. view ≡ shown self.now (lists_of account.now self.now.accounts)) }
+        ensures { IfOk result (λ view. view ≡ shown self.now.state (lists_of account.now self.now.state.accounts)) }
     {
         match self.index.find(account.bytes()) {
             None => Ok(View::NoAccount),
             Some(at) => {
                 let account = &self.accounts[at as usize];
-                let owing = account.show(alloc, self.today, &self.calendar, &self.fees)?;
+                let owing = account.show(alloc, self.today, &self.common)?;
                 Ok(shown(self.today, owing))
             }
         }
@@ -509,7 +428,7 @@ impl Desk {
 
     // The statement of a cycle of an account as it was issued.
     fn issued(&self, alloc: Global, account: &Name, cycle: Num) -> Result<View, NoMemory>
-        ensures { IfOk result (λ view. view ≡ issued cycle (lists_of account.now self.now.accounts)) }
+        ensures { IfOk result (λ view. view ≡ issued cycle (lists_of account.now self.now.state.accounts)) }
     {
         match self.index.find(account.bytes()) {
             None => Ok(View::NoAccount),
@@ -523,19 +442,13 @@ impl Desk {
 
     // The statement of a cycle of an account as the book of today has it.
     fn restated(&self, alloc: Global, account: &Name, cycle: Num) -> Result<View, NoMemory>
-        ensures { IfOk result (λ view. view ≡ restated self.now cycle (lists_of account.now self.now.accounts)) }
+        ensures { IfOk result (λ view. view ≡ restated self.now.state cycle (lists_of account.now self.now.state.accounts)) }
     {
         match self.index.find(account.bytes()) {
             None => Ok(View::NoAccount),
             Some(at) => {
                 let account = &self.accounts[at as usize];
-                let statement = account.restated(
-                    alloc,
-                    self.today,
-                    cycle,
-                    &self.calendar,
-                    &self.fees,
-                )?;
+                let statement = account.restated(alloc, self.today, cycle, &self.common)?;
                 Ok(stated(statement))
             }
         }
@@ -543,22 +456,16 @@ impl Desk {
 
     // The open tasks of all accounts.
     fn work(&self, alloc: Global) -> Result<View, NoMemory>
-        ensures { IfOk result (λ view. view ≡ View.Work (work self.now)) }
+        ensures { IfOk result (λ view. view ≡ View.Work (work self.now.state)) }
     {
-        let tasks = work_today(
-            alloc,
-            &self.accounts,
-            self.today,
-            &self.calendar,
-            &self.fees,
-        )?;
+        let tasks = work_today(alloc, &self.accounts, self.today, &self.common)?;
         Ok(View::Work(tasks))
     }
 
     /// The answer to what is asked, or want of memory.
     #[tactic(auto, unfolding(crate::specs::Views::seen))]
     pub fn see(&self, alloc: Global, ask: &Ask) -> Result<View, NoMemory>
-        ensures { IfOk result (λ view. view ≡ seen self.now ask.now) }
+        ensures { IfOk result (λ view. view ≡ seen self.now.state ask.now) }
     {
         match ask {
             Ask::Show(account) => self.show(alloc, account),
@@ -589,45 +496,6 @@ fn stated(statement: Option<Statement>) -> View
         Some(statement) => View::Statement(statement),
         None => View::NoStatement,
     }
-}
-
-// The same holidays in memory of their own.
-fn copy_of(alloc: Global, calendar: &Calendar) -> Result<Calendar, NoMemory>
-    ensures { IfOk result (λ copy. copy ≡ calendar.now) }
-{
-    match calendar.copy(alloc) {
-        Ok(copy) => Ok(copy),
-        Err(_) => Err(NoMemory),
-    }
-}
-
-// The holidays with one more, in memory of their own.
-fn with_holiday(alloc: Global, calendar: &Calendar, day: Day) -> Result<Calendar, NoMemory>
-    requires { day ≤ 47_481 }
-    ensures { IfOk result (λ more. more ≡ with_holiday day calendar.now) }
-{
-    let mut more = copy_of(alloc, calendar)?;
-    match more.add(day) {
-        Ok(()) => Ok(more),
-        Err(_) => Err(NoMemory),
-    }
-}
-
-// The fee rows with one more, in memory of their own.
-fn with_fees(
-    alloc: Global,
-    fees: &FeeTable,
-    day: Day,
-    first: Num,
-    repeat: Num,
-) -> Result<FeeTable, NoMemory>
-    requires first { first ≤ 100_000 }
-    requires repeat { repeat ≤ 100_000 }
-    ensures { IfOk result (λ more. more ≡ fees.now ++ record { day = day; first = first; repeat = repeat } ∷ []) }
-{
-    let mut more = fees.copy(alloc)?;
-    more.add(day, first.get() as i64, repeat.get() as i64)?;
-    Ok(more)
 }
 
 // One more, for which room was made.

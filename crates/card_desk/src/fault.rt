@@ -1,7 +1,34 @@
 ghost use Rattle.std.specs.Prelude.{◌≡◌};
+ghost use Rattle.card_desk.specs.declared.fault.Fault.TheVariants as fault;
 ghost use Rattle.card_desk.specs.declared.fault.LoadFault.TheVariants as load_fault;
 
 use card_units::NoMemory;
+use std::alloc::AllocError;
+
+/// Why a request was not carried out.
+#[derive(Clone, Copy, Debug, PartialEq, Eq)]
+pub enum Fault {
+    /// The keeper failed.
+    Keeper,
+    /// Memory was wanted and isn't there.
+    Memory,
+}
+
+impl From<NoMemory> for Fault {
+    ghost from_gives = { λ _ why. why ≡ fault.Memory };
+
+    fn from(_: NoMemory) -> Self {
+        Fault::Memory
+    }
+}
+
+impl From<AllocError> for Fault {
+    ghost from_gives = { λ _ why. why ≡ fault.Memory };
+
+    fn from(_: AllocError) -> Self {
+        Fault::Memory
+    }
+}
 
 /// Why kept rows give no desk.
 #[derive(Clone, Copy, Debug, PartialEq, Eq)]

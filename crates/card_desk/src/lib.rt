@@ -3,13 +3,13 @@
 
 mod desk;
 mod fault;
+mod keep;
 pub mod laws;
 mod load;
-mod reason;
 mod row;
 mod view;
 
-pub use card_account::{Fault, Statement, Task, TaskKind, Tasks};
+pub use card_account::{Statement, Task, TaskKind, Tasks};
 pub use desk::Desk;
-pub use fault::LoadFault;
+pub use fault::{Fault, LoadFault};
 pub use view::{Ask, View};

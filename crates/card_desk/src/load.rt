@@ -8,9 +8,8 @@ ghost use Rattle.card_ports.specs.Counts.{Rose};
 ghost use Rattle.card_desk.specs.Kept.{AreDamaged, IsNewRow, IsRunOf, accepted_count};
 ghost use Rattle.card_desk.specs.Loads.{GoesOn};
 
-use crate::Desk;
 use crate::fault::LoadFault;
-use card_account::Fault;
+use crate::{Desk, Fault};
 use card_events::Request;
 use card_keeper::{Keeper, KeeperFault, Row};
 use card_rows::decode;
@@ -38,7 +37,7 @@ impl Keeper for Untold {
 }
 
 impl Desk {
-    ghost use Rattle.std.specs.Prelude.{◌≡◌, ◌≤◌, ℕ, Err, IfOk, IsErrOf};
+    ghost use Rattle.std.specs.Prelude.{◌≡◌, ◌≤◌, ℕ, Err, IfOk, OnOk, IsErrOf};
     ghost use Rattle.card_keeper.specs.Rows.{KeepsRows, SameRowsTold};
     ghost use Rattle.card_ports.specs.Counts.{Rose};
     ghost use Rattle.card_desk.specs.Kept.{AreDamagedAt, IsLoadedOf, Fits};
@@ -47,15 +46,18 @@ impl Desk {
     ///
     /// `Damaged(n)`: row n, counted from 1, is the first whose number isn't n, whose body is no spelling, or whose request
     /// is refused or a repeat in its place; it never comes for rows that a desk wrote.
-    /// `Keeper`: the keeper failed. `Memory`: memory was wanted and isn't there.
+    /// `Keeper`: the keeper failed, which alone raises its count. `Memory`: memory was wanted and isn't there.
     pub fn load<K: Keeper>(alloc: Global, keeper: &mut K) -> Result<Desk, LoadFault>
-        ensures ok { IfOk result (IsLoadedOf (K.rows keeper.old)) }
-        ensures fits { IfOk result (Fits (K.rows keeper.new)) }
+        ensures ok { IfOk result (λ d. IsLoadedOf (K.rows keeper.old) d.state) }
+        ensures fits { IfOk result (λ d. Fits (K.rows keeper.new) d.state) }
         ensures damaged { (n : ℕ) → result ≡ Err (LoadFault.Damaged n) → AreDamagedAt (K.rows keeper.old) n }
         ensures rows_stay { KeepsRows (K.rows keeper.old) (K.rows keeper.new) }
         ensures told { SameRowsTold (K.rows keeper.old) (K.rows keeper.new) }
         ensures count { K.faults keeper.old ≤ K.faults keeper.new }
+        ensures unfailed { OnOk result (K.faults keeper.new ≡ K.faults keeper.old) }
         ensures cause { IsErrOf result LoadFault.Keeper → Rose (K.faults keeper.old) (K.faults keeper.new) }
+        ensures memory { IsErrOf result LoadFault.Memory → K.faults keeper.new ≡ K.faults keeper.old }
+        ensures damaged_count { (n : ℕ) → result ≡ Err (LoadFault.Damaged n) → K.faults keeper.new ≡ K.faults keeper.old }
     {
         let rows = kept_rows(alloc, keeper)?;
         run_rows(alloc, &rows)
@@ -69,7 +71,9 @@ fn kept_rows<K: Keeper>(alloc: Global, keeper: &mut K) -> Result<Vec<Row>, LoadF
     ensures rows_stay { KeepsRows (K.rows keeper.old) (K.rows keeper.new) }
     ensures told { SameRowsTold (K.rows keeper.old) (K.rows keeper.new) }
     ensures count { K.faults keeper.old ≤ K.faults keeper.new }
+    ensures unfailed { OnOk result (K.faults keeper.new ≡ K.faults keeper.old) }
     ensures cause { IsErrOf result LoadFault.Keeper → Rose (K.faults keeper.old) (K.faults keeper.new) }
+    ensures memory { IsErrOf result LoadFault.Memory → K.faults keeper.new ≡ K.faults keeper.old }
 {
     match keeper.load(alloc) {
         Ok(rows) => Ok(rows),
@@ -80,7 +84,7 @@ fn kept_rows<K: Keeper>(alloc: Global, keeper: &mut K) -> Result<Vec<Row>, LoadF
 
 // Carries out the requests of rows, from the first day on.
 fn run_rows(alloc: Global, rows: &[Row]) -> Result<Desk, LoadFault>
-    ensures ok { IfOk result (IsRunOf rows.now) }
+    ensures ok { IfOk result (λ d. IsRunOf rows.now d.state) }
     ensures damaged { (n : ℕ) → IsErrOf result (LoadFault.Damaged n) → AreDamaged rows.now n }
     ensures never { IsErrOf result LoadFault.Keeper → ⊥ }
 {
@@ -96,8 +100,8 @@ fn run_rows(alloc: Global, rows: &[Row]) -> Result<Desk, LoadFault>
 
 // Carries out the request of the row that has this place, and says whether it is one that is newly accepted.
 fn run_row(alloc: Global, desk: &mut Desk, number: u64, row: &Row) -> Result<bool, NoMemory>
-    ensures new { IfOk result (λ new. new ≡ true → GoesOn desk.old number row.now desk.new) }
-    ensures bad { IfOk result (λ new. new ≡ false → (r : Request) → IsNewRow desk.old number row.now r → ⊥) }
+    ensures new { IfOk result (λ new. new ≡ true → GoesOn desk.old.state number row.now desk.new.state) }
+    ensures bad { IfOk result (λ new. new ≡ false → (r : Request) → IsNewRow desk.old.state number row.now r → ⊥) }
 {
     if row.seq != number {
         return Ok(false);
@@ -111,8 +115,8 @@ fn run_row(alloc: Global, desk: &mut Desk, number: u64, row: &Row) -> Result<boo
 // Carries out a request, and says whether it was newly accepted.
 fn run_request(alloc: Global, desk: &mut Desk, request: &Request) -> Result<bool, NoMemory>
     requires dated { is_dated request.now ≡ true }
-    ensures new { IfOk result (λ new. new ≡ is_new desk.old request.now) }
-    ensures step { OnOk result (desk.new ≡ (step desk.old request.now).0) }
+    ensures new { IfOk result (λ new. new ≡ is_new desk.old.state request.now) }
+    ensures step { OnOk result (desk.new.state ≡ (step desk.old.state request.now).0) }
 {
     let count = desk.count();
     let mut keeper = Untold {};

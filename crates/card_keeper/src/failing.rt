@@ -56,7 +56,9 @@ impl Keeper for FailingKeeper {
         ensures fails { (fails_next self.old.calls ≡ true) ↔ IsErrOf result KeeperFault.Failed }
         ensures calls { self.new.calls ≡ after_call self.old.calls }
         ensures count { self.old.calls.faults ≤ self.new.calls.faults }
+        ensures unfailed { OnOk result (self.new.calls.faults ≡ self.old.calls.faults) }
         ensures cause { IsErrOf result KeeperFault.Failed → Rose self.old.calls.faults self.new.calls.faults }
+        ensures memory { IsErrOf result KeeperFault.Memory → self.new.calls.faults ≡ self.old.calls.faults }
     {
         if self.calls.fails_now() {
             return Err(KeeperFault::Failed);
@@ -71,7 +73,9 @@ impl Keeper for FailingKeeper {
         ensures fails { (fails_next self.old.calls ≡ true) ↔ IsErrOf result KeeperFault.Failed }
         ensures calls { self.new.calls ≡ after_call self.old.calls }
         ensures count { self.old.calls.faults ≤ self.new.calls.faults }
+        ensures unfailed { OnOk result (self.new.calls.faults ≡ self.old.calls.faults) }
         ensures cause { IsErrOf result KeeperFault.Failed → Rose self.old.calls.faults self.new.calls.faults }
+        ensures memory { IsErrOf result KeeperFault.Memory → self.new.calls.faults ≡ self.old.calls.faults }
     {
         if self.calls.fails_now() {
             return Err(KeeperFault::Failed);

@@ -41,12 +41,12 @@ impl<T: Drop> From<AllocFailed<T>> for KeeperFault {
     }
 }
 
-/// What keeps the rows of a ledger.
+/// What keeps the rows of a ledger. Want of memory is no fault, and isn't counted.
 pub trait Keeper {
     /// The rows, where the form tells them.
     ghost rows: { Self → Option (List Row) };
 
-    /// How often the outside failed.
+    /// How often the outside failed. No other call counts.
     ghost faults: { Self → ℕ };
 
     /// All rows, in order. They stay.
@@ -55,7 +55,9 @@ pub trait Keeper {
         ensures kept { KeepsRows (rows self.old) (rows self.new) }
         ensures told { SameRowsTold (rows self.old) (rows self.new) }
         ensures count { faults self.old ≤ faults self.new }
-        ensures cause { IsErrOf result KeeperFault.Failed → Rose (faults self.old) (faults self.new) };
+        ensures unfailed { OnOk result (faults self.new ≡ faults self.old) }
+        ensures cause { IsErrOf result KeeperFault.Failed → Rose (faults self.old) (faults self.new) }
+        ensures memory { IsErrOf result KeeperFault.Memory → faults self.new ≡ faults self.old };
 
     /// Adds rows at the end: all of them, or none after a fault or want of memory. Their numbers go on from the last.
     fn append(&mut self, alloc: Global, more: &[Row]) -> Result<(), KeeperFault>
@@ -64,5 +66,7 @@ pub trait Keeper {
         ensures err { OnErr result (KeepsRows (rows self.old) (rows self.new)) }
         ensures told { SameRowsTold (rows self.old) (rows self.new) }
         ensures count { faults self.old ≤ faults self.new }
-        ensures cause { IsErrOf result KeeperFault.Failed → Rose (faults self.old) (faults self.new) };
+        ensures unfailed { OnOk result (faults self.new ≡ faults self.old) }
+        ensures cause { IsErrOf result KeeperFault.Failed → Rose (faults self.old) (faults self.new) }
+        ensures memory { IsErrOf result KeeperFault.Memory → faults self.new ≡ faults self.old };
 }

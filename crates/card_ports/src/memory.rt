@@ -61,7 +61,7 @@ impl MemorySource {
 }
 
 impl Source for MemorySource {
-    ghost use Rattle.std.specs.Prelude.{◌≡◌, ◌↔◌, ◌≤◌, ◌<◌, true, IsErr, IfOk, OnErr, Some, length};
+    ghost use Rattle.std.specs.Prelude.{◌≡◌, ◌↔◌, ◌≤◌, ◌<◌, true, IsErr, IfOk, OnOk, OnErr, Some, length};
     ghost use Rattle.std.specs.Io.KnownBytes.{ReadConsumes};
     ghost use Rattle.card_ports.specs.Counts.{Rose};
     ghost use Rattle.card_ports.specs.Bytes.{SameTold};
@@ -76,6 +76,7 @@ impl Source for MemorySource {
         ensures bytes { ReadConsumes (Some self.old.left) (Some self.new.left) result buf.new }
         ensures told { SameTold (Some self.old.left) (Some self.new.left) }
         ensures count { self.old.calls.faults ≤ self.new.calls.faults }
+        ensures unfailed { OnOk result (self.new.calls.faults ≡ self.old.calls.faults) }
         ensures cause { OnErr result (Rose self.old.calls.faults self.new.calls.faults) }
 
         // It fails at the listed calls, and counts that.
@@ -129,7 +130,7 @@ impl MemorySink {
 }
 
 impl Sink for MemorySink {
-    ghost use Rattle.std.specs.Prelude.{◌≡◌, ◌↔◌, ◌≤◌, ◌<◌, true, IfOk, IsErrOf, Some, length};
+    ghost use Rattle.std.specs.Prelude.{◌≡◌, ◌↔◌, ◌≤◌, ◌<◌, true, IfOk, OnOk, IsErrOf, Some, length};
     ghost use Rattle.std.specs.Io.KnownBytes.{WriteAppends};
     ghost use Rattle.card_ports.specs.Counts.{Rose};
     ghost use Rattle.card_ports.specs.Bytes.{SameTold};
@@ -145,7 +146,9 @@ impl Sink for MemorySink {
         ensures bytes { WriteAppends (Some self.old.taken) (Some self.new.taken) result bytes.now }
         ensures told { SameTold (Some self.old.taken) (Some self.new.taken) }
         ensures count { self.old.calls.faults ≤ self.new.calls.faults }
+        ensures unfailed { OnOk result (self.new.calls.faults ≡ self.old.calls.faults) }
         ensures cause { IsErrOf result SinkFault.Failed → Rose self.old.calls.faults self.new.calls.faults }
+        ensures memory { IsErrOf result SinkFault.Memory → self.new.calls.faults ≡ self.old.calls.faults }
 
         // It takes all, fails at the listed calls, and counts these alone.
         ensures all { IfOk result (λ n. n ≡ length bytes.now) }

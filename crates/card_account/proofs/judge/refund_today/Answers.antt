@@ -1,5 +1,4 @@
 use Rattle.std.proofs.Common.{◌≡◌, ℕ, true, Some, refl, sym, ◌∙◌}
-use Rattle.card_account.specs.Accounts.{present_of, shared_by}
 use Rattle.card_account.proofs.judge.refund_today.Goals as goal
 use Rattle.card_events.specs.declared.post.Post.TheVariants as post
 use Rattle.card_events.specs.declared.reply.Refusal.TheVariants as refusal
@@ -12,5 +11,4 @@ out now cents is = rw is refl
 
 pub returns-then-is_no_amount : goal.returns-then-is_no_amount
 returns-then-is_no_amount c =
-    out (present_of c.args.today (shared_by c.args.calendar.now c.args.fees.now) (record { posts = c.args.posts.now.history; issued = c.args.issued.now })) c.args.cents
-    (sym c.is_no_amount.ensures ∙ c.if-is_no_amount.true)
+    out c.args.now.now c.args.cents (sym c.is_no_amount.ensures ∙ c.if-is_no_amount.true)

@@ -5,4 +5,4 @@ use Rattle.card_account.proofs.work.tasks_today.Goals as goal
 
 pub work_of-requires-clause-since : goal.work_of-requires-clause-since
 work_of-requires-clause-since c =
-    subst (λ (o : Option ℕ). IfSome o (λ d. d ≤ 47_481)) (sym (c.credit_since.ensures ∙ c.in_ok-folded.ensures.since)) (since-by _ _ _ 47_481 c.requires.last)
+    subst (λ (o : Option ℕ). IfSome o (λ d. d ≤ 47_481)) (sym (c.credit_since.ensures ∙ c.in_ok-folded.ensures.since)) (since-by _ _ _ 47_481 c.today.ensures.reached.dated)

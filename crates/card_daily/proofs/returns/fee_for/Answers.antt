@@ -15,11 +15,6 @@ pub asked_by-least-requires-clause-due : goal.asked_by-least-requires-clause-due
 asked_by-least-requires-clause-due c x e =
     due-by c.args.inputs.now c.args.day x c.args.cycles.now c.anchor-anchor.ensures.sound c.requires.opened c.requires.last c.requires.cycles (sym c.due_before.ensures ∙ e)
 
-pub overflow_cast-cycles : goal.overflow_cast-cycles
-overflow_cast-cycles c =
-    let few = few-cycles c.args.inputs.now c.args.day c.args.cycles.now c.anchor-anchor.ensures.sound c.requires.opened c.requires.last c.requires.cycles in
-    omega (arith, few)
-
 pub overflow_add-cycles : goal.overflow_add-cycles
 overflow_add-cycles c =
     let few = few-cycles c.args.inputs.now c.args.day c.args.cycles.now c.anchor-anchor.ensures.sound c.requires.opened c.requires.last c.requires.cycles in

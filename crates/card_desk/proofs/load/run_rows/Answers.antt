@@ -15,11 +15,11 @@ returns-then-not-branch-clause-damaged c = λ n is.
     let row = c.index-rows-i.result in
     let low : i < length rows = omega (arith, c.loop-i-test.true) in
     let there = at_place rows i row low c.index-rows-i.is in
-    subst (λ (m : ℕ). AreDamaged rows m) (told_number _ (i + 1) n refl is) (damaged rows c.loop-i.desk i (i + 1) row low refl c.loop-i.invariant there (c.in_ok-run_row.ensures.bad c.if-not-branch.true))
+    subst (λ (m : ℕ). AreDamaged rows m) (told_number _ (i + 1) n refl is) (damaged rows c.loop-i.desk.state i (i + 1) row low refl c.loop-i.invariant there (c.in_ok-run_row.ensures.bad c.if-not-branch.true))
 
 pub loop-i-preserved : goal.loop-i-preserved
 loop-i-preserved c =
     let rows = c.args.rows.now in
     let i = c.loop-i.i in
     let low : i < length rows = omega (arith, c.loop-i-test.true) in
-    run_next rows i (i + 1) c.loop-i.desk c.run_row.new.desk c.index-rows-i.result low c.index-rows-i.is refl c.loop-i.invariant (c.in_ok-run_row.ensures.new c.if-not-branch.false)
+    run_next rows i (i + 1) c.loop-i.desk.state c.run_row.new.desk.state c.index-rows-i.result low c.index-rows-i.is refl c.loop-i.invariant (c.in_ok-run_row.ensures.new c.if-not-branch.false)

@@ -7,47 +7,50 @@ use Rattle.card_model.specs.Machine.{State, has_accounts, shared_reason}
 use Rattle.card_desk.specs.Applied.{Steps}
 use Rattle.card_desk.specs.Desks.{AreCorrected, AreSameHolidays, IsDesk, named_all, state_of}
 use Rattle.card_desk.specs.Kept.{row_of, accepted_count}
-use Rattle.card_desk.proofs.DeskLemmas.{count_shared}
+use Rattle.card_desk.proofs.DeskLemmas.{count_shared, state_by}
 use Rattle.card_desk.proofs.KeptLemmas.{later_holiday, more_holidays, same_fees, shared_desk}
 use Rattle.card_desk.proofs.FoldLemmas.{all_running, corrected_on}
-use Rattle.card_events.specs.SharedRows.{shared_rows}
+use Rattle.card_events.specs.SharedRows.{SharedRows, shared_rows}
 use Rattle.card_desk.proofs.RowLemmas.{holiday_day}
-use Rattle.card_desk.proofs.StepLemmas.{goes_on, shared_accepted}
+use Rattle.card_desk.proofs.StepLemmas.{goes_on, kept, shared_accepted}
 use Rattle.card_rows.specs.Held.{is_request}
 use Rattle.card_desk.proofs.desk.Desk.keep_holiday.Goals as goal
 
 pub keep_row-requires : goal.keep_row-requires
-keep_row-requires g c = goes_on _ c.args.self.now c.args.request.now c.in_ok-row.row c.requires.fits c.in_ok-row.ensures.value
+keep_row-requires g c = goes_on _ c.args.self.now.state c.args.request.now c.in_ok-row.row c.requires.asked.fits c.in_ok-row.ensures.value
 
 pub invariant_of-self-2 : goal.invariant_of-self-2
 invariant_of-self-2 g c =
     let d = c.self.inside in
     let r = shared.Holiday c.args.day in
+    let more = c.in_ok-common.common in
+    let is = c.in_ok-common.ensures in
     let lists : c.push_shared.new.list.items ≡ d.shared.items ++ r ∷ [] = c.push_shared.ensures ∙ ap (λ l. l ++ r ∷ []) c.in_ok-reserve.ensures.items in
     let held = ap is_request (sym c.requires.request) ∙ c.in_ok-row.ensures.held in
     let s = state_of d.today d.shared.items d.accounts.items in
-    let none = ap (λ (x : State). shared_reason x.today (has_accounts x) r) c.self.view_is ∙ c.requires.no_reason in
-    subst (λ (l : List Shared). IsDesk d.index c.in_ok-calendar.calendar d.fees (d.count + 1) d.today l d.accounts.items) (sym lists)
-    (shared_desk d.index d.calendar c.in_ok-calendar.calendar d.fees d.fees d.count d.today d.shared.items d.accounts.items r c.self.invariant held none
-    (subst (λ (x : List ℕ). AreSameHolidays x (shared_rows (d.shared.items ++ r ∷ [])).holidays) (sym c.in_ok-calendar.ensures) (more_holidays d.calendar d.shared.items c.args.day c.self.invariant.holidays))
-    (same_fees d.fees d.shared.items r refl c.self.invariant.table)
-    (subst (λ (x : List ℕ). AreCorrected x d.accounts.items) (sym c.in_ok-calendar.ensures)
-    (corrected_on s c.args.day d.calendar d.accounts.items (later_holiday d.today (has_accounts s) c.args.day none) (all_running s c.self.invariant.ran) c.self.invariant.corrected)))
+    let none = ap (λ (x : State). shared_reason x.today (has_accounts x) r) (state_by _ _ c.self.view_is) ∙ c.requires.no_reason in
+    subst (λ (l : List Shared). IsDesk d.index more (d.count + 1) d.today l d.accounts.items) (sym lists)
+    (shared_desk d.index d.common more d.count d.today d.shared.items d.accounts.items r c.self.invariant held none
+    (subst (λ (x : SharedRows). AreSameHolidays x.holidays (shared_rows (d.shared.items ++ r ∷ [])).holidays) (sym is) (more_holidays d.common.holidays d.shared.items c.args.day c.self.invariant.holidays))
+    (ap (λ (x : SharedRows). x.fees) is ∙ same_fees d.common.fees d.shared.items r refl c.self.invariant.table)
+    (subst (λ (x : SharedRows). AreCorrected x.holidays d.accounts.items) (sym is)
+    (corrected_on s c.args.day d.common.holidays d.accounts.items (later_holiday d.today (has_accounts s) c.args.day none) (all_running s c.self.invariant.ran) c.self.invariant.corrected)))
 
-pub returns-clause-ok : goal.returns-clause-ok
-returns-clause-ok g c =
-    let s = c.args.self.now in
+pub returns : goal.returns
+returns g c =
+    let s = c.args.self.now.state in
     let r = shared.Holiday c.args.day in
     let t : State = state_of c.self.inside.today c.push_shared.new.list.items c.self.inside.accounts.items in
-    let lists = c.push_shared.ensures ∙ ap (λ l. l ++ r ∷ []) (c.in_ok-reserve.ensures.items ∙ ap (λ (x : State). x.shared) c.self.view_is) in
-    let accounts = ap (λ (x : State). x.accounts) c.self.view_is in
+    let lists = c.push_shared.ensures ∙ ap (λ l. l ++ r ∷ []) (c.in_ok-reserve.ensures.items ∙ ap (λ (x : State). x.shared) (state_by _ _ c.self.view_is)) in
+    let accounts = ap (λ (x : State). x.accounts) (state_by _ _ c.self.view_is) in
     let own : t ≡ record { today = c.self.inside.today; shared = s.shared ++ r ∷ []; accounts = s.accounts } =
     ap (λ l. record { today = c.self.inside.today; shared = l; accounts = named_all c.self.inside.accounts.items }) lists ∙ ap (λ l. record { today = c.self.inside.today; shared = s.shared ++ r ∷ []; accounts = l }) accounts in
     let state : t ≡ record { today = s.today; shared = s.shared ++ r ∷ []; accounts = s.accounts } =
-    own ∙ ap (λ n. record { today = n; shared = s.shared ++ r ∷ []; accounts = s.accounts }) (ap (λ (x : State). x.today) c.self.view_is) in
-    subst (λ (x : Request). Steps (g.K.Keeper.rows c.args.keeper.now) (g.K.Keeper.rows c.keep_row.new.keeper) s x t reply.Done) (sym c.requires.request)
+    own ∙ ap (λ n. record { today = n; shared = s.shared ++ r ∷ []; accounts = s.accounts }) (ap (λ (x : State). x.today) (state_by _ _ c.self.view_is)) in
+    kept (g.K.Keeper.rows c.args.keeper.now) (g.K.Keeper.rows c.keep_row.new.keeper) (g.K.Keeper.faults c.args.keeper.now) (g.K.Keeper.faults c.keep_row.new.keeper) s t c.args.request.now reply.Done c.keep_row.ensures.told c.in_ok-keep_row.ensures.unfailed
+    (subst (λ (x : Request). Steps (g.K.Keeper.rows c.args.keeper.now) (g.K.Keeper.rows c.keep_row.new.keeper) s x t reply.Done) (sym c.requires.request)
     (shared_accepted _ _ s t r c.in_ok-row.row c.keep_row.ensures.told c.in_ok-keep_row.ensures.ok
-    (c.in_ok-row.ensures.value ∙ ap (λ (x : Request). row_of (accepted_count s + 1) x) c.requires.request) c.requires.no_reason state (count_shared s t r own))
+    (c.in_ok-row.ensures.value ∙ ap (λ (x : Request). row_of (accepted_count s + 1) x) c.requires.request) c.requires.no_reason state (count_shared s t r own)))
 
 pub with_holiday-requires : goal.with_holiday-requires
-with_holiday-requires g c = holiday_day c.args.day c.args.request.now c.requires.request c.requires.dated
+with_holiday-requires g c = holiday_day c.args.day c.args.request.now c.requires.request c.requires.asked.dated

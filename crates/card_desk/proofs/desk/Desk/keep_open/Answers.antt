@@ -10,18 +10,18 @@ use Rattle.card_desk.specs.Applied.{Steps}
 use Rattle.card_desk.specs.Desks.{IsDesk, named_all, state_of}
 use Rattle.card_desk.specs.Kept.{row_of, accepted_count}
 use Rattle.card_desk.specs.Places.{place_from}
-use Rattle.card_desk.proofs.DeskLemmas.{count_opened, opened_state}
+use Rattle.card_desk.proofs.DeskLemmas.{count_opened, opened_state, state_by}
 use Rattle.card_desk.proofs.IndexLemmas.{index_back, index_pushed}
 use Rattle.card_index.specs.Places.{Places}
 use Rattle.card_desk.proofs.KeptLemmas.{index_desk, opened_desk}
 use Rattle.card_desk.proofs.OutcomeLemmas.{open_accepted}
 use Rattle.card_desk.proofs.PlaceLemmas.{no_place}
-use Rattle.card_desk.proofs.StepLemmas.{goes_on, post_accepted}
+use Rattle.card_desk.proofs.StepLemmas.{goes_on, kept, post_accepted}
 use Rattle.card_rows.specs.Held.{is_request}
 use Rattle.card_desk.proofs.desk.Desk.keep_open.Goals as goal
 
 pub keep_row-requires : goal.keep_row-requires
-keep_row-requires g c = goes_on _ c.args.self.now c.args.request.now c.in_ok-row.row c.requires.fits c.in_ok-row.ensures.value
+keep_row-requires g c = goes_on _ c.args.self.now.state c.args.request.now c.in_ok-row.row c.requires.asked.fits c.in_ok-row.ensures.value
 
 pub invariant_of-self-in-Ok : goal.invariant_of-self-in-Ok
 invariant_of-self-in-Ok g c =
@@ -35,22 +35,22 @@ invariant_of-self-in-Ok g c =
     let made_is : made.named ≡ record { name = name; lists = record { posts = kept_as 1 key d.today p ∷ []; issued = [] } } =
     c.in_ok-made.ensures.lists ∙ ap (λ (n : List ℕ). record { name = n; lists = record { posts = kept_as 1 key d.today p ∷ []; issued = [] } }) c.in_ok-name.ensures in
     let name_is : made.named.name ≡ name = ap (λ (a : NamedAccount). a.name) made_is in
-    let absent : place_from name 0 (named_all items) ≡ None = ap (λ (x : State). place_from name 0 x.accounts) c.self.view_is ∙ c.requires.absent in
-    let none = ap (λ (x : State). reason_to_open x.today (length x.accounts) p) c.self.view_is ∙ c.requires.no_reason in
+    let absent : place_from name 0 (named_all items) ≡ None = ap (λ (x : State). place_from name 0 x.accounts) (state_by _ _ c.self.view_is) ∙ c.requires.absent in
+    let none = ap (λ (x : State). reason_to_open x.today (length x.accounts) p) (state_by _ _ c.self.view_is) ∙ c.requires.no_reason in
     let long : length (named_all items) ≡ length items = length-map items (λ (x : OpenAccount). x.named) in
     let place : c.len-place.result ≡ length (named_all items) = c.len-place.ensures ∙ c.reserve.new.self.ok.0 ∙ ap (λ l. length l) c.in_ok-reserve.ensures.items ∙ sym long in
-    let room : length items < 1000000 = omega (arith, c.requires.room, ap (λ (x : State). length x.accounts) c.self.view_is, long) in
+    let room : length items < 1000000 = omega (arith, c.requires.room, ap (λ (x : State). length x.accounts) (state_by _ _ c.self.view_is), long) in
     let index = index_pushed d.index c.insert.new.self (named_all items) made.named c.bytes.result.now c.len-place.result c.self.invariant.index c.in_ok-insert.ensures.ok place (c.bytes.ensures.value ∙ sym name_is)
     (ap (λ (n : List ℕ). place_from n 0 (named_all items)) name_is ∙ absent) in
     let held = ap is_request (sym c.requires.request) ∙ c.in_ok-row.ensures.held in
     let taken : is_request (request.Post name key p) ≡ true = held in
-    subst (λ (l : List OpenAccount). IsDesk c.insert.new.self d.calendar d.fees (d.count + 1) d.today d.shared.items l) (sym accounts)
-    (opened_desk d.index c.insert.new.self d.calendar d.fees d.count d.today d.shared.items items made name key p c.self.invariant taken absent c.requires.open none made_is index room
-    (c.in_ok-made.ensures.stands d.calendar))
+    subst (λ (l : List OpenAccount). IsDesk c.insert.new.self d.common (d.count + 1) d.today d.shared.items l) (sym accounts)
+    (opened_desk d.index c.insert.new.self d.common d.count d.today d.shared.items items made name key p c.self.invariant taken absent c.requires.open none made_is index room
+    (c.in_ok-made.ensures.stands d.common.holidays))
 
-pub returns-in-Ok-clause-ok : goal.returns-in-Ok-clause-ok
-returns-in-Ok-clause-ok g c =
-    let s = c.args.self.now in
+pub returns-in-Ok : goal.returns-in-Ok
+returns-in-Ok g c =
+    let s = c.args.self.now.state in
     let d = c.self.inside in
     let name = c.args.account.now in
     let key = c.args.key.now in
@@ -60,19 +60,20 @@ returns-in-Ok-clause-ok g c =
     let grown = g.K.Keeper.rows c.keep_row.new.keeper in
     let l : Lists = record { posts = kept_as 1 key s.today p ∷ []; issued = [] } in
     let t : State = state_of d.today d.shared.items c.push_account.new.list.items in
-    let today = ap (λ (x : State). x.today) c.self.view_is in
+    let today = ap (λ (x : State). x.today) (state_by _ _ c.self.view_is) in
     let items : c.push_account.new.list.items ≡ d.accounts.items ++ made ∷ [] = c.push_account.ensures ∙ ap (λ l. l ++ made ∷ []) c.in_ok-reserve.ensures.items in
     let accounts : t.accounts ≡ s.accounts ++ made.named ∷ [] =
-    ap named_all items ∙ map-append (λ (x : OpenAccount). x.named) d.accounts.items (made ∷ []) ∙ ap (λ (x : State). x.accounts ++ made.named ∷ []) c.self.view_is in
+    ap named_all items ∙ map-append (λ (x : OpenAccount). x.named) d.accounts.items (made ∷ []) ∙ ap (λ (x : State). x.accounts ++ made.named ∷ []) (state_by _ _ c.self.view_is) in
     let made_is : made.named ≡ record { name = name; lists = l } =
     c.in_ok-made.ensures.lists ∙ ap (λ (n : List ℕ). record { name = n; lists = record { posts = kept_as 1 key d.today p ∷ []; issued = [] } }) c.in_ok-name.ensures
     ∙ ap (λ (n : ℕ). record { name = name; lists = record { posts = kept_as 1 key n p ∷ []; issued = [] } }) today in
-    let state = opened_state s t name l made.named today (ap (λ (x : State). x.shared) c.self.view_is) accounts made_is c.requires.absent in
+    let state = opened_state s t name l made.named today (ap (λ (x : State). x.shared) (state_by _ _ c.self.view_is)) accounts made_is c.requires.absent in
     let one : length made.named.lists.posts ≡ 1 = ap (λ (a : NamedAccount). length a.lists.posts) made_is in
     let outcome = open_accepted s name key p (no_place name 0 s.accounts c.requires.absent).0 c.requires.open c.requires.no_reason in
-    subst (λ (x : Request). Steps rows grown s x t (reply.Accepted 1)) (sym c.requires.request)
+    kept (g.K.Keeper.rows c.args.keeper.now) (g.K.Keeper.rows c.keep_row.new.keeper) (g.K.Keeper.faults c.args.keeper.now) (g.K.Keeper.faults c.keep_row.new.keeper) s t c.args.request.now (reply.Accepted 1) c.keep_row.ensures.told c.in-Ok.ensures.unfailed
+    (subst (λ (x : Request). Steps rows grown s x t (reply.Accepted 1)) (sym c.requires.request)
     (post_accepted rows grown s t name key p l 1 c.in_ok-row.row c.keep_row.ensures.told c.in-Ok.ensures.ok (c.in_ok-row.ensures.value ∙ ap (λ (x : Request). row_of (accepted_count s + 1) x) c.requires.request)
-    outcome state refl (count_opened s t made.named (ap (λ (x : State). x.shared) c.self.view_is) accounts one))
+    outcome state refl (count_opened s t made.named (ap (λ (x : State). x.shared) (state_by _ _ c.self.view_is)) accounts one)))
 
 pub invariant_of-self-in-Err-1 : goal.invariant_of-self-in-Err-1
 invariant_of-self-in-Err-1 g c =
@@ -80,8 +81,8 @@ invariant_of-self-in-Err-1 g c =
     let items = d.accounts.items in
     let name = c.bytes.result.now in
     let absent : place_from name 0 (named_all items) ≡ None =
-    ap (λ (n : List ℕ). place_from n 0 (named_all items)) c.bytes.ensures.value ∙ ap (λ (x : State). place_from c.args.account.now 0 x.accounts) c.self.view_is ∙ c.requires.absent in
+    ap (λ (n : List ℕ). place_from n 0 (named_all items)) c.bytes.ensures.value ∙ ap (λ (x : State). place_from c.args.account.now 0 x.accounts) (state_by _ _ c.self.view_is) ∙ c.requires.absent in
     let lost = subst (λ (n : List ℕ). Places c.insert.new.self c.remove.new.self n None) (c.bytes-in-Err.ensures.value ∙ sym c.bytes.ensures.value) c.remove.ensures in
     let index = index_back d.index c.insert.new.self c.remove.new.self (named_all items) name c.len-place.result c.self.invariant.index c.in_ok-insert.ensures.ok lost absent in
-    subst (λ (l : List OpenAccount). IsDesk c.remove.new.self d.calendar d.fees d.count d.today d.shared.items l) (sym c.in_ok-reserve.ensures.items)
-    (index_desk d.index c.remove.new.self d.calendar d.fees d.count d.today d.shared.items items c.self.invariant index)
+    subst (λ (l : List OpenAccount). IsDesk c.remove.new.self d.common d.count d.today d.shared.items l) (sym c.in_ok-reserve.ensures.items)
+    (index_desk d.index c.remove.new.self d.common d.count d.today d.shared.items items c.self.invariant index)

@@ -7,14 +7,14 @@ use Rattle.card_model.specs.Machine.{State, has_accounts, shared_reason}
 use Rattle.card_desk.specs.Applied.{Steps}
 use Rattle.card_desk.specs.Desks.{IsDesk, named_all, state_of}
 use Rattle.card_desk.specs.Kept.{row_of, accepted_count}
-use Rattle.card_desk.proofs.DeskLemmas.{count_shared}
+use Rattle.card_desk.proofs.DeskLemmas.{count_shared, state_by}
 use Rattle.card_desk.proofs.KeptLemmas.{same_fees, same_holidays, shared_desk}
-use Rattle.card_desk.proofs.StepLemmas.{goes_on, shared_accepted}
+use Rattle.card_desk.proofs.StepLemmas.{goes_on, kept, shared_accepted}
 use Rattle.card_rows.specs.Held.{is_request}
 use Rattle.card_desk.proofs.desk.Desk.keep_roll.Goals as goal
 
 pub keep_row-requires : goal.keep_row-requires
-keep_row-requires g c = goes_on _ c.args.self.now c.args.request.now c.in_ok-row.row c.requires.fits c.in_ok-row.ensures.value
+keep_row-requires g c = goes_on _ c.args.self.now.state c.args.request.now c.in_ok-row.row c.requires.asked.fits c.in_ok-row.ensures.value
 
 pub invariant_of-self-2 : goal.invariant_of-self-2
 invariant_of-self-2 g c =
@@ -22,20 +22,21 @@ invariant_of-self-2 g c =
     let r = shared.Roll c.args.day in
     let lists : c.push_shared.new.list.items ≡ d.shared.items ++ r ∷ [] = c.push_shared.ensures ∙ ap (λ l. l ++ r ∷ []) c.in_ok-reserve.ensures.items in
     let held = ap is_request (sym c.requires.request) ∙ c.in_ok-row.ensures.held in
-    let none = ap (λ (x : State). shared_reason x.today (has_accounts x) r) c.self.view_is ∙ c.requires.no_reason in
-    subst (λ (l : List Shared). IsDesk d.index d.calendar d.fees (d.count + 1) c.args.day l d.accounts.items) (sym lists)
-    (shared_desk d.index d.calendar d.calendar d.fees d.fees d.count d.today d.shared.items d.accounts.items r c.self.invariant held none
-    (same_holidays d.calendar d.shared.items r refl c.self.invariant.holidays) (same_fees d.fees d.shared.items r refl c.self.invariant.table) c.self.invariant.corrected)
+    let none = ap (λ (x : State). shared_reason x.today (has_accounts x) r) (state_by _ _ c.self.view_is) ∙ c.requires.no_reason in
+    subst (λ (l : List Shared). IsDesk d.index d.common (d.count + 1) c.args.day l d.accounts.items) (sym lists)
+    (shared_desk d.index d.common d.common d.count d.today d.shared.items d.accounts.items r c.self.invariant held none
+    (same_holidays d.common.holidays d.shared.items r refl c.self.invariant.holidays) (same_fees d.common.fees d.shared.items r refl c.self.invariant.table) c.self.invariant.corrected)
 
-pub returns-clause-ok : goal.returns-clause-ok
-returns-clause-ok g c =
-    let s = c.args.self.now in
+pub returns : goal.returns
+returns g c =
+    let s = c.args.self.now.state in
     let r = shared.Roll c.args.day in
     let t : State = state_of c.args.day c.push_shared.new.list.items c.self.inside.accounts.items in
-    let lists = c.push_shared.ensures ∙ ap (λ l. l ++ r ∷ []) (c.in_ok-reserve.ensures.items ∙ ap (λ (x : State). x.shared) c.self.view_is) in
-    let accounts = ap (λ (x : State). x.accounts) c.self.view_is in
+    let lists = c.push_shared.ensures ∙ ap (λ l. l ++ r ∷ []) (c.in_ok-reserve.ensures.items ∙ ap (λ (x : State). x.shared) (state_by _ _ c.self.view_is)) in
+    let accounts = ap (λ (x : State). x.accounts) (state_by _ _ c.self.view_is) in
     let state : t ≡ record { today = c.args.day; shared = s.shared ++ r ∷ []; accounts = s.accounts } =
     ap (λ l. record { today = c.args.day; shared = l; accounts = named_all c.self.inside.accounts.items }) lists ∙ ap (λ l. record { today = c.args.day; shared = s.shared ++ r ∷ []; accounts = l }) accounts in
-    subst (λ (x : Request). Steps (g.K.Keeper.rows c.args.keeper.now) (g.K.Keeper.rows c.keep_row.new.keeper) s x t reply.Done) (sym c.requires.request)
+    kept (g.K.Keeper.rows c.args.keeper.now) (g.K.Keeper.rows c.keep_row.new.keeper) (g.K.Keeper.faults c.args.keeper.now) (g.K.Keeper.faults c.keep_row.new.keeper) s t c.args.request.now reply.Done c.keep_row.ensures.told c.in_ok-keep_row.ensures.unfailed
+    (subst (λ (x : Request). Steps (g.K.Keeper.rows c.args.keeper.now) (g.K.Keeper.rows c.keep_row.new.keeper) s x t reply.Done) (sym c.requires.request)
     (shared_accepted _ _ s t r c.in_ok-row.row c.keep_row.ensures.told c.in_ok-keep_row.ensures.ok
-    (c.in_ok-row.ensures.value ∙ ap (λ (x : Request). row_of (accepted_count s + 1) x) c.requires.request) c.requires.no_reason state (count_shared s t r state))
+    (c.in_ok-row.ensures.value ∙ ap (λ (x : Request). row_of (accepted_count s + 1) x) c.requires.request) c.requires.no_reason state (count_shared s t r state)))

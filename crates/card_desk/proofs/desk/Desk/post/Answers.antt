@@ -2,15 +2,15 @@ use Rattle.std.proofs.Common.{ap, subst, sym, ◌∙◌}
 use Rattle.card_model.specs.Machine.{State}
 use Rattle.card_desk.specs.Desks.{named_all}
 use Rattle.card_desk.specs.Places.{IsPlace, place_from}
-use Rattle.card_desk.proofs.DeskLemmas.{found_at, found_none}
+use Rattle.card_desk.proofs.DeskLemmas.{found_at, found_none, state_by}
 use Rattle.card_desk.proofs.desk.Desk.post.Goals as goal
 
 pub post_known-requires-clause-place : goal.post_known-requires-clause-place
 post_known-requires-clause-place g c =
-    subst (λ (s : State). IsPlace c.args.account.now s.accounts c.in-Some.at) c.self.view_is
+    subst (λ (s : State). IsPlace c.args.account.now s.accounts c.in-Some.at) (state_by _ _ c.self.view_is)
     (found_at c.self.inside.index (named_all c.self.inside.accounts.items) c.args.account.now c.bytes.result.now c.in-Some.at c.self.invariant.index c.bytes.ensures.value c.in-Some.ensures)
 
 pub post_unknown-requires-clause-absent : goal.post_unknown-requires-clause-absent
 post_unknown-requires-clause-absent g c =
-    ap (λ (s : State). place_from c.args.account.now 0 s.accounts) (sym c.self.view_is)
+    ap (λ (s : State). place_from c.args.account.now 0 s.accounts) (sym (state_by _ _ c.self.view_is))
     ∙ found_none c.self.inside.index (named_all c.self.inside.accounts.items) c.args.account.now c.bytes.result.now c.self.invariant.index c.bytes.ensures.value c.in-None.ensures

@@ -8,7 +8,7 @@ use Rattle.card_model.specs.Refusals.{Lists}
 use Rattle.card_desk.specs.Desks.{named_all, state_of}
 use Rattle.card_desk.specs.Views.{shown, shown_of}
 use Rattle.card_desk.specs.declared.view.View.TheVariants as view
-use Rattle.card_desk.proofs.DeskLemmas.{found_at, found_none, there_at}
+use Rattle.card_desk.proofs.DeskLemmas.{found_at, found_none, state_by, there_at}
 use Rattle.card_desk.proofs.FoldLemmas.{book_at, may_be_folded}
 use Rattle.card_desk.proofs.PlaceLemmas.{no_place}
 use Rattle.card_desk.proofs.desk.Desk.show.Goals as goal
@@ -25,15 +25,15 @@ show-requires c =
     let a = c.index-account.result.now in
     let place = found_at d.index (named_all items) c.args.account.now c.bytes.result.now c.in-Some.at c.self.invariant.index c.bytes.ensures.value c.in-Some.ensures in
     let low : c.in-Some.at < length items = omega (arith, place.bound, length-map items (λ (x : OpenAccount). x.named)) in
-    subst (λ (x : OpenAccount). MayBeFolded d.today d.calendar d.fees x) (sym c.index-account.ensures)
-    (may_be_folded d.index d.calendar d.fees d.count d.today d.shared.items items c.in-Some.at a c.self.invariant low)
+    subst (λ (x : OpenAccount). MayBeFolded d.today d.common x) (sym c.index-account.ensures)
+    (may_be_folded d.index d.common d.count d.today d.shared.items items c.in-Some.at a c.self.invariant low)
 
 pub returns-in-None : goal.returns-in-None
 returns-in-None c =
     let d = c.self.inside in
     let absent = found_none d.index (named_all d.accounts.items) c.args.account.now c.bytes.result.now c.self.invariant.index c.bytes.ensures.value c.in-None.ensures in
     ap (λ (o : Option Lists). shown (state_of d.today d.shared.items d.accounts.items) o) (sym (no_place c.args.account.now 0 (named_all d.accounts.items) absent).0)
-    ∙ ap (λ (s : State). shown s (lists_of c.args.account.now s.accounts)) c.self.view_is
+    ∙ ap (λ (s : State). shown s (lists_of c.args.account.now s.accounts)) (state_by _ _ c.self.view_is)
 
 pub returns-in_ok-owing-in-Some : goal.returns-in_ok-owing-in-Some
 returns-in_ok-owing-in-Some c =
@@ -45,6 +45,6 @@ returns-in_ok-owing-in-Some c =
     let low : c.in-Some.at < length items = omega (arith, place.bound, length-map items (λ (x : OpenAccount). x.named)) in
     let here = there_at items name c.in-Some.at a place c.index-account.ensures in
     let s = state_of d.today d.shared.items items in
-    let same = book_at d.index d.calendar d.fees d.count d.today d.shared.items items c.in-Some.at a c.self.invariant low c.index-account.ensures in
+    let same = book_at d.index d.common d.count d.today d.shared.items items c.in-Some.at a c.self.invariant low c.index-account.ensures in
     c.shown.ensures ∙ ap (λ (o : Owing). view.Show d.today o.owed o.credit o.held) c.in_ok-owing-in-Some.ensures ∙ ap (λ (b : Book). shown_of d.today b) same
-    ∙ ap (λ (o : Option Lists). shown s o) here ∙ ap (λ (x : State). shown x (lists_of name x.accounts)) c.self.view_is
+    ∙ ap (λ (o : Option Lists). shown s o) here ∙ ap (λ (x : State). shown x (lists_of name x.accounts)) (state_by _ _ c.self.view_is)

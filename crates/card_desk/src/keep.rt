@@ -14,7 +14,9 @@ pub fn keep_row<K: Keeper>(alloc: Global, keeper: &mut K, row: Row) -> Result<()
     ensures err { OnErr result (KeepsRows (K.rows keeper.old) (K.rows keeper.new)) }
     ensures told { SameRowsTold (K.rows keeper.old) (K.rows keeper.new) }
     ensures count { K.faults keeper.old ≤ K.faults keeper.new }
+    ensures unfailed { OnOk result (K.faults keeper.new ≡ K.faults keeper.old) }
     ensures cause { IsErrOf result Fault.Keeper → Rose (K.faults keeper.old) (K.faults keeper.new) }
+    ensures memory { IsErrOf result Fault.Memory → K.faults keeper.new ≡ K.faults keeper.old }
 {
     match keeper.append(alloc, &[row]) {
         Ok(()) => Ok(()),
