@@ -6,6 +6,7 @@ use Rattle.std.proofs.lemmas.Bool.{and_parts, cases_lt, ltb-true}
 use Rattle.card_account.specs.Accounts.{is_closed, present_of, restated_as, restated_statement}
 use Rattle.card_account.specs.Closed.{ClosedCyclesAreInTheBook}
 use Rattle.card_days.specs.Billing.{closing}
+use Rattle.card_days.specs.Range.{last_request_day}
 use Rattle.card_days.specs.declared.anchor.Anchor.{Anchor}
 use Rattle.card_days.proofs.Cycles.{closing_grows, cycle_around}
 use Rattle.card_events.specs.History.{anchor_of}
@@ -48,7 +49,7 @@ in_list P zero cs each low high = absurd (omega (arith, low))
 in_list P (suc k) cs each low high = in_place P k cs each (omega (arith, high))
 
 -- ---- the book of today
-in_book : (now : Present) (cycle : ℕ) → IsOpening (anchor_of now.lists.posts) → (anchor_of now.lists.posts).opened ≤ now.today → now.today ≤ 47481
+in_book : (now : Present) (cycle : ℕ) → IsOpening (anchor_of now.lists.posts) → (anchor_of now.lists.posts).opened ≤ now.today → now.today ≤ last_request_day
     → is_closed now.today now.lists cycle ≡ true → IsSomeAnd (cycle_at cycle (book_today now).cycles) (HasItsDays (anchor_of now.lists.posts) cycle)
 unfolding book_today
 in_book now cycle open' low dated e =

@@ -6,6 +6,7 @@ use Rattle.std.specs.List.{All}
 use Rattle.std.specs.Prelude.{nat_le, nat_lt}
 use Rattle.card_account.specs.Runs.{IsTakenPost}
 use Rattle.card_account.proofs.NamingLemmas.{names}
+use Rattle.card_days.specs.Range.{first_calendar_day}
 use Rattle.card_reasons.proofs.Accepted.{received}
 use Rattle.card_reasons.proofs.ReasonLemmas.{none_tail, none_head, where_none}
 use Rattle.card_daily.proofs.Naming.{names-more}
@@ -28,7 +29,7 @@ pub record IsHeld (today opened : ℕ) (k : Kept) : Type 0 where
   pub accepted : k.accepted ≤ today
   pub received : IsReceived opened k.accepted k.post
   pub opening : opening_in k.post ≤ today
-  pub first : opens k.post ≡ true → 14975 ≤ opening_in k.post
+  pub first : opens k.post ≡ true → first_calendar_day ≤ opening_in k.post
 
 -- the lists of an account
 pub record AreHeld (today : ℕ) (l : Lists) : Type 0 where

@@ -7,6 +7,7 @@ use Rattle.std.specs.Prelude.{nat_le, nat_lt, ◌&&◌}
 use Rattle.std.specs.Str.{bytes_eq}
 use Rattle.card_account.specs.Runs.{AreRunning, IsTaken, RunsMayBeFolded}
 use Rattle.card_account.proofs.Held.{AreHeld, HeldIf, HeldThere, IsHeld, later-held, outcome-held}
+use Rattle.card_days.specs.Range.{last_request_day, first_calendar_day}
 use Rattle.card_reasons.proofs.ReasonLemmas.{none_head, where_none}
 use Rattle.card_daily.proofs.Runs.{runs_keep_plans}
 use Rattle.card_daily.specs.Given.{ArePlanned}
@@ -99,7 +100,7 @@ all-dated [] taken = All-nil (λ (r : Request). is_dated r ≡ true)
 all-dated (r ∷ rs) taken = All-cons (λ (r : Request). is_dated r ≡ true) r rs (All-head IsTaken r rs taken).0 (all-dated rs (All-tail IsTaken r rs taken))
 
 -- ---- what it comes to
-timely : (today opened : ℕ) (ks : List Kept) → today ≤ 47481 → All (IsHeld today opened) ks → AreTimely opened ks
+timely : (today opened : ℕ) (ks : List Kept) → today ≤ last_request_day → All (IsHeld today opened) ks → AreTimely opened ks
 unfolding AreTimely
 timely today opened [] last all = tt
 timely today opened (k ∷ ks) last all =
@@ -131,14 +132,14 @@ opens-is (post.Resolve d t c) low = absurd (omega (arith, low))
 opens-is (post.AskRefund d) low = absurd (omega (arith, low))
 opens-is (post.Refund c) low = absurd (omega (arith, low))
 
-opening-is : (today : ℕ) (ks : List Kept) → today ≤ 47481 → 1 ≤ (terms_of ks).close → (terms_of ks).close ≤ 28 → All (IsHeld today (anchor_of ks).opened) ks → IsOpening (anchor_of ks) × ((anchor_of ks).opened ≤ today)
+opening-is : (today : ℕ) (ks : List Kept) → today ≤ last_request_day → 1 ≤ (terms_of ks).close → (terms_of ks).close ≤ 28 → All (IsHeld today (anchor_of ks).opened) ks → IsOpening (anchor_of ks) × ((anchor_of ks).opened ≤ today)
 opening-is today [] last low high all = absurd (omega (arith, low))
 opening-is today (k ∷ ks) last low high all =
     let one = All-head (IsHeld today (opening_in k.post)) k ks all in
     (record { first = one.first (opens-is k.post low); last = omega (arith, one.opening, last); close_day = (low, high) }, one.opening)
 
 -- the lists of one account
-running : (s : State) (l : Lists) → s.today ≤ 47481 → IsAccepted s → AreAccepted l → HasFewSegments l.posts → ArePostsDated l.posts → ArePlanned l.posts → AreHeld s.today l → AreRunning s l
+running : (s : State) (l : Lists) → s.today ≤ last_request_day → IsAccepted s → AreAccepted l → HasFewSegments l.posts → ArePostsDated l.posts → ArePlanned l.posts → AreHeld s.today l → AreRunning s l
 running s l last fees accepted segments dated planned held =
     let opening = opening-is s.today l.posts last accepted.terms.first_close_day accepted.terms.last_close_day held.posts in
     record {
@@ -148,7 +149,7 @@ running s l last fees accepted segments dated planned held =
       opened = opening.1;
     }
 
-all-running : (s : State) (accounts : List NamedAccount) → s.today ≤ 47481 → IsAccepted s → All (λ (x : NamedAccount). AreAccepted x.lists) accounts → All (λ (x : NamedAccount). HasFewSegments x.lists.posts) accounts
+all-running : (s : State) (accounts : List NamedAccount) → s.today ≤ last_request_day → IsAccepted s → All (λ (x : NamedAccount). AreAccepted x.lists) accounts → All (λ (x : NamedAccount). HasFewSegments x.lists.posts) accounts
     → All (λ (x : NamedAccount). ArePostsDated x.lists.posts) accounts → All (λ (x : NamedAccount). ArePlanned x.lists.posts) accounts → AllHeld s.today accounts → All (λ (x : NamedAccount). AreRunning s x.lists) accounts
 all-running s [] last fees accepted segments dated planned held = All-nil (λ (x : NamedAccount). AreRunning s x.lists)
 all-running s (x ∷ xs) last fees accepted segments dated planned held =
@@ -159,19 +160,19 @@ all-running s (x ∷ xs) last fees accepted segments dated planned held =
     (All-tail (λ (x : NamedAccount). ArePostsDated x.lists.posts) x xs dated) (All-tail (λ (x : NamedAccount). ArePlanned x.lists.posts) x xs planned) (All-tail (λ (x : NamedAccount). AreHeld s.today x.lists) x xs held))
 
 -- ---- today
-rolled-by : (s : State) (r : Shared) (o : Option Refusal) → is_dated (request.Shared r) ≡ true → s.today ≤ 47481 → (with_shared s r o).0.today ≤ 47481
+rolled-by : (s : State) (r : Shared) (o : Option Refusal) → is_dated (request.Shared r) ≡ true → s.today ≤ last_request_day → (with_shared s r o).0.today ≤ last_request_day
 unfolding is_dated Rattle.card_events.specs.Dated.is_dated_shared
 rolled-by s r (Some e) dated last = last
-rolled-by s (shared.Roll day) None dated last = leb-true day 47481 dated
+rolled-by s (shared.Roll day) None dated last = leb-true day last_request_day dated
 rolled-by s (shared.Holiday day) None dated last = last
 rolled-by s (shared.FeeRow day first repeat) None dated last = last
 
-step-today : (s : State) (r : Request) → IsTaken r → s.today ≤ 47481 → (step s r).0.today ≤ 47481
+step-today : (s : State) (r : Request) → IsTaken r → s.today ≤ last_request_day → (step s r).0.today ≤ last_request_day
 unfolding step
 step-today s (request.Shared r) taken last = rolled-by s r (shared_reason s.today (has_accounts s) r) taken.0 last
 step-today s (request.Post name key p) taken last = last
 
-run-today : (s : State) (rs : List Request) → All IsTaken rs → s.today ≤ 47481 → (run_from s rs).today ≤ 47481
+run-today : (s : State) (rs : List Request) → All IsTaken rs → s.today ≤ last_request_day → (run_from s rs).today ≤ last_request_day
 unfolding run_from
 run-today s [] taken last = last
 run-today s (r ∷ rs) taken last = run-today (step s r).0 rs (All-tail IsTaken r rs taken) (step-today s r (All-head IsTaken r rs taken) last)
@@ -180,4 +181,4 @@ pub runs_may_be_folded : RunsMayBeFolded
 runs_may_be_folded requests taken =
     let s = run requests in
     all-running s s.accounts (run-today start requests taken (omega arith)) (runs_are_accepted requests) (runs_are_accepted requests).accounts (runs_have_few_segments requests)
-    (runs_keep_dates requests (all-dated requests taken)) (runs_keep_plans requests) (run-held start requests taken (All-nil (λ (x : NamedAccount). AreHeld 14975 x.lists)))
+    (runs_keep_dates requests (all-dated requests taken)) (runs_keep_plans requests) (run-held start requests taken (All-nil (λ (x : NamedAccount). AreHeld first_calendar_day x.lists)))

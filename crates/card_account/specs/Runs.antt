@@ -3,6 +3,7 @@ use Rattle.std.specs.Prelude.{◌≡◌, ◌≤◌, true, List}
 use Rattle.std.specs.List.{All}
 use Rattle.card_account.specs.Accounts.{given_of}
 use Rattle.card_daily.specs.Given.{IsSound}
+use Rattle.card_days.specs.Range.{first_calendar_day}
 use Rattle.card_events.specs.Dated.{is_dated}
 use Rattle.card_events.specs.History.{anchor_of, opening_in}
 use Rattle.card_events.specs.SharedRows.{shared_rows}
@@ -16,7 +17,7 @@ use Rattle.card_posts.specs.Stored.{AreTimely}
 
 -- an account is opened from 2011-01-01 on
 abbrev pub IsTakenPost : Post → Type 0
-IsTakenPost p = opens p ≡ true → 14975 ≤ opening_in p
+IsTakenPost p = opens p ≡ true → first_calendar_day ≤ opening_in p
 
 -- a request with such a post, or that all accounts share
 abbrev pub IsOfPost : Request → Type 0

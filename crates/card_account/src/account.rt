@@ -43,6 +43,7 @@ impl Model for Account {
 
 impl Account {
     ghost use Rattle.std.specs.Prelude.{◌≡◌, ◌≤◌, ◌+◌, [], ◌∷◌, true, false, length, IfOk, OnErr, OnOk, None, List, ℕ, if◌then◌else◌};
+    ghost use Rattle.card_days.specs.Range.{last_request_day};
     ghost use Rattle.card_account.specs.Accounts.{IsCorrected, MayBeFolded, issued_as, issued_statement, owing_in, present_of, restated_statement};
     ghost use Rattle.card_account.specs.Verdicts.{verdict_of};
     ghost use Rattle.card_days.specs.Billing.{IsCloseDay};
@@ -65,7 +66,7 @@ impl Account {
     ) -> Result<Account, NoMemory>
         requires opens { opens post.now ≡ true }
         requires close_day { IsCloseDay (terms_in post.now).close }
-        requires dated { today ≤ 47_481 }
+        requires dated { today ≤ last_request_day }
         ensures lists { IfOk result (λ a. a.named ≡ record { name = name; lists = record { posts = kept_as 1 key.now today post.now ∷ []; issued = [] } }) }
         ensures stands { IfOk result (λ a. (holidays : List ℕ) → IsCorrected holidays a) }
     {

@@ -1,5 +1,6 @@
 // Closed cycles by their numbers as they are read.
 ghost use Rattle.std.specs.Prelude.{◌≡◌, ◌≤◌, option_copied};
+ghost use Rattle.card_days.specs.Range.{last_calendar_day};
 ghost use Rattle.card_model.specs.Folds.{cycle_at};
 
 use card_book::{Cycle, Folded};
@@ -7,7 +8,7 @@ use card_events::Num;
 
 /// The closed cycle with a number, none where it isn't closed.
 pub fn closed_cycle(folded: &Folded, cycle: Num) -> Option<&Cycle>
-    requires { cycle ≤ 48_576 }
+    requires { cycle ≤ last_calendar_day }
     ensures { option_copied result ≡ cycle_at cycle folded.now.book.cycles }
 {
     folded.cycle(cycle.get() as u32)

@@ -1,5 +1,6 @@
 // What a Bill issues.
 ghost use Rattle.std.specs.Prelude.{◌≡◌, ◌≤◌, ◌<◌, ◌++◌, [], ◌∷◌, List, None, IfOk, vec_len, vec_capacity};
+ghost use Rattle.card_days.specs.Range.{last_calendar_day};
 ghost use Rattle.card_account.specs.Accounts.{issued_as};
 ghost use Rattle.card_model.specs.Folds.{rows_issued};
 ghost use Rattle.card_model.specs.Machine.{issues};
@@ -34,7 +35,7 @@ fn row_of(
     bill: u32,
     today: Day,
 ) -> Result<Option<Issued>, NoMemory>
-    requires { cycle ≤ 48_576 }
+    requires { cycle ≤ last_calendar_day }
     ensures { IfOk result (λ made. issued_as made ≡ rows_issued cycle bill today folded.now.book) }
 {
     match closed_cycle(folded, cycle) {

@@ -1,5 +1,6 @@
 // Statements of an account, as they were issued and as they are now.
 ghost use Rattle.std.specs.Prelude.{◌≡◌, ◌≤◌, true, IfOk, option_copied, option_map};
+ghost use Rattle.card_days.specs.Range.{last_calendar_day};
 ghost use Rattle.card_account.specs.Accounts.{is_closed, issued_statement, restated_as, restated_statement, statement_of};
 
 use crate::cycles::closed_cycle;
@@ -63,7 +64,7 @@ fn restated_of(
 // Whether a cycle is closed before today.
 fn is_closed(now: &Present, cycle: Num) -> bool
     ensures value { result ≡ is_closed now.now.today now.now.lists cycle }
-    ensures small { result ≡ true → cycle ≤ 48_576 }
+    ensures small { result ≡ true → cycle ≤ last_calendar_day }
 {
     let today = now.today();
     match closing_of(&now.anchor(), cycle) {

@@ -5,11 +5,14 @@ use Rattle.std.proofs.lemmas.Option.{slice_get-get_or}
 use Rattle.std.specs.Prelude.{◌≤ℤ◌, neg_ℤ}
 use Rattle.card_bounds.proofs.Whole.{balances_small}
 use Rattle.card_bounds.specs.Bounds.{IsLimited}
+use Rattle.card_days.specs.Range.{last_request_day}
+use Rattle.card_events.specs.Limits.{post_limit}
 use Rattle.card_grace.specs.Accruals.{Accrued}
 use Rattle.card_model.specs.Books.{Book}
 use Rattle.card_model.specs.Cycles.{Cycle}
 use Rattle.card_model.specs.Entries.{AreBalances, at_least_zero, balance, owed}
 use Rattle.card_model.specs.Folds.{cycle_at}
+use Rattle.card_model.specs.Limits.{balance_limit}
 use Rattle.card_model.specs.declared.entry.Entry.{Entry}
 use Rattle.card_model.specs.declared.fee.Fee.{Fee}
 use Rattle.card_model.specs.declared.segment.Interval.{Interval}
@@ -97,11 +100,11 @@ owing-is (negsuc n) h = absurd (no n h)
     no n h = omega (arith, ints)
 
 -- ---- the whole book
-pub small-on : (g : Given) (day : ℕ) (bs : List ℤ) → IsSound g → day ≤ 47481 → AreBalances (book_on g day).entries bs → AreWithin 1_000_000_000_000_000 bs
+pub small-on : (g : Given) (day : ℕ) (bs : List ℤ) → IsSound g → day ≤ last_request_day → AreBalances (book_on g day).entries bs → AreWithin balance_limit bs
 small-on g day bs s l sums =
     let o = s.opening.first in
-    let limits : IsLimited 10000 g.history g.shared day = record { count = s.accepted.count; cents = s.accepted.cents; fees = s.fees; days = omega arith } in
-    within (book_on g day).entries bs sums (balances_small 10000 g.history g.issued g.shared day limits (omega arith))
+    let limits : IsLimited post_limit g.history g.shared day = record { count = s.accepted.count; cents = s.accepted.cents; fees = s.fees; days = omega arith } in
+    within (book_on g day).entries bs sums (balances_small post_limit g.history g.issued g.shared day limits (omega arith))
 
 book-of : (b : Book) (es : List Entry) (cs : List Cycle) (fs : List Fee) (ps : List Interval) → es ≡ b.entries → cs ≡ b.cycles → fs ≡ b.fees → ps ≡ b.penalties → record { entries = es; cycles = cs; fees = fs; penalties = ps } ≡ b
 book-of b es cs fs ps e f g h = rw (e, f, g, h) refl

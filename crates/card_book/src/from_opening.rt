@@ -1,4 +1,6 @@
 ghost use Rattle.std.specs.Prelude.{◌≡◌, ◌<◌, ◌≤◌, IfOk, neg_ℤ, option_copied, pos, slice_index_or};
+ghost use Rattle.card_model.specs.Limits.{balance_limit};
+ghost use Rattle.card_days.specs.Range.{last_request_day};
 ghost use Rattle.card_daily.specs.Given.{book_on, given_today, opened_in};
 ghost use Rattle.card_model.specs.Deadlines.{credit_since};
 ghost use Rattle.card_model.specs.Payments.{sixty_days_late};
@@ -28,6 +30,7 @@ pub struct Folded {
 
 impl Model for Folded {
     ghost use Rattle.card_book.specs.Stands.{FoldedBook};
+    ghost use Rattle.card_model.specs.Limits.{balance_limit};
     ghost use Rattle.card_model.specs.Entries.{AreBalances};
     ghost use Rattle.card_segments.specs.Balances.{AreWithin, HaveSigns};
 
@@ -35,12 +38,12 @@ impl Model for Folded {
 
     ghost view = { λ f. record { book = record { entries = f.track.entries.items; cycles = f.track.cycles.items; fees = f.book.state.fees.items; penalties = f.book.state.rates.penalties }; since = f.book.credit_since } };
 
-    ghost invariant = { λ f. AreBalances f.track.entries.items f.book.state.segments.balances × AreWithin 1_000_000_000_000_000 f.book.state.segments.balances };
+    ghost invariant = { λ f. AreBalances f.track.entries.items f.book.state.segments.balances × AreWithin balance_limit f.book.state.segments.balances };
 }
 
 // What a credit balance holds.
 fn credit_of(segments: &Segments) -> Cents
-    requires small { AreWithin 1_000_000_000_000_000 segments.now.balances }
+    requires small { AreWithin balance_limit segments.now.balances }
     ensures { result ≡ pos (at_least_zero (neg_ℤ (slice_index_or segments.now.balances 0 (pos 0)))) }
 {
     let _five = segments.len();
@@ -66,7 +69,7 @@ fn fold_counted<L: Ledger>(
     requires parts { blank.parts ≡ L.parts }
     requires some { 0 < blank.parts }
     requires opened { opened_in inputs.now ≤ to }
-    requires last { to ≤ 47_481 }
+    requires last { to ≤ last_request_day }
     ensures book { IfOk result (λ f. f.book ≡ book_on inputs.now to) }
     ensures since { IfOk result (λ f. f.since ≡ credit_since (book_on inputs.now to).entries (opened_in inputs.now) to) }
 {

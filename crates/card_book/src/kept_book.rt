@@ -1,4 +1,5 @@
 ghost use Rattle.std.specs.Prelude.{◌≡◌, ◌+◌, ◌-◌, ◌<◌, ◌≤◌, ◌==◌, ℕ, length, not, pos, slice_index_or};
+ghost use Rattle.card_days.specs.Range.{last_calendar_day};
 ghost use Rattle.card_model.specs.Cycles.{Cycle};
 ghost use Rattle.card_model.specs.Entries.{credit_in};
 ghost use Rattle.card_book.specs.Stands.{since_after};
@@ -44,13 +45,6 @@ fn since_after(has_credit: bool, day: Day, since: Option<Day>) -> Option<Day>
     }
 }
 
-fn day_after(day: Day) -> Day
-    requires { day < 48_576 }
-    ensures { result ≡ day + 1 }
-{
-    Day::from_number(day.number() + 1).unwrap()
-}
-
 // The closed cycle with this number.
 fn cycle_in(track: &Track, number: u32) -> &Cycle
     requires first { 1 ≤ number }
@@ -89,6 +83,7 @@ impl Model for Book {
 
 impl Book {
     ghost use Rattle.std.specs.Prelude.{◌≡◌, ◌+◌, ◌≤◌, ◌<◌, ℕ, [], true, false, length, IfOk, OnOk, OnErr, Some, None};
+    ghost use Rattle.card_days.specs.Range.{last_request_day, last_calendar_day};
     ghost use Rattle.card_book.specs.Stands.{StandsFor, book_through, day_to_fold, days_through, since_after};
     ghost use Rattle.card_daily.specs.Given.{Given, book_on, opened_in, seen_in};
     ghost use Rattle.card_daily.specs.Stands.{AreBefore, Begins};
@@ -127,7 +122,7 @@ impl Book {
         requires stands { StandsFor inputs.now self.old track.old }
         requires opened { opened_in inputs.now ≤ to }
         requires later { day_to_fold inputs.now self.old.day ≤ to + 1 }
-        requires last { to ≤ 47_481 }
+        requires last { to ≤ last_request_day }
         ensures stands { OnOk result (StandsFor inputs.now self.new track.new) }
         ensures day { OnOk result (self.new.day ≡ Some to) }
         ensures whole { OnOk result (self.new.whole ≡ true) }
@@ -232,7 +227,7 @@ impl Book {
     /// Book and the track stand for the book of these inputs, and the day is at most 2099-12-31. It takes no memory.
     pub fn late_today(&self, inputs: &Inputs, track: &Track) -> bool
         requires stands { StandsFor inputs.now self.now track.now }
-        requires last { (day : ℕ) → self.now.day ≡ Some day → day ≤ 47_481 }
+        requires last { (day : ℕ) → self.now.day ≡ Some day → day ≤ last_request_day }
         ensures late { (day : ℕ) → self.now.day ≡ Some day → result ≡ sixty_days_late (seen_in inputs.now day) (book_on inputs.now day).cycles }
         ensures none { self.now.day ≡ None → result ≡ false }
     {
@@ -245,11 +240,11 @@ impl Book {
 
     // The first day that isn't folded.
     fn day_to_fold(&self, inputs: &Inputs) -> Day
-        requires { day_to_fold inputs.now self.now.day ≤ 48_576 }
+        requires { day_to_fold inputs.now self.now.day ≤ last_calendar_day }
         ensures { result ≡ day_to_fold inputs.now self.now.day }
     {
         match self.day {
-            Some(day) => day_after(day),
+            Some(day) => day.next(),
             None => opening_day(inputs),
         }
     }
@@ -262,7 +257,7 @@ impl Book {
         track: &mut Track,
     ) -> Result<(), NoMemory>
         requires stands { StandsFor inputs.now self.old track.old }
-        requires last { day_to_fold inputs.now self.old.day ≤ 47_481 }
+        requires last { day_to_fold inputs.now self.old.day ≤ last_request_day }
         ensures stands { OnOk result (StandsFor inputs.now self.new track.new) }
         ensures day { OnOk result (self.new.day ≡ Some (day_to_fold inputs.now self.old.day)) }
         ensures whole { self.new.whole ≡ self.old.whole }

@@ -9,6 +9,7 @@ use Rattle.card_bounds.proofs.Steps.{returned-small}
 use Rattle.card_bounds.proofs.Totals.{Numbers}
 use Rattle.card_bounds.proofs.Whole.{folded-few, limits-on}
 use Rattle.card_days.specs.Billing.{cycle_of}
+use Rattle.card_days.specs.Range.{last_request_day}
 use Rattle.card_days.specs.declared.anchor.Anchor.{Anchor}
 use Rattle.card_due.proofs.LateFees.{caps-fold}
 use Rattle.card_due.specs.Charged.{capped_if_any}
@@ -27,6 +28,7 @@ use Rattle.card_model.specs.Effects.{returned_fee}
 use Rattle.card_model.specs.Entries.{at_least_zero}
 use Rattle.card_model.specs.Fees.{fee_cents, fee_for, last_due}
 use Rattle.card_model.specs.Folds.{cycle_at}
+use Rattle.card_model.specs.Limits.{balance_limit}
 use Rattle.card_model.specs.Payments.{asked}
 use Rattle.card_model.specs.declared.fee.Fee.{Fee}
 use Rattle.card_model.specs.declared.fee.FeeKind.TheVariants as kind
@@ -38,7 +40,7 @@ use Rattle.card_daily.specs.Returns.{IsDueBy}
 use Rattle.card_daily.specs.Stands.{before}
 
 -- ---- the cycle of the last due date before a day
-pub due-by : (g : Given) (day : ℕ) (c : Cycle) (cycles : List Cycle) → IsSound g → opened_in g ≤ day → day ≤ 47481 → cycles ≡ (before g day).cycles → last_due day cycles ≡ Some c → IsDueBy g day c
+pub due-by : (g : Given) (day : ℕ) (c : Cycle) (cycles : List Cycle) → IsSound g → opened_in g ≤ day → day ≤ last_request_day → cycles ≡ (before g day).cycles → last_due day cycles ≡ Some c → IsDueBy g day c
 due-by g day c cycles s o l same e =
     let one = s.opening.first in
     let at = found-at (λ (c : Cycle). nat_lt c.due day) (before g day).cycles c (ap (last_due day) (sym same) ∙ e) in
@@ -60,7 +62,7 @@ counted-cycles g day cycles s o same =
     ap (λ (cs : List Cycle). length cs + 1) same
     ∙ (ap (λ (x : Book). length x.cycles + 1) (before-is g day low) ∙ (cycles_are_of_the_calendar.count g.history g.issued g.shared (day - 1) ∙ ap (cycle_of (anchor_of g.history)) next))
 
-pub few-cycles : (g : Given) (day : ℕ) (cycles : List Cycle) → IsSound g → opened_in g ≤ day → day ≤ 47481 → cycles ≡ (before g day).cycles → length cycles + 1 ≤ 47481
+pub few-cycles : (g : Given) (day : ℕ) (cycles : List Cycle) → IsSound g → opened_in g ≤ day → day ≤ last_request_day → cycles ≡ (before g day).cycles → length cycles + 1 ≤ last_request_day
 few-cycles g day cycles s o l same =
     let count = counted-cycles g day cycles s o same in
     let few = cycle-few (anchor_of g.history) day s.opening o l in
@@ -73,7 +75,7 @@ by-parts t fs i k n e day x m y l p q r = rw (p, q, r) refl
 
 -- what is charged is the fold's fee
 pub fee-is : (g : Given) (day : ℕ) (c : Cycle) (b : Book) (t : List FeeRow) (i : Option (List Fee)) (fs : List Fee) (a : Anchor) (cycles : List Cycle) (least : ℕ)
-    → IsSound g → opened_in g ≤ day → day ≤ 47481 → cycles ≡ (before g day).cycles → b.cycles ≡ cycles → b.fees ≡ fs → t ≡ g.shared.fees → i ≡ issued_fees (row_for (length cycles + 1) g.issued) → a ≡ anchor_of g.history
+    → IsSound g → opened_in g ≤ day → day ≤ last_request_day → cycles ≡ (before g day).cycles → b.cycles ≡ cycles → b.fees ≡ fs → t ≡ g.shared.fees → i ≡ issued_fees (row_for (length cycles + 1) g.issued) → a ≡ anchor_of g.history
     → least ≡ asked (seen_in g day).issued (last_due day cycles)
     → capped_if_any i (fee_by t fs (record { kind = kind.Returned; due_cycle = c.number; cycle = cycle_of a day; day = day }) c.minimum least) ≡ penalty_fee (row_in g (day - opened_in g)) (seen_in g day) b kind.Returned c
 fee-is g day c b t i fs a cycles least s o l same own fees table issued anchor asks =
@@ -105,11 +107,11 @@ returned-low : (issued : Option IssuedRow) (seen : Seen) (b : Book) (c : Option 
 returned-low issued seen b None f e = cc
 returned-low issued seen b (Some c) f e = charged-low issued (fee_for seen b.cycles b.fees (present_cycle b) kind.Returned c) f e
 
-high-of : (z : ℤ) → at_least_zero z ≤ 100000 → z ≤ℤ pos 1_000_000_000_000_000
+high-of : (z : ℤ) → at_least_zero z ≤ 100000 → z ≤ℤ pos balance_limit
 high-of (pos n) h = omega (arith, ints)
 high-of (negsuc n) h = omega (arith, ints)
 
-pub chargeable : (g : Given) (day : ℕ) (issued : Option IssuedRow) (b : Book) (c : Option Cycle) (f : Fee) → IsSound g → returned_fee issued (seen_in g day) b c ≡ Some f → (pos 0 ≤ℤ f.cents) × (f.cents ≤ℤ pos 1_000_000_000_000_000)
+pub chargeable : (g : Given) (day : ℕ) (issued : Option IssuedRow) (b : Book) (c : Option Cycle) (f : Fee) → IsSound g → returned_fee issued (seen_in g day) b c ≡ Some f → (pos 0 ≤ℤ f.cents) × (f.cents ≤ℤ pos balance_limit)
 chargeable g day issued b c f s e =
     let l = limits-on (anchor_of g.history) g.shared g.history g.issued day (folded-few (anchor_of g.history) g.shared.holidays g.history s.accepted.cents) s.fees in
     (returned-low issued (seen_in g day) b c f e, high-of f.cents (returned-small issued (seen_in g day) b c l f e))

@@ -4,6 +4,7 @@ use Rattle.std.specs.Option.{IsSome}
 use Rattle.std.proofs.lemmas.Bool.{cases_lt}
 use Rattle.card_days.specs.Billing.{closing, cycle_of, due, due_after, due_day_of_month, next_on}
 use Rattle.card_days.specs.Civil.{day_of_month}
+use Rattle.card_days.specs.Range.{last_request_day, last_calendar_day, first_calendar_day}
 use Rattle.card_days.specs.declared.anchor.Anchor.{Anchor}
 use Rattle.card_days.proofs.Cycles.{IsAnchor, closing_grows, cycle_around, cycle_from_one, due_day-bounds}
 use Rattle.card_days.proofs.DueLaws.{closing_laws, due_before_next}
@@ -32,7 +33,7 @@ use Rattle.card_daily.proofs.Lasts.{last-is}
 
 -- ---- closings
 -- a day of the cycle's closing day of the month is its closing
-closes-at : (a : Anchor) → IsAnchor a → (k day : ℕ) → 1 ≤ k → closing a (k - 1) < day → day ≤ closing a k → day ≤ 47481 → day_of_month day ≡ a.close_day → closing a k ≡ day
+closes-at : (a : Anchor) → IsAnchor a → (k day : ℕ) → 1 ≤ k → closing a (k - 1) < day → day ≤ closing a k → day ≤ last_request_day → day_of_month day ≡ a.close_day → closing a k ≡ day
 closes-at a h k day one after upto small on = by (cases_lt day (closing a k))
   where
     by : (day < closing a k) ⊎ (closing a k ≤ day) → closing a k ≡ day
@@ -44,7 +45,7 @@ closes-at a h k day one after upto small on = by (cases_lt day (closing a k))
         absurd (laws.none_between day after l on)
     by (inr l) = omega arith
 
-pub closes-on : (g : Given) (day : ℕ) → IsSound g → opened_in g ≤ day → day ≤ 47481 → day_of_month day ≡ (anchor_of g.history).close_day → IsClosing (anchor_of g.history) (cycle_of (anchor_of g.history) day) day
+pub closes-on : (g : Given) (day : ℕ) → IsSound g → opened_in g ≤ day → day ≤ last_request_day → day_of_month day ≡ (anchor_of g.history).close_day → IsClosing (anchor_of g.history) (cycle_of (anchor_of g.history) day) day
 closes-on g day s o l e =
     let a = anchor_of g.history in
     let k = cycle_of a day in
@@ -63,7 +64,7 @@ present-is g day s o =
     ∙ (ap (λ (b : Book). length b.cycles + 1) (before-is g day (omega arith))
     ∙ (cycles_are_of_the_calendar.count g.history g.issued g.shared (day - 1) ∙ ap (cycle_of (anchor_of g.history)) next))
 
-pub closes-of : (g : Given) (day : ℕ) → IsSound g → opened_in g ≤ day → day ≤ 47481 → day_of_month day ≡ (anchor_of g.history).close_day → IsClosingOf g (cycle_of (anchor_of g.history) day) day
+pub closes-of : (g : Given) (day : ℕ) → IsSound g → opened_in g ≤ day → day ≤ last_request_day → day_of_month day ≡ (anchor_of g.history).close_day → IsClosingOf g (cycle_of (anchor_of g.history) day) day
 closes-of g day s o l e = record { closing = closes-on g day s o l e; present = present-is g day s o }
 
 -- ---- the days after it
@@ -72,7 +73,7 @@ anchored a k day h =
     let next : k + 1 ≡ suc k = omega arith in
     ap (closing a) next ∙ (next-closing a k ∙ ap (λ d. next_on a.close_day (d + 1)) h.on)
 
-pub next-small : (a : Anchor) (k day : ℕ) → IsClosing a k day → day ≤ 47481 → closing a (k + 1) ≤ 48576
+pub next-small : (a : Anchor) (k day : ℕ) → IsClosing a k day → day ≤ last_request_day → closing a (k + 1) ≤ last_calendar_day
 next-small a k day h l =
     let low = h.low in
     let same = anchored a k day h in
@@ -83,14 +84,14 @@ pub due-is : (a : Anchor) (k day : ℕ) → IsClosing a k day → due a k ≡ du
 due-is a k day h = ap (due_after a.close_day) h.on
 
 -- a due date comes within 31 days
-due-within : (c day : ℕ) → 1 ≤ c → c ≤ 28 → 14975 ≤ day + 1 → day + 1 ≤ 48576 → due_after c day ≤ day + 31
+due-within : (c day : ℕ) → 1 ≤ c → c ≤ 28 → first_calendar_day ≤ day + 1 → day + 1 ≤ last_calendar_day → due_after c day ≤ day + 31
 unfolding due_after
 due-within c day l h low high =
     let bounds = due_day-bounds c l h in
     let within = next-within (day + 1) (due_day_of_month c) low high bounds.0 bounds.1 in
     omega (arith, within)
 
-pub due-small : (a : Anchor) (k day : ℕ) → IsClosing a k day → day ≤ 47481 → due a k ≤ 48576
+pub due-small : (a : Anchor) (k day : ℕ) → IsClosing a k day → day ≤ last_request_day → due a k ≤ last_calendar_day
 due-small a k day h l =
     let low = h.low in
     let within = due-within a.close_day day h.close_day.0 h.close_day.1 (omega arith) (omega arith) in
@@ -98,7 +99,7 @@ due-small a k day h l =
     omega (arith, within, same)
 
 -- ---- the closed cycles
-pub their-days : (g : Given) (day : ℕ) → IsSound g → opened_in g ≤ day → day ≤ 47481 → AreOfTheCalendar (anchor_of g.history) (posted g day).cycles
+pub their-days : (g : Given) (day : ℕ) → IsSound g → opened_in g ≤ day → day ≤ last_request_day → AreOfTheCalendar (anchor_of g.history) (posted g day).cycles
 their-days g day s o l k c e =
     let f = s.opening.first in
     let same : (posted g day).cycles ≡ (before g day).cycles = cycles-amid g day (posts_of g day) in
@@ -117,11 +118,11 @@ grows-by a k (suc n) =
 pub grows-to : (a : Anchor) (k m : ℕ) → k ≤ m → closing a k ≤ closing a m
 grows-to a k m l = let whole : m - k + k ≡ m = omega arith in subst (λ n. closing a k ≤ closing a n) whole (grows-by a k (m - k))
 
-opening-low : (a : Anchor) → IsAnchor a → 14975 ≤ closing a 0 + 1
+opening-low : (a : Anchor) → IsAnchor a → first_calendar_day ≤ closing a 0 + 1
 unfolding closing
 opening-low a h = let f = h.first in omega arith
 
-first-low : (a : Anchor) → IsAnchor a → (k : ℕ) → 14975 ≤ closing a k + 1
+first-low : (a : Anchor) → IsAnchor a → (k : ℕ) → first_calendar_day ≤ closing a k + 1
 first-low a h k = let from = grows-to a 0 k (omega arith) in let open' = opening-low a h in omega (arith, from, open')
 
 -- a number from 1 to their count
@@ -135,7 +136,7 @@ at-count (suc n) cs c e = (omega arith, get-count n cs c e)
     get-count (suc n) (x ∷ xs) c e = let rest = get-count n xs c e in omega (arith, rest)
 
 -- their due dates lie before it
-pub due-before : (a : Anchor) → IsAnchor a → (k m day : ℕ) → 1 ≤ k → k + 1 ≤ m → closing a m ≡ day → day ≤ 47481 → due a k ≤ day
+pub due-before : (a : Anchor) → IsAnchor a → (k m day : ℕ) → 1 ≤ k → k + 1 ≤ m → closing a m ≡ day → day ≤ last_request_day → due a k ≤ day
 due-before a h k m day one less on l =
     let next = grows-to a (k + 1) m less in
     let on-next : k + 1 ≡ suc k = omega arith in
@@ -143,12 +144,12 @@ due-before a h k m day one less on l =
     let same = ap (closing a) on-next in
     let low = first-low a h k in
     let within = due-within a.close_day (closing a k) h.low h.high (omega (arith, low)) (omega (arith, next, grow, same)) in
-    let small : due a k ≤ 48576 = omega (arith, within, next, grow, same) in
+    let small : due a k ≤ last_calendar_day = omega (arith, within, next, grow, same) in
     let back : suc (k - 1) ≡ k = omega arith in
-    let law = subst (λ n. due a n ≤ 48576 → due a n < closing a (suc n)) back (due_before_next a h (k - 1)) small in
+    let law = subst (λ n. due a n ≤ last_calendar_day → due a n < closing a (suc n)) back (due_before_next a h (k - 1)) small in
     omega (arith, law, next, same)
 
-pub due-by : (g : Given) (day number : ℕ) → IsSound g → opened_in g ≤ day → day ≤ 47481 → IsClosingOf g number day → AreDueBy day (posted g day).cycles
+pub due-by : (g : Given) (day number : ℕ) → IsSound g → opened_in g ≤ day → day ≤ last_request_day → IsClosingOf g number day → AreDueBy day (posted g day).cycles
 due-by g day number s o l h k c e =
     let a = anchor_of g.history in
     let days = their-days g day s o l k c e in
@@ -173,9 +174,9 @@ pub record IsLastAt (g : Given) (day number : ℕ) (c : Cycle) : Type 0 where
   pub first : 1 ≤ c.number
   pub next : number ≡ c.number + 1
   pub due : c.due ≤ day
-  pub closed : c.closing < 48576
+  pub closed : c.closing < last_calendar_day
 
-pub last-at : (g : Given) (day number : ℕ) (c : Cycle) → IsSound g → opened_in g ≤ day → day ≤ 47481 → IsClosingOf g number day → last_cycle (posted g day).cycles ≡ Some c → IsLastAt g day number c
+pub last-at : (g : Given) (day number : ℕ) (c : Cycle) → IsSound g → opened_in g ≤ day → day ≤ last_request_day → IsClosingOf g number day → last_cycle (posted g day).cycles ≡ Some c → IsLastAt g day number c
 last-at g day number c s o l h e =
     let a = anchor_of g.history in
     let f = s.opening.first in
@@ -192,7 +193,7 @@ last-at g day number c s o l h e =
     record { days = is.days; first = is.first; next = next; due = omega (arith, own, by); closed = omega (arith, at, grow, by) }
 
 -- what is left of its minimum payment
-pub left-is : (g : Given) (day number : ℕ) (c : Cycle) → IsSound g → opened_in g ≤ day → day ≤ 47481 → IsClosingOf g number day → last_cycle (posted g day).cycles ≡ Some c
+pub left-is : (g : Given) (day number : ℕ) (c : Cycle) → IsSound g → opened_in g ≤ day → day ≤ last_request_day → IsClosingOf g number day → last_cycle (posted g day).cycles ≡ Some c
     → past_due (seen_in g day) day (Some c) ≡ past_due_at (anchor_of g.history) (corrected (anchor_of g.history) g.shared.holidays g.history) number (asked (seen_in g day).issued (Some c))
 left-is g day number c s o l h e =
     let a = anchor_of g.history in

@@ -8,6 +8,7 @@ use Rattle.card_bounds.proofs.Dated.{Added, Before, IsPlain, added-then, due-add
 use Rattle.card_bounds.proofs.OnDays.{cycles_begin_in_turn, entries_have_days}
 use Rattle.card_days.specs.Billing.{closing, cycle_of, next_on}
 use Rattle.card_days.specs.Civil.{date_of, day_at, month_length}
+use Rattle.card_days.specs.Range.{last_request_day, last_calendar_day, first_calendar_day}
 use Rattle.card_days.specs.declared.anchor.Anchor.{Anchor}
 use Rattle.card_days.proofs.Cycles.{IsAnchor, closing_grows, cycle_around, cycle_from_one, date_civil}
 use Rattle.card_days.proofs.DateFacts.{day_at-date_of, date_of-in_calendar}
@@ -43,7 +44,7 @@ within-by y m d c h far low high = by (cases_lt c d)
         let later = over y m d i c h low whole in
         omega (arith, next, later, most.0)
 
-pub next-within : (n c : ℕ) → 14975 ≤ n → n ≤ 48576 → 1 ≤ c → c ≤ 28 → next_on c n ≤ n + 30
+pub next-within : (n c : ℕ) → first_calendar_day ≤ n → n ≤ last_calendar_day → 1 ≤ c → c ≤ 28 → next_on c n ≤ n + 30
 next-within n c low high c1 c2 =
     let h = date_of-in_calendar n low high in
     subst (λ x. next_on c x ≤ x + 30) (day_at-date_of n (omega arith))
@@ -60,34 +61,34 @@ unfolding closing
 next-closing a k = refl
 
 -- a cycle has at most 31 days
-pub closing-within : (a : Anchor) → IsAnchor a → (k day : ℕ) → closing a k < day → day ≤ 48576 → closing a (suc k) ≤ closing a k + 31
+pub closing-within : (a : Anchor) → IsAnchor a → (k day : ℕ) → closing a k < day → day ≤ last_calendar_day → closing a (suc k) ≤ closing a k + 31
 closing-within a h k day l m =
     let low = closing-low a k in
     let most = next-within (closing a k + 1) a.close_day (omega (arith, low, h.first)) (omega arith) h.low h.high in
     omega (arith, next-closing a k, most)
 
-pub first-is : (g : Given) (day : ℕ) → IsSound g → opened_in g ≤ day → day ≤ 48576 → first_in g day ≡ closing (anchor_of g.history) (cycle_of (anchor_of g.history) day - 1) + 1
+pub first-is : (g : Given) (day : ℕ) → IsSound g → opened_in g ≤ day → day ≤ last_calendar_day → first_in g day ≡ closing (anchor_of g.history) (cycle_of (anchor_of g.history) day - 1) + 1
 first-is g day s o l =
     let e = day-is (opened_in g) day o in
     cycles_begin_in_turn.before g.history g.issued g.shared (day - opened_in g) s.opening (omega arith)
     ∙ ap (λ d. closing (anchor_of g.history) (cycle_of (anchor_of g.history) d - 1) + 1) e
 
 -- it isn't before the opening day
-pub first-opened : (g : Given) (day : ℕ) → IsSound g → opened_in g ≤ day → day ≤ 48576 → opened_in g ≤ first_in g day
+pub first-opened : (g : Given) (day : ℕ) → IsSound g → opened_in g ≤ day → day ≤ last_calendar_day → opened_in g ≤ first_in g day
 first-opened g day s o l =
     let first = first-is g day s o l in
     let low = closing-low (anchor_of g.history) (cycle_of (anchor_of g.history) day - 1) in
     omega (arith, first, low)
 
 -- nor after the day
-pub first-by : (g : Given) (day : ℕ) → IsSound g → opened_in g ≤ day → day ≤ 48576 → first_in g day ≤ day
+pub first-by : (g : Given) (day : ℕ) → IsSound g → opened_in g ≤ day → day ≤ last_calendar_day → first_in g day ≤ day
 first-by g day s o l =
     let around = cycle_around (anchor_of g.history) (is-anchor (anchor_of g.history) s.opening) day (cycle_of (anchor_of g.history) day) o l refl in
     let first = first-is g day s o l in
     omega (arith, first, around.0)
 
 -- and at most 30 days before it
-pub first-within : (g : Given) (day : ℕ) → IsSound g → opened_in g ≤ day → day ≤ 48576 → day ≤ first_in g day + 30
+pub first-within : (g : Given) (day : ℕ) → IsSound g → opened_in g ≤ day → day ≤ last_calendar_day → day ≤ first_in g day + 30
 first-within g day s o l =
     let a = anchor_of g.history in
     let k = cycle_of a day in
@@ -137,7 +138,7 @@ posted-folded g day o =
     ∙ sym (of_a_day.same (row_in g n) (account_in g) seen due g.history g.issued g.shared (opened_in g + n))
 
 -- after them all balances are below 10^15 cents in size
-pub posted-small : (g : Given) (day : ℕ) → IsSound g → opened_in g ≤ day → day ≤ 47481 → AreSmall (posted g day).entries
+pub posted-small : (g : Given) (day : ℕ) → IsSound g → opened_in g ≤ day → day ≤ last_request_day → AreSmall (posted g day).entries
 posted-small g day s o l =
     let n = day - opened_in g in
     let e = day-is (opened_in g) day o in

@@ -1,6 +1,7 @@
 -- The day after a due date: the book with its late fee.
 use Rattle.std.proofs.lemmas.Int.{ints}
 use Rattle.card_grace.specs.Accruals.{Accrued, nothing_accrued}
+use Rattle.card_model.specs.Limits.{balance_limit}
 use Rattle.card_model.specs.declared.fee.FeeKind.TheVariants as fee
 use Rattle.card_rates.specs.RateBooks.{Rates, rates_of}
 use Rattle.std.proofs.Common.{◌≡◌, negsuc, get_or, ℕ, zero, suc, ◌+◌, ◌-◌, ◌≤◌, Bool, true, false, cond, List, [], ◌∷◌, map, length, take, refl, sym, ap, ◌∙◌, subst, arith, eqb, Option, Some, None, ℤ, pos}
@@ -65,7 +66,7 @@ amid-is g day o =
 
 -- ---- the fee
 abbrev IsFewCents : Fee → Type 0
-IsFewCents f = (pos 0 ≤ℤ f.cents) × (f.cents ≤ℤ pos 1_000_000_000_000_000)
+IsFewCents f = (pos 0 ≤ℤ f.cents) × (f.cents ≤ℤ pos balance_limit)
 
 above-few : (n : ℕ) (f g : Fee) → fee_above n f ≡ Some g → pos 0 ≤ℤ g.cents
 above-few zero f g e = cc
@@ -82,7 +83,7 @@ late-sign issued seen b c g e = by (met seen c) e
     by true e = cc
     by false e = charged-sign issued (fee_for seen b.cycles b.fees (present_cycle b) fee.Late c) g e
 
-high-of : (z : ℤ) → at_least_zero z ≤ 100000 → z ≤ℤ pos 1_000_000_000_000_000
+high-of : (z : ℤ) → at_least_zero z ≤ 100000 → z ≤ℤ pos balance_limit
 high-of (pos n) h = omega (arith, ints)
 high-of (negsuc n) h = omega (arith, ints)
 

@@ -5,6 +5,7 @@ use Rattle.card_days.proofs.Cycles.{IsAnchor, closing_is, cycle_around, cycle_fr
 use Rattle.card_days.specs.Billing.{closing, cycle_of, due, due_after, due_day_of_month, next_on}
 use Rattle.card_days.specs.Civil.{date_of, day_of_month, first_day}
 use Rattle.card_days.specs.Months.{day_in_month, first_month, month_from}
+use Rattle.card_days.specs.Range.{last_request_day, last_calendar_day}
 use Rattle.card_days.specs.declared.anchor.Anchor.{Anchor}
 use Rattle.card_fees.proofs.Days.{closing-from}
 use Rattle.card_model.specs.Books.{Account}
@@ -32,7 +33,7 @@ unfolding due_after
 due-most a k = let m = next-most (due_day_of_month a.close_day) (closing a k + 1) in omega (arith, m)
 
 -- ---- the closing of a day's cycle and the next one
-cycle-closing : (a : Anchor) → IsAnchor a → (day q : ℕ) → a.opened ≤ day → day ≤ 48_576 → cycle_of a day ≡ suc q → closing a (suc q) ≡ next_on a.close_day day
+cycle-closing : (a : Anchor) → IsAnchor a → (day q : ℕ) → a.opened ≤ day → day ≤ last_calendar_day → cycle_of a day ≡ suc q → closing a (suc q) ≡ next_on a.close_day day
 cycle-closing a h day q low high e =
     let first = h.first in
     let count = cycle_is a h day low high in
@@ -45,7 +46,7 @@ next-closing : (a : Anchor) (k : ℕ) → closing a (suc k) ≡ next_on a.close_
 unfolding closing
 next-closing a k = refl
 
-pub second-is : (a : Account) (day : ℕ) → IsOpening a.anchor → a.anchor.opened ≤ day → day ≤ 47481 → closing a.anchor (cycle_of a.anchor day + 1) ≡ second_closing a day
+pub second-is : (a : Account) (day : ℕ) → IsOpening a.anchor → a.anchor.opened ≤ day → day ≤ last_request_day → closing a.anchor (cycle_of a.anchor day + 1) ≡ second_closing a day
 second-is a day h low high =
     let one = cycle_from_one a.anchor day in
     let back : cycle_of a.anchor day ≡ suc (cycle_of a.anchor day - 1) = omega (arith, one) in
@@ -53,7 +54,7 @@ second-is a day h low high =
     let here = ap (closing a.anchor) back ∙ cycle-closing a.anchor (anchored a.anchor h) day (cycle_of a.anchor day - 1) low (omega arith) back in
     ap (closing a.anchor) next ∙ (next-closing a.anchor (cycle_of a.anchor day) ∙ ap (λ x. next_on a.anchor.close_day (x + 1)) here)
 
-pub second-most : (a : Anchor) (day : ℕ) → IsOpening a → a.opened ≤ day → day ≤ 47481 → closing a (cycle_of a day + 1) ≤ 48_576
+pub second-most : (a : Anchor) (day : ℕ) → IsOpening a → a.opened ≤ day → day ≤ last_request_day → closing a (cycle_of a day + 1) ≤ last_calendar_day
 second-most a day h low high =
     let one = cycle_from_one a day in
     let back : cycle_of a day ≡ suc (cycle_of a day - 1) = omega (arith, one) in
@@ -65,10 +66,10 @@ second-most a day h low high =
     omega (arith, here, first, later, second)
 
 -- its cycle has begun
-pub begun-by : (a : Anchor) (day : ℕ) → IsOpening a → a.opened ≤ day → day ≤ 47481 → closing a (cycle_of a day - 1) < day
+pub begun-by : (a : Anchor) (day : ℕ) → IsOpening a → a.opened ≤ day → day ≤ last_request_day → closing a (cycle_of a day - 1) < day
 begun-by a day h low high = (cycle_around a (anchored a h) day (cycle_of a day) low (omega arith) refl).0
 
-pub cycle-few : (a : Anchor) (day : ℕ) → IsOpening a → a.opened ≤ day → day ≤ 47481 → cycle_of a day ≤ day
+pub cycle-few : (a : Anchor) (day : ℕ) → IsOpening a → a.opened ≤ day → day ≤ last_request_day → cycle_of a day ≤ day
 cycle-few a day h low high =
     let begun = begun-by a day h low high in
     let from = closing-from a (cycle_of a day - 1) in

@@ -11,6 +11,7 @@ use Rattle.card_bounds.proofs.Reached.{payments_reach}
 use Rattle.card_bounds.specs.Bounds.{AreSmall}
 use Rattle.card_bounds.specs.Places.{LieOn, segments_by}
 use Rattle.card_bounds.specs.Reached.{AreReached, IsOfItsPost, Rise, sizes}
+use Rattle.card_days.specs.Range.{last_request_day}
 use Rattle.card_days.specs.declared.anchor.Anchor.{Anchor}
 use Rattle.card_effects.proofs.DayLaws.{books_of_a_day}
 use Rattle.card_effects.specs.Returned.{AreOfThose, AreReturnable, parts_of}
@@ -55,7 +56,7 @@ abbrev pub due_left : Given → ℕ → Book
 due_left g day = on_due (row_in g (day - opened_in g)) (account_in g) (seen_in g (opened_in g + (day - opened_in g))) (before g day) (last_cycle (before g day).cycles)
 
 -- every front of the day's posts leaves small balances
-pub front-small : (g : Given) (day i : ℕ) → IsSound g → opened_in g ≤ day → day ≤ 47481 → AreSmall (amid g day (take i (posts_of g day))).entries
+pub front-small : (g : Given) (day i : ℕ) → IsSound g → opened_in g ≤ day → day ≤ last_request_day → AreSmall (amid g day (take i (posts_of g day))).entries
 front-small g day i s o l =
     let ps = posts_of g day in
     let parts : posts_on (seen_in g day) ≡ only_folded (take i ps) ++ only_folded (drop i ps) =

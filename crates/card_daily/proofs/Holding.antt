@@ -5,8 +5,10 @@ use Rattle.std.proofs.lemmas.List.{drop_more, take-append-drop}
 use Rattle.std.proofs.lemmas.List.Elements.{filter-append}
 use Rattle.card_bounds.proofs.Points.{small_at_each_step}
 use Rattle.card_bounds.specs.Bounds.{IsLimited, IsOrderly, moved}
+use Rattle.card_days.specs.Range.{last_request_day}
 use Rattle.card_effects.specs.Standing.{StandsAt}
 use Rattle.card_events.specs.History.{CorrectedPost, anchor_of, is_folded, terms_of}
+use Rattle.card_events.specs.Limits.{post_limit}
 use Rattle.card_events.specs.declared.kept.Kept.{Kept}
 use Rattle.card_events.specs.declared.post.Post.TheVariants as post
 use Rattle.card_grace.specs.Rows.{Rows}
@@ -18,6 +20,7 @@ use Rattle.card_model.specs.Cycles.{IssuedRow, Seen, post_at, posts_on}
 use Rattle.card_model.specs.Deadlines.{resolves}
 use Rattle.card_model.specs.Effects.{disputed_cents, disputed_charge, disputed_segment, effect, moved_by}
 use Rattle.card_model.specs.Entries.{AreBalances, balance, credit_balance, holds, releases}
+use Rattle.card_model.specs.Limits.{balance_limit}
 use Rattle.card_model.specs.Segments.{SegmentTerms, kept_segment, unbilled}
 use Rattle.card_model.specs.declared.entry.Entry.{Entry}
 use Rattle.card_model.specs.declared.entry.EntryKind.TheVariants as kind
@@ -55,16 +58,16 @@ day-parts g day xs ys o e =
     ∙ (of_a_day.listed g.history g.issued g.shared day ∙ (ap only_folded e ∙ filter-append (λ (p : CorrectedPost). is_folded p.post) xs ys))
 
 -- what the entries move together
-pub front-moves : (g : Given) (day i : ℕ) → IsSound g → opened_in g ≤ day → day ≤ 47481 → moved (amid g day (take i (posts_of g day))).entries ≤ 1_000_000_000_000_000
+pub front-moves : (g : Given) (day i : ℕ) → IsSound g → opened_in g ≤ day → day ≤ last_request_day → moved (amid g day (take i (posts_of g day))).entries ≤ balance_limit
 front-moves g day i s o l =
     let ps = posts_of g day in
     let n = day - opened_in g in
     let e = day-is (opened_in g) day o in
-    let limits : IsLimited 10000 g.history g.shared day = record { count = s.accepted.count; cents = s.accepted.cents; fees = s.fees; days = let first = s.opening.first in omega (arith, first, l) } in
-    let room = small_at_each_step.posts 10000 g.history g.issued g.shared day n limits (omega (arith, e)) (only_folded (take i ps)) (only_folded (drop i ps)) (day-parts g day (take i ps) (drop i ps) o (sym (take-append-drop i ps))) in
+    let limits : IsLimited post_limit g.history g.shared day = record { count = s.accepted.count; cents = s.accepted.cents; fees = s.fees; days = let first = s.opening.first in omega (arith, first, l) } in
+    let room = small_at_each_step.posts post_limit g.history g.issued g.shared day n limits (omega (arith, e)) (only_folded (take i ps)) (only_folded (drop i ps)) (day-parts g day (take i ps) (drop i ps) o (sym (take-append-drop i ps))) in
     let most = room.moved in
-    let few : moved (amid g day (only_folded (take i ps))).entries ≤ 1_000_000_000_000_000 = omega (arith, most) in
-    subst (λ (b : Book). moved b.entries ≤ 1_000_000_000_000_000) (without-idle (row_in g n) (account_in g) (seen_in g (opened_in g + n)) (take i ps) (due_left g day)) few
+    let few : moved (amid g day (only_folded (take i ps))).entries ≤ balance_limit = omega (arith, most) in
+    subst (λ (b : Book). moved b.entries ≤ balance_limit) (without-idle (row_in g n) (account_in g) (seen_in g (opened_in g + n)) (take i ps) (due_left g day)) few
 
 -- Held has what a Resolve takes out of it
 front-holds : (g : Given) (day i n : ℕ) (d : CorrectedPost) → IsSound g → opened_in g ≤ day → i < length (posts_of g day) → is_folded (get_or (posts_of g day) i d).post ≡ true → resolves n (get_or (posts_of g day) i d).post ≡ true

@@ -3,6 +3,7 @@ use Rattle.std.proofs.Common.{◌≡◌, ℕ, suc, ◌+◌, ◌-◌, ◌≤◌, 
 use Rattle.std.specs.Prelude.{slice_get}
 use Rattle.std.proofs.lemmas.List.{length-append}
 use Rattle.card_days.specs.Billing.{cycle_of}
+use Rattle.card_days.specs.Range.{last_request_day}
 use Rattle.card_events.specs.History.{anchor_of}
 use Rattle.card_model.proofs.Calendar.{cycles_are_of_the_calendar}
 use Rattle.card_model.specs.Books.{Book, present_cycle}
@@ -39,7 +40,7 @@ pub record IsLast (g : Given) (day : ℕ) (c : Cycle) : Type 0 where
   pub present : present_cycle (before g day) ≡ c.number + 1
   pub now : present_cycle (before g day) ≡ cycle_of (anchor_of g.history) day
 
-pub last-is : (g : Given) (day : ℕ) (c : Cycle) → IsSound g → 1 ≤ day → day ≤ 47481 → last_cycle (before g day).cycles ≡ Some c → IsLast g day c
+pub last-is : (g : Given) (day : ℕ) (c : Cycle) → IsSound g → 1 ≤ day → day ≤ last_request_day → last_cycle (before g day).cycles ≡ Some c → IsLast g day c
 last-is g day c s f l e =
     let e' = ends (before g day).cycles c e in
     let at = last-at (before g day).cycles c e' in

@@ -6,6 +6,7 @@ use Rattle.std.proofs.lemmas.Bool.{cases_lt}
 use Rattle.std.proofs.lemmas.List.{append-nil, drop_all, take_all}
 use Rattle.std.proofs.lemmas.List.Elements.{All-cons, All-nil}
 use Rattle.card_days.specs.Billing.{closing, cycle_of, due}
+use Rattle.card_days.specs.Range.{last_request_day}
 use Rattle.card_days.specs.declared.anchor.Anchor.{Anchor}
 use Rattle.card_days.proofs.Cycles.{cycle_around}
 use Rattle.card_due.specs.Laws.{due_cycle_of}
@@ -102,7 +103,7 @@ all-numbered : (P : Cycle → Type 0) (cs : List Cycle) → ((k : ℕ) (c : Cycl
 all-numbered P [] h = All-nil P
 all-numbered P (c ∷ cs) h = All-cons P c cs (h 1 c refl) (all-numbered P cs (λ k x e. h (k + 1) x (later k c x cs e)))
 
-closed-at : (g : Given) (day k : ℕ) (c : Cycle) → IsSound g → opened_in g ≤ day + 1 → day ≤ 47481 → cycle_at k (book_on g day).cycles ≡ Some c → IsClosed g c
+closed-at : (g : Given) (day k : ℕ) (c : Cycle) → IsSound g → opened_in g ≤ day + 1 → day ≤ last_request_day → cycle_at k (book_on g day).cycles ≡ Some c → IsClosed g c
 closed-at g day k c s o l e =
     let a = anchor_of g.history in
     let h = is-anchor a s.opening in
@@ -118,16 +119,16 @@ closed-at g day k c s o l e =
       due = let own = days.due in omega (arith, own, most, grow, around.0, l);
     }
 
-pub all-closed : (g : Given) (day : ℕ) → IsSound g → opened_in g ≤ day + 1 → day ≤ 47481 → All (IsClosed g) (book_on g day).cycles
+pub all-closed : (g : Given) (day : ℕ) → IsSound g → opened_in g ≤ day + 1 → day ≤ last_request_day → All (IsClosed g) (book_on g day).cycles
 all-closed g day s o l = all-numbered (IsClosed g) (book_on g day).cycles (λ k c e. closed-at g day k c s o l e)
 
-pub closed-before : (g : Given) (day : ℕ) → IsSound g → opened_in g ≤ day → day ≤ 47481 → All (IsClosed g) (before g day).cycles
+pub closed-before : (g : Given) (day : ℕ) → IsSound g → opened_in g ≤ day → day ≤ last_request_day → All (IsClosed g) (before g day).cycles
 closed-before g day s o l =
     let one = s.opening.first in
     subst (λ (b : Book). All (IsClosed g) b.cycles) (sym (before-is g day (omega (arith, one, o)))) (all-closed g (day - 1) s (omega (arith, o)) (omega (arith, l)))
 
 -- on the day after the last due date none is still to come
-pub all-due : (g : Given) (day : ℕ) (c : Cycle) → IsSound g → opened_in g ≤ day → day ≤ 47481 → last_cycle (before g day).cycles ≡ Some c → day ≡ c.due + 1 → All (IsDueBy g day) (before g day).cycles
+pub all-due : (g : Given) (day : ℕ) (c : Cycle) → IsSound g → opened_in g ≤ day → day ≤ last_request_day → last_cycle (before g day).cycles ≡ Some c → day ≡ c.due + 1 → All (IsDueBy g day) (before g day).cycles
 all-due g day c s o l e on = all-numbered (IsDueBy g day) (before g day).cycles each
   where
     a : Anchor

@@ -9,9 +9,11 @@ use Rattle.std.proofs.lemmas.List.Elements.{All-cons, All-filter, All-get_or, Al
 use Rattle.card_bounds.proofs.OnDays.{cycles_begin_in_turn}
 use Rattle.card_bounds.proofs.Whole.{folded-few}
 use Rattle.card_days.specs.Billing.{closing, cycle_of}
+use Rattle.card_days.specs.Range.{last_request_day}
 use Rattle.card_effects.specs.Returned.{AreOfThose}
 use Rattle.card_effects.specs.Standing.{StandsAt}
 use Rattle.card_events.specs.History.{CorrectedPost, anchor_of, corrected, is_folded}
+use Rattle.card_events.specs.Limits.{post_limit}
 use Rattle.card_events.specs.declared.post.Post.{Post}
 use Rattle.card_events.specs.declared.post.Post.TheVariants as post
 use Rattle.card_grace.specs.Accruals.{Accrued, nothing_accrued}
@@ -19,6 +21,7 @@ use Rattle.card_grace.specs.Growth.{with_repaid}
 use Rattle.card_grace.specs.Rows.{Rows}
 use Rattle.card_model.specs.Books.{Book, with_penalties}
 use Rattle.card_model.specs.Effects.{effect}
+use Rattle.card_model.specs.Limits.{balance_limit}
 use Rattle.card_model.specs.Payments.{returns}
 use Rattle.card_model.specs.Segments.{SegmentTerms, kept_segment}
 use Rattle.card_model.specs.declared.segment.Segment.{Segment}
@@ -58,7 +61,7 @@ pub cycles-before : (g : Given) (day : ℕ) (done : List CorrectedPost) → (ami
 cycles-before g day done = cycles_begin_in_turn.posts g.history g.issued g.shared (day - opened_in g) done
 
 -- the cycle of a day has begun
-pub first-by : (g : Given) (day : ℕ) → IsSound g → opened_in g ≤ day → day ≤ 47481 → first_in g day ≤ day
+pub first-by : (g : Given) (day : ℕ) → IsSound g → opened_in g ≤ day → day ≤ last_request_day → first_in g day ≤ day
 first-by g day s o l =
     let e = day-is (opened_in g) day o in
     let is = cycles_begin_in_turn.before g.history g.issued g.shared (day - opened_in g) s.opening (omega arith) in
@@ -189,11 +192,11 @@ place-day g day place x h = ap (λ (d : DayPost). d.day) h.same ∙ h.of_day.day
 pub place-low : (g : Given) (day place : ℕ) (x : DayPost) → IsAtPlace g day place x → pos 0 ≤ℤ x.cents
 place-low g day place x h = let low : pos 0 ≤ℤ pos (post_at_place g day place).cents = omega (arith, ints) in subst (λ (d : DayPost). pos 0 ≤ℤ d.cents) (sym h.same) low
 
-pub place-high : (g : Given) (day place : ℕ) (x : DayPost) → IsAtPlace g day place x → x.cents ≤ℤ pos 1_000_000_000_000_000
+pub place-high : (g : Given) (day place : ℕ) (x : DayPost) → IsAtPlace g day place x → x.cents ≤ℤ pos balance_limit
 place-high g day place x h =
     let few = h.of_day.few h.folded in
-    let high : pos (post_at_place g day place).cents ≤ℤ pos 1_000_000_000_000_000 = omega (arith, ints, few) in
-    subst (λ (d : DayPost). d.cents ≤ℤ pos 1_000_000_000_000_000) (sym h.same) high
+    let high : pos (post_at_place g day place).cents ≤ℤ pos balance_limit = omega (arith, ints, few) in
+    subst (λ (d : DayPost). d.cents ≤ℤ pos balance_limit) (sym h.same) high
 
 -- a post that is no Penalty
 no-penalty : (p : Post) → (p ≡ post.Penalty → ⊥) → is_penalty p ≡ false
@@ -227,7 +230,7 @@ place-cycles g day place x done s t p h = h.stand.cycles ∙ (cycles-before g da
 
 -- a Return names an earlier payment, which the fold of its day sees
 pub place-named : (g : Given) (day place n : ℕ) (x : DayPost) → IsSound g → place_in g day ≤ place → place < place_in g day + length (posts_of g day) → IsAtPlace g day place x → returns n x.post ≡ true
-    → (n ≤ 10_000) × SeesPayment g x.day n
+    → (n ≤ post_limit) × SeesPayment g x.day n
 place-named g day place n x s low high h gives =
     let there = sees-payment g day (place - place_in g day) n any_post s (omega (arith, low, high)) (ap (λ (d : DayPost). returns n d.post) (sym h.same) ∙ gives) in
     (there.0, subst (λ d. SeesPayment g d n) (sym (place-day g day place x h)) there.1)
@@ -278,7 +281,7 @@ moved g from day x s new t after first returned held p b e did =
     subst (λ d. first ≤ d → b.cycles ≡ (before g d).cycles → MayFollow d s.rates returned p b → x ≡ day_post p → StandWith (account_in g) (seen_in g d) first returned held b s t
     → StandWith (account_in g) (seen_in g d) first (returned_after returned p.post) held (effect (row_in g (d - opened_in g)) (account_in g) (seen_in g d) p p.post b) new after) e (did first returned held p b)
 
-pub after-post : (g : Given) (day place : ℕ) (x : DayPost) (s new : State) (t after : Track) → IsSound g → opened_in g ≤ day → day ≤ 47481 → place_in g day ≤ place → place < place_in g day + length (posts_of g day)
+pub after-post : (g : Given) (day place : ℕ) (x : DayPost) (s new : State) (t after : Track) → IsSound g → opened_in g ≤ day → day ≤ last_request_day → place_in g day ≤ place → place < place_in g day + length (posts_of g day)
     → IsAtPlace g day place x → AreAmid g day (done_by g day place) s t → Enters g x s new t after
     → StandWith (account_in g) (seen_in g day) (first_in g day) (returned_by g day (done_by g day (place + 1))) (rows_through g (first_in g day) (day - 1) (before g day)) (after_place g day place) new after
 after-post g day place x s new t after sound o l low high p h did =
@@ -290,13 +293,13 @@ after-post g day place x s new t after sound o l low high p h did =
     (moved g day day x s new t after (first_in g day) (returned_by g day done) held q (amid g day done) (place-day g day place x p) did
     (first-by g day sound o l) (cycles-before g day done) (may-follow g day place s t sound o low high h) p.same (with-rows g day done s t o h))
 
-pub next-amid : (g : Given) (day place : ℕ) (x : DayPost) (s new : State) (t after : Track) → IsSound g → opened_in g ≤ day → day ≤ 47481 → place_in g day ≤ place → place < place_in g day + length (posts_of g day)
+pub next-amid : (g : Given) (day place : ℕ) (x : DayPost) (s new : State) (t after : Track) → IsSound g → opened_in g ≤ day → day ≤ last_request_day → place_in g day ≤ place → place < place_in g day + length (posts_of g day)
     → IsAtPlace g day place x → is_penalty x.post ≡ false → AreAmid g day (done_by g day place) s t → IsRestKept s new t after → Enters g x s new t after → AreAmid g day (done_by g day (place + 1)) new after
 next-amid g day place x s new t after sound o l low high p kind h k did =
     let adds = effect-adds (row_in g (day - opened_in g)) (account_in g) (seen_in g day) (post_at_place g day place) (post_at_place g day place).post (amid g day (done_by g day place)) (post-kind g day place x p kind) in
     amid-with g day (done_by g day place) (done_by g day (place + 1)) (after_place g day place) s new t after h k adds (next-place g day place o low high) (after-post g day place x s new t after sound o l low high p h did)
 
-pub next-begins : (g : Given) (day place : ℕ) (x : DayPost) (s new : State) (t after : Track) → IsSound g → opened_in g ≤ day → day ≤ 47481 → place_in g day ≤ place → place < place_in g day + length (posts_of g day)
+pub next-begins : (g : Given) (day place : ℕ) (x : DayPost) (s new : State) (t after : Track) → IsSound g → opened_in g ≤ day → day ≤ last_request_day → place_in g day ≤ place → place < place_in g day + length (posts_of g day)
     → IsAtPlace g day place x → is_penalty x.post ≡ false → AreAmid g day (done_by g day place) s t → IsRestKept s new t after → Enters g x s new t after → Begins t after
 next-begins g day place x s new t after sound o l low high p kind h k did =
     let adds = effect-adds (row_in g (day - opened_in g)) (account_in g) (seen_in g day) (post_at_place g day place) (post_at_place g day place).post (amid g day (done_by g day place)) (post-kind g day place x p kind) in

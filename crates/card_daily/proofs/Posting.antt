@@ -24,6 +24,7 @@ use Rattle.card_model.specs.Cycles.{IssuedRow, Seen}
 use Rattle.card_model.specs.Effects.{effect, is_part_of, meant_for, parts_entries, payment_at, put_back, returned, returned_fee, size}
 use Rattle.card_model.specs.Entries.{at_least_zero, credit_balance, debit}
 use Rattle.card_model.specs.Fees.{fee_cents}
+use Rattle.card_model.specs.Limits.{balance_limit}
 use Rattle.card_model.specs.Payments.{returns}
 use Rattle.card_model.specs.Segments.{SegmentTerms, segment_at}
 use Rattle.card_model.specs.declared.entry.Entry.{Entry}
@@ -280,8 +281,8 @@ slot-is seen p x cents e f d = record { same = ap (the_slot x.day x.number) f �
     the_slot day number cents = record { day = day; number = number; cents = cents }
 
 -- an amount as it is handed on
-pub handed : (z : ℤ) → pos 0 ≤ℤ z → z ≤ℤ pos 1_000_000_000_000_000 → to_z w64 (of_z w64 z) ≡ z
-handed z low high = to_z-of_z w64 z (within-fits 1_000_000_000_000_000 z (omega arith) (omega (arith, ints, low), high))
+pub handed : (z : ℤ) → pos 0 ≤ℤ z → z ≤ℤ pos balance_limit → to_z w64 (of_z w64 z) ≡ z
+handed z low high = to_z-of_z w64 z (within-fits balance_limit z (omega arith) (omega (arith, ints, low), high))
 
 -- ---- the kinds that change nothing
 pub nothing-done : (issued : Option IssuedRow) (a : Account) (seen : Seen) (s : CorrectedPost) (q : Post) (b : Book) → is_penalty q ≡ false

@@ -10,6 +10,7 @@ use Rattle.std.proofs.lemmas.List.Folds.{list_any-append}
 use Rattle.card_bounds.proofs.Totals.{Numbers, numbers-filter, slots-number}
 use Rattle.card_days.specs.declared.anchor.Anchor.{Anchor}
 use Rattle.card_events.specs.History.{CorrectedPost, anchor_of, at_number, corrected, corrected_from, corrected_post, is_folded, next_segment}
+use Rattle.card_events.specs.Limits.{post_limit}
 use Rattle.card_events.specs.declared.kept.Kept.{Kept}
 use Rattle.card_events.specs.declared.post.Post.{Post}
 use Rattle.card_events.specs.declared.post.Post.TheVariants as post
@@ -265,7 +266,7 @@ at-most (suc m) history e = by (slice_get history m) refl e
     by (Some k) q e = let below = get-below m history k q in omega (arith, below)
 
 pub sees-payment : (g : Given) (day i n : ℕ) (d : CorrectedPost) → IsSound g → i < length (posts_of g day) → returns n (get_or (posts_of g day) i d).post ≡ true
-    → (n ≤ 10_000) × SeesPayment g day n
+    → (n ≤ post_limit) × SeesPayment g day n
 sees-payment g day i n d s m gives =
     let q = get_or (posts_of g day) i d in
     let names = All-get_or (Names g.history) (posts_of g day) i d m (day-names g day s) in

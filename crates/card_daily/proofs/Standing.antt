@@ -16,6 +16,7 @@ use Rattle.card_events.specs.History.{CorrectedPost}
 use Rattle.card_model.specs.Books.{Book}
 use Rattle.card_grace.specs.Rows.{Rows}
 use Rattle.card_model.specs.Entries.{AreBalances, balance}
+use Rattle.card_model.specs.Limits.{balance_limit}
 use Rattle.card_model.specs.declared.entry.Entry.{Entry}
 use Rattle.card_segments.specs.Balances.{AreWithin, IsWithin}
 use Rattle.card_model.specs.Segments.{SegmentTerms}
@@ -61,15 +62,15 @@ rated g rows_by b s t h =
     (subst (λ segments. AreRated segments (rates_of g.shared.holidays g.history b.penalties)) (sym h.segments) (books_of_a_day.rated g.shared.holidays g.history b.penalties))
 
 -- balances of small sums are small
-pub within : (es : List Entry) (bs : List ℤ) → AreBalances es bs → AreSmall es → AreWithin 1_000_000_000_000_000 bs
+pub within : (es : List Entry) (bs : List ℤ) → AreBalances es bs → AreSmall es → AreWithin balance_limit bs
 within es bs sums small s = by (cases_lt s (length bs))
   where
-    wide : (z : ℤ) → neg_ℤ (pos 999999999999999) ≤ℤ z → z ≤ℤ pos 999999999999999 → IsWithin 1_000_000_000_000_000 z
+    wide : (z : ℤ) → neg_ℤ (pos 999999999999999) ≤ℤ z → z ≤ℤ pos 999999999999999 → IsWithin balance_limit z
     wide z l h = (omega (arith, ints), omega (arith, ints))
 
-    by : (s < length bs) ⊎ (length bs ≤ s) → IsWithin 1_000_000_000_000_000 (get_or bs s (pos 0))
-    by (inl l) = subst (IsWithin 1_000_000_000_000_000) (sym (sums.each s l)) (wide (balance s es) (small s).0 (small s).1)
-    by (inr l) = subst (IsWithin 1_000_000_000_000_000) (sym (get_or_past bs s (pos 0) l)) (omega (arith, ints), omega (arith, ints))
+    by : (s < length bs) ⊎ (length bs ≤ s) → IsWithin balance_limit (get_or bs s (pos 0))
+    by (inl l) = subst (IsWithin balance_limit) (sym (sums.each s l)) (wide (balance s es) (small s).0 (small s).1)
+    by (inr l) = subst (IsWithin balance_limit) (sym (get_or_past bs s (pos 0) l)) (omega (arith, ints), omega (arith, ints))
 
 -- a list begins with what it grew from
 pub begins-with : {A : Type 0} (old new rest : List A) → new ≡ old ++ rest → take (length old) new ≡ old

@@ -1,6 +1,7 @@
 -- The day on which a cycle closes, and plans that end with one. Days are day numbers.
 use Rattle.std.specs.Prelude.{ℕ, ◌≡◌, ◌≤◌}
 use Rattle.card_days.specs.Billing.{IsCloseDay, closing}
+use Rattle.card_days.specs.Range.{first_calendar_day}
 use Rattle.card_days.specs.declared.anchor.Anchor.{Anchor}
 use Rattle.card_events.specs.History.{anchor_of}
 use Rattle.card_model.specs.Books.{present_cycle}
@@ -12,7 +13,7 @@ pub record IsClosing (a : Anchor) (number day : ℕ) : Type 0 where
   pub close_day : IsCloseDay a.close_day
   pub first : 1 ≤ number
   pub on : closing a number ≡ day
-  pub low : 14975 ≤ day
+  pub low : first_calendar_day ≤ day
   pub small : number ≤ day
 
 -- the present cycle of an account closes on a day

@@ -2,6 +2,7 @@
 use Rattle.std.specs.Prelude.{ℕ, suc, ◌≡◌, ◌≤◌, ◌<◌, true, List, [], ◌∷◌, Option, Some}
 use Rattle.std.specs.List.{All}
 use Rattle.card_days.specs.Civil.{day_of_month}
+use Rattle.card_days.specs.Range.{last_request_day}
 use Rattle.card_days.specs.declared.anchor.Anchor.{Anchor}
 use Rattle.card_events.specs.History.{anchor_of, at_number}
 use Rattle.card_events.specs.SharedRows.{SharedRows}
@@ -89,4 +90,4 @@ given_today now = record { history = now.lists.posts; issued = now.lists.issued;
 pub record ReachesToday (now : Present) : Type 0 where
   pub opened : opened_in (given_today now) ≤ now.today
   pub accepted : last_accepted now.lists.posts ≤ now.today
-  pub dated : now.today ≤ 47_481
+  pub dated : now.today ≤ last_request_day

@@ -1,5 +1,6 @@
 -- How the penalties of an account begin and end on a day (12 CFR 1026.55(b)(4)). Days are day numbers.
 use Rattle.std.specs.Prelude.{◌+◌, ◌==◌, ◌≤◌, if◌then◌else◌, map, List, [], ◌∷◌, ◌++◌, Option, Some, None}
+use Rattle.card_days.specs.Range.{last_calendar_day}
 use Rattle.card_events.specs.History.{anchor_of}
 use Rattle.card_model.specs.CycleDays.{HasItsDays}
 use Rattle.card_model.specs.Cycles.{Cycle, Seen}
@@ -12,7 +13,7 @@ use Rattle.card_daily.specs.Given.{Given}
 pub record IsClosed (g : Given) (c : Cycle) : Type 0 where
   pub days : HasItsDays (anchor_of g.history) c.number c
   pub first : 1 ≤ c.number
-  pub due : c.due ≤ 48_576
+  pub due : c.due ≤ last_calendar_day
 
 -- the penalties after a Penalty of today: one more begins in 45 days where the account is sixty days late
 abbrev pub begun_on : Seen → List Cycle → List Interval → List Interval

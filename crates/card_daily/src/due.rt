@@ -1,5 +1,7 @@
 // What a due date brings on the day after it.
 ghost use Rattle.std.specs.Prelude.{◌≡◌, ◌+◌, ◌-◌, ◌<◌, ◌≤◌, ◌==◌, ℕ, List, [], ◌∷◌, ◌++◌, Some, None, OnOk, OnErr, pos, ◌≤ℤ◌, option_copied, option_map, vec_len, vec_capacity};
+ghost use Rattle.card_model.specs.Limits.{balance_limit};
+ghost use Rattle.card_days.specs.Range.{last_request_day, last_calendar_day};
 ghost use Rattle.card_effects.specs.Standing.{AreRated, StandsAt};
 ghost use Rattle.card_model.specs.Books.{Account, Book, with_fee};
 ghost use Rattle.card_segments.specs.Balances.{AreWithin};
@@ -64,7 +66,7 @@ fn with_due_payment(cycle: &Cycle, has_due_payment: bool) -> DueCycle
 pub fn due_cycle(inputs: &Inputs, day: Day, cycle: &Cycle) -> DueCycle
     requires days { HasItsDays (anchor_of inputs.now.history) cycle.now.number cycle.now }
     requires number { 1 ≤ cycle.now.number }
-    requires last { cycle.now.due ≤ 48_576 }
+    requires last { cycle.now.due ≤ last_calendar_day }
     ensures { result ≡ due_cycle_of (seen_in inputs.now day) cycle.now }
 {
     let anchor = inputs.anchor();
@@ -85,7 +87,7 @@ pub(crate) fn fees_of(issued: Option<&Issued>) -> Option<&[Fee]>
 // The late fee for the due date of the last closed cycle, on the day after it.
 fn late_fee(inputs: &Inputs, day: Day, fees: &[Fee], cycle: &Cycle) -> Option<Fee>
     requires opened { opened_in inputs.now ≤ day }
-    requires last { day ≤ 47_481 }
+    requires last { day ≤ last_request_day }
     requires cycle { last_cycle (before inputs.now day).cycles ≡ Some cycle.now }
     requires due { day ≡ cycle.now.due + 1 }
     requires fees { fees.now ≡ (before inputs.now day).fees }
@@ -107,7 +109,7 @@ pub(crate) fn is_day_after(due: Day, day: Day) -> bool
 #[tactic(auto, unfolding(crate::specs::Due::fee_due))]
 fn fee_due(inputs: &Inputs, day: Day, fees: &[Fee], last: Option<&Cycle>) -> Option<Fee>
     requires opened { opened_in inputs.now ≤ day }
-    requires last_day { day ≤ 47_481 }
+    requires last_day { day ≤ last_request_day }
     requires last { option_copied last ≡ last_cycle (before inputs.now day).cycles }
     requires fees { fees.now ≡ (before inputs.now day).fees }
     ensures { result ≡ spec.fee_due inputs.now day }
@@ -128,8 +130,8 @@ fn fee_due(inputs: &Inputs, day: Day, fees: &[Fee], last: Option<&Cycle>) -> Opt
 fn charge(day: Day, late: Fee, state: &mut State, track: &mut Track) -> Result<(), NoMemory>
     requires rated { AreRated state.old.segments.segments state.old.rates }
     requires low { pos 0 ≤ℤ late.cents }
-    requires high { late.cents ≤ℤ pos 1_000_000_000_000_000 }
-    requires small { AreWithin 1_000_000_000_000_000 state.old.segments.balances }
+    requires high { late.cents ≤ℤ pos balance_limit }
+    requires small { AreWithin balance_limit state.old.segments.balances }
     ensures stands { OnOk result ((a : Account) (seen : Seen) (b : Book) → StandsAt a seen b state.old.rates state.old.segments.balances track.old.entries.items → day ≡ seen.day → StandsAt a seen (with_fee a seen 0 (Some late) b) state.new.rates state.new.segments.balances track.new.entries.items) }
     ensures segments { OnOk result (state.new.segments.segments ≡ state.old.segments.segments) }
     ensures fees { OnOk result (state.new.fees.items ≡ state.old.fees.items ++ late ∷ []) }
@@ -160,7 +162,7 @@ fn charge_late(
     track: &mut Track,
 ) -> Result<(), NoMemory>
     requires opened { opened_in inputs.now ≤ day }
-    requires last { day ≤ 47_481 }
+    requires last { day ≤ last_request_day }
     requires before { AreBefore inputs.now day state.old track.old }
     ensures charged { OnOk result (AreCharged inputs.now day state.new track.new) }
     ensures begins { Begins track.old track.new }
@@ -183,7 +185,7 @@ pub fn due_day(
     track: &mut Track,
 ) -> Result<(), NoMemory>
     requires opened { opened_in inputs.now ≤ day }
-    requires last { day ≤ 47_481 }
+    requires last { day ≤ last_request_day }
     requires before { AreBefore inputs.now day state.old track.old }
     ensures amid { OnOk result (AreAmid inputs.now day [] state.new track.new) }
     ensures begins { Begins track.old track.new }

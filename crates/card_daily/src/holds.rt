@@ -1,5 +1,6 @@
 // A charge that is disputed, and a dispute that is resolved.
 ghost use Rattle.std.specs.Prelude.{◌≡◌, ◌≤◌, ℕ, Bool, Option, OnOk, OnErr, pos, ◌≤ℤ◌, slice_index_or};
+ghost use Rattle.card_model.specs.Limits.{balance_limit};
 ghost use Rattle.card_bounds.specs.Bounds.{moved};
 ghost use Rattle.card_effects.specs.Standing.{IsSlotOf};
 ghost use Rattle.card_events.specs.History.{CorrectedPost};
@@ -30,7 +31,7 @@ pub(crate) fn enter_dispute(
     track: &mut Track,
 ) -> Result<(), NoMemory>
     requires account { AreOf inputs.now.history state.old.segments.segments state.old.rates }
-    requires small { AreWithin 1_000_000_000_000_000 state.old.segments.balances }
+    requires small { AreWithin balance_limit state.old.segments.balances }
     ensures stands { OnOk result ((issued : Option IssuedRow) (first : ℕ) (returned : ℕ → Bool) (rows : SegmentTerms → Rows) (p : CorrectedPost) (b : Book) (on : ℕ) → IsSlotOf (seen_in inputs.now slot.now.day) p slot.now → StandWith (account_in inputs.now) (seen_in inputs.now slot.now.day) first returned rows b state.old track.old → StandWith (account_in inputs.now) (seen_in inputs.now slot.now.day) first returned rows (effect issued (account_in inputs.now) (seen_in inputs.now slot.now.day) p (post.Dispute on charge claim) b) state.new track.new) }
     ensures rest { IsRestKept state.old state.new track.old track.new }
     ensures err { OnErr result (Begins track.old track.new) }
@@ -55,9 +56,9 @@ pub(crate) fn enter_resolve(
     track: &mut Track,
 ) -> Result<(), NoMemory>
     requires account { AreOf inputs.now.history state.old.segments.segments state.old.rates }
-    requires moved { moved track.old.entries.items ≤ 1_000_000_000_000_000 }
+    requires moved { moved track.old.entries.items ≤ balance_limit }
     requires held { pos (moved_by target track.old.entries.items) ≤ℤ slice_index_or state.old.segments.balances 1 (pos 0) }
-    requires small { AreWithin 1_000_000_000_000_000 state.old.segments.balances }
+    requires small { AreWithin balance_limit state.old.segments.balances }
     ensures stands { OnOk result ((issued : Option IssuedRow) (first : ℕ) (returned : ℕ → Bool) (rows : SegmentTerms → Rows) (p : CorrectedPost) (b : Book) (on cents : ℕ) → IsSlotOf (seen_in inputs.now slot.now.day) p slot.now → StandWith (account_in inputs.now) (seen_in inputs.now slot.now.day) first returned rows b state.old track.old → StandWith (account_in inputs.now) (seen_in inputs.now slot.now.day) first returned rows (effect issued (account_in inputs.now) (seen_in inputs.now slot.now.day) p (post.Resolve on target cents) b) state.new track.new) }
     ensures rest { IsRestKept state.old state.new track.old track.new }
     ensures err { OnErr result (Begins track.old track.new) }

@@ -1,4 +1,5 @@
 ghost use Rattle.std.specs.Prelude.{◌≡◌, ◌≤◌, option_copied};
+ghost use Rattle.card_days.specs.Range.{first_calendar_day};
 ghost use Rattle.card_days.specs.Billing.{IsCloseDay};
 ghost use Rattle.card_events.specs.History.{anchor_of, opening_in, terms_in, terms_of};
 ghost use Rattle.card_model.specs.Caps.{row_for};
@@ -14,7 +15,7 @@ use std::marker::Model;
 
 // The opening day of an Open, and the day of the month on which its cycles close.
 fn opening(post: &Post) -> Anchor
-    requires first { 14_975 ≤ opening_in post.now }
+    requires first { first_calendar_day ≤ opening_in post.now }
     requires close_day { IsCloseDay (terms_in post.now).close }
     ensures { result ≡ record { opened = opening_in post.now; close_day = (terms_in post.now).close } }
 {

@@ -1,5 +1,6 @@
 // How penalty rates begin and end.
 ghost use Rattle.std.specs.Prelude.{◌≡◌, ◌+◌, ◌≤◌, ◌<◌, ◌&&◌, ◌++◌, ℕ, length, map, nat_lt, not, slice_index_or, slice_set, Some, None, OnOk};
+ghost use Rattle.card_days.specs.Range.{last_request_day};
 ghost use Rattle.std.specs.List.{All, list_all};
 ghost use Rattle.card_events.specs.History.{anchor_of};
 ghost use Rattle.card_model.specs.Cycles.{last_cycle};
@@ -57,7 +58,7 @@ pub(crate) fn begin_penalty(
     rates: &mut RateBook,
 ) -> Result<(), NoMemory>
     requires opened { opened_in inputs.now ≤ day }
-    requires last { day ≤ 47_481 }
+    requires last { day ≤ last_request_day }
     requires cycles { cycles.now ≡ (before inputs.now day).cycles }
     ensures { OnOk result (rates.new ≡ with_penalties (begun_on (seen_in inputs.now day) cycles.now rates.old.penalties) rates.old) }
 {
@@ -72,7 +73,7 @@ pub(crate) fn begin_penalty(
 // Whether the due date of a closed cycle was met.
 fn is_due_met(inputs: &Inputs, day: Day, cycle: &Cycle) -> bool
     requires due { IsDueBy inputs.now day cycle.now }
-    requires last { day ≤ 47_481 }
+    requires last { day ≤ last_request_day }
     ensures { result ≡ met (seen_in inputs.now day) cycle.now }
 {
     let anchor = inputs.anchor();
@@ -83,7 +84,7 @@ fn is_due_met(inputs: &Inputs, day: Day, cycle: &Cycle) -> bool
 // Whether it lies after a day and wasn't met.
 fn is_missed(inputs: &Inputs, day: Day, cycle: &Cycle, begins: Day) -> bool
     requires due { IsDueBy inputs.now day cycle.now }
-    requires last { day ≤ 47_481 }
+    requires last { day ≤ last_request_day }
     ensures { result ≡ (nat_lt begins cycle.now.due && not (met (seen_in inputs.now day) cycle.now)) }
 {
     is_due_after(cycle, begins) && !is_due_met(inputs, day, cycle)
@@ -92,7 +93,7 @@ fn is_missed(inputs: &Inputs, day: Day, cycle: &Cycle, begins: Day) -> bool
 // Whether all due dates after a day were met.
 fn are_met(inputs: &Inputs, day: Day, cycles: &[Cycle], begins: Day) -> bool
     requires due { All (IsDueBy inputs.now day) cycles.now }
-    requires last { day ≤ 47_481 }
+    requires last { day ≤ last_request_day }
     ensures { result ≡ list_all (met (seen_in inputs.now day)) (due_after_day begins cycles.now) }
 {
     for cycle in cycles {
@@ -106,7 +107,7 @@ fn are_met(inputs: &Inputs, day: Day, cycles: &[Cycle], begins: Day) -> bool
 // Whether a penalty ends: it has no end, and the six due dates after its first day were met.
 fn is_cured(inputs: &Inputs, day: Day, cycles: &[Cycle], penalty: &Interval) -> bool
     requires due { All (IsDueBy inputs.now day) cycles.now }
-    requires last { day ≤ 47_481 }
+    requires last { day ≤ last_request_day }
     ensures { result ≡ (awaits_end cycles.now penalty.now && list_all (met (seen_in inputs.now day)) (due_after_day penalty.now.begins cycles.now)) }
 {
     awaits_end(cycles, penalty) && are_met(inputs, day, cycles, penalty.begins)
@@ -122,7 +123,7 @@ fn end_if_cured(
     rates: &mut RateBook,
 )
     requires due { All (IsDueBy inputs.now day) cycles.now }
-    requires last { day ≤ 47_481 }
+    requires last { day ≤ last_request_day }
     requires which { which < length rates.old.penalties }
     ensures { (i : Interval) → rates.new ≡ with_penalties (slice_set rates.old.penalties which (cured_with (seen_in inputs.now day) cycles.now due (slice_index_or rates.old.penalties which i))) rates.old }
 {
@@ -134,7 +135,7 @@ fn end_if_cured(
 // So has each of them.
 fn end_cured(inputs: &Inputs, day: Day, cycles: &[Cycle], due: Day, rates: &mut RateBook)
     requires due { All (IsDueBy inputs.now day) cycles.now }
-    requires last { day ≤ 47_481 }
+    requires last { day ≤ last_request_day }
     ensures { rates.new ≡ with_penalties (map (cured_with (seen_in inputs.now day) cycles.now due) rates.old.penalties) rates.old }
 {
     for which in 0..rates.penalties().len() {
@@ -146,7 +147,7 @@ fn end_cured(inputs: &Inputs, day: Day, cycles: &[Cycle], due: Day, rates: &mut 
 #[tactic(auto, unfolding(crate::specs::Penalties::cured_on))]
 pub(crate) fn end_penalties(inputs: &Inputs, day: Day, cycles: &[Cycle], rates: &mut RateBook)
     requires opened { opened_in inputs.now ≤ day }
-    requires last { day ≤ 47_481 }
+    requires last { day ≤ last_request_day }
     requires cycles { cycles.now ≡ (before inputs.now day).cycles }
     ensures { rates.new ≡ with_penalties (cured_on (seen_in inputs.now day) cycles.now (last_cycle cycles.now) rates.old.penalties) rates.old }
 {

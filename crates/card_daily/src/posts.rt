@@ -1,5 +1,8 @@
 // The posts of a day, in turn.
 ghost use Rattle.std.specs.Prelude.{◌≡◌, ◌+◌, ◌-◌, ◌<◌, ◌≤◌, ℕ, Bool, true, false, List, [], length, min, Option, OnOk, OnErr, option_copied, pos, ◌≤ℤ◌, slice_index_or, unsigned_abs};
+ghost use Rattle.card_events.specs.Limits.{post_limit};
+ghost use Rattle.card_model.specs.Limits.{balance_limit};
+ghost use Rattle.card_days.specs.Range.{last_request_day};
 ghost use Rattle.card_bounds.specs.Bounds.{moved};
 ghost use Rattle.card_days.specs.Billing.{IsCloseDay};
 ghost use Rattle.card_days.specs.declared.anchor.Channel.{Channel};
@@ -42,7 +45,7 @@ use std::alloc::Global;
 fn following_closing(anchor: &Anchor, day: Day) -> Day
     requires anchor { IsOpening anchor.now }
     requires opened { anchor.now.opened ≤ day }
-    requires last { day ≤ 47_481 }
+    requires last { day ≤ last_request_day }
     ensures { (a : Account) → a.anchor ≡ anchor.now → result ≡ second_closing a day }
 {
     closing(*anchor, cycle_of(*anchor, day) + 1).unwrap()
@@ -62,7 +65,7 @@ fn lesser(cents: Cents, left: Cents) -> Cents
 // What is left of the minimum payment of the last closed cycle for the payment of a day with this number.
 fn left_of(inputs: &Inputs, day: Day, number: u32, cycle: &Cycle) -> Cents
     requires opened { opened_in inputs.now ≤ day }
-    requires last { day ≤ 47_481 }
+    requires last { day ≤ last_request_day }
     requires cycle { last_cycle (before inputs.now day).cycles ≡ Some cycle.now }
     ensures value { (p : CorrectedPost) → p.day ≡ day → p.number ≡ number → result ≡ pos (model.minimum_left (seen_in inputs.now day) p (Some cycle.now)) }
     ensures low { pos 0 ≤ℤ result }
@@ -75,7 +78,7 @@ fn left_of(inputs: &Inputs, day: Day, number: u32, cycle: &Cycle) -> Cents
 // The same, 0 where no cycle is closed.
 fn left_if_any(inputs: &Inputs, day: Day, number: u32, last: Option<&Cycle>) -> Cents
     requires opened { opened_in inputs.now ≤ day }
-    requires last_day { day ≤ 47_481 }
+    requires last_day { day ≤ last_request_day }
     requires last { option_copied last ≡ last_cycle (before inputs.now day).cycles }
     ensures value { (p : CorrectedPost) → p.day ≡ day → p.number ≡ number → result ≡ pos (model.minimum_left (seen_in inputs.now day) p (last_cycle (before inputs.now day).cycles)) }
     ensures low { pos 0 ≤ℤ result }
@@ -95,8 +98,8 @@ fn enter_charge(
 ) -> Result<(), NoMemory>
     requires rated { AreRated state.old.segments.segments state.old.rates }
     requires amount { pos 0 ≤ℤ slot.now.cents }
-    requires limit { slot.now.cents ≤ℤ pos 1_000_000_000_000_000 }
-    requires small { AreWithin 1_000_000_000_000_000 state.old.segments.balances }
+    requires limit { slot.now.cents ≤ℤ pos balance_limit }
+    requires small { AreWithin balance_limit state.old.segments.balances }
     ensures stands { OnOk result ((issued : Option IssuedRow) (a : Account) (seen : Seen) (first : ℕ) (returned : ℕ → Bool) (rows : SegmentTerms → Rows) (p : CorrectedPost) (b : Book) (on cents : ℕ) → IsSlotOf seen p slot.now → StandWith a seen first returned rows b state.old track.old → StandWith a seen first returned rows (effect issued a seen p (post.Charge on place.now cents) b) state.new track.new) }
     ensures rest { IsRestKept state.old state.new track.old track.new }
     ensures err { OnErr result (Begins track.old track.new) }
@@ -114,8 +117,8 @@ fn enter_charge(
 fn enter_refund(slot: &Slot, state: &mut State, track: &mut Track) -> Result<(), NoMemory>
     requires rated { AreRated state.old.segments.segments state.old.rates }
     requires amount { pos 0 ≤ℤ slot.now.cents }
-    requires limit { slot.now.cents ≤ℤ pos 1_000_000_000_000_000 }
-    requires small { AreWithin 1_000_000_000_000_000 state.old.segments.balances }
+    requires limit { slot.now.cents ≤ℤ pos balance_limit }
+    requires small { AreWithin balance_limit state.old.segments.balances }
     ensures stands { OnOk result ((issued : Option IssuedRow) (a : Account) (seen : Seen) (first : ℕ) (returned : ℕ → Bool) (rows : SegmentTerms → Rows) (p : CorrectedPost) (b : Book) (cents : ℕ) → IsSlotOf seen p slot.now → StandWith a seen first returned rows b state.old track.old → StandWith a seen first returned rows (effect issued a seen p (post.Refund cents) b) state.new track.new) }
     ensures rest { IsRestKept state.old state.new track.old track.new }
     ensures err { OnErr result (Begins track.old track.new) }
@@ -132,12 +135,12 @@ fn enter_payment(
     track: &mut Track,
 ) -> Result<(), NoMemory>
     requires opened { opened_in inputs.now ≤ slot.now.day }
-    requires last { slot.now.day ≤ 47_481 }
+    requires last { slot.now.day ≤ last_request_day }
     requires cycles { track.old.cycles.items ≡ (before inputs.now slot.now.day).cycles }
     requires rated { AreRated state.old.segments.segments state.old.rates }
     requires amount { pos 0 ≤ℤ slot.now.cents }
-    requires limit { slot.now.cents ≤ℤ pos 1_000_000_000_000_000 }
-    requires small { AreWithin 1_000_000_000_000_000 state.old.segments.balances }
+    requires limit { slot.now.cents ≤ℤ pos balance_limit }
+    requires small { AreWithin balance_limit state.old.segments.balances }
     requires rows { length state.old.rows.items + 2 ≡ length state.old.segments.balances }
     ensures stands { OnOk result ((issued : Option IssuedRow) (first : ℕ) (returned : ℕ → Bool) (rows : SegmentTerms → Rows) (p : CorrectedPost) (b : Book) (on minute cents : ℕ) (by : Channel) → first ≤ slot.now.day → returned p.number ≡ false → b.cycles ≡ (before inputs.now slot.now.day).cycles → IsSlotOf (seen_in inputs.now slot.now.day) p slot.now → StandWith (account_in inputs.now) (seen_in inputs.now slot.now.day) first returned rows b state.old track.old → StandWith (account_in inputs.now) (seen_in inputs.now slot.now.day) first returned rows (effect issued (account_in inputs.now) (seen_in inputs.now slot.now.day) p (post.Payment on minute by cents) b) state.new track.new) }
     ensures rest { IsRestKept state.old state.new track.old track.new }
@@ -168,11 +171,11 @@ fn enter_credit(
     track: &mut Track,
 ) -> Result<(), NoMemory>
     requires opened { opened_in inputs.now ≤ slot.now.day }
-    requires last { slot.now.day ≤ 47_481 }
+    requires last { slot.now.day ≤ last_request_day }
     requires rated { AreRated state.old.segments.segments state.old.rates }
     requires amount { pos 0 ≤ℤ slot.now.cents }
-    requires limit { slot.now.cents ≤ℤ pos 1_000_000_000_000_000 }
-    requires small { AreWithin 1_000_000_000_000_000 state.old.segments.balances }
+    requires limit { slot.now.cents ≤ℤ pos balance_limit }
+    requires small { AreWithin balance_limit state.old.segments.balances }
     requires rows { length state.old.rows.items + 2 ≡ length state.old.segments.balances }
     ensures stands { OnOk result ((issued : Option IssuedRow) (first : ℕ) (returned : ℕ → Bool) (rows : SegmentTerms → Rows) (p : CorrectedPost) (b : Book) (on cents : ℕ) → first ≤ slot.now.day → IsSlotOf (seen_in inputs.now slot.now.day) p slot.now → StandWith (account_in inputs.now) (seen_in inputs.now slot.now.day) first returned rows b state.old track.old → StandWith (account_in inputs.now) (seen_in inputs.now slot.now.day) first returned rows (effect issued (account_in inputs.now) (seen_in inputs.now slot.now.day) p (post.Credit on place.now cents) b) state.new track.new) }
     ensures rest { IsRestKept state.old state.new track.old track.new }
@@ -201,19 +204,19 @@ fn enter_post(
     track: &mut Track,
 ) -> Result<(), NoMemory>
     requires opened { opened_in inputs.now ≤ post.now.day }
-    requires last { post.now.day ≤ 47_481 }
+    requires last { post.now.day ≤ last_request_day }
     requires cycles { track.old.cycles.items ≡ (before inputs.now post.now.day).cycles }
     requires rated { AreRated state.old.segments.segments state.old.rates }
     requires amount { pos 0 ≤ℤ post.now.cents }
-    requires limit { post.now.cents ≤ℤ pos 1_000_000_000_000_000 }
-    requires small { AreWithin 1_000_000_000_000_000 state.old.segments.balances }
+    requires limit { post.now.cents ≤ℤ pos balance_limit }
+    requires small { AreWithin balance_limit state.old.segments.balances }
     requires rows { length state.old.rows.items + 2 ≡ length state.old.segments.balances }
     requires parts { (n : ℕ) → AreReturnable (length state.old.segments.balances) (parts_of n track.old.entries.items) }
     requires kind { is_penalty post.now.post ≡ false }
     requires account { AreOf inputs.now.history state.old.segments.segments state.old.rates }
-    requires moved { moved track.old.entries.items ≤ 1_000_000_000_000_000 }
+    requires moved { moved track.old.entries.items ≤ balance_limit }
     requires held { (n : ℕ) → resolves n post.now.post ≡ true → pos (moved_by n track.old.entries.items) ≤ℤ slice_index_or state.old.segments.balances 1 (pos 0) }
-    requires named { (n : ℕ) → returns n post.now.post ≡ true → (n ≤ 10_000) × SeesPayment inputs.now post.now.day n }
+    requires named { (n : ℕ) → returns n post.now.post ≡ true → (n ≤ post_limit) × SeesPayment inputs.now post.now.day n }
     ensures stands { OnOk result ((first : ℕ) (returned : ℕ → Bool) (rows : SegmentTerms → Rows) (p : CorrectedPost) (b : Book) → first ≤ post.now.day → b.cycles ≡ (before inputs.now post.now.day).cycles → MayFollow post.now.day state.old.rates returned p b → post.now ≡ day_post p → StandWith (account_in inputs.now) (seen_in inputs.now post.now.day) first returned rows b state.old track.old → StandWith (account_in inputs.now) (seen_in inputs.now post.now.day) first (returned_after returned p.post) rows (effect (row_in inputs.now (post.now.day - opened_in inputs.now)) (account_in inputs.now) (seen_in inputs.now post.now.day) p p.post b) state.new track.new) }
     ensures rest { IsRestKept state.old state.new track.old track.new }
     ensures err { OnErr result (Begins track.old track.new) }
@@ -249,7 +252,7 @@ fn enter(
     track: &mut Track,
 ) -> Result<(), NoMemory>
     requires opened { opened_in inputs.now ≤ day }
-    requires last { day ≤ 47_481 }
+    requires last { day ≤ last_request_day }
     requires from { place_in inputs.now day ≤ place }
     requires within { place < place_in inputs.now day + length (posts_of inputs.now day) }
     requires amid { AreAmid inputs.now day (done_by inputs.now day place) state.old track.old }
@@ -280,7 +283,7 @@ pub fn post_day(
     track: &mut Track,
 ) -> Result<(), NoMemory>
     requires opened { opened_in inputs.now ≤ day }
-    requires last { day ≤ 47_481 }
+    requires last { day ≤ last_request_day }
     requires amid { AreAmid inputs.now day [] state.old track.old }
     ensures posted { OnOk result (AreAmid inputs.now day (posts_of inputs.now day) state.new track.new) }
     ensures begins { Begins track.old track.new }

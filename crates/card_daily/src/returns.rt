@@ -1,5 +1,7 @@
 // A payment that is returned: its parts are owed again, and a fee may be due.
 ghost use Rattle.std.specs.Prelude.{◌≡◌, ◌+◌, ◌-◌, ◌<◌, ◌≤◌, ℕ, Bool, nat_lt, List, Some, None, Option, OnOk, OnErr, length, pos, ◌≤ℤ◌, option_copied, option_map, vec_len, vec_capacity};
+ghost use Rattle.card_model.specs.Limits.{balance_limit};
+ghost use Rattle.card_days.specs.Range.{last_request_day};
 ghost use Rattle.card_effects.specs.Returned.{AreOfThose, AreReturnable, parts_of};
 ghost use Rattle.card_effects.specs.Standing.{AreRated, IsSlotOf};
 ghost use Rattle.card_events.specs.History.{CorrectedPost, slot_of};
@@ -90,7 +92,7 @@ fn meant_for(cycles: &[Cycle], payment: Option<Slot>) -> Option<&Cycle>
 // What the due date of a cycle asks for, 0 where there is none.
 fn asked_by(inputs: &Inputs, day: Day, cycle: Option<&Cycle>) -> Cents
     requires due { (c : Cycle) → option_copied cycle ≡ Some c → IsDueBy inputs.now day c }
-    requires last { day ≤ 47_481 }
+    requires last { day ≤ last_request_day }
     ensures value { result ≡ pos (asked (seen_in inputs.now day).issued (option_copied cycle.entry)) }
     ensures low { pos 0 ≤ℤ result }
 {
@@ -103,7 +105,7 @@ fn asked_by(inputs: &Inputs, day: Day, cycle: Option<&Cycle>) -> Cents
 // The fee for the due date of a cycle, for which a payment was meant that is returned.
 fn fee_for(inputs: &Inputs, day: Day, fees: &[Fee], cycles: &[Cycle], meant: &Cycle) -> Option<Fee>
     requires opened { opened_in inputs.now ≤ day }
-    requires last { day ≤ 47_481 }
+    requires last { day ≤ last_request_day }
     requires cycles { cycles.now ≡ (before inputs.now day).cycles }
     ensures { (b : Book) → b.cycles ≡ cycles.now → b.fees ≡ fees.now → result ≡ penalty_fee (row_in inputs.now (day - opened_in inputs.now)) (seen_in inputs.now day) b kind.Returned meant.now }
 {
@@ -127,7 +129,7 @@ fn fee_for(inputs: &Inputs, day: Day, fees: &[Fee], cycles: &[Cycle], meant: &Cy
 // The fee for a payment that is returned on a day, by its number.
 fn fee_of(inputs: &Inputs, day: Day, payment: u32, fees: &[Fee], cycles: &[Cycle]) -> Option<Fee>
     requires opened { opened_in inputs.now ≤ day }
-    requires last { day ≤ 47_481 }
+    requires last { day ≤ last_request_day }
     requires cycles { cycles.now ≡ (before inputs.now day).cycles }
     requires seen { SeesPayment inputs.now day payment }
     ensures { (b : Book) → b.cycles ≡ cycles.now → b.fees ≡ fees.now → result ≡ model.returned_fee (row_in inputs.now (day - opened_in inputs.now)) (seen_in inputs.now day) b (model.meant_for b.cycles (model.payment_at payment (seen_in inputs.now day).posts)) }
@@ -159,10 +161,10 @@ pub(crate) fn enter_return(
     track: &mut Track,
 ) -> Result<(), NoMemory>
     requires opened { opened_in inputs.now ≤ slot.now.day }
-    requires last { slot.now.day ≤ 47_481 }
+    requires last { slot.now.day ≤ last_request_day }
     requires cycles { track.old.cycles.items ≡ (before inputs.now slot.now.day).cycles }
     requires rated { AreRated state.old.segments.segments state.old.rates }
-    requires small { AreWithin 1_000_000_000_000_000 state.old.segments.balances }
+    requires small { AreWithin balance_limit state.old.segments.balances }
     requires parts { AreReturnable (length state.old.segments.balances) (parts_of payment track.old.entries.items) }
     requires seen { SeesPayment inputs.now slot.now.day payment }
     ensures stands { OnOk result ((first : ℕ) (returned : ℕ → Bool) (rows : SegmentTerms → Rows) (p : CorrectedPost) (b : Book) (on : ℕ) → b.cycles ≡ (before inputs.now slot.now.day).cycles → IsOfNoCredit payment b.entries → AreOfThose slot.now.day state.old.rates b.entries → IsSlotOf (seen_in inputs.now slot.now.day) p slot.now → StandWith (account_in inputs.now) (seen_in inputs.now slot.now.day) first returned rows b state.old track.old → StandWith (account_in inputs.now) (seen_in inputs.now slot.now.day) first (or_post returned payment) rows (model.effect (row_in inputs.now (slot.now.day - opened_in inputs.now)) (account_in inputs.now) (seen_in inputs.now slot.now.day) p (post.Return on payment) b) state.new track.new) }

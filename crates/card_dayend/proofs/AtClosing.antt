@@ -9,6 +9,7 @@ use Rattle.card_closing.specs.Interest.{StandFor as StandForClosing}
 use Rattle.card_days.proofs.DueLaws.{closing_laws}
 use Rattle.card_days.specs.Billing.{cycle_of}
 use Rattle.card_days.specs.Civil.{day_of_month}
+use Rattle.card_days.specs.Range.{last_request_day}
 use Rattle.card_effects.proofs.DayLaws.{books_of_a_day}
 use Rattle.card_effects.specs.Standing.{is_added}
 use Rattle.card_events.specs.History.{anchor_of}
@@ -97,7 +98,7 @@ past-row g day x s sound o l =
     ∙ (ap (λ (b : Book). row b.entries s x) (before-is g day (omega arith))
     ∙ (ap (row (book_on g (day - 1)).entries s) (sym on) ∙ past))
 
-early-none : (g : Given) (day : ℕ) (t : SegmentTerms) → IsSound g → opened_in g ≤ day → day ≤ 47481 → Contains (segments_in g) t → is_sort sort.Deferred t.sort ≡ true
+early-none : (g : Given) (day : ℕ) (t : SegmentTerms) → IsSound g → opened_in g ≤ day → day ≤ last_request_day → Contains (segments_in g) t → is_sort sort.Deferred t.sort ≡ true
     → (x : ℕ) → first_in g day ≤ x → x < t.begins → row (posted g day).entries t.id x ≡ 0
 early-none g day t sound o l there sorted x from less = by (cases_lt day t.begins)
   where
@@ -111,7 +112,7 @@ early-none g day t sound o l there sorted x from less = by (cases_lt day t.begin
         past-row g day x t.id sound ox (omega arith) ∙ owing-none (amid g x done).entries t.id (none-on g x (amid g x done) t ox (amid-lies g x done ox) there (plan-later x t sorted less))
 
 -- ---- the end of a plan
-ends-apart : (g : Given) (day end : ℕ) → IsSound g → opened_in g ≤ day → day ≤ 47481 → day_of_month day ≡ (anchor_of g.history).close_day → day_of_month end ≡ (anchor_of g.history).close_day
+ends-apart : (g : Given) (day end : ℕ) → IsSound g → opened_in g ≤ day → day ≤ last_request_day → day_of_month day ≡ (anchor_of g.history).close_day → day_of_month end ≡ (anchor_of g.history).close_day
     → (day ≤ end) ⊎ (end < first_in g day)
 ends-apart g day end s o l e on = by (cases_lt end day) (cases_lt end (first_in g day))
   where
@@ -133,7 +134,7 @@ sort-test t A is other = by (is_sort sort.Deferred t.sort) refl
     by true e = is e
     by false e = other e
 
-one-case-each : (g : Given) (day : ℕ) (purchase : GraceCase) (t : SegmentTerms) → IsSound g → opened_in g ≤ day → day ≤ 47481 → day_of_month day ≡ (anchor_of g.history).close_day → Contains (segments_in g) t
+one-case-each : (g : Given) (day : ℕ) (purchase : GraceCase) (t : SegmentTerms) → IsSound g → opened_in g ≤ day → day ≤ last_request_day → day_of_month day ≡ (anchor_of g.history).close_day → Contains (segments_in g) t
     → HasOneCase (seen_in g day) (posted g day) purchase (first_in g day) t
 one-case-each g day purchase t s o l e there =
     sort-test t (HasOneCase (seen_in g day) (posted g day) purchase (first_in g day) t)
@@ -161,7 +162,7 @@ ends-parts t day e = by (is_sort sort.Deferred t.sort) (leb t.begins day) (is_ov
     by false b c d e = cc
 
 -- ---- together
-pub stand-for : (g : Given) (day : ℕ) (s : State) (k : Track) → IsSound g → opened_in g ≤ day → day ≤ 47481 → day_of_month day ≡ (anchor_of g.history).close_day → ArePosted g day s k
+pub stand-for : (g : Given) (day : ℕ) (s : State) (k : Track) → IsSound g → opened_in g ≤ day → day ≤ last_request_day → day_of_month day ≡ (anchor_of g.history).close_day → ArePosted g day s k
     → StandForClosing s.rates.segments (is_added day) (account_in g) (seen_in g day) (posted g day) (drop 2 s.segments.segments) s.rows.items s.accruals.items
 stand-for g day s k sound o l e h =
     let b = posted g day in

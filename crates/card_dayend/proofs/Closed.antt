@@ -7,6 +7,7 @@ use Rattle.card_closing.specs.Interest.{statement_of}
 use Rattle.card_closing.specs.Interest.{StandFor as StandForClosing}
 use Rattle.card_closing.specs.declared.closing.Closing.{Closing}
 use Rattle.card_days.specs.Civil.{day_of_month}
+use Rattle.card_days.specs.Range.{last_request_day}
 use Rattle.card_effects.specs.Standing.{is_added}
 use Rattle.card_events.specs.History.{anchor_of}
 use Rattle.card_grace.specs.Accruals.{Accrued, nothing_accrued}
@@ -51,7 +52,7 @@ all-begin none h k e (t ∷ ts) = ap (λ r. r ∷ map (λ (r : Rows). none) (map
 
 -- ---- what a closing is given
 pub given-for : (g : Given) (day : ℕ) (s : State) (t : Track) (c : Closing) (issued : Option Cycle) (rows : List Rows) (accruals : List Accrued) (fees : List Fee)
-    → IsSound g → opened_in g ≤ day → day ≤ 47481 → day_of_month day ≡ (anchor_of g.history).close_day → ArePosted g day s t → IsOfBook c (account_in g) (seen_in g day) (posted g day)
+    → IsSound g → opened_in g ≤ day → day ≤ last_request_day → day_of_month day ≡ (anchor_of g.history).close_day → ArePosted g day s t → IsOfBook c (account_in g) (seen_in g day) (posted g day)
     → issued ≡ statement_of (row_for c.number g.issued) → rows ≡ s.rows.items → accruals ≡ s.accruals.items → fees ≡ s.fees.items
     → IsGivenFor c issued s.segments rows accruals fees t.entries.items (row_in g (day - opened_in g)) s.rates.segments (is_added day) (account_in g) (seen_in g day) (posted g day)
 given-for g day s t c issued rows accruals fees sound o l e h of row er ea ef =

@@ -10,7 +10,9 @@ use Rattle.std.proofs.lemmas.List.Elements.{All-cons, All-contains_itself, All-h
 use Rattle.std.proofs.lemmas.List.FromFn.{length-map-range_with_len}
 use Rattle.card_bounds.specs.Bounds.{AreSmall}
 use Rattle.card_bounds.proofs.Dated.{Added, IsPlain, TooLate, added-none, added-weaker, posted-counts, posted_after, row-front}
+use Rattle.card_days.specs.Range.{last_request_day}
 use Rattle.card_effects.specs.Standing.{AreRated}
+use Rattle.card_model.specs.Limits.{balance_limit}
 use Rattle.card_units.specs.Money.{daily}
 use Rattle.card_grace.specs.Accruals.{Accrued, accrued_in, nothing_accrued}
 use Rattle.card_grace.specs.BookRows.{day_row, rate_of, rows_of}
@@ -120,7 +122,7 @@ today g day t o =
     ap (λ x. day_row_of day x (rate_in (account_in g) (seen_in g day) (posted g day) day t)) (row-today g day t.id o)
     ∙ ap (λ r. day_row_of day (owing t.id (posted g day).entries) r) (sym (rates_of_a_day.any g.history g.issued g.shared (posted g day) day day t (omega arith)))
 
-pub row-more : (g : Given) (day : ℕ) (t : SegmentTerms) → IsSound g → opened_in g ≤ day → day ≤ 47481
+pub row-more : (g : Given) (day : ℕ) (t : SegmentTerms) → IsSound g → opened_in g ≤ day → day ≤ last_request_day
     → rows_through g (first_in g day) day (posted g day) t ≡ with_row (rates_by g (posted g day).penalties) day t (owing t.id (posted g day).entries) (rows_amid g day (posts_of g day) (posted g day) t)
 row-more g day t s o l =
     let owed = owing t.id (posted g day).entries in
@@ -139,7 +141,7 @@ row-more g day t s o l =
     (same-brought t.id (first_in g day) (λ n. is_returned (seen_in g day).posts day n) (returned_by g day (posts_of g day)) (λ n. returned-all g day n (omega (arith, low))) (posted g day).entries)
 
 -- rows amid a day have room for one more
-pub rows-room : (g : Given) (day : ℕ) (done : List CorrectedPost) (b : Book) (t : SegmentTerms) → IsSound g → opened_in g ≤ day → day ≤ 47481 → length (rows_amid g day done b t).days < 31
+pub rows-room : (g : Given) (day : ℕ) (done : List CorrectedPost) (b : Book) (t : SegmentTerms) → IsSound g → opened_in g ≤ day → day ≤ last_request_day → length (rows_amid g day done b t).days < 31
 unfolding rows_of
 rows-room g day done b t s o l =
     let long = length-map-range_with_len (day_row (account_in g) (seen_in g (day - 1)) (before g day) t) (first_in g day) (day - 1 + 1 - first_in g day) in
@@ -193,18 +195,18 @@ accrual-more g day t s o e f = by (cases_lt day t.begins)
 abbrev IsSmall : ℤ → Type 0
 IsSmall z = (neg_ℤ (pos 999999999999999) ≤ℤ z) × (z ≤ℤ pos 999999999999999)
 
-wider : (z : ℤ) → IsSmall z → IsWithin 1000000000000000 z
+wider : (z : ℤ) → IsSmall z → IsWithin balance_limit z
 wider z (a, b) = (omega (arith, ints), omega (arith, ints))
 
-nothing-within : IsWithin 1000000000000000 (pos 0)
+nothing-within : IsWithin balance_limit (pos 0)
 nothing-within = (omega (arith, ints), omega (arith, ints))
 
-pub balances-within : (entries : List Entry) (balances : List ℤ) → AreBalances entries balances → AreSmall entries → AreWithin 1000000000000000 balances
+pub balances-within : (entries : List Entry) (balances : List ℤ) → AreBalances entries balances → AreSmall entries → AreWithin balance_limit balances
 balances-within entries balances h small s = by (cases_lt s (length balances))
   where
-    by : (s < length balances) ⊎ (length balances ≤ s) → IsWithin 1000000000000000 (get_or balances s (pos 0))
-    by (inl l) = subst (IsWithin 1000000000000000) (sym (h.each s l)) (wider (balance s entries) (small s))
-    by (inr l) = subst (IsWithin 1000000000000000) (sym (get_or_past balances s (pos 0) l)) nothing-within
+    by : (s < length balances) ⊎ (length balances ≤ s) → IsWithin balance_limit (get_or balances s (pos 0))
+    by (inl l) = subst (IsWithin balance_limit) (sym (h.each s l)) (wider (balance s entries) (small s))
+    by (inr l) = subst (IsWithin balance_limit) (sym (get_or_past balances s (pos 0) l)) nothing-within
 
 pub amid-rated : (g : Given) (rows_by : SegmentTerms → Rows) (b : Book) (s : State) (t : Track) → StandFor g rows_by b s t → AreRated s.segments.segments s.rates
 amid-rated g rows_by b s t h = record {
@@ -215,7 +217,7 @@ amid-rated g rows_by b s t h = record {
 abbrev HasRoom : Rows → Type 0
 HasRoom r = length r.days < 31
 
-pub amid-room : (g : Given) (day : ℕ) (done : List CorrectedPost) (b : Book) (s : State) (t : Track) → IsSound g → opened_in g ≤ day → day ≤ 47481 → StandFor g (rows_amid g day done b) b s t → All HasRoom s.rows.items
+pub amid-room : (g : Given) (day : ℕ) (done : List CorrectedPost) (b : Book) (s : State) (t : Track) → IsSound g → opened_in g ≤ day → day ≤ last_request_day → StandFor g (rows_amid g day done b) b s t → All HasRoom s.rows.items
 amid-room g day done b s t sound o l h =
     let ts = s.rates.segments in
     subst (All HasRoom) (sym h.rows)
@@ -232,7 +234,7 @@ deferred-parts t day e = by (is_sort sort.Deferred t.sort) (leb t.begins day) (i
     by false b c e = cc
 
 -- no accrual counts as many days as the calendar has
-pub amid-few : (g : Given) (day : ℕ) (s : State) (k : Track) → IsSound g → opened_in g ≤ day → day ≤ 47481 → AreAmid g day (posts_of g day) s k → All (λ (a : Accrued). a.days < 40000) s.accruals.items
+pub amid-few : (g : Given) (day : ℕ) (s : State) (k : Track) → IsSound g → opened_in g ≤ day → day ≤ last_request_day → AreAmid g day (posts_of g day) s k → All (λ (a : Accrued). a.days < 40000) s.accruals.items
 amid-few g day s k sound o l h =
     All-weaker (λ (a : Accrued). a.days ≤ day - 1 + 1 - opened_in g) (λ (a : Accrued). a.days < 40000) (λ a d. let low = sound.opening.first in omega arith) s.accruals.items h.accrued.days
 
@@ -252,7 +254,7 @@ owed-is entries balances t h l = ap at_least_zero (h.each t.id l)
 id-known : (s : State) (t : SegmentTerms) → AreByNumber 2 s.rates.segments → length s.segments.balances ≡ length s.rates.segments + 2 → Contains s.rates.segments t → t.id < length s.segments.balances
 id-known s t n e c = let below = number-below 2 s.rates.segments t n c in omega (arith, below, e)
 
-rows-after : (g : Given) (day : ℕ) (s : State) (k : Track) → IsSound g → opened_in g ≤ day → day ≤ 47481 → length s.segments.balances ≡ length s.rates.segments + 2 → AreAmid g day (posts_of g day) s k
+rows-after : (g : Given) (day : ℕ) (s : State) (k : Track) → IsSound g → opened_in g ≤ day → day ≤ last_request_day → length s.segments.balances ≡ length s.rates.segments + 2 → AreAmid g day (posts_of g day) s k
     → with_rows s.rates s.segments.balances day s.rows.items ≡ map (rows_through g (first_in g day) day (posted g day)) s.rates.segments
 rows-after g day s k sound o l e h =
     let ts = s.rates.segments in
@@ -312,7 +314,7 @@ accruals-after g day s k sound o e h =
           (each-few change (day - 1 + 1 - opened_in g) (λ t x l. days-after (accrual_rate day t) (owed_on balances t) (day - 1 + 1 - opened_in g) x l) ts old h.accrued.days);
     }
 
-pub posted-of : (g : Given) (day : ℕ) (s new : State) (k : Track) → IsSound g → opened_in g ≤ day → day ≤ 47481 → HasRow day s new → AreAmid g day (posts_of g day) s k → ArePosted g day new k
+pub posted-of : (g : Given) (day : ℕ) (s new : State) (k : Track) → IsSound g → opened_in g ≤ day → day ≤ last_request_day → HasRow day s new → AreAmid g day (posts_of g day) s k → ArePosted g day new k
 posted-of g day s new k sound o l n h =
     let long = each-length (λ t x. with_accrual_at (accrual_rate day t) (owed_on s.segments.balances t) x) s.rates.segments s.accruals.items in
     let same = ap length n.accruals in

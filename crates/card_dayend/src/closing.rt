@@ -1,5 +1,6 @@
 // The closing of a cycle, and the days that close none.
 ghost use Rattle.std.specs.Prelude.{◌≡◌, ◌+◌, ◌<◌, ◌≤◌, ◌==◌, ℕ, OnOk, Some, map, pos, ◌≤ℤ◌, option_copied};
+ghost use Rattle.card_days.specs.Range.{last_request_day, last_calendar_day};
 ghost use Rattle.card_closing.specs.Closes.{IsOfBook};
 ghost use Rattle.card_closing.specs.Interest as interest;
 ghost use Rattle.card_days.specs.Billing as billing;
@@ -32,21 +33,13 @@ fn is_closing(anchor: &Anchor, day: Day) -> bool
     day.ymd().2 == anchor.close_day
 }
 
-// The day after a day.
-fn day_after(day: Day) -> Day
-    requires { day < 48_576 }
-    ensures { result ≡ day + 1 }
-{
-    Day::from_number(day.number() + 1).unwrap()
-}
-
 // The first day of the cycle that follows the last closed one.
 fn first_day(inputs: &Inputs, last: Option<&Cycle>) -> Day
-    requires { (c : Cycle) → option_copied last ≡ Some c → c.closing < 48_576 }
+    requires { (c : Cycle) → option_copied last ≡ Some c → c.closing < last_calendar_day }
     ensures { result ≡ model.first_of (account_in inputs.now) (option_copied last.entry) }
 {
     match last {
-        Some(cycle) => day_after(cycle.closing),
+        Some(cycle) => cycle.closing.next(),
         None => inputs.anchor().opened,
     }
 }
@@ -54,7 +47,7 @@ fn first_day(inputs: &Inputs, last: Option<&Cycle>) -> Day
 // The due date of a cycle that closes on a day.
 fn due_date(anchor: &Anchor, number: u32, day: Day) -> Day
     requires closing { IsClosing anchor.now number day }
-    requires last { day ≤ 47_481 }
+    requires last { day ≤ last_request_day }
     ensures { result ≡ billing.due_after anchor.now.close_day day }
 {
     due(*anchor, number).unwrap()
@@ -63,7 +56,7 @@ fn due_date(anchor: &Anchor, number: u32, day: Day) -> Day
 // The closing after it.
 fn next_closing(anchor: &Anchor, number: u32, day: Day) -> Day
     requires closing { IsClosing anchor.now number day }
-    requires last { day ≤ 47_481 }
+    requires last { day ≤ last_request_day }
     ensures { result ≡ billing.next_on anchor.now.close_day (day + 1) }
 {
     closing(*anchor, number + 1).unwrap()
@@ -91,7 +84,7 @@ fn closed_at(cycles: &[Cycle], number: usize) -> Option<&Cycle>
 
 // It as its due date sees it.
 fn due_at(inputs: &Inputs, day: Day, cycles: &[Cycle], number: usize) -> Option<DueCycle>
-    requires last { day ≤ 47_481 }
+    requires last { day ≤ last_request_day }
     requires days { AreOfTheCalendar (anchor_of inputs.now.history) cycles.now }
     requires due { AreDueBy day cycles.now }
     ensures { result ≡ due_cycle_at (seen_in inputs.now day) number cycles.now }
@@ -104,7 +97,7 @@ fn due_at(inputs: &Inputs, day: Day, cycles: &[Cycle], number: usize) -> Option<
 
 // How purchases bear interest in the cycle, by the last two closed ones.
 fn purchases(inputs: &Inputs, day: Day, cycles: &[Cycle]) -> GraceCase
-    requires last { day ≤ 47_481 }
+    requires last { day ≤ last_request_day }
     requires days { AreOfTheCalendar (anchor_of inputs.now.history) cycles.now }
     requires due { AreDueBy day cycles.now }
     requires cycles { cycles.now ≡ (posted inputs.now day).cycles }
@@ -120,7 +113,7 @@ fn purchases(inputs: &Inputs, day: Day, cycles: &[Cycle]) -> GraceCase
 // What is left of a minimum payment at the closing after its own.
 fn left_of(inputs: &Inputs, day: Day, number: u32, cycle: &Cycle) -> Cents
     requires opened { opened_in inputs.now ≤ day }
-    requires last_day { day ≤ 47_481 }
+    requires last_day { day ≤ last_request_day }
     requires closing { IsClosingOf inputs.now number day }
     requires last { last_cycle (posted inputs.now day).cycles ≡ Some cycle.now }
     ensures { result ≡ pos (payments.past_due (seen_in inputs.now day) day (Some cycle.now)) }
@@ -133,7 +126,7 @@ fn left_of(inputs: &Inputs, day: Day, number: u32, cycle: &Cycle) -> Cents
 // What is left of the last minimum payment, 0 at the first closing.
 fn left_at(inputs: &Inputs, day: Day, number: u32, last: Option<&Cycle>) -> Cents
     requires opened { opened_in inputs.now ≤ day }
-    requires last_day { day ≤ 47_481 }
+    requires last_day { day ≤ last_request_day }
     requires closing { IsClosingOf inputs.now number day }
     requires last { option_copied last ≡ last_cycle (posted inputs.now day).cycles }
     ensures { result ≡ pos (payments.past_due (seen_in inputs.now day) day (last_cycle (posted inputs.now day).cycles)) }
@@ -147,7 +140,7 @@ fn left_at(inputs: &Inputs, day: Day, number: u32, last: Option<&Cycle>) -> Cent
 // The closing of the present cycle.
 fn closing_on(inputs: &Inputs, day: Day, cycles: &[Cycle]) -> Closing
     requires opened { opened_in inputs.now ≤ day }
-    requires last { day ≤ 47_481 }
+    requires last { day ≤ last_request_day }
     requires closes { day_of_month day ≡ (anchor_of inputs.now.history).close_day }
     requires cycles { cycles.now ≡ (posted inputs.now day).cycles }
     ensures of_book { IsOfBook result (account_in inputs.now) (seen_in inputs.now day) (posted inputs.now day) }
@@ -208,7 +201,7 @@ fn close_cycle(
     track: &mut Track,
 ) -> Result<(), NoMemory>
     requires opened { opened_in inputs.now ≤ day }
-    requires last { day ≤ 47_481 }
+    requires last { day ≤ last_request_day }
     requires closes { day_of_month day ≡ (anchor_of inputs.now.history).close_day }
     requires posted { ArePosted inputs.now day state.old track.old }
     ensures closed { OnOk result (AreBefore inputs.now (day + 1) state.new track.new) }
@@ -229,7 +222,7 @@ fn close_cycle(
         &mut track.entries,
     )?;
     track.cycles.push(cycle)?;
-    begin_all(alloc, &mut state.rows, day_after(day));
+    begin_all(alloc, &mut state.rows, day.next());
     Ok(())
 }
 
@@ -245,7 +238,7 @@ pub fn close_day(
     track: &mut Track,
 ) -> Result<(), NoMemory>
     requires opened { opened_in inputs.now ≤ day }
-    requires last { day ≤ 47_481 }
+    requires last { day ≤ last_request_day }
     requires posted { ArePosted inputs.now day state.old track.old }
     ensures closed { OnOk result (AreBefore inputs.now (day + 1) state.new track.new) }
     ensures begins { Begins track.old track.new }

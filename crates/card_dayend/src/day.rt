@@ -1,5 +1,6 @@
 // A day of an account.
 ghost use Rattle.std.specs.Prelude.{◌≡◌, ◌+◌, ◌≤◌, OnOk};
+ghost use Rattle.card_days.specs.Range.{last_request_day};
 ghost use Rattle.card_daily.specs.Given.{opened_in};
 ghost use Rattle.card_daily.specs.Stands.{AreBefore, Begins};
 
@@ -20,7 +21,7 @@ pub fn next_day(
     track: &mut Track,
 ) -> Result<(), NoMemory>
     requires opened { opened_in inputs.now ≤ day }
-    requires last { day ≤ 47_481 }
+    requires last { day ≤ last_request_day }
     requires before { AreBefore inputs.now day state.old track.old }
     ensures folded { OnOk result (AreBefore inputs.now (day + 1) state.new track.new) }
     ensures begins { Begins track.old track.new }

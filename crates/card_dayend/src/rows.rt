@@ -1,4 +1,6 @@
 ghost use Rattle.std.specs.Prelude.{◌≡◌, ℕ, ◌+◌, ◌-◌, ◌<◌, ◌≤◌, ◌^◌, length, pos, slice_index_or, OnOk};
+ghost use Rattle.card_model.specs.Limits.{balance_limit};
+ghost use Rattle.card_days.specs.Range.{last_request_day};
 ghost use Rattle.std.specs.List.{All, Contains};
 ghost use Rattle.card_effects.specs.Standing.{AreRated};
 ghost use Rattle.card_grace.specs.Accruals.{Accrued};
@@ -31,7 +33,7 @@ fn no_rate() -> Bp
 fn owed_on(segments: &Segments, id: u8) -> u64
     requires billed { 2 ≤ id }
     requires known { id < length segments.now.balances }
-    requires small { AreWithin 1_000_000_000_000_000 segments.now.balances }
+    requires small { AreWithin balance_limit segments.now.balances }
     ensures value { result ≡ at_least_zero (slice_index_or segments.now.balances id (pos 0)) }
     ensures bound { result ≤ 10 ^ 15 }
 {
@@ -75,7 +77,7 @@ fn add_rows(
 ) -> Result<(), NoMemory>
     requires rated { AreRated segments.now.segments rates.now }
     requires equal { length rows.old.items ≡ length rates.now.segments }
-    requires small { AreWithin 1_000_000_000_000_000 segments.now.balances }
+    requires small { AreWithin balance_limit segments.now.balances }
     requires few { All (λ (r : Rows). length r.days < 31) rows.old.items }
     ensures { OnOk result (rows.new.items ≡ with_rows rates.now segments.now.balances day rows.old.items) }
 {
@@ -102,7 +104,7 @@ fn accrue(accrual: &mut Accrual, owed: u64, rate: Option<Bp>)
 fn accrue_all(accruals: &mut Vec<Accrual>, segments: &Segments, rates: &RateBook, day: Day)
     requires rated { AreRated segments.now.segments rates.now }
     requires equal { length accruals.old.items ≡ length rates.now.segments }
-    requires small { AreWithin 1_000_000_000_000_000 segments.now.balances }
+    requires small { AreWithin balance_limit segments.now.balances }
     requires few { All (λ (a : Accrued). a.days < 40_000) accruals.old.items }
     ensures accruals { accruals.new.items ≡ with_accruals rates.now segments.now.balances day accruals.old.items }
     ensures balances { length segments.now.balances ≡ length rates.now.segments + 2 }
@@ -119,7 +121,7 @@ fn accrue_all(accruals: &mut Vec<Accrual>, segments: &Segments, rates: &RateBook
 /// end of the day, in cents, with its rate in basis points (12 CFR 1026.14(b)), which is kept as 0 where nothing is owed.
 /// A deferred plan in its period accrues the day (12 CFR 1026.7(b)(14)). After want of memory the rows are of no use.
 pub fn row_day(day: Day, state: &mut State) -> Result<(), NoMemory>
-    requires last { day ≤ 47_481 }
+    requires last { day ≤ last_request_day }
     requires amid { AwaitsRows day state.old }
     ensures posted { OnOk result ((g : Given) (t : Track) → IsSound g → opened_in g ≤ day → AreAmid g day (posts_of g day) state.old t → ArePosted g day state.new t) }
 {

@@ -13,6 +13,7 @@ use Rattle.card_account.specs.Runs.{AreRunning, IsTaken}
 use Rattle.card_account.proofs.Runs.{runs_may_be_folded}
 use Rattle.card_days.specs.Business.{AgreeUpTo, with_holiday}
 use Rattle.card_days.proofs.Agree.{with_holiday-agrees}
+use Rattle.card_days.specs.Range.{first_calendar_day}
 use Rattle.card_desk.proofs.DeskLemmas.{read_at, verdict_at}
 use Rattle.card_reasons.proofs.SameReasons.{AreAlike, same_reason}
 use Rattle.card_desk.specs.Desks.{AreCorrected, IsDesk, IsRun, named_all, now_of, state_of}
@@ -40,10 +41,10 @@ use Rattle.card_posts.proofs.Holidays.{same-corrected}
 use Rattle.card_rows.specs.Held.{are_terms, is_day, is_number, is_place, is_post, is_request, is_shared}
 
 -- ---- requests that are taken
-day_parts : (day : ℕ) → is_day day ≡ true → (14975 ≤ day) × (is_request_day day ≡ true)
-day_parts day is = let parts = and_parts (nat_le 14975 day) (is_request_day day) is in (leb-true 14975 day parts.0, parts.1)
+day_parts : (day : ℕ) → is_day day ≡ true → (first_calendar_day ≤ day) × (is_request_day day ≡ true)
+day_parts day is = let parts = and_parts (nat_le first_calendar_day day) (is_request_day day) is in (leb-true first_calendar_day day parts.0, parts.1)
 
-post_days : (p : Post) → is_post p ≡ true → (is_dated_post p ≡ true) × (opens p ≡ true → 14975 ≤ opening_in p)
+post_days : (p : Post) → is_post p ≡ true → (is_dated_post p ≡ true) × (opens p ≡ true → first_calendar_day ≤ opening_in p)
 unfolding is_post is_dated_post
 post_days (post.Open d t) is = let day = day_parts d (and_parts (is_day d) (are_terms t) is).0 in (day.1, λ _. day.0)
 post_days (post.Charge d p c) is = ((day_parts d (and_parts (is_day d) (is_place p && is_number c) is).0).1, λ e. absurd (cc))

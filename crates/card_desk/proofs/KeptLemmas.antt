@@ -7,6 +7,8 @@ use Rattle.std.proofs.lemmas.List.Elements.{All-get_or, All-nil, All-push, All-s
 use Rattle.std.proofs.lemmas.List.Folds.{list_all-append}
 use Rattle.std.specs.List.{filter_map, list_all}
 use Rattle.std.specs.Prelude.{nat_le, nat_lt, ◌&&◌}
+use Rattle.card_days.specs.Range.{last_request_day, first_calendar_day}
+use Rattle.card_events.specs.Limits.{post_limit}
 use Rattle.card_reasons.proofs.ReasonLemmas.{none_head, where_none}
 use Rattle.card_events.specs.declared.reply.Refusal.TheVariants as refusal
 use Rattle.card_account.specs.Accounts.{IsCorrected, OpenAccount}
@@ -94,9 +96,9 @@ pub more_fees : (fees : List FeeRow) (rows : List Shared) (day first repeat : �
 more_fees fees rows day first repeat same = ap (λ (l : List FeeRow). l ++ record { day = day; first = first; repeat = repeat } ∷ []) same ∙ sym (fees_more rows (shared.FeeRow day first repeat))
 
 -- ---- a shared request
-rolled_by : (today : ℕ) (r : Shared) → is_shared r ≡ true → today ≤ 47481 → rolled today r ≤ 47481
+rolled_by : (today : ℕ) (r : Shared) → is_shared r ≡ true → today ≤ last_request_day → rolled today r ≤ last_request_day
 unfolding is_dated_shared
-rolled_by today (shared.Roll day) held last = leb-true day 47481 (shared_day (shared.Roll day) held)
+rolled_by today (shared.Roll day) held last = leb-true day last_request_day (shared_day (shared.Roll day) held)
 rolled_by today (shared.Holiday day) held last = last
 rolled_by today (shared.FeeRow day first repeat) held last = last
 
@@ -185,7 +187,7 @@ posted_is s name key p i a d place named accepts =
 pub posted_desk : (places : List (List ℕ × ℕ)) (common : SharedRows) (count today : ℕ) (rows : List Shared) (accounts : List OpenAccount) (i : ℕ) (a d : OpenAccount) (name key : List ℕ) (p : Post)
     → IsDesk places common count today rows accounts → is_request (request.Post name key p) ≡ true → IsPlace name (named_all accounts) i → i < length accounts
     → a.named.name ≡ (get_or accounts i d).named.name → outcome_in (state_of today rows accounts) name key p ≡ Accepts a.named.lists
-    → length a.named.lists.posts ≡ length (get_or accounts i d).named.lists.posts + 1 → length a.named.lists.posts ≤ 10000 → IsCorrected common.holidays a
+    → length a.named.lists.posts ≡ length (get_or accounts i d).named.lists.posts + 1 → length a.named.lists.posts ≤ post_limit → IsCorrected common.holidays a
     → IsDesk places common (count + 1) today rows (set accounts i a)
 posted_desk places common count today rows accounts i a d name key p desk taken place low named accepts longer few stands =
     let s = state_of today rows accounts in
@@ -231,7 +233,7 @@ roomy_desk places common count today rows accounts i a b desk low is named liste
     })
 
 -- a new desk
-pub first_desk : IsDesk [] (record { holidays = []; fees = [] }) 0 14975 [] []
+pub first_desk : IsDesk [] (record { holidays = []; fees = [] }) 0 first_calendar_day [] []
 unfolding place_of place_from posts_in run_from
 first_desk = record {
   index = λ name. refl;

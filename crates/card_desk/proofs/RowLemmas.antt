@@ -2,6 +2,7 @@
 use Rattle.std.proofs.Common.{◌≡◌, ℕ, zero, suc, ◌≤◌, ◌<◌, ◌∷◌, [], length, get_or, arith, Bool, true, false, List, Option, Some, Result, Ok, Err, IfOk, ap, sym, ◌∙◌}
 use Rattle.std.specs.Prelude.{slice_get}
 use Rattle.std.proofs.lemmas.Bool.{leb-true}
+use Rattle.card_days.specs.Range.{last_request_day}
 use Rattle.card_events.specs.Dated.{is_dated, is_dated_shared}
 use Rattle.card_events.specs.declared.request.Request.{Request}
 use Rattle.card_events.specs.declared.request.Request.TheVariants as request
@@ -43,12 +44,12 @@ pub fits_result : {E : Type 0} (old new : Option (List Row)) (given : List Row) 
 fits_result old new given (Ok d) kept told gives is = fits_told old new given d.state kept told gives is
 fits_result old new given (Err e) kept told gives is = tt
 
-dated_holiday : (day : ℕ) → is_dated (request.Shared (shared.Holiday day)) ≡ true → day ≤ 47481
+dated_holiday : (day : ℕ) → is_dated (request.Shared (shared.Holiday day)) ≡ true → day ≤ last_request_day
 unfolding is_dated is_dated_shared
 dated_holiday day is = leb-true _ _ is
 
 -- the day of a Holiday is a day of requests
-pub holiday_day : (day : ℕ) (r : Request) → r ≡ request.Shared (shared.Holiday day) → is_dated r ≡ true → day ≤ 47481
+pub holiday_day : (day : ℕ) (r : Request) → r ≡ request.Shared (shared.Holiday day) → is_dated r ≡ true → day ≤ last_request_day
 holiday_day day r is dated = dated_holiday day (ap is_dated (sym is) ∙ dated)
 
 -- the row that a Damaged tells

@@ -4,6 +4,7 @@ use Rattle.std.specs.List.{list_all}
 use Rattle.card_desk.specs.declared.fault.Fault.{Fault}
 use Rattle.card_desk.specs.declared.fault.Fault.TheVariants as fault
 use Rattle.card_events.specs.Dated.{is_dated}
+use Rattle.card_events.specs.Limits.{post_limit}
 use Rattle.card_events.specs.declared.reply.Reply.{Reply}
 use Rattle.card_events.specs.declared.request.Request.{Request}
 use Rattle.card_keeper.specs.Rows.{AddsRows, KeepsRows, SameRowsTold}
@@ -20,7 +21,7 @@ pub record Steps (rows_old rows_new : Option (List Row)) (s : State) (r : Reques
 
 -- no account has more than 10,000 posts
 abbrev pub are_short : List NamedAccount → Bool
-are_short accounts = list_all (λ a. nat_le (length a.lists.posts) 10_000) accounts
+are_short accounts = list_all (λ a. nat_le (length a.lists.posts) post_limit) accounts
 
 -- a request of days that are requests' may be carried out over rows that go on from the state
 pub record IsAsked (rows : Option (List Row)) (s : State) (r : Request) : Type 0 where

@@ -3,6 +3,7 @@ use Rattle.std.specs.Prelude.{◌≡◌, ◌≤◌, ℕ, true, map, length, slic
 use Rattle.std.specs.List.{All, list_all}
 use Rattle.card_account.specs.Accounts.{IsCorrected, OpenAccount}
 use Rattle.card_days.specs.Business.{is_holiday}
+use Rattle.card_days.specs.Range.{last_request_day}
 use Rattle.card_rows.specs.Held.{is_request}
 use Rattle.card_desk.specs.Applied.{are_short}
 use Rattle.card_desk.specs.Kept.{accepted_count}
@@ -52,7 +53,7 @@ pub record IsDesk (places : List (List ℕ × ℕ)) (common : SharedRows) (count
   pub index : IsIndex places (named_all accounts)
   pub few : length accounts ≤ 1_000_000
   pub short : are_short (named_all accounts) ≡ true
-  pub dated : today ≤ 47_481
+  pub dated : today ≤ last_request_day
   pub holidays : AreSameHolidays common.holidays (shared_rows rows).holidays
   pub table : common.fees ≡ (shared_rows rows).fees
   pub corrected : AreCorrected common.holidays accounts

@@ -1,5 +1,6 @@
 // All accounts.
 ghost use Rattle.std.specs.Prelude.{◌≡◌, ◌<◌, ◌≤◌, ◌++◌, [], ◌∷◌, IfOk, vec_len, vec_capacity};
+ghost use Rattle.card_days.specs.Range.{first_calendar_day};
 ghost use Rattle.card_account.specs.Accounts.{OpenAccount};
 ghost use Rattle.card_desk.specs.Views.{stated};
 ghost use Rattle.card_desk.specs.Kept as spec;
@@ -516,7 +517,7 @@ fn push_account(list: &mut Vec<Account>, account: Account)
 
 // A new desk stands at 2011-01-01.
 fn first_day() -> Day
-    ensures { result ≡ 14_975 }
+    ensures { result ≡ first_calendar_day }
 {
     match Day::from_number(14_975) {
         Some(day) => day,

@@ -27,6 +27,7 @@ impl Model for SharedRows {
 
 impl SharedRows {
     ghost use Rattle.std.specs.Prelude.{◌≡◌, ◌≤◌, ◌++◌, [], ◌∷◌, IfOk};
+    ghost use Rattle.card_days.specs.Range.{last_request_day};
     ghost use Rattle.card_days.specs.Business.{with_holiday};
 
     /// No holiday, and no amounts. It takes no memory.
@@ -55,7 +56,7 @@ impl SharedRows {
 
     /// The same with one more holiday, which is at most 2099-12-31, in memory of their own.
     pub fn with_holiday(&self, alloc: Global, day: Day) -> Result<SharedRows, NoMemory>
-        requires { day ≤ 47_481 }
+        requires { day ≤ last_request_day }
         ensures { IfOk result (λ more. more ≡ record self.now { holidays = with_holiday day self.now.holidays }) }
     {
         let mut calendar = copy_of(alloc, &self.calendar)?;

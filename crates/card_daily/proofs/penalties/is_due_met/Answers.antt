@@ -1,5 +1,6 @@
 use Rattle.std.proofs.Common.{◌≤◌, sym, ap, ◌∙◌, arith, subst}
 use Rattle.card_days.specs.Billing.{due}
+use Rattle.card_days.specs.Range.{last_calendar_day}
 use Rattle.card_days.specs.declared.anchor.Anchor.{Anchor}
 use Rattle.card_due.specs.declared.due_cycle.DueCycle.{DueCycle}
 use Rattle.card_events.specs.History.{anchor_of, corrected}
@@ -16,8 +17,8 @@ pub is_met-requires-clause-in_calendar : goal.is_met-requires-clause-in_calendar
 is_met-requires-clause-in_calendar c =
     let h = c.requires.due in
     let by = h.due in
-    subst (λ (x : DueCycle). due c.anchor-anchor.result x.cycle ≤ 48576) (sym c.due_cycle-due.ensures)
-    (subst (λ (a : Anchor). due a c.args.cycle.now.number ≤ 48576) (sym c.anchor-anchor.ensures.value) (subst (λ n. n ≤ 48576) h.days.due (omega (arith, by, c.requires.last))))
+    subst (λ (x : DueCycle). due c.anchor-anchor.result x.cycle ≤ last_calendar_day) (sym c.due_cycle-due.ensures)
+    (subst (λ (a : Anchor). due a c.args.cycle.now.number ≤ last_calendar_day) (sym c.anchor-anchor.ensures.value) (subst (λ n. n ≤ last_calendar_day) h.days.due (omega (arith, by, c.requires.last))))
 
 pub returns : goal.returns
 returns c =

@@ -11,6 +11,7 @@ use Rattle.card_daily.specs.Penalties.{begun_on}
 use Rattle.card_daily.specs.Posts.{done_by, place_in}
 use Rattle.card_daily.specs.Stands.{amid, before}
 use Rattle.card_model.specs.Cycles.{Cycle}
+use Rattle.card_model.specs.Limits.{balance_limit}
 use Rattle.card_model.specs.declared.segment.Interval.{Interval}
 use Rattle.card_rates.specs.RateBooks.{Rates, with_penalties}
 use Rattle.card_daily.proofs.posts.enter.Goals as goal
@@ -172,7 +173,7 @@ pub enter_post-requires-clause-moved : goal.enter_post-requires-clause-moved
 enter_post-requires-clause-moved c =
     let g = c.args.inputs.now in
     let day = c.args.day in
-    subst (λ es. moved es ≤ 1_000_000_000_000_000) (sym c.requires.amid.stand.entries) (front-moves g day (c.args.place - place_in g day) c.anchor-anchor.ensures.sound c.requires.opened c.requires.last)
+    subst (λ es. moved es ≤ balance_limit) (sym c.requires.amid.stand.entries) (front-moves g day (c.args.place - place_in g day) c.anchor-anchor.ensures.sound c.requires.opened c.requires.last)
 
 pub enter_post-requires-clause-held : goal.enter_post-requires-clause-held
 enter_post-requires-clause-held c n gives =

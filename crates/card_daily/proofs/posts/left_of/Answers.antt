@@ -1,6 +1,7 @@
 use Rattle.std.proofs.Common.{◌≡◌, ℕ, ◌+◌, ◌-◌, ◌<◌, ◌≤◌, pos, sym, ap, ◌∙◌, arith, subst, refl, List, w64}
 use Rattle.std.proofs.lemmas.Int.{to_z-of_z}
 use Rattle.card_days.specs.Billing.{closing}
+use Rattle.card_days.specs.Range.{last_request_day}
 use Rattle.card_days.specs.declared.anchor.Anchor.{Anchor}
 use Rattle.card_due.proofs.Remainder.{left-fold}
 use Rattle.card_due.specs.Asked.{left_by}
@@ -17,7 +18,7 @@ from-one : (g : Given) (day : ℕ) → IsSound g → opened_in g ≤ day → 1 �
 from-one g day s l = let o = s.opening.first in omega arith
 
 -- the cycle closed before the day
-closed : (g : Given) (day : ℕ) (c : Cycle) → IsSound g → opened_in g ≤ day → day ≤ 47481 → IsLast g day c → closing (anchor_of g.history) c.number < day
+closed : (g : Given) (day : ℕ) (c : Cycle) → IsSound g → opened_in g ≤ day → day ≤ last_request_day → IsLast g day c → closing (anchor_of g.history) c.number < day
 closed g day c s o l is =
     let begun = begun-by (anchor_of g.history) day s.opening o l in
     let same : c.number + 1 - 1 ≡ c.number = omega arith in

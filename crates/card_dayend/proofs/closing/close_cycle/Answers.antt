@@ -67,6 +67,6 @@ returns-clause-closed c =
       rates = refl;
       segments = did.segments;
       sums = did.step.sums;
-      rows = c.begin_all.ensures ∙ ap (λ f. map (λ (r : Rows). no_rows f) s.rows.items) c.day_after.ensures;
+      rows = c.begin_all.ensures ∙ ap (λ f. map (λ (r : Rows). no_rows f) s.rows.items) c.next.ensures;
       accruals = refl;
     })

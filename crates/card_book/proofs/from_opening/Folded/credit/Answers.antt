@@ -4,12 +4,13 @@ use Rattle.std.proofs.Common.{◌∙◌, ap, sym, subst, pos, get_or}
 use Rattle.std.specs.Prelude.{neg_ℤ}
 use Rattle.card_book.specs.Stands.{FoldedBook}
 use Rattle.card_model.specs.Entries.{at_least_zero, credit_balance}
+use Rattle.card_model.specs.Limits.{balance_limit}
 use Rattle.card_segments.specs.Balances.{AreWithin, Balances}
 use Rattle.card_book.proofs.Balances.{each-any}
 use Rattle.card_book.proofs.from_opening.Folded.credit.Goals as goal
 
 pub credit_of-requires : goal.credit_of-requires
-credit_of-requires c = record { small = subst (λ (b : Balances). AreWithin 1_000_000_000_000_000 b.balances) (sym c.segments.ensures.kept) c.self.invariant.1 }
+credit_of-requires c = record { small = subst (λ (b : Balances). AreWithin balance_limit b.balances) (sym c.segments.ensures.kept) c.self.invariant.1 }
 
 pub returns : goal.returns
 returns c =

@@ -1,6 +1,7 @@
 use Rattle.std.proofs.Common.{◌≡◌, ℕ, true, ◌+◌, ◌<◌, ◌≤◌, List, length, get_or, set, refl, sym, ap, subst, ◌∙◌, arith}
 use Rattle.std.proofs.lemmas.List.{length-map, map-set}
 use Rattle.card_account.specs.Accounts.{MayBeFolded, OpenAccount, issued_as, present_of}
+use Rattle.card_events.specs.Limits.{post_limit}
 use Rattle.card_reasons.proofs.Accepted.{few}
 use Rattle.card_events.specs.declared.reply.Reply.TheVariants as reply
 use Rattle.card_events.specs.declared.request.Request.{Request}
@@ -80,7 +81,7 @@ invariant_of-self-2 g c =
     let more : length a.named.lists.posts ≡ length b.named.lists.posts + 1 = ap (λ (l : Lists). length l.posts) lists ∙ longer (present_of d.today d.common b.named.lists) key p in
     let read = read_at items c.args.self.now.state.accounts at b b.named c.index_mut-account.ensures.value (ap (λ (x : State). x.accounts) (state_by _ _ c.self.view_is)) c.requires.place.bound in
     let room = few (now_of c.args.self.now.state (get_or c.args.self.now.state.accounts at b.named).lists) p (c.requires.no_reason b.named) in
-    let short : length a.named.lists.posts ≤ 10000 = omega (arith, more, room, ap (λ (x : NamedAccount). length x.lists.posts) read) in
+    let short : length a.named.lists.posts ≤ post_limit = omega (arith, more, room, ap (λ (x : NamedAccount). length x.lists.posts) read) in
     let held = ap is_request (sym c.requires.request) ∙ c.in_ok-row.ensures.held in
     let taken : is_request (request.Post name key p) ≡ true = held in
     posted_desk d.index d.common d.count d.today d.shared.items items at a b name key p c.self.invariant taken place low named outcome
