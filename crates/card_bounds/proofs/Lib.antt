@@ -1,4 +1,6 @@
 pub mod Bounded
+pub mod CountDays
+pub mod Counts
 pub mod CycleInterest
 pub mod Dated
 pub mod Held

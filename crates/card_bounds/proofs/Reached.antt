@@ -1,11 +1,11 @@
 -- Entries of payments and merchants' credits, after each front of a day's posts.
-use Rattle.std.proofs.Common.{◌≡◌, ℕ, zero, suc, ◌+◌, ◌-◌, ◌<◌, ◌≤◌, Bool, true, false, cond, ◌&&◌, List, [], ◌∷◌, ◌++◌, refl, sym, ap, ◌∙◌, subst, arith, pos, negsuc, eqb, leb, Option, Some, None, get_or}
+use Rattle.std.proofs.Common.{◌≡◌, ℕ, zero, suc, ◌+◌, ◌-◌, ◌≤◌, Bool, true, false, cond, ◌&&◌, List, [], ◌∷◌, ◌++◌, refl, sym, ap, ◌∙◌, subst, arith, negsuc, eqb, leb, Option, Some, None, get_or}
 use Rattle.std.specs.List.{All, Contains, filter, filter_map, cons_option}
 use Rattle.std.specs.Prelude.{min}
-use Rattle.std.proofs.lemmas.Bool.{eqb-true, eq-eqb, ne_eqb}
+use Rattle.std.proofs.lemmas.Bool.{eqb-true, ne_eqb}
 use Rattle.std.proofs.lemmas.List.{append-nil}
 use Rattle.std.proofs.lemmas.List.Elements.{All-append, All-cons, All-contains_itself, All-filter, All-head, All-nil, All-tail, All-weaker, filter-append, filter_passes}
-use Rattle.card_bounds.specs.Reached.{AreReached, IsOfItsPost, PaymentsReach, Rise, sizes}
+use Rattle.card_bounds.specs.Reached.{IsOfItsPost, PaymentsReach, Rise, sizes}
 use Rattle.card_bounds.proofs.Owned.{Clean, paid_by}
 use Rattle.card_bounds.proofs.Owned.{sizes as owned_sizes}
 use Rattle.card_bounds.proofs.Steps.{Limits, Owned, effect-step, owned-after}
@@ -16,22 +16,21 @@ use Rattle.card_days.specs.declared.anchor.Anchor.{Anchor}
 use Rattle.card_events.specs.History.{CorrectedPost, anchor_of, corrected, folded, is_folded}
 use Rattle.card_events.specs.SharedRows.{SharedRows}
 use Rattle.card_events.specs.declared.kept.Kept.{Kept}
-use Rattle.card_events.specs.declared.post.Place.{Place}
 use Rattle.card_events.specs.declared.post.Post.{Post}
 use Rattle.card_events.specs.declared.post.Post.TheVariants as post
-use Rattle.card_model.proofs.EntryFacts.{Notes, all-debit, all-entry, all-holds, all-parts, all-releases}
+use Rattle.card_model.proofs.EntryFacts.{Notes, all-debit, all-holds, all-parts, all-releases}
 use Rattle.card_model.proofs.PartsSum.{Rises, holdings-ascend, segments-ascend}
 use Rattle.card_model.proofs.Sound.{payment-good}
 use Rattle.card_model.proofs.WholeParts.{paid_at-ascends}
 use Rattle.card_model.specs.Accepted.{HasFewCents, HasFewFees}
-use Rattle.card_model.specs.Allocation.{Ascends, Paying, allocated, excess_rule, minimum_rule, part_of, parts, pay, takes, untouched}
+use Rattle.card_model.specs.Allocation.{Ascends, Paying, excess_rule, minimum_rule, part_of, parts, pay, takes, untouched}
 use Rattle.card_model.specs.Books.{Account, Book, account_of, all_segments, present_cycle, with_fee}
 use Rattle.card_model.specs.Caps.{row_for}
 use Rattle.card_model.specs.Closing.{Posting, close, closing_interest, post_interest, post_one, posted_for}
 use Rattle.card_model.specs.Cycles.{Cycle, IssuedRow, Seen, last_cycle, post_at, posts_on, seen_on}
 use Rattle.card_model.specs.DueDates.{after_due_date, late_fee, on_due}
 use Rattle.card_model.specs.Effects.{after_posts, credit_parts, disputed_cents, disputed_charge, disputed_segment, effect, holdings, is_part_of, meant_for, moved_by, parts_entries, payment_at, payment_parts, put_back, returned, returned_fee, size}
-use Rattle.card_model.specs.Entries.{credit_balance, debit, entry_of, is_kind, lowers, negated}
+use Rattle.card_model.specs.Entries.{credit_balance, debit, is_kind}
 use Rattle.card_model.specs.Fees.{fee_cents}
 use Rattle.card_model.specs.Folds.{book_after, day_after}
 use Rattle.card_model.specs.Payments.{is_credit, minimum_left}
@@ -39,7 +38,6 @@ use Rattle.card_model.specs.Segments.{SegmentTerms, newest, segment_at}
 use Rattle.card_model.specs.declared.entry.Entry.{Entry}
 use Rattle.card_model.specs.declared.entry.EntryKind.{EntryKind}
 use Rattle.card_model.specs.declared.entry.EntryKind.TheVariants as kind
-use Rattle.card_model.specs.declared.entry.Note.{Note}
 use Rattle.card_model.specs.declared.fee.Fee.{Fee}
 use Rattle.card_model.specs.declared.holding.Holding.{Holding}
 use Rattle.card_model.specs.declared.segment.Sort.TheVariants as sort
@@ -54,7 +52,7 @@ no-part : (t : Bool) → (t && false) ≡ false
 no-part true = refl
 no-part false = refl
 
-none-of : (n : ℕ) (xs : List Entry) → All (λ (e : Entry). is_part_of n e ≡ false) xs → filter (is_part_of n) xs ≡ []
+pub none-of : (n : ℕ) (xs : List Entry) → All (λ (e : Entry). is_part_of n e ≡ false) xs → filter (is_part_of n) xs ≡ []
 none-of n [] h = refl
 none-of n (e ∷ xs) h =
     let here = All-head (λ (e : Entry). is_part_of n e ≡ false) e xs h in
@@ -62,7 +60,7 @@ none-of n (e ∷ xs) h =
     rw (here, rest) refl
 
 -- entries that are none of payment n leave its parts as they are
-kept-parts : (n : ℕ) (es xs : List Entry) → filter (is_part_of n) xs ≡ [] → filter (is_part_of n) (es ++ xs) ≡ filter (is_part_of n) es
+pub kept-parts : (n : ℕ) (es xs : List Entry) → filter (is_part_of n) xs ≡ [] → filter (is_part_of n) (es ++ xs) ≡ filter (is_part_of n) es
 kept-parts n es xs none = filter-append (is_part_of n) es xs ∙ (ap (λ ys. filter (is_part_of n) es ++ ys) none ∙ append-nil (filter (is_part_of n) es))
 
 -- entries of no payment and no credit
@@ -80,7 +78,7 @@ plain-each posts e h = record {
   credit = λ q. false-true (is_kind kind.Credit e.kind) h.no_credit q;
 }
 
-no-parts : (n : ℕ) (e : Entry) → is_kind kind.Payment e.kind ≡ false → is_part_of n e ≡ false
+pub no-parts : (n : ℕ) (e : Entry) → is_kind kind.Payment e.kind ≡ false → is_part_of n e ≡ false
 no-parts n e h = rw h (no-part (eqb e.post n))
 
 plain-added : (posts : List CorrectedPost) (es xs : List Entry) → Reaches posts es → All IsPlain xs → Reaches posts (es ++ xs)

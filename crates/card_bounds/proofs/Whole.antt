@@ -143,7 +143,7 @@ fold-folded rows acc a shared history issued (suc n) c f =
     next-folded (row_for (present_cycle b) rows) acc a shared history issued acc.anchor.opened n b c f (fold-folded rows acc a shared history issued n c f)
 
 -- ---- sizes
-filter-shorter : {X : Type 0} (p : X → Bool) (xs : List X) → length (filter p xs) ≤ length xs
+pub filter-shorter : {X : Type 0} (p : X → Bool) (xs : List X) → length (filter p xs) ≤ length xs
 filter-shorter p [] = omega arith
 filter-shorter p (x ∷ xs) = by (p x) (filter-shorter p xs)
   where
@@ -151,7 +151,7 @@ filter-shorter p (x ∷ xs) = by (p x) (filter-shorter p xs)
     by true h = omega arith
     by false h = omega arith
 
-slots-length : (a : Anchor) (holidays : List ℕ) (history : List Kept) (n id : ℕ) (ks : List Kept) → length (corrected_from a holidays history n id ks) ≡ length ks
+pub slots-length : (a : Anchor) (holidays : List ℕ) (history : List Kept) (n id : ℕ) (ks : List Kept) → length (corrected_from a holidays history n id ks) ≡ length ks
 unfolding corrected_from
 slots-length a holidays history n id [] = refl
 slots-length a holidays history n id (k ∷ ks) = ap suc (slots-length a holidays history (suc n) (next_segment id k.post) ks)

@@ -1,5 +1,6 @@
 //! Bounds from the limits on posts, cents, fees and days alone; on which segments and days entries lie.
 ghost use Rattle.card_bounds.specs.Bounds.{BalancesBounded, BalancesSmall, CyclesHaveTheirInterest, HeldIsNeverBelow, RatesSmall, RowsOfPastDays, RowsSmall, SmallAtEachStep, SumsSmall};
+ghost use Rattle.card_bounds.specs.Counts.{EntriesAreFew};
 ghost use Rattle.card_bounds.specs.Places.{CyclesBeginInTurn, EntriesHaveDays, EntriesHaveSegments};
 ghost use Rattle.card_bounds.specs.Reached.{PaymentsReach};
 
@@ -58,6 +59,12 @@ pub fn entries_have_segments()
 /// No entry is of a later day than its book.
 pub fn entries_have_days()
     ensures { EntriesHaveDays }
+{}
+
+/// An account of at most 64 segments has at most 64 entries for each post that was folded and for each closed cycle, and so
+/// for each of its posts and each day since the opening: at the end of a day, before it, and after a front of its posts.
+pub fn entries_are_few()
+    ensures { EntriesAreFew }
 {}
 
 /// The cycle that a book is in begins on the day after the last closing before the next day.
