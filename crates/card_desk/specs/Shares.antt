@@ -1,6 +1,7 @@
 -- What all accounts share after one request more.
 use Rattle.std.specs.Prelude.{◌≤◌, ◌++◌, [], ◌∷◌}
 use Rattle.card_days.specs.Business.{with_holiday}
+use Rattle.card_days.specs.Range.{last_request_day}
 use Rattle.card_events.specs.SharedRows.{SharedRows}
 use Rattle.card_events.specs.declared.request.Shared.{Shared}
 use Rattle.card_events.specs.declared.request.Shared.TheVariants as shared
@@ -14,5 +15,5 @@ loaded (shared.FeeRow day first repeat) rows = record rows { fees = rows.fees ++
 -- a holiday is at most 2099-12-31, and fees are at most 100,000 cents
 abbrev pub IsLoadable : Shared → Type 0
 IsLoadable (shared.Roll day) = Unit {0}
-IsLoadable (shared.Holiday day) = day ≤ 47_481
+IsLoadable (shared.Holiday day) = day ≤ last_request_day
 IsLoadable (shared.FeeRow day first repeat) = (first ≤ 100_000) × (repeat ≤ 100_000)
