@@ -1,5 +1,5 @@
 -- Which cycles the book of today has.
-use Rattle.std.specs.Prelude.{◌≡◌, ℕ, true, List, IsSomeAnd, is_some}
+use Rattle.std.specs.Prelude.{◌≡◌, ℕ, true, IsSomeAnd, is_some}
 use Rattle.card_account.specs.Accounts.{MayBeFolded, OpenAccount, is_closed, present_of, restated_statement}
 use Rattle.card_events.specs.History.{anchor_of}
 use Rattle.card_events.specs.SharedRows.{SharedRows}

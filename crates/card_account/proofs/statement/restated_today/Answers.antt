@@ -1,4 +1,4 @@
-use Rattle.std.proofs.Common.{◌≡◌, ℕ, true, false, IfOk, None, Option, List, sym, ap, subst, ◌∙◌}
+use Rattle.std.proofs.Common.{◌≡◌, ℕ, true, false, IfOk, None, Option, sym, ap, subst, ◌∙◌}
 use Rattle.std.specs.Prelude.{Bool, if◌then◌else◌, option_copied}
 use Rattle.std.specs.Option.{option_map}
 use Rattle.card_account.specs.Accounts.{is_closed, restated_as, restated_statement}

@@ -1,12 +1,10 @@
-use Rattle.std.proofs.Common.{List, sym, ap, ◌∙◌, subst, arith}
+use Rattle.std.proofs.Common.{sym, ap, ◌∙◌, subst, arith}
 use Rattle.std.specs.List.{All}
 use Rattle.card_book.specs.Stands.{FoldedBook}
 use Rattle.card_daily.proofs.Penalized.{all-closed}
-use Rattle.card_daily.specs.Given.{Given, given_today, seen_in}
+use Rattle.card_daily.specs.Given.{Given, given_today}
 use Rattle.card_daily.specs.Penalties.{IsClosed}
 use Rattle.card_model.specs.Books.{Book}
-use Rattle.card_model.specs.Cycles.{Cycle}
-use Rattle.card_model.specs.Payments.{sixty_days_late}
 use Rattle.card_model.specs.Refusals.{book_today}
 use Rattle.card_book.proofs.from_opening.Folded.late_today.Goals as goal
 
