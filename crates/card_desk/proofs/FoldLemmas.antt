@@ -16,7 +16,7 @@ use Rattle.card_days.proofs.Agree.{with_holiday-agrees}
 use Rattle.card_days.specs.Range.{first_calendar_day}
 use Rattle.card_desk.proofs.DeskLemmas.{read_at, verdict_at}
 use Rattle.card_reasons.proofs.SameReasons.{AreAlike, same_reason}
-use Rattle.card_desk.specs.Desks.{AreCorrected, IsDesk, IsRun, named_all, now_of, state_of}
+use Rattle.card_desk.specs.Desks.{AreCorrected, IsDesk, IsRun, named_all, now_at, now_of, state_of}
 use Rattle.card_events.specs.Dated.{is_dated, is_dated_post, is_dated_shared, is_request_day}
 use Rattle.card_events.specs.History.{CorrectedPost, anchor_of, at_number, corrected, is_folded, opening_in}
 use Rattle.card_events.specs.Keys.{with_key}
@@ -163,6 +163,23 @@ pub same_reason_at : (places : List (List ℕ × ℕ)) (common : SharedRows) (co
     → reason_against (present_of today common (get_or accounts i d).named.lists) p ≡ reason_against (now_of (state_of today rows accounts) (get_or accounts i d).named.lists) p
 same_reason_at places common count today rows accounts i d p desk low =
     same_reason today (get_or accounts i d).named.lists common (shared_rows rows) p (alike_at places common count today rows accounts i d desk low)
+
+-- the account that is read at a place
+pub folded_at : (places : List (List ℕ × ℕ)) (common : SharedRows) (count today : ℕ) (rows : List Shared) (accounts : List OpenAccount) (i : ℕ) (b : OpenAccount) (s : State)
+    → IsDesk places common count today rows accounts → state_of today rows accounts ≡ s → i < length s.accounts → b ≡ get_or accounts i b → MayBeFolded today common b
+folded_at places common count today rows accounts i b s desk state low is =
+    let here : i < length accounts = omega (arith, low, ap (λ (x : State). length x.accounts) state, length-map accounts (λ (x : OpenAccount). x.named)) in
+    subst (MayBeFolded today common) (sym is) (may_be_folded places common count today rows accounts i b desk here)
+
+pub none_at : (places : List (List ℕ × ℕ)) (common : SharedRows) (count today : ℕ) (rows : List Shared) (accounts : List OpenAccount) (i : ℕ) (b : OpenAccount) (s : State) (p : Post)
+    → IsDesk places common count today rows accounts → state_of today rows accounts ≡ s → i < length s.accounts → b ≡ get_or accounts i b → ((d : NamedAccount) → reason_against (now_at s i d) p ≡ None)
+    → reason_against (present_of today common b.named.lists) p ≡ None
+none_at places common count today rows accounts i b s p desk state low is none =
+    let here : i < length accounts = omega (arith, low, ap (λ (x : State). length x.accounts) state, length-map accounts (λ (x : OpenAccount). x.named)) in
+    let read = read_at accounts s.accounts i b b.named is (ap (λ (x : State). x.accounts) state) low in
+    subst (λ (x : OpenAccount). reason_against (present_of today common x.named.lists) p ≡ reason_against (now_of (state_of today rows accounts) x.named.lists) p) (sym is)
+    (same_reason_at places common count today rows accounts i b p desk here)
+    ∙ ap (λ (x : State). reason_against (now_of x b.named.lists) p) state ∙ ap (λ (x : NamedAccount). reason_against (now_of s x.lists) p) read ∙ none b.named
 
 -- and its verdict is one
 verdict_by : (a b : Present) (key : List ℕ) (p : Post) (k : Option ℕ) → a.lists ≡ b.lists → reason_against a p ≡ reason_against b p → verdict_of (at_key a key p k) ≡ verdict_of (at_key b key p k)

@@ -219,18 +219,20 @@ roomy_desk places common count today rows accounts i a b desk low is named liste
     let f : OpenAccount → NamedAccount = λ x. x.named in
     let all : named_all (set accounts i a) ≡ named_all accounts = map-set_same f accounts i a b (named ∙ ap f is) in
     let state : List NamedAccount → State = λ l. record { today = today; shared = rows; accounts = l } in
-    let stands : IsCorrected common.holidays b = subst (IsCorrected common.holidays) (sym is) (All-get_or (IsCorrected common.holidays) accounts i b low desk.corrected) in
-    (all, record {
-      index = subst (λ (l : List NamedAccount). IsIndex places l) (sym all) desk.index;
-      few = omega (arith, length-set accounts i a, desk.few);
-      short = ap are_short all ∙ desk.short;
-      dated = desk.dated;
-      holidays = desk.holidays;
-      table = desk.table;
-      corrected = All-set (IsCorrected common.holidays) accounts i a (listed ∙ stands ∙ ap (λ (x : NamedAccount). corrected (anchor_of x.lists.posts) common.holidays x.lists.posts) (sym named)) desk.corrected;
-      counted = desk.counted ∙ ap (λ (l : List NamedAccount). accepted_count (state l)) (sym all);
-      ran = subst (λ (l : List NamedAccount). IsRun (state l)) (sym all) desk.ran;
-    })
+    let stands : IsCorrected common.holidays b = subst (IsCorrected common.holidays) (sym is) (All-get_or (IsCorrected common.holidays) accounts i b low desk.corrected) in (
+      all,
+      record {
+        index = subst (λ (l : List NamedAccount). IsIndex places l) (sym all) desk.index;
+        few = omega (arith, length-set accounts i a, desk.few);
+        short = ap are_short all ∙ desk.short;
+        dated = desk.dated;
+        holidays = desk.holidays;
+        table = desk.table;
+        corrected = All-set (IsCorrected common.holidays) accounts i a (listed ∙ stands ∙ ap (λ (x : NamedAccount). corrected (anchor_of x.lists.posts) common.holidays x.lists.posts) (sym named)) desk.corrected;
+        counted = desk.counted ∙ ap (λ (l : List NamedAccount). accepted_count (state l)) (sym all);
+        ran = subst (λ (l : List NamedAccount). IsRun (state l)) (sym all) desk.ran;
+      },
+    )
 
 -- a new desk
 pub first_desk : IsDesk [] (record { holidays = []; fees = [] }) 0 first_calendar_day [] []

@@ -10,6 +10,7 @@ pub mod OutcomeLemmas
 pub mod PlaceLemmas
 pub mod RowLemmas
 pub mod RunLemmas
+pub mod ShareLemmas
 pub mod SoundLemmas
 pub mod StepLemmas
 pub mod WorkLemmas

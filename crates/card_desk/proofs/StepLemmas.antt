@@ -1,5 +1,5 @@
 -- One step of the machine, by what it comes to.
-use Rattle.std.proofs.Common.{◌≡◌, ℕ, ◌+◌, ◌≤◌, true, false, List, [], ◌∷◌, ◌++◌, length, Option, Some, None, refl, ap, sym, ◌∙◌, subst, append-nil, not, is_some, Ok, Err, arith}
+use Rattle.std.proofs.Common.{◌≡◌, ℕ, ◌+◌, true, false, List, [], ◌∷◌, ◌++◌, length, Option, Some, None, refl, ap, sym, ◌∙◌, subst, append-nil, not, is_some, Ok, arith}
 use Rattle.std.proofs.lemmas.Bool.{eq-eqb}
 use Rattle.card_events.specs.declared.post.Post.{Post}
 use Rattle.card_events.specs.declared.reply.Refusal.{Refusal}
@@ -8,14 +8,11 @@ use Rattle.card_events.specs.declared.reply.Reply.TheVariants as reply
 use Rattle.card_events.specs.declared.request.Request.{Request}
 use Rattle.card_events.specs.declared.request.Request.TheVariants as request
 use Rattle.card_events.specs.declared.request.Shared.{Shared}
-use Rattle.card_keeper.specs.Rows.{AddsRows, GoOn, KeepsRows, SameRowsTold, next_after, next_seq, are_from}
+use Rattle.card_keeper.specs.Rows.{AddsRows, GoOn, SameRowsTold, next_after, next_seq, are_from}
 use Rattle.card_keeper.specs.declared.row.Row.{Row}
 use Rattle.card_model.specs.Machine.{State, Outcome, Refuses, Repeats, Accepts, step, is_new, outcome_in, with_outcome, shared_reason, has_accounts, rolled, with_shared, with_lists, accepts}
 use Rattle.card_model.specs.Refusals.{Lists}
-use Rattle.card_ports.specs.Counts.{Rose}
 use Rattle.card_desk.specs.Applied.{Carried, Steps}
-use Rattle.card_desk.specs.declared.fault.Fault.{Fault}
-use Rattle.card_desk.specs.declared.fault.Fault.TheVariants as fault
 use Rattle.card_desk.specs.Kept.{new_rows, row_of, Fits, accepted_count}
 use Rattle.card_account.specs.Verdicts.{verdict_of}
 use Rattle.card_account.specs.declared.verdict.Verdict.TheVariants as verdict
@@ -131,23 +128,6 @@ answered rows faults s r a steps = record {
   memory = λ e. absurd (cc);
 }
 
-keeps_same : (rows : Option (List Row)) → KeepsRows rows rows
-keeps_same None = tt
-keeps_same (Some rows) = refl
-
--- memory was wanted before the row was kept
-pub wanted : (rows : Option (List Row)) (faults : ℕ) (s t : State) (r : Request) (why : Fault) → why ≡ fault.Memory → t ≡ s → Carried rows rows faults faults s r t (Err why)
-wanted rows faults s t r why is stays = record {
-  ok = tt;
-  err = stays;
-  rows_stay = keeps_same rows;
-  told = refl;
-  count = omega arith;
-  unfailed = tt;
-  cause = λ e. absurd (cc);
-  memory = λ e. refl;
-}
-
 -- its row was kept
 pub kept : (old new : Option (List Row)) (faults later : ℕ) (s t : State) (r : Request) (a : Reply) → SameRowsTold old new → later ≡ faults → Steps old new s r t a → Carried old new faults later s r t (Ok a)
 kept old new faults later s t r a told same steps = record {
@@ -159,18 +139,4 @@ kept old new faults later s t r a told same steps = record {
   unfailed = same;
   cause = λ e. absurd (cc);
   memory = λ e. absurd (cc);
-}
-
--- its row wasn't kept
-pub not_kept : (old new : Option (List Row)) (faults later : ℕ) (s t : State) (r : Request) (why : Fault) → t ≡ s → KeepsRows old new → SameRowsTold old new → faults ≤ later
-    → (why ≡ fault.Keeper → Rose faults later) → (why ≡ fault.Memory → later ≡ faults) → Carried old new faults later s r t (Err why)
-not_kept old new faults later s t r why stays rows told count cause memory = record {
-  ok = tt;
-  err = stays;
-  rows_stay = rows;
-  told = told;
-  count = count;
-  unfailed = tt;
-  cause = λ e. cause (cc);
-  memory = λ e. memory (cc);
 }

@@ -4,4 +4,5 @@ pub mod Desks
 pub mod Kept
 pub mod Loads
 pub mod Places
+pub mod Shares
 pub mod Views

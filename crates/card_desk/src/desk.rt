@@ -7,13 +7,14 @@ ghost use Rattle.card_desk.specs.Kept as spec;
 
 use crate::keep::keep_row;
 use crate::row::row_of;
+use crate::share::{load, loaded, rolled, shared_reason};
 use crate::{Ask, Fault, View};
 use card_account::{Account, Owing, Statement, Verdict, open_reason, work_today};
 use card_days::Day;
 use card_events::{Name, Num, Post, Refusal, Reply, Request, Shared};
 use card_index::NameIndex;
 use card_keeper::{Keeper, Row};
-use card_shared::{SharedRows, fees_reason, holiday_reason, roll_reason};
+use card_shared::SharedRows;
 use card_units::NoMemory;
 use std::alloc::Global;
 use std::marker::Model;
@@ -98,132 +99,31 @@ impl Desk {
         row_of(alloc, self.count + 1, request)
     }
 
-    // Keeps the row of a Roll, and rolls.
-    fn keep_roll<K: Keeper>(
+    // Keeps the row of a shared request against which there is no reason, and takes what it brings.
+    fn keep_shared<K: Keeper>(
         &mut self,
         alloc: Global,
         keeper: &mut K,
         request: &Request,
-        day: Day,
+        shared: &Shared,
     ) -> Result<Reply, Fault>
-        requires request { request.now ≡ Request.Shared (Shared.Roll day) }
+        requires request { request.now ≡ Request.Shared shared.now }
         requires asked { IsAsked (K.rows keeper.old) self.old.state request.now }
-        requires no_reason { shared_reason self.old.state.today (has_accounts self.old.state) (Shared.Roll day) ≡ None }
+        requires no_reason { shared_reason self.old.state.today (has_accounts self.old.state) shared.now ≡ None }
         ensures { Carried (K.rows keeper.old) (K.rows keeper.new) (K.faults keeper.old) (K.faults keeper.new) self.old.state request.now self.new.state result }
     {
         let row = self.next_row(alloc, request)?;
         self.shared.reserve(1)?;
+        let common = loaded(alloc, &self.common, shared)?;
         keep_row(alloc, keeper, row)?;
-        push_shared(&mut self.shared, Shared::Roll(day));
-        self.today = day;
+        push_shared(&mut self.shared, *shared);
+        self.today = rolled(self.today, shared);
+        load(&mut self.common, common);
         self.count += 1;
         Ok(Reply::Done)
     }
 
-    // Keeps the row of a Holiday, and loads it.
-    fn keep_holiday<K: Keeper>(
-        &mut self,
-        alloc: Global,
-        keeper: &mut K,
-        request: &Request,
-        day: Day,
-    ) -> Result<Reply, Fault>
-        requires request { request.now ≡ Request.Shared (Shared.Holiday day) }
-        requires asked { IsAsked (K.rows keeper.old) self.old.state request.now }
-        requires no_reason { shared_reason self.old.state.today (has_accounts self.old.state) (Shared.Holiday day) ≡ None }
-        ensures { Carried (K.rows keeper.old) (K.rows keeper.new) (K.faults keeper.old) (K.faults keeper.new) self.old.state request.now self.new.state result }
-    {
-        let row = self.next_row(alloc, request)?;
-        self.shared.reserve(1)?;
-        let common = self.common.with_holiday(alloc, day)?;
-        keep_row(alloc, keeper, row)?;
-        push_shared(&mut self.shared, Shared::Holiday(day));
-        self.common = common;
-        self.count += 1;
-        Ok(Reply::Done)
-    }
-
-    // Keeps the row of a fee row, and adds it to the table.
-    fn keep_fees<K: Keeper>(
-        &mut self,
-        alloc: Global,
-        keeper: &mut K,
-        request: &Request,
-        day: Day,
-        first: Num,
-        repeat: Num,
-    ) -> Result<Reply, Fault>
-        requires request { request.now ≡ Request.Shared (Shared.FeeRow day first repeat) }
-        requires asked { IsAsked (K.rows keeper.old) self.old.state request.now }
-        requires no_reason { shared_reason self.old.state.today (has_accounts self.old.state) (Shared.FeeRow day first repeat) ≡ None }
-        ensures { Carried (K.rows keeper.old) (K.rows keeper.new) (K.faults keeper.old) (K.faults keeper.new) self.old.state request.now self.new.state result }
-    {
-        let row = self.next_row(alloc, request)?;
-        self.shared.reserve(1)?;
-        let common = self.common.with_fees(alloc, day, first, repeat)?;
-        keep_row(alloc, keeper, row)?;
-        push_shared(&mut self.shared, Shared::FeeRow { day, first, repeat });
-        self.common = common;
-        self.count += 1;
-        Ok(Reply::Done)
-    }
-
-    // A Roll.
-    fn roll<K: Keeper>(
-        &mut self,
-        alloc: Global,
-        keeper: &mut K,
-        request: &Request,
-        day: Day,
-    ) -> Result<Reply, Fault>
-        requires request { request.now ≡ Request.Shared (Shared.Roll day) }
-        requires asked { IsAsked (K.rows keeper.old) self.old.state request.now }
-        ensures { Carried (K.rows keeper.old) (K.rows keeper.new) (K.faults keeper.old) (K.faults keeper.new) self.old.state request.now self.new.state result }
-    {
-        match roll_reason(self.today, self.accounts.len(), day) {
-            Some(refusal) => Ok(Reply::Refused(refusal)),
-            None => self.keep_roll(alloc, keeper, request, day),
-        }
-    }
-
-    // A Holiday.
-    fn holiday<K: Keeper>(
-        &mut self,
-        alloc: Global,
-        keeper: &mut K,
-        request: &Request,
-        day: Day,
-    ) -> Result<Reply, Fault>
-        requires request { request.now ≡ Request.Shared (Shared.Holiday day) }
-        requires asked { IsAsked (K.rows keeper.old) self.old.state request.now }
-        ensures { Carried (K.rows keeper.old) (K.rows keeper.new) (K.faults keeper.old) (K.faults keeper.new) self.old.state request.now self.new.state result }
-    {
-        match holiday_reason(self.today, day) {
-            Some(refusal) => Ok(Reply::Refused(refusal)),
-            None => self.keep_holiday(alloc, keeper, request, day),
-        }
-    }
-
-    // A fee row.
-    fn fee_row<K: Keeper>(
-        &mut self,
-        alloc: Global,
-        keeper: &mut K,
-        request: &Request,
-        day: Day,
-        first: Num,
-        repeat: Num,
-    ) -> Result<Reply, Fault>
-        requires request { request.now ≡ Request.Shared (Shared.FeeRow day first repeat) }
-        requires asked { IsAsked (K.rows keeper.old) self.old.state request.now }
-        ensures { Carried (K.rows keeper.old) (K.rows keeper.new) (K.faults keeper.old) (K.faults keeper.new) self.old.state request.now self.new.state result }
-    {
-        match fees_reason(self.today, day, first, repeat) {
-            Some(refusal) => Ok(Reply::Refused(refusal)),
-            None => self.keep_fees(alloc, keeper, request, day, first, repeat),
-        }
-    }
-
+    // A request that all accounts share.
     fn share<K: Keeper>(
         &mut self,
         alloc: Global,
@@ -235,12 +135,9 @@ impl Desk {
         requires asked { IsAsked (K.rows keeper.old) self.old.state request.now }
         ensures { Carried (K.rows keeper.old) (K.rows keeper.new) (K.faults keeper.old) (K.faults keeper.new) self.old.state request.now self.new.state result }
     {
-        match shared {
-            Shared::Roll(day) => self.roll(alloc, keeper, request, *day),
-            Shared::Holiday(day) => self.holiday(alloc, keeper, request, *day),
-            Shared::FeeRow { day, first, repeat } => {
-                self.fee_row(alloc, keeper, request, *day, *first, *repeat)
-            }
+        match shared_reason(self.today, self.accounts.len(), shared) {
+            Some(refusal) => Ok(Reply::Refused(refusal)),
+            None => self.keep_shared(alloc, keeper, request, shared),
         }
     }
 

@@ -7,6 +7,7 @@ mod keep;
 pub mod laws;
 mod load;
 mod row;
+mod share;
 mod view;
 
 pub use card_account::{Statement, Task, TaskKind, Tasks};

@@ -1,6 +1,4 @@
 // What accounts read of the accepted shared requests.
-ghost use Rattle.std.specs.Prelude.{◌≡◌, ◌≤◌, IfOk};
-ghost use Rattle.card_days.specs.Business.{with_holiday};
 
 use card_days::{Calendar, Day};
 use card_events::Num;
@@ -59,14 +57,12 @@ impl SharedRows {
         requires { day ≤ last_request_day }
         ensures { IfOk result (λ more. more ≡ record self.now { holidays = with_holiday day self.now.holidays }) }
     {
-        let mut calendar = copy_of(alloc, &self.calendar)?;
-        match calendar.add(day) {
-            Ok(()) => Ok(SharedRows {
-                calendar,
-                fees: self.fees.copy(alloc)?,
-            }),
-            Err(_) => Err(NoMemory),
-        }
+        let mut calendar = self.calendar.copy(alloc)?;
+        calendar.add(day)?;
+        Ok(SharedRows {
+            calendar,
+            fees: self.fees.copy(alloc)?,
+        })
     }
 
     /// The same with one more fee row, in memory of their own: the first and the repeat amount from a day on, each at most
@@ -85,18 +81,8 @@ impl SharedRows {
         let mut fees = self.fees.copy(alloc)?;
         fees.add(day, first.get() as i64, repeat.get() as i64)?;
         Ok(SharedRows {
-            calendar: copy_of(alloc, &self.calendar)?,
+            calendar: self.calendar.copy(alloc)?,
             fees,
         })
-    }
-}
-
-// The same holidays in memory of their own.
-fn copy_of(alloc: Global, calendar: &Calendar) -> Result<Calendar, NoMemory>
-    ensures { IfOk result (λ copy. copy ≡ calendar.now) }
-{
-    match calendar.copy(alloc) {
-        Ok(copy) => Ok(copy),
-        Err(_) => Err(NoMemory),
     }
 }

@@ -1,6 +1,6 @@
-use Rattle.std.proofs.Common.{◌≡◌, ℕ, true, ◌+◌, ◌<◌, ◌≤◌, List, length, get_or, set, refl, sym, ap, subst, ◌∙◌, arith}
+use Rattle.std.proofs.Common.{rules, ◌≡◌, ℕ, true, ◌+◌, ◌<◌, ◌≤◌, List, length, get_or, set, refl, sym, ap, subst, ◌∙◌, arith}
 use Rattle.std.proofs.lemmas.List.{length-map, map-set}
-use Rattle.card_account.specs.Accounts.{MayBeFolded, OpenAccount, issued_as, present_of}
+use Rattle.card_account.specs.Accounts.{OpenAccount, present_of}
 use Rattle.card_events.specs.Limits.{post_limit}
 use Rattle.card_reasons.proofs.Accepted.{few}
 use Rattle.card_events.specs.declared.reply.Reply.TheVariants as reply
@@ -8,12 +8,12 @@ use Rattle.card_events.specs.declared.request.Request.{Request}
 use Rattle.card_events.specs.declared.request.Request.TheVariants as request
 use Rattle.card_model.specs.Machine.{Accepts, State, NamedAccount, accepted, issues, outcome_in}
 use Rattle.card_model.specs.Refusals.{Lists, reason_against}
-use Rattle.card_desk.specs.Applied.{Steps}
+use Rattle.card_desk.specs.Applied.{Carried, Steps}
 use Rattle.card_desk.specs.Desks.{now_of, state_of}
 use Rattle.card_desk.specs.Kept.{row_of, accepted_count}
 use Rattle.card_desk.specs.Places.{IsPlace}
 use Rattle.card_desk.proofs.DeskLemmas.{changed_state, count_added, read_at, state_by}
-use Rattle.card_desk.proofs.FoldLemmas.{accepted_in, may_be_folded, roomy, same_reason_at}
+use Rattle.card_desk.proofs.FoldLemmas.{accepted_in, folded_at, none_at, roomy}
 use Rattle.card_desk.proofs.KeptLemmas.{longer, posted_desk, roomy_desk}
 use Rattle.card_desk.proofs.StepLemmas.{goes_on, kept, post_accepted}
 use Rattle.card_rows.specs.Held.{is_request}
@@ -22,42 +22,56 @@ use Rattle.card_desk.proofs.desk.Desk.keep_post.Goals as goal
 pub keep_row-requires : goal.keep_row-requires
 keep_row-requires g c = goes_on _ c.args.self.now.state c.args.request.now c.in_ok-row.row c.requires.asked.fits c.in_ok-row.ensures.value
 
-pub prepare-requires-clause-no_reason : goal.prepare-requires-clause-no_reason
-prepare-requires-clause-no_reason g c =
-    let s = c.args.self.now.state in
+pub prepare-requires : goal.prepare-requires
+prepare-requires g c =
     let d = c.self.inside in
-    let b = c.index_mut-account.result.now in
-    let p = c.args.post.now in
-    let items = d.accounts.items in
     let state = state_by _ _ c.self.view_is in
-    let low : c.args.at < length items = omega (arith, c.requires.place.bound, ap (λ (x : State). length x.accounts) state, length-map items (λ (x : OpenAccount). x.named)) in
-    let read = read_at items s.accounts c.args.at b b.named c.index_mut-account.ensures.value (ap (λ (x : State). x.accounts) state) c.requires.place.bound in
-    let same = same_reason_at d.index d.common d.count d.today d.shared.items items c.args.at b p c.self.invariant low in
-    subst (λ (x : OpenAccount). reason_against (present_of d.today d.common x.named.lists) p ≡ reason_against (now_of (state_of d.today d.shared.items items) x.named.lists) p) (sym c.index_mut-account.ensures.value) same
-    ∙ ap (λ (x : State). reason_against (now_of x b.named.lists) p) state ∙ ap (λ (x : NamedAccount). reason_against (now_of s x.lists) p) read ∙ c.requires.no_reason b.named
-
-pub prepare-requires-clause-folded : goal.prepare-requires-clause-folded
-prepare-requires-clause-folded g c =
-    let d = c.self.inside in
-    let items = d.accounts.items in
     let b = c.index_mut-account.result.now in
-    let low : c.args.at < length items = omega (arith, c.requires.place.bound, ap (λ (x : State). length x.accounts) (state_by _ _ c.self.view_is), length-map items (λ (x : OpenAccount). x.named)) in
-    subst (λ (x : OpenAccount). MayBeFolded d.today d.common x) (sym c.index_mut-account.ensures.value)
-    (may_be_folded d.index d.common d.count d.today d.shared.items items c.args.at b c.self.invariant low)
+    record {
+      no_reason = none_at d.index d.common d.count d.today d.shared.items d.accounts.items c.args.at b c.args.self.now.state c.args.post.now c.self.invariant state c.requires.place.bound c.index_mut-account.ensures.value c.requires.no_reason;
+      folded = folded_at d.index d.common d.count d.today d.shared.items d.accounts.items c.args.at b c.args.self.now.state c.self.invariant state c.requires.place.bound c.index_mut-account.ensures.value;
+    }
 
 pub commit-number-requires : goal.commit-number-requires
 commit-number-requires g c =
     let d = c.self.inside in
-    let items = d.accounts.items in
-    let b = c.index_mut-account.result.now in
     let p = c.args.post.now in
+    let state = state_by _ _ c.self.view_is in
+    let b = c.index_mut-account.result.now in
     let ready : c.prepare.new.self ≡ record b { has_room = true } = c.in_ok-issued.ensures.ok in
     record {
       room = ap (λ (x : OpenAccount). x.has_room) ready;
-      no_reason = ap (λ (x : OpenAccount). reason_against (present_of d.today d.common x.named.lists) p) ready ∙ c.prepare.requires.no_reason;
-      folded = roomy d.today d.common c.prepare.new.self b ready c.prepare.requires.folded;
+      no_reason = ap (λ (x : OpenAccount). reason_against (present_of d.today d.common x.named.lists) p) ready
+          ∙ none_at d.index d.common d.count d.today d.shared.items d.accounts.items c.args.at b c.args.self.now.state p c.self.invariant state c.requires.place.bound c.index_mut-account.ensures.value c.requires.no_reason;
+      folded = roomy d.today d.common c.prepare.new.self b ready
+          (folded_at d.index d.common d.count d.today d.shared.items d.accounts.items c.args.at b c.args.self.now.state c.self.invariant state c.requires.place.bound c.index_mut-account.ensures.value);
       issued = c.in_ok-issued.ensures.issued ∙ ap (λ (x : OpenAccount). issues (present_of d.today d.common x.named.lists) p) (sym ready);
     }
+
+pub invariant_of-self-in_err-keep_row : goal.invariant_of-self-in_err-keep_row
+invariant_of-self-in_err-keep_row g c =
+    let d = c.self.inside in
+    let items = d.accounts.items in
+    let b = c.index_mut-account.result.now in
+    let ready : c.prepare.new.self ≡ record b { has_room = true } = c.in_ok-issued.ensures.ok in
+    let low : c.args.at < length items = omega (arith, c.requires.place.bound, ap (λ (x : State). length x.accounts) (state_by _ _ c.self.view_is), length-map items (λ (x : OpenAccount). x.named)) in
+    (roomy_desk d.index d.common d.count d.today d.shared.items items c.args.at c.prepare.new.self b c.self.invariant low c.index_mut-account.ensures.value
+    (ap (λ (x : OpenAccount). x.named) ready) (ap (λ (x : OpenAccount). x.corrected) ready)).1
+
+pub returns-in_err-keep_row : goal.returns-in_err-keep_row
+returns-in_err-keep_row g c =
+    let d = c.self.inside in
+    let items = d.accounts.items in
+    let s = c.args.self.now.state in
+    let b = c.index_mut-account.result.now in
+    let ready : c.prepare.new.self ≡ record b { has_room = true } = c.in_ok-issued.ensures.ok in
+    let low : c.args.at < length items = omega (arith, c.requires.place.bound, ap (λ (x : State). length x.accounts) (state_by _ _ c.self.view_is), length-map items (λ (x : OpenAccount). x.named)) in
+    let all = (roomy_desk d.index d.common d.count d.today d.shared.items items c.args.at c.prepare.new.self b c.self.invariant low c.index_mut-account.ensures.value
+    (ap (λ (x : OpenAccount). x.named) ready) (ap (λ (x : OpenAccount). x.corrected) ready)).0 in
+    let stays : state_of d.today d.shared.items (set items c.args.at c.prepare.new.self) ≡ s =
+    ap (λ (l : List NamedAccount). record { today = d.today; shared = d.shared.items; accounts = l }) all ∙ state_by _ _ c.self.view_is in
+    let same : Carried (g.K.Keeper.rows c.args.keeper.now) (g.K.Keeper.rows c.keep_row.new.keeper) (g.K.Keeper.faults c.args.keeper.now) (g.K.Keeper.faults c.keep_row.new.keeper) s c.args.request.now s c.from_residual-in_err-keep_row.result = search rules in
+    subst (λ (x : State). Carried (g.K.Keeper.rows c.args.keeper.now) (g.K.Keeper.rows c.keep_row.new.keeper) (g.K.Keeper.faults c.args.keeper.now) (g.K.Keeper.faults c.keep_row.new.keeper) s c.args.request.now x c.from_residual-in_err-keep_row.result) (sym stays) same
 
 pub invariant_of-self-2 : goal.invariant_of-self-2
 invariant_of-self-2 g c =

@@ -36,7 +36,7 @@ keep_post-requires-clause-no_reason g c d =
     let a = c.index-known.result.now in
     let key = c.args.key.now in
     let p = c.args.post.now in
-    let judged = judged_at x.index x.common x.count x.today x.shared.items x.accounts.items c.args.at a s d key p verdict.New c.self.invariant (state_by _ _ c.self.view_is) c.requires.place.bound c.index-known.ensures (sym c.in-Ok-New.field-0-is ∙ c.in-Ok-New.ensures) in
+    let judged = judged_at x.index x.common x.count x.today x.shared.items x.accounts.items c.args.at a s d key p verdict.New c.self.invariant (state_by _ _ c.self.view_is) c.requires.place.bound c.index-known.ensures (sym c.in-Ok-New.field-0-is ∙ c.in-Ok-New.ensures.value) in
     none_against (now_of s (get_or s.accounts c.args.at d).lists) key p (with_key key (get_or s.accounts c.args.at d).lists.posts) judged
 
 pub keep_post-requires-clause-accepted : goal.keep_post-requires-clause-accepted
@@ -46,7 +46,7 @@ keep_post-requires-clause-accepted g c d =
     let a = c.index-known.result.now in
     let key = c.args.key.now in
     let p = c.args.post.now in
-    let judged = judged_at x.index x.common x.count x.today x.shared.items x.accounts.items c.args.at a s d key p verdict.New c.self.invariant (state_by _ _ c.self.view_is) c.requires.place.bound c.index-known.ensures (sym c.in-Ok-New.field-0-is ∙ c.in-Ok-New.ensures) in
+    let judged = judged_at x.index x.common x.count x.today x.shared.items x.accounts.items c.args.at a s d key p verdict.New c.self.invariant (state_by _ _ c.self.view_is) c.requires.place.bound c.index-known.ensures (sym c.in-Ok-New.field-0-is ∙ c.in-Ok-New.ensures.value) in
     let b = get_or s.accounts c.args.at d in
     let both = outcome_at s c.args.account.now key p c.args.at d verdict.New c.requires.place judged in
     both.1 ∙ new_at_key (now_of s b.lists) key p (with_key key b.lists.posts) (both.0 ∙ ap verdict_of both.1)
@@ -58,7 +58,7 @@ returns-in-Ok-Refused g c =
     let a = c.index-known.result.now in
     let key = c.args.key.now in
     let p = c.args.post.now in
-    let judged = judged_at x.index x.common x.count x.today x.shared.items x.accounts.items c.args.at a s a.named key p (verdict.Refused c.in-Ok-Refused.refusal) c.self.invariant (state_by _ _ c.self.view_is) c.requires.place.bound c.index-known.ensures (sym c.in-Ok-Refused.field-0-is ∙ c.in-Ok-Refused.ensures) in
+    let judged = judged_at x.index x.common x.count x.today x.shared.items x.accounts.items c.args.at a s a.named key p (verdict.Refused c.in-Ok-Refused.refusal) c.self.invariant (state_by _ _ c.self.view_is) c.requires.place.bound c.index-known.ensures (sym c.in-Ok-Refused.field-0-is ∙ c.in-Ok-Refused.ensures.value) in
     let both = outcome_at s c.args.account.now key p c.args.at a.named (verdict.Refused c.in-Ok-Refused.refusal) c.requires.place judged in
     answered (g.K.Keeper.rows c.args.keeper.now) (g.K.Keeper.faults c.args.keeper.now) s c.args.request.now (reply.Refused c.in-Ok-Refused.refusal)
     (subst (λ (x : Request). Steps (g.K.Keeper.rows c.args.keeper.now) (g.K.Keeper.rows c.args.keeper.now) s x s (reply.Refused c.in-Ok-Refused.refusal)) (sym c.requires.request)
@@ -71,7 +71,7 @@ returns-in-Ok-Repeat g c =
     let a = c.index-known.result.now in
     let key = c.args.key.now in
     let p = c.args.post.now in
-    let judged = judged_at x.index x.common x.count x.today x.shared.items x.accounts.items c.args.at a s a.named key p (verdict.Repeat c.in-Ok-Repeat.number) c.self.invariant (state_by _ _ c.self.view_is) c.requires.place.bound c.index-known.ensures (sym c.in-Ok-Repeat.field-0-is ∙ c.in-Ok-Repeat.ensures) in
+    let judged = judged_at x.index x.common x.count x.today x.shared.items x.accounts.items c.args.at a s a.named key p (verdict.Repeat c.in-Ok-Repeat.number) c.self.invariant (state_by _ _ c.self.view_is) c.requires.place.bound c.index-known.ensures (sym c.in-Ok-Repeat.field-0-is ∙ c.in-Ok-Repeat.ensures.value) in
     let both = outcome_at s c.args.account.now key p c.args.at a.named (verdict.Repeat c.in-Ok-Repeat.number) c.requires.place judged in
     answered (g.K.Keeper.rows c.args.keeper.now) (g.K.Keeper.faults c.args.keeper.now) s c.args.request.now (reply.Accepted c.in-Ok-Repeat.number)
     (subst (λ (x : Request). Steps (g.K.Keeper.rows c.args.keeper.now) (g.K.Keeper.rows c.args.keeper.now) s x s (reply.Accepted c.in-Ok-Repeat.number)) (sym c.requires.request)

@@ -1,0 +1,38 @@
+-- A desk after a shared request that is accepted.
+use Rattle.std.proofs.Common.{◌≡◌, ℕ, ◌+◌, Bool, true, List, [], ◌∷◌, ◌++◌, None, refl}
+use Rattle.card_account.specs.Accounts.{OpenAccount}
+use Rattle.card_desk.specs.Desks.{IsDesk, state_of}
+use Rattle.card_desk.specs.Shares.{IsLoadable, loaded}
+use Rattle.card_desk.proofs.FoldLemmas.{all_running, corrected_on}
+use Rattle.card_desk.proofs.KeptLemmas.{few_fees, later_holiday, more_fees, more_holidays, same_fees, same_holidays, shared_desk}
+use Rattle.card_desk.proofs.RowLemmas.{holiday_day}
+use Rattle.card_events.specs.Dated.{is_dated}
+use Rattle.card_events.specs.SharedRows.{SharedRows}
+use Rattle.card_events.specs.declared.request.Request.TheVariants as request
+use Rattle.card_events.specs.declared.request.Shared.{Shared}
+use Rattle.card_events.specs.declared.request.Shared.TheVariants as shared
+use Rattle.card_model.specs.Machine.{has_accounts, rolled, shared_reason}
+use Rattle.card_rows.specs.Held.{is_request}
+
+-- what it brings is in its range
+pub loadable : (today : ℕ) (any : Bool) (r : Shared) → is_dated (request.Shared r) ≡ true → shared_reason today any r ≡ None → IsLoadable r
+loadable today any (shared.Roll day) dated none = tt
+loadable today any (shared.Holiday day) dated none = holiday_day day (request.Shared (shared.Holiday day)) refl dated
+loadable today any (shared.FeeRow day first repeat) dated none = few_fees today any day first repeat none
+
+-- and the desk is that of the state with it
+pub loaded_desk : (places : List (List ℕ × ℕ)) (common : SharedRows) (count today : ℕ) (rows : List Shared) (accounts : List OpenAccount) (r : Shared)
+    → IsDesk places common count today rows accounts → is_request (request.Shared r) ≡ true → shared_reason today (has_accounts (state_of today rows accounts)) r ≡ None
+    → IsDesk places (loaded r common) (count + 1) (rolled today r) (rows ++ r ∷ []) accounts
+loaded_desk places common count today rows accounts (shared.Roll day) desk held none =
+    shared_desk places common common count today rows accounts (shared.Roll day) desk held none (same_holidays common.holidays rows (shared.Roll day) refl desk.holidays)
+    (same_fees common.fees rows (shared.Roll day) refl desk.table) desk.corrected
+loaded_desk places common count today rows accounts (shared.Holiday day) desk held none =
+    let s = state_of today rows accounts in
+    shared_desk places common (loaded (shared.Holiday day) common) count today rows accounts (shared.Holiday day) desk held none (more_holidays common.holidays rows day desk.holidays)
+    (same_fees common.fees rows (shared.Holiday day) refl desk.table)
+    (corrected_on s day common.holidays accounts (later_holiday today (has_accounts s) day none) (all_running s desk.ran) desk.corrected)
+loaded_desk places common count today rows accounts (shared.FeeRow day first repeat) desk held none =
+    let r = shared.FeeRow day first repeat in
+    shared_desk places common (loaded r common) count today rows accounts r desk held none (same_holidays common.holidays rows r refl desk.holidays)
+    (more_fees common.fees rows day first repeat desk.table) desk.corrected

@@ -1,0 +1,19 @@
+-- What all accounts share after one request more.
+use Rattle.std.specs.Prelude.{◌≤◌, ◌++◌, [], ◌∷◌}
+use Rattle.card_days.specs.Business.{with_holiday}
+use Rattle.card_days.specs.Range.{last_request_day}
+use Rattle.card_events.specs.SharedRows.{SharedRows}
+use Rattle.card_events.specs.declared.request.Shared.{Shared}
+use Rattle.card_events.specs.declared.request.Shared.TheVariants as shared
+
+-- the holidays and the fee rows with those that a request brings
+abbrev pub loaded : Shared → SharedRows → SharedRows
+loaded (shared.Roll day) rows = rows
+loaded (shared.Holiday day) rows = record rows { holidays = with_holiday day rows.holidays }
+loaded (shared.FeeRow day first repeat) rows = record rows { fees = rows.fees ++ record { day = day; first = first; repeat = repeat } ∷ [] }
+
+-- a holiday is at most 2099-12-31, and fees are at most 100,000 cents
+abbrev pub IsLoadable : Shared → Type 0
+IsLoadable (shared.Roll day) = Unit {0}
+IsLoadable (shared.Holiday day) = day ≤ last_request_day
+IsLoadable (shared.FeeRow day first repeat) = (first ≤ 100_000) × (repeat ≤ 100_000)
