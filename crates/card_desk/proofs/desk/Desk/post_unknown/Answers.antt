@@ -48,7 +48,9 @@ returns-in_default g c =
       rows_stay = tt;
       told = refl;
       count = omega arith;
+      unfailed = refl;
       cause = λ failed. absurd (cc);
+      memory = λ wanted. refl;
     }
 
 pub keep_open-requires-clause-no_reason : goal.keep_open-requires-clause-no_reason
