@@ -1,6 +1,5 @@
 // The forms of fields.
 ghost use Rattle.std.specs.Prelude.{◌≡◌, true, ◌≤◌, ◌<◌, ◌^◌, length};
-ghost use Rattle.card_days.specs.Range.{last_request_day};
 ghost use Rattle.std.specs.Char.{is_ascii_digit};
 ghost use Rattle.std.specs.List.{list_all};
 ghost use Rattle.card_text.specs.Forms.{number_of, is_decimal, value_after, day_of, request_day_at, category_of, place_in, place_of, channel_of, plan_kind_of, finding_of};
@@ -87,7 +86,7 @@ fn request_day(year: u64, month: u64, day: u64) -> Option<Day>
         return None;
     }
     match Day::from_ymd(year as u16, month as u8, day as u8) {
-        Some(day) if day.number() <= last_request_day => Some(day),
+        Some(day) if day.is_request_day() => Some(day),
         _ => None,
     }
 }
