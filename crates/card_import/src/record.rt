@@ -20,11 +20,7 @@ use std::alloc::Global;
 /// `account,key,kind,day,place,cents,minute,channel`; None comes exactly for it. Each other record has these eight fields:
 /// `charge` and `credit` with a place, and with minute and channel empty; `payment` with its place empty. A record that isn't
 /// so is bad in its first column, counted from 1, that is missing, surplus or not of its form. Days are days of requests.
-pub fn import_record(
-    alloc: Global,
-    row: u64,
-    fields: &ByteRecord,
-) -> Result<Option<Item>, NoMemory>
+pub fn import_record(alloc: Global, row: u64, fields: &ByteRecord) -> Result<Option<Item>, NoMemory>
     ensures item { IfOk result (λ item. item ≡ item_of_record row (fields_of fields.now)) }
     ensures dated { IfOk result (λ item. IfSome item IsDatedItem) }
 {

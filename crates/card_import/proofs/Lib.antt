@@ -1,0 +1,3 @@
+mod DatedLemmas
+mod RecordLemmas
+mod ItemLemmas
