@@ -15,18 +15,20 @@ use Rattle.card_import.specs.declared.post.Movement.{Movement}
 use Rattle.card_import.specs.Columns.{column, exactly, no_column}
 use Rattle.card_import.specs.Kinds.{kind_of}
 
--- the fields of the header are the names of the columns
+-- the names of the columns, which are the fields of a good header
+abbrev pub header : List (List ℕ)
+header = codes "account" ∷ codes "key" ∷ codes "kind" ∷ codes "day" ∷ codes "place" ∷ codes "cents" ∷ codes "minute" ∷ codes "channel" ∷ []
+
+-- from this column on, the fields are these texts and no others
+unfoldable pub exactly_all : List (List ℕ) → ℕ → List (List ℕ) → Result (Unit {0}) ℕ
+exactly_all [] n fs = no_column n fs
+exactly_all (text ∷ texts) n fs = do
+  _ ← column (exactly text) n fs
+  exactly_all texts (n + 1) fs
+
+-- the header, or the first column that isn't as there
 unfoldable pub header_of : List (List ℕ) → Result (Unit {0}) ℕ
-header_of fs = do
-  _ ← column (exactly (codes "account")) 1 fs
-  _ ← column (exactly (codes "key")) 2 fs
-  _ ← column (exactly (codes "kind")) 3 fs
-  _ ← column (exactly (codes "day")) 4 fs
-  _ ← column (exactly (codes "place")) 5 fs
-  _ ← column (exactly (codes "cents")) 6 fs
-  _ ← column (exactly (codes "minute")) 7 fs
-  _ ← column (exactly (codes "channel")) 8 fs
-  no_column 9 fs
+header_of fs = exactly_all header 1 fs
 
 -- a charge and a merchant's credit have a place, and neither minute nor channel
 unfoldable pub movement_of : List (List ℕ) → Result Movement ℕ

@@ -7,7 +7,7 @@ use card_text::BadField;
 use csv::ByteRecord;
 
 /// The record is the header, whose eight fields name the columns; else the first column that isn't as there.
-#[tactic(auto, unfolding(crate::specs::Import::header_of))]
+#[tactic(auto, unfolding(crate::specs::Import::header_of, crate::specs::Import::exactly_all))]
 pub fn read_header(fields: &ByteRecord) -> Result<(), BadField>
     ensures { ReadsAll result (header_of (fields_of fields.now)) }
 {

@@ -1,8 +1,8 @@
 // One record.
-ghost use Rattle.std.specs.Prelude.{◌≡◌, IfOk, IfSome};
+ghost use Rattle.std.specs.Prelude.{◌≡◌, ◌↔◌, None, IfOk, IfSome};
 ghost use Rattle.card_text.specs.Fields.{GivesAll};
 ghost use Rattle.csv.specs.Records.{fields_of};
-ghost use Rattle.card_import.specs.Import.{header_of, request_of, item_of_record};
+ghost use Rattle.card_import.specs.Import.{header, header_of, request_of, item_of_record};
 ghost use Rattle.card_import.specs.Import as spec;
 ghost use Rattle.card_import.specs.Items.{IsDatedItem};
 
@@ -22,6 +22,7 @@ use std::alloc::Global;
 /// so is bad in its first column, counted from 1, that is missing, surplus or not of its form. Days are days of requests.
 pub fn import_record(alloc: Global, row: u64, fields: &ByteRecord) -> Result<Option<Item>, NoMemory>
     ensures item { IfOk result (λ item. item ≡ item_of_record row (fields_of fields.now)) }
+    ensures none { IfOk result (λ item. (item ≡ None) ↔ ((row ≡ 1) × (fields_of fields.now ≡ header))) }
     ensures dated { IfOk result (λ item. IfSome item IsDatedItem) }
 {
     read_item(alloc, row, fields)
