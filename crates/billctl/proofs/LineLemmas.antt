@@ -2,10 +2,10 @@
 use Rattle.std.proofs.Common.{◌≡◌, ℕ, ◌+◌, ◌<◌, ◌≤◌, Bool, true, false, ◌||◌, eqb, ltb, cond, ◌⊎◌, List, [], ◌∷◌, ◌++◌, length, map, take, refl, ap, sym, ◌∙◌, arith, append_assoc, append-nil, length-append, inl, inr}
 use Rattle.std.proofs.lemmas.Bool.{ltb-true, ltb-false, lt-ltb}
 use Rattle.std.proofs.lemmas.List.{take_all, take-append-le, length-take}
-use Rattle.card_text.specs.Lines.{line_of}
+use Rattle.card_lines.specs.Lines.{line_of}
 use Rattle.billctl.specs.Input.{first_part, other_parts, ended, unended, ended_line, last_line}
 use Rattle.billctl.specs.Feed.{Progress, feed, next_item, longer_line, line_done, feed_text, line_text, feed_rows, line_kept, feed_all, text_all, rows_all}
-use Rattle.card_text.specs.declared.line.Line.{Line}
+use Rattle.card_lines.specs.declared.line.Line.{Line}
 use Rattle.billctl.specs.Answers.{answer_text, item_rows}
 use Rattle.billctl.specs.Items.{numbered}
 use Rattle.billctl.specs.Run.{after, text_of, rows_kept, any_refused}

@@ -15,7 +15,7 @@ use crate::item::Item;
 use card_desk::{Desk, Fault, View};
 use card_events::{Name, Refusal, Reply};
 use card_keeper::Keeper;
-use card_text::{bad_text, reply_text, show_text};
+use card_lines::{bad_text, reply_text, show_text};
 use card_units::NoMemory;
 use std::alloc::Global;
 
@@ -84,7 +84,7 @@ fn answer_show(alloc: Global, desk: &Desk, account: &Name) -> Result<(String, bo
     Ok((view_text(alloc, account, &view)?, is_no_account(&view)))
 }
 
-#[tactic(auto, unfolding(crate::specs::Answers::view_text, card_text::specs::Replies::reply_text))]
+#[tactic(auto, unfolding(crate::specs::Answers::view_text, card_lines::specs::Replies::reply_text))]
 fn view_text(alloc: Global, account: &Name, view: &View) -> Result<String, NoMemory>
     ensures { IfOk result (λ text. string_bytes text ≡ spec.view_text account.now view.now) }
 {

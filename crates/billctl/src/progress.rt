@@ -1,7 +1,7 @@
 // A run over the bytes of an input.
 ghost use Rattle.std.specs.Prelude.{◌≡◌, IfOk};
 ghost use Rattle.std.specs.Str.Lines.{strip_carriage_return};
-ghost use Rattle.card_text.specs.Lines.{IsDatedLine};
+ghost use Rattle.card_lines.specs.Lines.{IsDatedLine};
 ghost use Rattle.billctl.specs.Input.{ended_line};
 
 use crate::end::End;
@@ -10,7 +10,7 @@ use crate::item::item_of;
 use card_desk::Desk;
 use card_keeper::Keeper;
 use card_ports::Sink;
-use card_text::{Line, read_line};
+use card_lines::{Line, read_line};
 use card_units::NoMemory;
 use std::alloc::Global;
 use std::marker::Model;

@@ -14,7 +14,7 @@ pub enum Line {
     Bad(u8),
 }
 
-/// Why a line isn't read.
+/// Why a line or a record isn't read.
 #[derive(Clone, Copy, Debug)]
 pub enum LineFault {
     Memory,

@@ -1,5 +1,5 @@
 use Rattle.std.proofs.Common.{◌+◌, [], ◌∷◌, ap, ◌∙◌}
-use Rattle.card_text.specs.declared.line.Line.{Line}
+use Rattle.card_lines.specs.declared.line.Line.{Line}
 use Rattle.billctl.specs.Input.{ended_line}
 use Rattle.billctl.specs.Items.{item_of}
 use Rattle.billctl.proofs.FeedLemmas.{fed_line_feed_of, fell_line_feed_of, fell_first}
