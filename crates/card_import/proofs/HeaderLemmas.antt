@@ -64,9 +64,9 @@ either_none : (row : ℕ) (fs : List (List ℕ)) (b : Bool) → (row == 1) ≡ b
     → (cond b (header_item (header_of fs)) (Some (numbered row (request_of fs))) ≡ None) ↔ ((row ≡ 1) × (fs ≡ header))
 unfolding header_of
 either_none row fs true is = (
-    (λ none. (grind (arith, nat_tests), only header 0 fs (header_only (header_of fs) none))),
-    (λ both. rw both.1 (ap header_item header_passes)),
-  )
+  (λ none. (grind (arith, nat_tests), only header 0 fs (header_only (header_of fs) none))),
+  (λ both. rw both.1 (ap header_item header_passes)),
+)
 either_none row fs false is = ((λ none. cc none), (λ both. absurd (grind (arith, nat_tests))))
 
 pub none_is_header : (row : ℕ) (fs : List (List ℕ)) → (item_of_record row fs ≡ None) ↔ ((row ≡ 1) × (fs ≡ header))
