@@ -1,21 +1,26 @@
 -- Bytes that are fed in pieces.
-use Rattle.std.proofs.Common.{◌≡◌, ℕ, zero, suc, ◌+◌, ◌-◌, ◌<◌, ◌≤◌, ◌⊎◌, inl, inr, List, [], ◌∷◌, ◌++◌, length, take, drop, get_or, refl, ap, sym, ◌∙◌, subst, arith, append_assoc, append-nil, length-append, take-append-drop, Option, None, Some, Result, Ok, Err}
+use Rattle.std.proofs.Common.{◌≡◌, ℕ, zero, suc, ◌+◌, ◌-◌, ◌<◌, ◌≤◌, ◌⊎◌, inl, inr, eqb, false, List, [], ◌∷◌, ◌++◌, length, take, drop, get_or, refl, ap, sym, ◌∙◌, subst, arith, append_assoc, append-nil, length-append, take-append-drop, Option, None, Some}
 use Rattle.std.proofs.lemmas.List.{take_more, take-append-le}
 use Rattle.std.specs.Io.KnownBytes.{Appends, Consumes, Keeps}
-use Rattle.std.proofs.KnownBytes.{Appends-trans, Appends-nil, Consumes-trans, Consumes-nil}
-use Rattle.std.specs.Result.{OnErr, OnOk}
+use Rattle.std.proofs.KnownBytes.{Appends-nil, Appends-trans, Consumes-trans, Consumes-nil}
+use Rattle.card_desk.specs.Kept.{Fits}
 use Rattle.card_keeper.specs.Rows.{AddsRows}
 use Rattle.card_keeper.specs.declared.row.Row.{Row}
 use Rattle.card_ports.specs.Bytes.{IsFront}
-use Rattle.billctl.specs.Feed.{Progress, feed, feed_text, feed_rows, feed_all, text_all, rows_all}
-use Rattle.billctl.specs.Written.{TookFront, TookBetween, NothingDone, LineCut}
-use Rattle.billctl.specs.Ran.{Ran, HeldAt, StoppedAt, Held, Stopped}
-use Rattle.std.specs.Prelude.{codes, true, eqb}
-use Rattle.std.specs.Fmt.{decimal}
-use Rattle.billctl.specs.Feed.{line_text, line_kept}
-use Rattle.billctl.specs.Words.{damaged_line}
-use Rattle.billctl.proofs.LineLemmas.{text_lf, rows_lf}
-use Rattle.billctl.proofs.RowLemmas.{AddsRows-trans, AddsRows-nil, kept_adds, keeps_same}
+use Rattle.card_ports.specs.Counts.{Rose}
+use Rattle.billctl.specs.Answers.{answer_text, item_rows}
+use Rattle.billctl.specs.Commands.{ended_by}
+use Rattle.billctl.specs.Feed.{Run, Progress, after_item, next_item, longer_line, feed, feed_text, feed_rows, feed_all, text_all, rows_all, line_done, line_text, line_kept}
+use Rattle.billctl.specs.Input.{ended_line}
+use Rattle.billctl.specs.Outside.{Outside, HasCause, sides_of}
+use Rattle.billctl.specs.Ran.{Handled, Fed, HeldAt, StoppedAt, DidAt, FellAt, Ran, FellReading}
+use Rattle.billctl.specs.Written.{Sides, Did, DidPart, SameCounts, Failed, FellIn}
+use Rattle.billctl.specs.declared.end.End.{End}
+use Rattle.billctl.specs.declared.end.End.TheVariants as end
+use Rattle.billctl.specs.declared.item.Item.{Item}
+use Rattle.billctl.proofs.LineLemmas.{feed_lf, feed_other, text_lf, text_other, rows_lf, rows_other}
+use Rattle.billctl.proofs.RowLemmas.{AddsRows-nil, AddsRows-trans}
+use Rattle.billctl.proofs.SideLemmas.{front_refl, front_none, front_trans, front_after, front_append, did_none, did_then, did_same, did_part_same, counts_refl, counts_then, failed_after}
 
 pub feed_all-append : (p : Progress) (xs ys : List ℕ) → feed_all p (xs ++ ys) ≡ feed_all (feed_all p xs) ys
 unfolding feed_all
@@ -72,176 +77,127 @@ text_more p bytes i low = ap (text_all p) (take_more bytes i 0 low) ∙ text_all
 pub rows_more : (p : Progress) (bytes : List ℕ) (i : ℕ) → i < length bytes → rows_all p (take (i + 1) bytes) ≡ rows_all p (take i bytes) ++ feed_rows (feed_all p (take i bytes)) (get_or bytes i 0)
 rows_more p bytes i low = ap (rows_all p) (take_more bytes i 0 low) ∙ rows_all-append p (take i bytes) (get_or bytes i 0 ∷ []) ∙ ap (λ l. rows_all p (take i bytes) ++ l) (rows_one _ _)
 
--- one byte more was written, and kept
-pub written_more : (a b c : Option (List ℕ)) (p q : Progress) (bytes : List ℕ) (i : ℕ) → i < length bytes → q ≡ feed_all p (take i bytes)
-    → Appends a b (text_all p (take i bytes)) → Appends b c (feed_text q (get_or bytes i 0)) → Appends a c (text_all p (take (i + 1) bytes))
-written_more a b c p q bytes i low is before now =
-    let joined : text_all p (take i bytes) ++ feed_text q (get_or bytes i 0) ≡ text_all p (take (i + 1) bytes) =
-    ap (λ (r : Progress). text_all p (take i bytes) ++ feed_text r (get_or bytes i 0)) is ∙ sym (text_more p bytes i low) in
-    subst (Appends a c) joined (Appends-trans a b c (text_all p (take i bytes)) (feed_text q (get_or bytes i 0)) before now)
-
-pub kept_more : (a b c : Option (List Row)) (p q : Progress) (bytes : List ℕ) (i : ℕ) → i < length bytes → q ≡ feed_all p (take i bytes)
-    → AddsRows a b (rows_all p (take i bytes)) → AddsRows b c (feed_rows q (get_or bytes i 0)) → AddsRows a c (rows_all p (take (i + 1) bytes))
-kept_more a b c p q bytes i low is before now =
-    let joined : rows_all p (take i bytes) ++ feed_rows q (get_or bytes i 0) ≡ rows_all p (take (i + 1) bytes) =
-    ap (λ (r : Progress). rows_all p (take i bytes) ++ feed_rows r (get_or bytes i 0)) is ∙ sym (rows_more p bytes i low) in
-    subst (AddsRows a c) joined (AddsRows-trans a b c (rows_all p (take i bytes)) (feed_rows q (get_or bytes i 0)) before now)
-
--- ---- fronts of texts
-
-pub front_refl : (xs : List ℕ) → IsFront xs xs
-front_refl xs = ([], sym (append-nil xs))
-
-pub front_none : (xs : List ℕ) → IsFront [] xs
-front_none xs = (xs, refl)
-
-pub front_trans : (xs ys zs : List ℕ) → IsFront xs ys → IsFront ys zs → IsFront xs zs
-front_trans xs ys zs p q = (p.0 ++ q.0, q.1 ∙ ap (λ l. l ++ q.0) p.1 ∙ append_assoc xs p.0 q.0)
-
-pub front_after : (first xs ys : List ℕ) → IsFront xs ys → IsFront (first ++ xs) (first ++ ys)
-front_after first xs ys front = (front.0, ap (λ l. first ++ l) front.1 ∙ sym (append_assoc first xs front.0))
-
-pub front_append : (xs ys : List ℕ) → IsFront xs (xs ++ ys)
-front_append xs ys = (ys, refl)
-
 -- what some first bytes give is a front of what all give
 pub text_front : (p : Progress) (n : ℕ) (bytes : List ℕ) → IsFront (text_all p (take n bytes)) (text_all p bytes)
 text_front p n bytes =
     (text_all (feed_all p (take n bytes)) (drop n bytes), ap (text_all p) (sym (take-append-drop n bytes)) ∙ text_all-append p (take n bytes) (drop n bytes))
 
--- what was taken before, and then a front
-pub took_after : (a b c : Option (List ℕ)) (first text : List ℕ) → Appends a b first → TookFront b c text → TookFront a c (first ++ text)
-took_after a b c first text before took = record {
-  bytes = first ++ took.bytes;
-  taken = Appends-trans a b c first took.bytes before took.taken;
-  front = (took.front.0, ap (λ l. first ++ l) took.front.1 ∙ sym (append_assoc first took.bytes took.front.0));
+-- ---- bytes that were handled
+
+pub fed_none : (a : Sides) (p : Progress) → Fits a.keeper.rows p.ledger → Fed a a p [] p
+fed_none a p fits = record {
+  progress = feed_none p;
+  number = omega arith;
+  did = did_same a a [] (text_all p []) [] (rows_all p []) (sym (text_empty p)) (sym (rows_empty p)) (did_none a);
+  counts = counts_refl a;
+  fits = fits;
 }
 
--- all of a text, and then nothing
-pub took_whole : (a b c : Option (List ℕ)) (low high : List ℕ) → Appends a b high → Appends b c [] → IsFront low high → TookBetween a c low high
-took_whole a b c low high before none front = record {
-  bytes = high ++ [];
-  taken = Appends-trans a b c high [] before none;
-  whole = subst (IsFront low) (sym (append-nil high)) front;
-  front = subst (λ (l : List ℕ). IsFront l high) (sym (append-nil high)) (front_refl high);
+pub fed_then : (a b c : Sides) (p q r : Progress) (xs ys : List ℕ) → Fed a b p xs q → Fed b c q ys r → Fed a c p (xs ++ ys) r
+fed_then a b c p q r xs ys one two = record {
+  progress = two.progress ∙ ap (λ (s : Progress). feed_all s ys) one.progress ∙ sym (feed_all-append p xs ys);
+  number = omega (arith, one.number, two.number, length-append xs ys);
+  did = did_same a c _ (text_all p (xs ++ ys)) _ (rows_all p (xs ++ ys))
+      (ap (λ (s : Progress). text_all p xs ++ text_all s ys) one.progress ∙ sym (text_all-append p xs ys))
+      (ap (λ (s : Progress). rows_all p xs ++ rows_all s ys) one.progress ∙ sym (rows_all-append p xs ys))
+      (did_then a b c (text_all p xs) (text_all q ys) (rows_all p xs) (rows_all q ys) one.did two.did);
+  counts = counts_then a b c one.counts two.counts;
+  fits = two.fits;
 }
 
--- all of a text, and then a front of another
-pub took_part : (a b c : Option (List ℕ)) (low text : List ℕ) → Appends a b low → TookFront b c text → TookBetween a c low (low ++ text)
-took_part a b c low text before took = record {
-  bytes = low ++ took.bytes;
-  taken = Appends-trans a b c low took.bytes before took.taken;
-  whole = front_append low took.bytes;
-  front = front_after low took.bytes text took.front;
+-- one byte more
+pub fed_byte : (a b c : Sides) (p q r : Progress) (bytes : List ℕ) (i : ℕ) → i < length bytes → Fed a b p (take i bytes) q → Fed b c q (get_or bytes i 0 ∷ []) r → Fed a c p (take (i + 1) bytes) r
+fed_byte a b c p q r bytes i low one two =
+    subst (λ (l : List ℕ). Fed a c p l r) (sym (take_more bytes i 0 low)) (fed_then a b c p q r (take i bytes) (get_or bytes i 0 ∷ []) one two)
+
+-- all bytes, at the end
+pub fed_whole : (a b : Sides) (p q : Progress) (bytes : List ℕ) (i : ℕ) → take i bytes ≡ bytes → Fed a b p (take i bytes) q → Fed a b p bytes q
+fed_whole a b p q bytes i same fed = subst (λ (l : List ℕ). Fed a b p l q) same fed
+
+-- a line feed: its line was handled
+fed_line_feed : (a b : Sides) (p : Progress) (x : Item) (next : Run) (line : List ℕ) → x ≡ next_item p (ended_line p.line) → Handled a b (record { ledger = p.ledger; refused = p.refused }) x next → line ≡ []
+    → Fed a b p (10 ∷ []) (record { ledger = next.ledger; number = p.number + 1; refused = next.refused; line = line })
+unfolding line_done line_text line_kept
+fed_line_feed a b p x next line item done empty =
+    let run : next ≡ after_item (record { ledger = p.ledger; refused = p.refused }) (next_item p (ended_line p.line)) = done.run ∙ ap (λ (y : Item). after_item (record { ledger = p.ledger; refused = p.refused }) y) item in
+    let made : Run → List ℕ → Progress = λ r l. record { ledger = r.ledger; number = p.number + 1; refused = r.refused; line = l } in
+    record {
+      progress = ap (λ (r : Run). made r line) run ∙ ap (λ (l : List ℕ). made (after_item (record { ledger = p.ledger; refused = p.refused }) (next_item p (ended_line p.line))) l) empty ∙ sym (feed_one p 10 ∙ feed_lf p 10 refl);
+      number = omega arith;
+      did = did_same a b _ (text_all p (10 ∷ [])) _ (rows_all p (10 ∷ []))
+          (ap (λ (y : Item). answer_text p.ledger y) item ∙ sym (text_one p 10 ∙ text_lf p 10 refl))
+          (ap (λ (y : Item). item_rows p.ledger y) item ∙ sym (rows_one p 10 ∙ rows_lf p 10 refl)) done.did;
+      counts = done.counts;
+      fits = done.fits;
+    }
+
+-- the same, where q is p
+pub fed_line_feed_of : (a b : Sides) (p q : Progress) (x : Item) (next : Run) (line : List ℕ) → p ≡ q → x ≡ next_item p (ended_line p.line) → Handled a b (record { ledger = p.ledger; refused = p.refused }) x next → line ≡ []
+    → Fed a b q (10 ∷ []) (record { ledger = next.ledger; number = p.number + 1; refused = next.refused; line = line })
+fed_line_feed_of a b p q x next line is item done empty =
+    subst (λ (o : Progress). Fed a b o (10 ∷ []) (record { ledger = next.ledger; number = p.number + 1; refused = next.refused; line = line })) is (fed_line_feed a b p x next line item done empty)
+
+-- another byte: nothing was done
+pub fed_other : (a : Sides) (p q : Progress) (byte : ℕ) → eqb byte 10 ≡ false → q ≡ record p { line = longer_line p.line byte } → Fits a.keeper.rows p.ledger → Fed a a p (byte ∷ []) q
+fed_other a p q byte other is fits = record {
+  progress = is ∙ sym (feed_one p byte ∙ feed_other p byte other);
+  number = omega (arith, ap (λ (r : Progress). r.number) is);
+  did = did_same a a [] (text_all p (byte ∷ [])) [] (rows_all p (byte ∷ []))
+      (sym (text_one p byte ∙ text_other p byte other)) (sym (rows_one p byte ∙ rows_other p byte other)) (did_none a);
+  counts = counts_refl a;
+  fits = subst (λ (r : Progress). Fits a.keeper.rows r.ledger) (sym is) fits;
 }
 
--- ---- a line that stopped at one byte
+-- ---- a byte that ended the run
 
--- nothing was done of the first byte
-pub held_first : (a b : Option (List ℕ)) (m n : Option (List Row)) (p : Progress) (bytes : List ℕ) → NothingDone a b m n → HeldAt a b m n p bytes
-held_first a b m n p bytes none = record {
-  count = 0;
-  within = omega arith;
-  written = subst (Appends a b) (sym (text_empty p)) none.written;
-  kept = subst (AddsRows m n) (sym (rows_empty p)) (kept_adds m n none.kept);
-}
+held_first : (a b : Sides) (p : Progress) (bytes : List ℕ) → Did a b [] [] → HeldAt a b p bytes
+held_first a b p bytes none = record { count = 0; within = omega arith; did = did_same a b [] _ [] _ (sym (text_empty p)) (sym (rows_empty p)) none }
 
-pub stopped_first : (a b : Option (List ℕ)) (m n : Option (List Row)) (p : Progress) (bytes : List ℕ) → NothingDone a b m n → StoppedAt a b m n p bytes
-stopped_first a b m n p bytes none = record {
+stopped_first : (a b : Sides) (p : Progress) (bytes : List ℕ) → Did a b [] [] → StoppedAt a b p bytes
+stopped_first a b p bytes none = record {
   count = 0;
   within = omega arith;
   took = record { bytes = []; taken = none.written; whole = subst (λ (l : List ℕ). IsFront l []) (sym (text_empty p)) (front_refl []); front = front_none _ };
-  kept = subst (AddsRows m n) (sym (rows_empty p)) (kept_adds m n none.kept);
+  kept = subst (λ (l : List Row). AddsRows a.keeper.rows b.keeper.rows l) (sym (rows_empty p)) none.kept;
 }
 
--- the text of the first byte was cut
-pub stopped_cut : (a b : Option (List ℕ)) (m n : Option (List Row)) (p : Progress) (byte : ℕ) → LineCut a b m n (feed_text p byte) (feed_rows p byte) → StoppedAt a b m n p (byte ∷ [])
-stopped_cut a b m n p byte cut = record {
+-- of the text of the first byte a front was written
+stopped_part : (a b : Sides) (p : Progress) (byte : ℕ) → DidPart a b (feed_text p byte) (feed_rows p byte) → StoppedAt a b p (byte ∷ [])
+stopped_part a b p byte part = record {
   count = 1;
   within = omega arith;
   took = record {
-    bytes = cut.took.bytes;
-    taken = cut.took.taken;
-    whole = subst (λ (l : List ℕ). IsFront l cut.took.bytes) (sym (text_empty p)) (front_none cut.took.bytes);
-    front = subst (IsFront cut.took.bytes) (sym (text_one p byte)) cut.took.front;
+    bytes = part.took.bytes;
+    taken = part.took.taken;
+    whole = subst (λ (l : List ℕ). IsFront l part.took.bytes) (sym (text_empty p)) (front_none part.took.bytes);
+    front = subst (IsFront part.took.bytes) (sym (text_one p byte)) part.took.front;
   };
-  kept = subst (AddsRows m n) (sym (rows_one p byte)) cut.kept;
+  kept = subst (λ (l : List Row). AddsRows a.keeper.rows b.keeper.rows l) (sym (rows_one p byte)) part.kept;
 }
 
--- the line of the first byte was cut, or nothing was done of it
-stopped_line : (a b : Option (List ℕ)) (m n : Option (List Row)) (p : Progress) (byte : ℕ) → eqb byte 10 ≡ true → NothingDone a b m n ⊎ LineCut a b m n (line_text p) (line_kept p) → StoppedAt a b m n p (byte ∷ [])
-stopped_line a b m n p byte t (inl none) = stopped_first a b m n p (byte ∷ []) none
-stopped_line a b m n p byte t (inr cut) = stopped_cut a b m n p byte (record {
-  took = subst (TookFront a b) (sym (text_lf p byte t)) cut.took;
-  kept = subst (AddsRows m n) (sym (rows_lf p byte t)) cut.kept;
-})
+stopped_line : (a b : Sides) (p : Progress) (x : Item) → x ≡ next_item p (ended_line p.line) → Did a b [] [] ⊎ DidPart a b (answer_text p.ledger x) (item_rows p.ledger x) → StoppedAt a b p (10 ∷ [])
+unfolding line_text line_kept
+stopped_line a b p x item (inl none) = stopped_first a b p (10 ∷ []) none
+stopped_line a b p x item (inr part) =
+    stopped_part a b p 10 (did_part_same a b _ (feed_text p 10) _ (feed_rows p 10)
+    (ap (λ (y : Item). answer_text p.ledger y) item ∙ sym (text_lf p 10 refl)) (ap (λ (y : Item). item_rows p.ledger y) item ∙ sym (rows_lf p 10 refl)) part)
 
-pub stopped_result_of : {T E : Type 0} (r : Result T E) (a b : Option (List ℕ)) (m n : Option (List Row)) (p : Progress) (byte : ℕ) → byte ≡ 10
-    → OnErr r (NothingDone a b m n ⊎ LineCut a b m n (line_text p) (line_kept p)) → OnErr r (StoppedAt a b m n p (byte ∷ []))
-stopped_result_of (Ok x) a b m n p byte is stop = tt
-stopped_result_of (Err e) a b m n p byte is stop = stopped_line a b m n p byte (ap (λ (b : ℕ). eqb b 10) is) stop
+-- a line feed, whose line ended the run
+fell_line_feed : (a b : Sides) (p : Progress) (x : Item) (e : End) → x ≡ next_item p (ended_line p.line) → FellIn a b (answer_text p.ledger x) (item_rows p.ledger x) e → FellAt a b p (10 ∷ []) e
+fell_line_feed a b p x end.Source item fell = absurd fell.cause
+fell_line_feed a b p x end.Sink item fell = record { did = stopped_line a b p x item fell.did; cause = fell.cause }
+fell_line_feed a b p x end.Keeper item fell = record { did = held_first a b p (10 ∷ []) fell.did; cause = fell.cause }
+fell_line_feed a b p x end.Memory item fell = record { did = stopped_line a b p x item fell.did; cause = fell.cause }
+fell_line_feed a b p x end.Endless item fell = absurd fell.cause
 
--- nothing at all was done
-pub nothing_same : (a : Option (List ℕ)) (m : Option (List Row)) → NothingDone a a m m
-nothing_same a m = record { written = Appends-nil a; kept = keeps_same m }
+pub fell_line_feed_of : (a b : Sides) (p q : Progress) (x : Item) (e : End) → p ≡ q → x ≡ next_item p (ended_line p.line) → FellIn a b (answer_text p.ledger x) (item_rows p.ledger x) e → FellAt a b q (10 ∷ []) e
+fell_line_feed_of a b p q x e is item fell = subst (λ (o : Progress). FellAt a b o (10 ∷ []) e) is (fell_line_feed a b p x e item fell)
 
--- ---- the line of damaged rows, in three pieces
+-- memory was wanted before anything was done
+pub fell_first : (a : Sides) (p : Progress) (bytes : List ℕ) → FellAt a a p bytes end.Memory
+fell_first a p bytes = record { did = stopped_first a a p bytes (did_none a); cause = counts_refl a }
 
-pub on_err : {T E P : Type 0} (r : Result T E) → P → OnErr r P
-on_err (Ok x) p = tt
-on_err (Err e) p = p
-
-took_first : (a b : Option (List ℕ)) (first rest : List ℕ) → TookFront a b first → TookFront a b (first ++ rest)
-took_first a b first rest took = record { bytes = took.bytes; taken = took.taken; front = front_trans took.bytes first (first ++ rest) took.front (front_append first rest) }
-
-pub damaged_word : (a b : Option (List ℕ)) (n : ℕ) → TookFront a b (codes "damaged ") → TookFront a b (damaged_line n)
-unfolding damaged_line
-damaged_word a b n took = took_first a b (codes "damaged ") (decimal n ++ 10 ∷ []) took
-
-pub damaged_digits : (a b c : Option (List ℕ)) (n : ℕ) → Appends a b (codes "damaged ") → TookFront b c (decimal n) → TookFront a c (damaged_line n)
-unfolding damaged_line
-damaged_digits a b c n word took = took_after a b c (codes "damaged ") (decimal n ++ 10 ∷ []) word (took_first b c (decimal n) (10 ∷ []) took)
-
-pub damaged_end : (a b c d : Option (List ℕ)) (n : ℕ) → Appends a b (codes "damaged ") → Appends b c (decimal n) → TookFront c d (10 ∷ []) → TookFront a d (damaged_line n)
-unfolding damaged_line
-damaged_end a b c d n word digits took = took_after a b d (codes "damaged ") (decimal n ++ 10 ∷ []) word (took_after b c d (decimal n) (10 ∷ []) digits took)
-
-pub damaged_whole : (a b c d : Option (List ℕ)) (n : ℕ) → Appends a b (codes "damaged ") → Appends b c (decimal n) → Appends c d (10 ∷ []) → Appends a d (damaged_line n)
-unfolding damaged_line
-damaged_whole a b c d n word digits end = Appends-trans a b d (codes "damaged ") (decimal n ++ 10 ∷ []) word (Appends-trans b c d (decimal n) (10 ∷ []) digits end)
-
-pub damaged_end_of : {T E : Type 0} (r : Result T E) (a b c d : Option (List ℕ)) (n : ℕ) → Appends a b (codes "damaged ") → Appends b c (decimal n) → OnErr r (TookFront c d (10 ∷ [])) → OnErr r (TookFront a d (damaged_line n))
-damaged_end_of (Ok x) a b c d n word digits took = tt
-damaged_end_of (Err e) a b c d n word digits took = damaged_end a b c d n word digits took
-
-pub damaged_whole_of : {T E : Type 0} (r : Result T E) (a b c d : Option (List ℕ)) (n : ℕ) → Appends a b (codes "damaged ") → Appends b c (decimal n) → OnOk r (Appends c d (10 ∷ [])) → OnOk r (Appends a d (damaged_line n))
-damaged_whole_of (Ok x) a b c d n word digits end = damaged_whole a b c d n word digits end
-damaged_whole_of (Err e) a b c d n word digits end = tt
-
--- ---- a run goes on
-
-pub ran_more : (a b c d e f : Option (List ℕ)) (k l o : Option (List Row)) (p q r : Progress) (m n : ℕ) → Ran a b d e k l p q m → Ran b c e f l o q r n → Ran a c d f k o p r (m + n)
-ran_more a b c d e f k l o p q r m n one two = record {
-  bytes = one.bytes ++ two.bytes;
-  length_is = length-append one.bytes two.bytes ∙ omega (arith, one.length_is, two.length_is);
-  read = Consumes-trans a b c one.bytes two.bytes one.read two.read;
-  progress = two.progress ∙ ap (λ (s : Progress). feed_all s two.bytes) one.progress ∙ sym (feed_all-append p one.bytes two.bytes);
-  written = subst (Appends d f) (ap (λ (s : Progress). text_all p one.bytes ++ text_all s two.bytes) one.progress ∙ sym (text_all-append p one.bytes two.bytes)) (Appends-trans d e f _ _ one.written two.written);
-  kept = subst (AddsRows k o) (ap (λ (s : Progress). rows_all p one.bytes ++ rows_all s two.bytes) one.progress ∙ sym (rows_all-append p one.bytes two.bytes)) (AddsRows-trans k l o _ _ one.kept two.kept);
-}
-
-pub ran_none : (a d : Option (List ℕ)) (k : Option (List Row)) (p : Progress) → Ran a a d d k k p p 0
-ran_none a d k p = record { bytes = []; length_is = refl; read = Consumes-nil a; progress = feed_none p; written = text_none d p; kept = rows_none k p }
-
-kept_is_consumed : (a b : Option (List ℕ)) → Keeps a b → Consumes a b []
-kept_is_consumed None b k = tt
-kept_is_consumed (Some x) None k = absurd k
-kept_is_consumed (Some x) (Some y) k = sym k
-
-pub ran_kept : (a b d : Option (List ℕ)) (k : Option (List Row)) (p : Progress) → Keeps a b → Ran a b d d k k p p 0
-ran_kept a b d k p kept = record { bytes = []; length_is = refl; read = kept_is_consumed a b kept; progress = feed_none p; written = text_none d p; kept = rows_none k p }
-
--- ---- bytes were handled, and then it stopped
+-- ---- bytes were handled, and then one ended the run
 
 -- as many bytes of a list that goes on
 take_past : (n : ℕ) (xs ys : List ℕ) → take (length xs + n) (xs ++ ys) ≡ xs ++ take n ys
@@ -256,13 +212,11 @@ text_past p q n xs ys is = ap (text_all p) (take_past n xs ys) ∙ text_all-appe
 rows_past : (p q : Progress) (n : ℕ) (xs ys : List ℕ) → q ≡ feed_all p xs → rows_all p (take (length xs + n) (xs ++ ys)) ≡ rows_all p xs ++ rows_all q (take n ys)
 rows_past p q n xs ys is = ap (rows_all p) (take_past n xs ys) ∙ rows_all-append p xs (take n ys) ∙ ap (λ (r : Progress). rows_all p xs ++ rows_all r (take n ys)) (sym is)
 
-pub held_after : (a b c : Option (List ℕ)) (k l m : Option (List Row)) (p q : Progress) (xs ys : List ℕ) → q ≡ feed_all p xs → Appends a b (text_all p xs) → AddsRows k l (rows_all p xs)
-    → HeldAt b c l m q ys → HeldAt a c k m p (xs ++ ys)
-held_after a b c k l m p q xs ys is written kept held = record {
+held_after : (a b c : Sides) (p q : Progress) (xs ys : List ℕ) → Fed a b p xs q → HeldAt b c q ys → HeldAt a c p (xs ++ ys)
+held_after a b c p q xs ys fed held = record {
   count = length xs + held.count;
   within = omega (arith, length-append xs ys, held.within);
-  written = subst (Appends a c) (sym (text_past p q held.count xs ys is)) (Appends-trans a b c _ _ written held.written);
-  kept = subst (AddsRows k m) (sym (rows_past p q held.count xs ys is)) (AddsRows-trans k l m _ _ kept held.kept);
+  did = did_same a c _ _ _ _ (sym (text_past p q held.count xs ys fed.progress)) (sym (rows_past p q held.count xs ys fed.progress)) (did_then a b c _ _ _ _ fed.did held.did);
 }
 
 -- the low end: where no byte of ys was handled it lies within xs
@@ -279,33 +233,43 @@ low_past p q (suc n) xs ys bs is whole =
     subst (λ (i : ℕ). IsFront (text_all p (take i (xs ++ ys))) (text_all p xs ++ bs)) (sym less)
     (subst (λ (l : List ℕ). IsFront l (text_all p xs ++ bs)) (sym (text_past p q n xs ys is)) (front_after (text_all p xs) _ bs front))
 
-pub stopped_after : (a b c : Option (List ℕ)) (k l m : Option (List Row)) (p q : Progress) (xs ys : List ℕ) → q ≡ feed_all p xs → Appends a b (text_all p xs) → AddsRows k l (rows_all p xs)
-    → StoppedAt b c l m q ys → StoppedAt a c k m p (xs ++ ys)
-stopped_after a b c k l m p q xs ys is written kept stop = record {
+stopped_after : (a b c : Sides) (p q : Progress) (xs ys : List ℕ) → Fed a b p xs q → StoppedAt b c q ys → StoppedAt a c p (xs ++ ys)
+stopped_after a b c p q xs ys fed stop = record {
   count = length xs + stop.count;
   within = omega (arith, length-append xs ys, stop.within);
   took = record {
     bytes = text_all p xs ++ stop.took.bytes;
-    taken = Appends-trans a b c _ _ written stop.took.taken;
-    whole = low_past p q stop.count xs ys stop.took.bytes is stop.took.whole;
-    front = subst (IsFront (text_all p xs ++ stop.took.bytes)) (sym (text_past p q stop.count xs ys is)) (front_after (text_all p xs) stop.took.bytes _ stop.took.front);
+    taken = Appends-trans a.sink.taken b.sink.taken c.sink.taken _ _ fed.did.written stop.took.taken;
+    whole = low_past p q stop.count xs ys stop.took.bytes fed.progress stop.took.whole;
+    front = subst (IsFront (text_all p xs ++ stop.took.bytes)) (sym (text_past p q stop.count xs ys fed.progress)) (front_after (text_all p xs) stop.took.bytes _ stop.took.front);
   };
-  kept = subst (AddsRows k m) (sym (rows_past p q stop.count xs ys is)) (AddsRows-trans k l m _ _ kept stop.kept);
+  kept = subst (λ (l : List Row). AddsRows a.keeper.rows c.keeper.rows l) (sym (rows_past p q stop.count xs ys fed.progress))
+      (AddsRows-trans a.keeper.rows b.keeper.rows c.keeper.rows _ _ fed.did.kept stop.kept);
 }
 
--- more bytes stand behind those
-pub held_longer : (a b : Option (List ℕ)) (k l : Option (List Row)) (p : Progress) (xs ys : List ℕ) → HeldAt a b k l p xs → HeldAt a b k l p (xs ++ ys)
-held_longer a b k l p xs ys held =
-    let same : take held.count xs ≡ take held.count (xs ++ ys) = sym (take-append-le held.count xs ys held.within) in
-    record {
-      count = held.count;
-      within = omega (arith, length-append xs ys, held.within);
-      written = subst (λ (x : List ℕ). Appends a b (text_all p x)) same held.written;
-      kept = subst (λ (x : List ℕ). AddsRows k l (rows_all p x)) same held.kept;
-    }
+-- bytes were handled, and then one ended the run
+did_after : (a b c : Sides) (p q : Progress) (xs ys : List ℕ) (e : End) → Fed a b p xs q → DidAt b c q ys e → DidAt a c p (xs ++ ys) e
+did_after a b c p q xs ys end.Source fed did =
+    did_same a c _ (text_all p (xs ++ ys)) _ (rows_all p (xs ++ ys))
+    (ap (λ (s : Progress). text_all p xs ++ text_all s ys) fed.progress ∙ sym (text_all-append p xs ys))
+    (ap (λ (s : Progress). rows_all p xs ++ rows_all s ys) fed.progress ∙ sym (rows_all-append p xs ys))
+    (did_then a b c (text_all p xs) (text_all q ys) (rows_all p xs) (rows_all q ys) fed.did did)
+did_after a b c p q xs ys end.Sink fed did = stopped_after a b c p q xs ys fed did
+did_after a b c p q xs ys end.Keeper fed did = held_after a b c p q xs ys fed did
+did_after a b c p q xs ys end.Memory fed did = stopped_after a b c p q xs ys fed did
+did_after a b c p q xs ys end.Endless fed did = absurd did
 
-pub stopped_longer : (a b : Option (List ℕ)) (k l : Option (List Row)) (p : Progress) (xs ys : List ℕ) → StoppedAt a b k l p xs → StoppedAt a b k l p (xs ++ ys)
-stopped_longer a b k l p xs ys stop =
+fell_then : (a b c : Sides) (p q : Progress) (xs ys : List ℕ) (e : End) → Fed a b p xs q → FellAt b c q ys e → FellAt a c p (xs ++ ys) e
+fell_then a b c p q xs ys e fed fell = record { did = did_after a b c p q xs ys e fed fell.did; cause = failed_after a b c e fed.counts fell.cause }
+
+-- more bytes stand behind those
+held_longer : (a b : Sides) (p : Progress) (xs ys : List ℕ) → HeldAt a b p xs → HeldAt a b p (xs ++ ys)
+held_longer a b p xs ys held =
+    let same : take held.count xs ≡ take held.count (xs ++ ys) = sym (take-append-le held.count xs ys held.within) in
+    record { count = held.count; within = omega (arith, length-append xs ys, held.within); did = did_same a b _ _ _ _ (ap (text_all p) same) (ap (rows_all p) same) held.did }
+
+stopped_longer : (a b : Sides) (p : Progress) (xs ys : List ℕ) → StoppedAt a b p xs → StoppedAt a b p (xs ++ ys)
+stopped_longer a b p xs ys stop =
     let same : take stop.count xs ≡ take stop.count (xs ++ ys) = sym (take-append-le stop.count xs ys stop.within) in
     let fewer : take (stop.count - 1) xs ≡ take (stop.count - 1) (xs ++ ys) = sym (take-append-le (stop.count - 1) xs ys (omega (arith, stop.within))) in
     record {
@@ -317,35 +281,89 @@ stopped_longer a b k l p xs ys stop =
         whole = subst (λ (x : List ℕ). IsFront (text_all p x) stop.took.bytes) fewer stop.took.whole;
         front = subst (λ (x : List ℕ). IsFront stop.took.bytes (text_all p x)) same stop.took.front;
       };
-      kept = subst (λ (x : List ℕ). AddsRows k l (rows_all p x)) same stop.kept;
+      kept = subst (λ (x : List ℕ). AddsRows a.keeper.rows b.keeper.rows (rows_all p x)) same stop.kept;
     }
+
+fell_longer : (a b : Sides) (p : Progress) (xs ys : List ℕ) (e : End) → FellAt a b p xs e → FellAt a b p (xs ++ ys) e
+fell_longer a b p xs ys end.Source fell = absurd fell.cause
+fell_longer a b p xs ys end.Sink fell = record { did = stopped_longer a b p xs ys fell.did; cause = fell.cause }
+fell_longer a b p xs ys end.Keeper fell = record { did = held_longer a b p xs ys fell.did; cause = fell.cause }
+fell_longer a b p xs ys end.Memory fell = record { did = stopped_longer a b p xs ys fell.did; cause = fell.cause }
+fell_longer a b p xs ys end.Endless fell = absurd fell.cause
 
 -- the bytes up to place i, byte i, and those behind it
 parts_at : (bytes : List ℕ) (i : ℕ) → i < length bytes → (take i bytes ++ get_or bytes i 0 ∷ []) ++ drop (i + 1) bytes ≡ bytes
 parts_at bytes i low = ap (λ l. l ++ drop (i + 1) bytes) (sym (take_more bytes i 0 low)) ∙ take-append-drop (i + 1) bytes
 
--- byte i was held, or stopped
-pub held_byte : (a b c : Option (List ℕ)) (k l m : Option (List Row)) (p q : Progress) (bytes : List ℕ) (i : ℕ) → i < length bytes → q ≡ feed_all p (take i bytes)
-    → Appends a b (text_all p (take i bytes)) → AddsRows k l (rows_all p (take i bytes)) → HeldAt b c l m q (get_or bytes i 0 ∷ []) → HeldAt a c k m p bytes
-held_byte a b c k l m p q bytes i low is written kept held =
-    subst (HeldAt a c k m p) (parts_at bytes i low) (held_longer a c k m p _ (drop (i + 1) bytes) (held_after a b c k l m p q (take i bytes) _ is written kept held))
+-- byte i ended the run
+pub fell_byte : (a b c : Sides) (p q : Progress) (bytes : List ℕ) (i : ℕ) (e : End) → i < length bytes → Fed a b p (take i bytes) q → FellAt b c q (get_or bytes i 0 ∷ []) e → FellAt a c p bytes e
+fell_byte a b c p q bytes i e low fed fell =
+    subst (λ (l : List ℕ). FellAt a c p l e) (parts_at bytes i low)
+    (fell_longer a c p (take i bytes ++ get_or bytes i 0 ∷ []) (drop (i + 1) bytes) e (fell_then a b c p q (take i bytes) (get_or bytes i 0 ∷ []) e fed fell))
 
-pub stopped_byte : (a b c : Option (List ℕ)) (k l m : Option (List Row)) (p q : Progress) (bytes : List ℕ) (i : ℕ) → i < length bytes → q ≡ feed_all p (take i bytes)
-    → Appends a b (text_all p (take i bytes)) → AddsRows k l (rows_all p (take i bytes)) → StoppedAt b c l m q (get_or bytes i 0 ∷ []) → StoppedAt a c k m p bytes
-stopped_byte a b c k l m p q bytes i low is written kept stop =
-    subst (StoppedAt a c k m p) (parts_at bytes i low) (stopped_longer a c k m p _ (drop (i + 1) bytes) (stopped_after a b c k l m p q (take i bytes) _ is written kept stop))
+-- ---- with the source
 
--- a run went on, and then was held, or stopped
-pub run_held : (a b c d e f : Option (List ℕ)) (k l m : Option (List Row)) (p q : Progress) (n : ℕ) → Ran a b d e k l p q n → Held b c e f l m q → Held a c d f k m p
-run_held a b c d e f k l m p q n ran held = record {
-  bytes = ran.bytes ++ held.bytes;
-  read = Consumes-trans a b c ran.bytes held.bytes ran.read held.read;
-  held = held_after d e f k l m p q ran.bytes held.bytes ran.progress ran.written ran.kept held.held;
+ran_none : {I K : Type 0} (a : Outside I K) (p : Progress) → Fits a.rows p.ledger → Ran a a p p 0
+ran_none a p fits = record { bytes = []; length_is = refl; read = Consumes-nil a.left; source_count = refl; fed = fed_none (sides_of a) p fits }
+
+-- a run begins
+pub ran_start : {I K : Type 0} (a : Outside I K) (p q : Progress) → q ≡ p → Fits a.rows p.ledger → Ran a a p q 0
+ran_start a p q is fits = subst (λ (o : Progress). Ran a a p o 0) (sym is) (ran_none a p fits)
+
+pub ran_more : {I K : Type 0} (a b c : Outside I K) (p q r : Progress) (m n : ℕ) → Ran a b p q m → Ran b c q r n → Ran a c p r (m + n)
+ran_more a b c p q r m n one two = record {
+  bytes = one.bytes ++ two.bytes;
+  length_is = length-append one.bytes two.bytes ∙ omega (arith, one.length_is, two.length_is);
+  read = Consumes-trans a.left b.left c.left one.bytes two.bytes one.read two.read;
+  source_count = two.source_count ∙ one.source_count;
+  fed = fed_then (sides_of a) (sides_of b) (sides_of c) p q r one.bytes two.bytes one.fed two.fed;
 }
 
-pub run_stopped : (a b c d e f : Option (List ℕ)) (k l m : Option (List Row)) (p q : Progress) (n : ℕ) → Ran a b d e k l p q n → Stopped b c e f l m q → Stopped a c d f k m p
-run_stopped a b c d e f k l m p q n ran stop = record {
-  bytes = ran.bytes ++ stop.bytes;
-  read = Consumes-trans a b c ran.bytes stop.bytes ran.read stop.read;
-  stopped = stopped_after d e f k l m p q ran.bytes stop.bytes ran.progress ran.written ran.kept stop.stopped;
+kept_is_consumed : (a b : Option (List ℕ)) → Keeps a b → Consumes a b []
+kept_is_consumed None b k = tt
+kept_is_consumed (Some x) None k = absurd k
+kept_is_consumed (Some x) (Some y) k = sym k
+
+-- the source failed
+pub source_fell : {I K : Type 0} (a b : Outside I K) (p : Progress) → Keeps a.left b.left → Rose a.source_faults b.source_faults → b.taken ≡ a.taken → b.rows ≡ a.rows → FellReading a b p end.Source
+unfolding HasCause
+source_fell a b p kept rose taken rows = record {
+  bytes = [];
+  read = kept_is_consumed a.left b.left kept;
+  did = record {
+    written = subst (λ (x : Option (List ℕ)). Appends a.taken x (text_all p [])) (sym taken) (text_none a.taken p);
+    kept = subst (λ (x : Option (List Row)). AddsRows a.rows x (rows_all p [])) (sym rows) (rows_none a.rows p);
+  };
+  cause = rose;
+}
+
+-- what failed of the sink and the keeper, where the source didn't
+pub cause_of : {I K : Type 0} (a b : Outside I K) (e : End) → b.source_faults ≡ a.source_faults → Failed (sides_of a) (sides_of b) e → HasCause a b (ended_by e)
+unfolding HasCause
+cause_of a b end.Source same failed = absurd failed
+cause_of a b end.Sink same failed = failed.rose
+cause_of a b end.Keeper same failed = failed.rose
+cause_of a b end.Memory same failed = record { source = same; sides = failed }
+cause_of a b end.Endless same failed = absurd failed
+
+-- bytes that were read ended the run
+pub fell_reading : {I K : Type 0} (a b : Outside I K) (p : Progress) (bytes : List ℕ) (e : End) → FellAt (sides_of a) (sides_of b) p bytes e → b.source_faults ≡ a.source_faults → Consumes a.left b.left bytes
+    → FellReading a b p e
+fell_reading a b p bytes e fell same read = record { bytes = bytes; read = read; did = fell.did; cause = cause_of a b e same fell.cause }
+
+pub cause_after : {I K : Type 0} (a b c : Outside I K) (e : End) → b.source_faults ≡ a.source_faults → SameCounts (sides_of a) (sides_of b) → HasCause b c (ended_by e) → HasCause a c (ended_by e)
+unfolding HasCause
+cause_after a b c end.Source source same cause = subst (λ (n : ℕ). Rose n c.source_faults) source cause
+cause_after a b c end.Sink source same cause = subst (λ (n : ℕ). Rose n c.sink_faults) same.sink cause
+cause_after a b c end.Keeper source same cause = subst (λ (n : ℕ). Rose n c.keeper_faults) same.keeper cause
+cause_after a b c end.Memory source same cause = record { source = cause.source ∙ source; sides = counts_then (sides_of a) (sides_of b) (sides_of c) same cause.sides }
+cause_after a b c end.Endless source same cause = record { source = cause.source ∙ source; sides = counts_then (sides_of a) (sides_of b) (sides_of c) same cause.sides }
+
+-- a run went on, and then it ended
+pub ran_fell : {I K : Type 0} (a b c : Outside I K) (p q : Progress) (n : ℕ) (e : End) → Ran a b p q n → FellReading b c q e → FellReading a c p e
+ran_fell a b c p q n e ran fell = record {
+  bytes = ran.bytes ++ fell.bytes;
+  read = Consumes-trans a.left b.left c.left ran.bytes fell.bytes ran.read fell.read;
+  did = did_after (sides_of a) (sides_of b) (sides_of c) p q ran.bytes fell.bytes e ran.fed fell.did;
+  cause = cause_after a b c e ran.source_count ran.fed.counts fell.cause;
 }

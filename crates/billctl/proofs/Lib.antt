@@ -1,4 +1,9 @@
 pub mod LineLemmas
 pub mod RowLemmas
+pub mod SideLemmas
+pub mod DamagedLemmas
 pub mod FeedLemmas
 pub mod ApplyLemmas
+pub mod EndLemmas
+pub mod QuietLemmas
+pub mod ToldLemmas

@@ -1,12 +1,15 @@
 -- Lines, cut from left to right.
-use Rattle.std.proofs.Common.{◌≡◌, ℕ, suc, ◌+◌, ◌<◌, ◌≤◌, Bool, true, false, ◌||◌, eqb, ltb, cond, ◌⊎◌, List, [], ◌∷◌, ◌++◌, length, map, take, refl, ap, sym, ◌∙◌, arith, append_assoc, append-nil, length-append, inl, inr}
+use Rattle.std.proofs.Common.{◌≡◌, ℕ, ◌+◌, ◌<◌, ◌≤◌, Bool, true, false, ◌||◌, eqb, ltb, cond, ◌⊎◌, List, [], ◌∷◌, ◌++◌, length, map, take, refl, ap, sym, ◌∙◌, arith, append_assoc, append-nil, length-append, inl, inr}
 use Rattle.std.proofs.lemmas.Bool.{ltb-true, ltb-false, lt-ltb}
 use Rattle.std.proofs.lemmas.List.{take_all, take-append-le, length-take}
-use Rattle.card_text.specs.Lines.{line_of}
+use Rattle.card_lines.specs.Lines.{line_of}
 use Rattle.billctl.specs.Input.{first_part, other_parts, ended, unended, ended_line, last_line}
-use Rattle.billctl.specs.Feed.{Progress, feed, longer_line, line_done, feed_text, line_text, feed_rows, line_kept, feed_all, text_all, rows_all}
-use Rattle.billctl.specs.Answers.{next, answer_text, is_refused, line_rows}
-use Rattle.billctl.specs.Run.{after, text_from, rows_kept, any_refused}
+use Rattle.billctl.specs.Feed.{Progress, feed, next_item, longer_line, line_done, feed_text, line_text, feed_rows, line_kept, feed_all, text_all, rows_all}
+use Rattle.card_lines.specs.declared.line.Line.{Line}
+use Rattle.billctl.specs.Answers.{answer_text, item_rows}
+use Rattle.billctl.specs.Items.{numbered}
+use Rattle.billctl.specs.Run.{after, text_of, rows_kept, any_refused}
+use Rattle.billctl.specs.declared.item.Item.{Item}
 
 -- the parts that line feeds end, where u came before; and what none ends
 abbrev pub cut : List ℕ → List ℕ → List (List ℕ)
@@ -92,13 +95,17 @@ kept_last (b ∷ u) = ap (λ l. l ∷ []) (kept_line (b ∷ u))
 
 -- ---- bytes that are fed are lines that are handled
 
+-- the items of the lines that end in these bytes, where u came before
+abbrev pub items_in : Progress → List ℕ → List ℕ → List Item
+items_in p u bs = numbered (p.number + 1) (map ended_line (cut u bs))
+
 pub record IsFed (p : Progress) (u bs : List ℕ) : Type 0 where
-  pub ledger : (feed_all p bs).ledger ≡ after p.ledger (map ended_line (cut u bs))
+  pub ledger : (feed_all p bs).ledger ≡ after p.ledger (items_in p u bs)
   pub number : (feed_all p bs).number ≡ p.number + length (cut u bs)
-  pub refused : (feed_all p bs).refused ≡ (p.refused || any_refused p.ledger (map ended_line (cut u bs)))
+  pub refused : (feed_all p bs).refused ≡ (p.refused || any_refused p.ledger (items_in p u bs))
   pub line : (feed_all p bs).line ≡ take 513 (left_over u bs)
-  pub text : text_all p bs ≡ text_from p.ledger (p.number + 1) (map ended_line (cut u bs))
-  pub kept : rows_all p bs ≡ rows_kept p.ledger (map ended_line (cut u bs))
+  pub text : text_all p bs ≡ text_of p.ledger (items_in p u bs)
+  pub kept : rows_all p bs ≡ rows_kept p.ledger (items_in p u bs)
 
 or_false : (b : Bool) → (b || false) ≡ b
 or_false true = refl
@@ -112,25 +119,26 @@ fed_none : (p : Progress) (u : List ℕ) → p.line ≡ take 513 u → IsFed p u
 unfolding feed_all text_all rows_all
 fed_none p u is = record { ledger = refl; number = omega arith; refused = sym (or_false p.refused); line = is; text = refl; kept = refl }
 
+-- the items of a line and of those behind it
+abbrev pub items_from : Progress → Line → List ℕ → List Item
+items_from p l bs = next_item p l ∷ numbered (p.number + 1 + 1) (map ended_line (cut [] bs))
+
 -- after a line
 fed_line : (p : Progress) (u bs : List ℕ) → p.line ≡ take 513 u → IsFed (line_done p) [] bs
-    → ((feed_all (line_done p) bs).ledger ≡ after p.ledger (ended_line u ∷ map ended_line (cut [] bs)))
+    → ((feed_all (line_done p) bs).ledger ≡ after p.ledger (items_from p (ended_line u) bs))
     × ((feed_all (line_done p) bs).number ≡ p.number + length (u ∷ cut [] bs))
-    × ((feed_all (line_done p) bs).refused ≡ (p.refused || any_refused p.ledger (ended_line u ∷ map ended_line (cut [] bs))))
-    × ((line_text p ++ text_all (line_done p) bs) ≡ text_from p.ledger (p.number + 1) (ended_line u ∷ map ended_line (cut [] bs)))
-    × ((line_kept p ++ rows_all (line_done p) bs) ≡ rows_kept p.ledger (ended_line u ∷ map ended_line (cut [] bs)))
+    × ((feed_all (line_done p) bs).refused ≡ (p.refused || any_refused p.ledger (items_from p (ended_line u) bs)))
+    × ((line_text p ++ text_all (line_done p) bs) ≡ text_of p.ledger (items_from p (ended_line u) bs))
+    × ((line_kept p ++ rows_all (line_done p) bs) ≡ rows_kept p.ledger (items_from p (ended_line u) bs))
 unfolding line_done line_text line_kept
 fed_line p u bs is rest =
     let same : ended_line p.line ≡ ended_line u = ap ended_line is ∙ kept_ended u in
-    let ls = map ended_line (cut [] bs) in
-    let number : suc (p.number + 1) ≡ p.number + 1 + 1 = omega arith in (
-      rest.ledger ∙ ap (λ l. after (next p.ledger l) ls) same,
+    let here = next_item p (ended_line p.line) in (
+      rest.ledger ∙ ap (λ l. after p.ledger (items_from p l bs)) same,
       omega (arith, rest.number),
-      rest.refused ∙ or_assoc p.refused _ _ ∙ ap (λ l. p.refused || (is_refused p.ledger l || any_refused (next p.ledger l) ls)) same,
-      ap (λ t. answer_text p.ledger (p.number + 1) (ended_line p.line) ++ t) rest.text
-          ∙ ap (λ l. answer_text p.ledger (p.number + 1) l ++ text_from (next p.ledger l) (p.number + 1 + 1) ls) same
-          ∙ ap (λ (k : ℕ). answer_text p.ledger (p.number + 1) (ended_line u) ++ text_from (next p.ledger (ended_line u)) k ls) (sym number),
-      ap (λ t. line_rows p.ledger (ended_line p.line) ++ t) rest.kept ∙ ap (λ l. line_rows p.ledger l ++ rows_kept (next p.ledger l) ls) same,
+      rest.refused ∙ or_assoc p.refused _ _ ∙ ap (λ l. p.refused || any_refused p.ledger (items_from p l bs)) same,
+      ap (λ t. answer_text p.ledger here ++ t) rest.text ∙ ap (λ l. text_of p.ledger (items_from p l bs)) same,
+      ap (λ t. item_rows p.ledger here ++ t) rest.kept ∙ ap (λ l. rows_kept p.ledger (items_from p l bs)) same,
     )
 
 done_line : (p : Progress) → (line_done p).line ≡ take 513 []
@@ -149,11 +157,11 @@ left_lf u b bs t = rw t refl
 left_other : (u : List ℕ) (b : ℕ) (bs : List ℕ) → eqb b 10 ≡ false → left_over u (b ∷ bs) ≡ left_over (u ++ b ∷ []) bs
 left_other u b bs f = rw f refl
 
-feed_lf : (p : Progress) (b : ℕ) → eqb b 10 ≡ true → feed p b ≡ line_done p
+pub feed_lf : (p : Progress) (b : ℕ) → eqb b 10 ≡ true → feed p b ≡ line_done p
 unfolding feed
 feed_lf p b t = rw t refl
 
-feed_other : (p : Progress) (b : ℕ) → eqb b 10 ≡ false → feed p b ≡ record p { line = longer_line p.line b }
+pub feed_other : (p : Progress) (b : ℕ) → eqb b 10 ≡ false → feed p b ≡ record p { line = longer_line p.line b }
 unfolding feed
 feed_other p b f = rw f refl
 
@@ -161,7 +169,7 @@ pub text_lf : (p : Progress) (b : ℕ) → eqb b 10 ≡ true → feed_text p b �
 unfolding feed_text
 text_lf p b t = rw t refl
 
-text_other : (p : Progress) (b : ℕ) → eqb b 10 ≡ false → feed_text p b ≡ []
+pub text_other : (p : Progress) (b : ℕ) → eqb b 10 ≡ false → feed_text p b ≡ []
 unfolding feed_text
 text_other p b f = rw f refl
 
@@ -169,7 +177,7 @@ pub rows_lf : (p : Progress) (b : ℕ) → eqb b 10 ≡ true → feed_rows p b �
 unfolding feed_rows
 rows_lf p b t = rw t refl
 
-rows_other : (p : Progress) (b : ℕ) → eqb b 10 ≡ false → feed_rows p b ≡ []
+pub rows_other : (p : Progress) (b : ℕ) → eqb b 10 ≡ false → feed_rows p b ≡ []
 unfolding feed_rows
 rows_other p b f = rw f refl
 
@@ -194,12 +202,12 @@ fed p u (b ∷ bs) is = elim (by_test (eqb b 10)) [
       let here = feed_cons p b bs ∙ ap (λ (q : Progress). feed_all q bs) (feed_lf p b t) in
       let lines = ap (map ended_line) (sym (cut_lf u b bs t)) in
       record {
-        ledger = ap (λ (q : Progress). q.ledger) here ∙ parts.0 ∙ ap (after p.ledger) lines;
+        ledger = ap (λ (q : Progress). q.ledger) here ∙ parts.0 ∙ ap (λ l. after p.ledger (numbered (p.number + 1) l)) lines;
         number = ap (λ (q : Progress). q.number) here ∙ parts.1 ∙ ap (λ l. p.number + length l) (sym (cut_lf u b bs t));
-        refused = ap (λ (q : Progress). q.refused) here ∙ parts.2 ∙ ap (λ l. p.refused || any_refused p.ledger l) lines;
+        refused = ap (λ (q : Progress). q.refused) here ∙ parts.2 ∙ ap (λ l. p.refused || any_refused p.ledger (numbered (p.number + 1) l)) lines;
         line = ap (λ (q : Progress). q.line) here ∙ rest.line ∙ ap (take 513) (sym (left_lf u b bs t));
-        text = text_cons p b bs ∙ ap (λ x. x ++ text_all (feed p b) bs) (text_lf p b t) ∙ ap (λ (q : Progress). line_text p ++ text_all q bs) (feed_lf p b t) ∙ parts.3 ∙ ap (text_from p.ledger (p.number + 1)) lines;
-        kept = rows_cons p b bs ∙ ap (λ x. x ++ rows_all (feed p b) bs) (rows_lf p b t) ∙ ap (λ (q : Progress). line_kept p ++ rows_all q bs) (feed_lf p b t) ∙ parts.4 ∙ ap (rows_kept p.ledger) lines;
+        text = text_cons p b bs ∙ ap (λ x. x ++ text_all (feed p b) bs) (text_lf p b t) ∙ ap (λ (q : Progress). line_text p ++ text_all q bs) (feed_lf p b t) ∙ parts.3 ∙ ap (λ l. text_of p.ledger (numbered (p.number + 1) l)) lines;
+        kept = rows_cons p b bs ∙ ap (λ x. x ++ rows_all (feed p b) bs) (rows_lf p b t) ∙ ap (λ (q : Progress). line_kept p ++ rows_all q bs) (feed_lf p b t) ∙ parts.4 ∙ ap (λ l. rows_kept p.ledger (numbered (p.number + 1) l)) lines;
       }
   | inr f ↦
       let q : Progress = record p { line = longer_line p.line b } in
@@ -208,11 +216,11 @@ fed p u (b ∷ bs) is = elim (by_test (eqb b 10)) [
       let here = feed_cons p b bs ∙ ap (λ (r : Progress). feed_all r bs) (feed_other p b f) in
       let lines = ap (map ended_line) (sym (cut_other u b bs f)) in
       record {
-        ledger = ap (λ (r : Progress). r.ledger) here ∙ rest.ledger ∙ ap (after p.ledger) lines;
+        ledger = ap (λ (r : Progress). r.ledger) here ∙ rest.ledger ∙ ap (λ l. after p.ledger (numbered (p.number + 1) l)) lines;
         number = ap (λ (r : Progress). r.number) here ∙ rest.number ∙ ap (λ l. p.number + length l) (sym (cut_other u b bs f));
-        refused = ap (λ (r : Progress). r.refused) here ∙ rest.refused ∙ ap (λ l. p.refused || any_refused p.ledger l) lines;
+        refused = ap (λ (r : Progress). r.refused) here ∙ rest.refused ∙ ap (λ l. p.refused || any_refused p.ledger (numbered (p.number + 1) l)) lines;
         line = ap (λ (r : Progress). r.line) here ∙ rest.line ∙ ap (take 513) (sym (left_other u b bs f));
-        text = text_cons p b bs ∙ ap (λ x. x ++ text_all (feed p b) bs) (text_other p b f) ∙ ap (λ (r : Progress). text_all r bs) (feed_other p b f) ∙ rest.text ∙ ap (text_from p.ledger (p.number + 1)) lines;
-        kept = rows_cons p b bs ∙ ap (λ x. x ++ rows_all (feed p b) bs) (rows_other p b f) ∙ ap (λ (r : Progress). rows_all r bs) (feed_other p b f) ∙ rest.kept ∙ ap (rows_kept p.ledger) lines;
+        text = text_cons p b bs ∙ ap (λ x. x ++ text_all (feed p b) bs) (text_other p b f) ∙ ap (λ (r : Progress). text_all r bs) (feed_other p b f) ∙ rest.text ∙ ap (λ l. text_of p.ledger (numbered (p.number + 1) l)) lines;
+        kept = rows_cons p b bs ∙ ap (λ x. x ++ rows_all (feed p b) bs) (rows_other p b f) ∙ ap (λ (r : Progress). rows_all r bs) (feed_other p b f) ∙ rest.kept ∙ ap (λ l. rows_kept p.ledger (numbered (p.number + 1) l)) lines;
       }
 ]

@@ -1,5 +1,5 @@
-// What a line comes to, and what is written for it.
-ghost use Rattle.std.specs.Prelude.{◌≡◌, ◌≤◌, IfOk, OnOk, OnErr, IsErrOf};
+// What an item comes to, and what is written for it.
+ghost use Rattle.std.specs.Prelude.{◌≡◌, IfOk, OnOk, OnErr, IsErrOf};
 ghost use Rattle.std.specs.String.{string_bytes};
 ghost use Rattle.card_desk.specs.Kept.{Fits};
 ghost use Rattle.card_desk.specs.Views.{seen};
@@ -7,60 +7,61 @@ ghost use Rattle.card_desk.specs.declared.view.Ask.TheVariants as ask;
 ghost use Rattle.card_keeper.specs.Rows.{AddsRows, KeepsRows};
 ghost use Rattle.card_model.specs.Machine.{State};
 ghost use Rattle.card_ports.specs.Counts.{Rose};
-ghost use Rattle.card_text.specs.Lines.{IsDatedLine};
-ghost use Rattle.billctl.specs.Answers.{answer_text, is_refused, line_rows, next, reply_in};
+ghost use Rattle.billctl.specs.Answers.{answer_text, is_refused, item_rows, next, reply_in};
 ghost use Rattle.billctl.specs.Answers as spec;
+ghost use Rattle.billctl.specs.Items.{IsDatedItem};
 
+use crate::item::Item;
 use card_desk::{Desk, Fault, View};
 use card_events::{Name, Refusal, Reply};
 use card_keeper::Keeper;
-use card_text::{Line, bad_text, reply_text, show_text};
+use card_lines::{bad_text, reply_text, show_text};
 use card_units::NoMemory;
 use std::alloc::Global;
 
-/// Carries out the request of a line, where it is one, and gives the reply to it. Where it is newly accepted its row is kept.
-#[tactic(auto, unfolding(crate::specs::Answers::reply_in, crate::specs::Answers::next, crate::specs::Answers::line_rows))]
+/// Carries out an item's request, where it is one, and gives the reply to it. Where it is newly accepted its row is kept.
+#[tactic(auto, unfolding(crate::specs::Answers::reply_in, crate::specs::Answers::next, crate::specs::Answers::item_rows))]
 pub fn carry_out<K: Keeper>(
     alloc: Global,
     desk: &mut Desk,
     keeper: &mut K,
-    line: &Line,
+    item: &Item,
 ) -> Result<Option<Reply>, Fault>
-    requires dated { IsDatedLine line.now }
+    requires dated { IsDatedItem item.now }
     requires fits { Fits (K.rows keeper.old) desk.old }
-    ensures reply { IfOk result (λ reply. reply ≡ reply_in desk.old line.now) }
-    ensures next { OnOk result (desk.new ≡ next desk.old line.now) }
-    ensures kept { OnOk result (AddsRows (K.rows keeper.old) (K.rows keeper.new) (line_rows desk.old line.now)) }
+    ensures reply { IfOk result (λ reply. reply ≡ reply_in desk.old item.now) }
+    ensures next { OnOk result (desk.new ≡ next desk.old item.now) }
+    ensures kept { OnOk result (AddsRows (K.rows keeper.old) (K.rows keeper.new) (item_rows desk.old item.now)) }
     ensures fits { OnOk result (Fits (K.rows keeper.new) desk.new) }
     ensures rows_stay { OnErr result (KeepsRows (K.rows keeper.old) (K.rows keeper.new)) }
-    ensures count { K.faults keeper.old ≤ K.faults keeper.new }
+    ensures unfailed { OnOk result (K.faults keeper.new ≡ K.faults keeper.old) }
     ensures cause { IsErrOf result Fault.Keeper → Rose (K.faults keeper.old) (K.faults keeper.new) }
+    ensures memory { IsErrOf result Fault.Memory → K.faults keeper.new ≡ K.faults keeper.old }
 {
-    match line {
-        Line::Request(request) => match desk.apply(alloc, keeper, request) {
+    match item {
+        Item::Request(request) => match desk.apply(alloc, keeper, request) {
             Ok(reply) => Ok(Some(reply)),
             Err(fault) => Err(fault),
         },
-        Line::Show(_) | Line::Bad(_) => Ok(None),
+        Item::Show(_) | Item::Bad { .. } => Ok(None),
     }
 }
 
-/// What is written for the line of this number, which was carried out with this reply, and whether that is `no` or `bad`.
+/// What is written for an item that was carried out with this reply, and whether that is `no` or `bad`.
 #[tactic(auto, unfolding(crate::specs::Answers::reply_in, crate::specs::Answers::next, crate::specs::Answers::answer_text, crate::specs::Answers::is_refused))]
 pub fn answer(
     alloc: Global,
     desk: &Desk,
-    number: u64,
-    line: &Line,
+    item: &Item,
     reply: &Option<Reply>,
 ) -> Result<(String, bool), NoMemory>
-    ensures text { (s : State) → desk.now ≡ next s line.now → reply.now ≡ reply_in s line.now → IfOk result (λ a. string_bytes a.0 ≡ answer_text s number line.now) }
-    ensures refused { (s : State) → desk.now ≡ next s line.now → reply.now ≡ reply_in s line.now → IfOk result (λ a. a.1 ≡ is_refused s line.now) }
+    ensures text { (s : State) → desk.now ≡ next s item.now → reply.now ≡ reply_in s item.now → IfOk result (λ a. string_bytes a.0 ≡ answer_text s item.now) }
+    ensures refused { (s : State) → desk.now ≡ next s item.now → reply.now ≡ reply_in s item.now → IfOk result (λ a. a.1 ≡ is_refused s item.now) }
 {
-    match line {
-        Line::Request(_) => answer_request(alloc, reply),
-        Line::Show(account) => answer_show(alloc, desk, account),
-        Line::Bad(field) => Ok((bad_text(alloc, number, *field)?, true)),
+    match item {
+        Item::Request(_) => answer_request(alloc, reply),
+        Item::Show(account) => answer_show(alloc, desk, account),
+        Item::Bad { number, field } => Ok((bad_text(alloc, *number, *field)?, true)),
     }
 }
 
@@ -83,7 +84,7 @@ fn answer_show(alloc: Global, desk: &Desk, account: &Name) -> Result<(String, bo
     Ok((view_text(alloc, account, &view)?, is_no_account(&view)))
 }
 
-#[tactic(auto, unfolding(crate::specs::Answers::view_text, card_text::specs::Replies::reply_text))]
+#[tactic(auto, unfolding(crate::specs::Answers::view_text, card_lines::specs::Replies::reply_text))]
 fn view_text(alloc: Global, account: &Name, view: &View) -> Result<String, NoMemory>
     ensures { IfOk result (λ text. string_bytes text ≡ spec.view_text account.now view.now) }
 {

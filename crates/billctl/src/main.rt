@@ -3,7 +3,12 @@
 
 mod answer;
 mod call;
+mod command;
 mod end;
+mod ended;
+mod handle;
+mod item;
+pub mod laws;
 mod progress;
 mod run;
 mod write;

@@ -22,7 +22,7 @@ use Rattle.card_events.specs.declared.request.Request.{Request}
 use Rattle.card_events.specs.declared.request.Request.TheVariants as request
 use Rattle.card_events.specs.declared.request.Shared.{Shared}
 use Rattle.card_events.specs.declared.request.Shared.TheVariants as shared
-use Rattle.card_model.specs.Accepted.{AreAccepted, IsAccepted}
+use Rattle.card_model.specs.Accepted.{AreAccepted, HasFewSegments, IsAccepted}
 use Rattle.card_model.specs.CycleDays.{IsOpening}
 use Rattle.card_model.specs.Machine.{Accepts, NamedAccount, Outcome, Refuses, Repeats, State, accounts_after, has_accounts, lists_of, outcome_in, run, run_from, shared_reason, start, step, with_lists, with_shared}
 use Rattle.card_model.specs.Refusals.{Lists, where_true}
@@ -30,7 +30,6 @@ use Rattle.card_model.proofs.Accepting.{runs_are_accepted}
 use Rattle.card_posts.specs.Posted.{last_accepted, opens}
 use Rattle.card_posts.specs.Stored.{AreTimely}
 use Rattle.card_rates.proofs.Runs.{runs_have_few_segments}
-use Rattle.card_rates.specs.RateBooks.{HasFewSegments}
 use Rattle.card_slots.proofs.Dates.{runs_keep_dates}
 use Rattle.card_slots.specs.Segments.{ArePostsDated}
 

@@ -5,7 +5,8 @@ use Rattle.std.proofs.lemmas.Bool.{cases_lt, eq-eqb, eqb-true, ne_eqb}
 use Rattle.std.proofs.lemmas.Bool.Decides.{nat_tests}
 use Rattle.std.proofs.lemmas.List.{append-nil}
 use Rattle.std.proofs.lemmas.List.Sums.{sum_by-cons}
-use Rattle.card_bounds.specs.Counts.{EntriesAreFew, HasFewSegments, most_entries, posts_before}
+use Rattle.card_bounds.specs.Counts.{EntriesAreFew, most_entries, posts_before}
+use Rattle.card_model.specs.Accepted.{HasFewSegments}
 use Rattle.card_bounds.specs.Bounds.{book_amid}
 use Rattle.card_bounds.specs.Places.{book_before}
 use Rattle.card_days.specs.Civil.{day_of_month}

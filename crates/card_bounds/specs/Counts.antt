@@ -1,17 +1,14 @@
 -- How many entries a book has.
 use Rattle.std.specs.Prelude.{ℕ, ◌+◌, ◌-◌, ◌*◌, ◌≡◌, ◌≤◌, nat_lt, length, List, ◌++◌}
-use Rattle.std.specs.List.{count_by, filter}
+use Rattle.std.specs.List.{filter}
 use Rattle.card_bounds.specs.Bounds.{book_amid}
 use Rattle.card_bounds.specs.Places.{book_before}
-use Rattle.card_events.specs.History.{CorrectedPost, adds_segment, anchor_of, folded}
+use Rattle.card_events.specs.History.{CorrectedPost, anchor_of, folded}
 use Rattle.card_events.specs.SharedRows.{SharedRows}
 use Rattle.card_events.specs.declared.kept.Kept.{Kept}
+use Rattle.card_model.specs.Accepted.{HasFewSegments}
 use Rattle.card_model.specs.Cycles.{Cycle, IssuedRow, posts_on, seen_on}
 use Rattle.card_model.specs.Folds.{book}
-
--- at most 64 segments: five from the opening on, and one for each Plan and Notice
-abbrev pub HasFewSegments : List Kept → Type 0
-HasFewSegments history = 5 + count_by (λ k. adds_segment k.post) history ≤ 64
 
 -- the posts that are folded on the days before one
 abbrev pub posts_before : List Kept → SharedRows → ℕ → List CorrectedPost

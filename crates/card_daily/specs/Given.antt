@@ -10,7 +10,7 @@ use Rattle.card_events.specs.declared.kept.Kept.{Kept}
 use Rattle.card_events.specs.declared.post.Post.{Post}
 use Rattle.card_events.specs.declared.post.Post.TheVariants as post
 use Rattle.card_fees.specs.Counting.{is_payment_at}
-use Rattle.card_model.specs.Accepted.{AreAccepted, HasFewFees}
+use Rattle.card_model.specs.Accepted.{AreAccepted, HasFewFees, HasFewSegments}
 use Rattle.card_model.specs.Books.{Account, Book, account_of, present_cycle}
 use Rattle.card_model.specs.Caps.{row_for}
 use Rattle.card_model.specs.CycleDays.{IsOpening}
@@ -18,7 +18,6 @@ use Rattle.card_model.specs.Cycles.{IssuedRow, Seen, seen_on}
 use Rattle.card_model.specs.Folds.{book, book_after}
 use Rattle.card_model.specs.Refusals.{Present, plan_days}
 use Rattle.card_posts.specs.Posted.{last_accepted}
-use Rattle.card_rates.specs.RateBooks.{HasFewSegments}
 use Rattle.card_slots.specs.Segments.{ArePostsDated}
 
 -- the accepted posts of an account, its issued statements, and what all accounts share

@@ -67,7 +67,7 @@ impl Desk {
         ensures { result.state ≡ start }
     {
         Desk {
-            today: first_day(),
+            today: Day::first(),
             shared: Vec::new(alloc),
             accounts: Vec::new(alloc),
             index: NameIndex::new(alloc),
@@ -410,14 +410,4 @@ fn push_account(list: &mut Vec<Account>, account: Account)
     ensures { list.new.items ≡ list.old.items ++ account ∷ [] }
 {
     let _ = list.push(account);
-}
-
-// A new desk stands at 2011-01-01.
-fn first_day() -> Day
-    ensures { result ≡ first_calendar_day }
-{
-    match Day::from_number(14_975) {
-        Some(day) => day,
-        None => unreachable!(),
-    }
 }

@@ -1,7 +1,7 @@
 -- What holds of the lists of every account that the machine has accepted.
-use Rattle.std.specs.Prelude.{ℕ, ◌≡◌, ◌≤◌, length, max, List, Some}
+use Rattle.std.specs.Prelude.{ℕ, ◌+◌, ◌≡◌, ◌≤◌, length, max, List, Some}
 use Rattle.std.specs.List.{All, count_by}
-use Rattle.card_events.specs.History.{terms_of}
+use Rattle.card_events.specs.History.{adds_segment, terms_of}
 use Rattle.card_events.specs.Limits.{post_limit}
 use Rattle.card_events.specs.SharedRows.{FeeRow, shared_rows}
 use Rattle.card_events.specs.declared.kept.Kept.{Kept}
@@ -65,6 +65,10 @@ pub record AreAccepted (lists : Lists) : Type 0 where
   pub rates : All HasFewRates lists.posts
   pub resolved : AreResolvedOnce lists.posts
   pub single : AreSingle lists.issued
+
+-- at most 64 segments: five from the opening on, and one for each Plan and Notice
+abbrev pub HasFewSegments : List Kept → Type 0
+HasFewSegments history = 5 + count_by (λ k. adds_segment k.post) history ≤ 64
 
 -- fees of at most 100,000 cents
 abbrev pub HasFewFees : FeeRow → Type 0

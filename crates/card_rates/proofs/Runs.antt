@@ -19,7 +19,7 @@ use Rattle.card_events.specs.declared.request.Shared.{Shared}
 use Rattle.card_model.specs.Machine.{Accepts, NamedAccount, Outcome, Refuses, Repeats, State, accepted, accounts_after, at_key, has_accounts, is_open, is_repeat_of, judged, kept_as, lists_of, next_number, opened, outcome, outcome_in, run_from, shared_reason, start, step, with_lists, with_shared}
 use Rattle.card_model.specs.Refusals.{Lists, Present, first_reason, reason_against, reason_to_open, reasons, where_true}
 use Rattle.card_rates.specs.Laws.{RunsHaveFewSegments}
-use Rattle.card_rates.specs.RateBooks.{HasFewSegments}
+use Rattle.card_model.specs.Accepted.{HasFewSegments}
 
 -- ---- no reason stands
 first-none : (r : Option Refusal) (rs : List (Option Refusal)) → first_reason (r ∷ rs) ≡ None → (r ≡ None) × (first_reason rs ≡ None)

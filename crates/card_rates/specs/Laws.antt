@@ -17,7 +17,8 @@ use Rattle.card_model.specs.Rates.{accrual_rate, starts}
 use Rattle.card_model.specs.Segments.{SegmentTerms, newest}
 use Rattle.card_model.specs.declared.segment.Interval.{Interval}
 use Rattle.card_model.specs.declared.segment.Sort.{Sort}
-use Rattle.card_rates.specs.RateBooks.{AreByNumber, HasFewSegments, rate_of, rates_of}
+use Rattle.card_rates.specs.RateBooks.{AreByNumber, rate_of, rates_of}
+use Rattle.card_model.specs.Accepted.{HasFewSegments}
 
 -- what may be seen on a day
 abbrev pub seen_in : List Kept → List IssuedRow → SharedRows → ℕ → Seen

@@ -1,7 +1,6 @@
 -- What the rates of an account are read from, as clauses see it. Rates are in basis points.
 use Rattle.std.specs.Prelude.{◌≡◌, ℕ, suc, ◌+◌, ◌≤◌, List, [], ◌∷◌}
-use Rattle.std.specs.List.{count_by}
-use Rattle.card_events.specs.History.{adds_segment, anchor_of, corrected, terms_of}
+use Rattle.card_events.specs.History.{anchor_of, corrected, terms_of}
 use Rattle.card_events.specs.declared.kept.Kept.{Kept}
 use Rattle.card_model.specs.Rates.{Lowering, lowerings, rate_on, starts}
 use Rattle.card_model.specs.Segments.{SegmentTerms, segments}
@@ -31,10 +30,6 @@ with_penalties penalties r = record { penalty = r.penalty; segments = r.segments
 -- the rate of a segment on a day
 abbrev pub rate_of : Rates → ℕ → SegmentTerms → ℕ
 rate_of r day g = rate_on r.lowerings r.penalty (starts day r.penalties) r.segments day g
-
--- at most 64 segments: five from the opening on, and one for each Plan and Notice
-abbrev pub HasFewSegments : List Kept → Type 0
-HasFewSegments history = 5 + count_by (λ k. adds_segment k.post) history ≤ 64
 
 -- each segment bears its place as its number, where the first of the list has number n
 unfoldable pub AreByNumber : ℕ → List SegmentTerms → Type 0

@@ -36,11 +36,11 @@ impl RateBook {
     ghost use Rattle.std.specs.Prelude.{◌≡◌, ℕ, ◌+◌, ◌<◌, ◌≤◌, ◌++◌, List, [], ◌∷◌, Some, None, length, slice_index_or, slice_set, option_copied, IfOk, OnOk, OnErr};
     ghost use Rattle.std.specs.List.{All, Contains, fold};
     ghost use Rattle.card_events.specs.History.{terms_of};
-    ghost use Rattle.card_model.specs.Accepted.{AreInRange, HasFewRates};
+    ghost use Rattle.card_model.specs.Accepted.{AreInRange, HasFewRates, HasFewSegments};
     ghost use Rattle.card_model.specs.Rates.{accrual_rate, bears_as, capped, own, starts, with_penalty};
     ghost use Rattle.card_model.specs.Segments.{SegmentTerms, newest, sort_of_category};
     ghost use Rattle.card_model.specs.declared.segment.Interval.{Interval};
-    ghost use Rattle.card_rates.specs.RateBooks.{HasFewSegments, rate_of, rates_of, with_penalties};
+    ghost use Rattle.card_rates.specs.RateBooks.{rate_of, rates_of, with_penalties};
 
     /// The rates of an account's posts, where no penalty has begun. The terms are in their ranges, no rate of a post is above
     /// 9,999 basis points, and there are at most 64 segments.

@@ -13,7 +13,7 @@ use Rattle.card_events.specs.declared.post.Post.TheVariants as post
 use Rattle.card_model.specs.Segments.{kept_segment, segment_of, segments}
 use Rattle.card_model.specs.declared.segment.Segment.{Segment}
 use Rattle.card_rates.specs.Added.{added_from}
-use Rattle.card_rates.specs.RateBooks.{HasFewSegments}
+use Rattle.card_model.specs.Accepted.{HasFewSegments}
 use Rattle.card_rates.proofs.Added.{added-is, drop-next}
 use Rattle.card_segments.specs.Balances.{opening_segments}
 use Rattle.card_slots.specs.Segments.{ArePostsDated, account_segments, kept_from, kept_of}

@@ -4,9 +4,8 @@ ghost use Rattle.card_days.specs.Range.{last_request_day};
 ghost use Rattle.std.specs.List.{cons_option};
 ghost use Rattle.card_events.specs.Dated.{is_dated_post};
 ghost use Rattle.card_events.specs.History.{at_number, opening_in, terms_in, terms_of};
-ghost use Rattle.card_model.specs.Accepted.{AreInRange};
+ghost use Rattle.card_model.specs.Accepted.{AreInRange, HasFewSegments};
 ghost use Rattle.card_model.specs.Segments.{sort_of_category, sort_of_plan};
-ghost use Rattle.card_rates.specs.RateBooks.{HasFewSegments};
 ghost use Rattle.card_slots.specs.Segments.{ArePostsDated, AreUnused, account_segments, kept_from, kept_of};
 
 use card_days::Day;

@@ -1,5 +1,2 @@
-mod NumberLemmas
-mod FieldLemmas
-mod TextRules
-pub mod DatedLemmas
-mod NameLemmas
+mod RowText
+mod EntryLemmas

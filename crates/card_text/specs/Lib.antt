@@ -1,6 +1,3 @@
-pub mod Forms
-pub mod Fields
-pub mod Words
-pub mod Posts
-pub mod Lines
-pub mod Replies
+pub mod Tasks
+pub mod Export
+pub mod Records

@@ -1,20 +1,13 @@
-//! Lines of requests, and the texts of replies.
+//! Texts: lines of requests and replies, open tasks, and the entries of an account as CSV.
 #![tactic(auto)]
 
-mod fields;
-mod forms;
-mod line;
-mod line_reading;
-mod post_reading;
-mod refusal;
-mod reply;
-mod word;
+mod export;
+mod tasks;
 
-pub use forms::{
-    read_category, read_channel, read_day, read_finding, read_number, read_place, read_plan_kind,
+pub use card_lines::{
+    Line, PostKind, RefusalValue, Word, bad_text, read_category, read_channel, read_day,
+    read_finding, read_line, read_number, read_place, read_plan_kind, read_word, refusal_name,
+    refusal_value, reply_text, show_text,
 };
-pub use line::Line;
-pub use line_reading::read_line;
-pub use refusal::{RefusalValue, refusal_name, refusal_value};
-pub use reply::{bad_text, reply_text, show_text};
-pub use word::{PostKind, Word, read_word};
+pub use export::export_text;
+pub use tasks::tasks_text;

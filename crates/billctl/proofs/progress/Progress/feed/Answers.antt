@@ -1,11 +1,10 @@
-use Rattle.billctl.proofs.FeedLemmas.{held_first, nothing_same, stopped_first, stopped_result_of}
+use Rattle.std.proofs.Common.{[], ◌∷◌}
+use Rattle.std.proofs.lemmas.Bool.{ne_eqb}
+use Rattle.billctl.proofs.FeedLemmas.{fed_other, fell_first}
 use Rattle.billctl.proofs.progress.Progress.feed.Goals as goal
 
-pub returns-then-byte-eq10-clause-err : goal.returns-then-byte-eq10-clause-err
-returns-then-byte-eq10-clause-err g c = stopped_result_of c.end_line.result _ _ _ _ c.args.self.now c.args.byte c.if-byte-eq10.true c.end_line.ensures.err
-
-pub returns-then-byte-eq10-clause-keeper : goal.returns-then-byte-eq10-clause-keeper
-returns-then-byte-eq10-clause-keeper g c h = held_first _ _ _ _ c.args.self.now _ (c.end_line.ensures.keeper h)
+pub returns-in-Ok-clause-ok : goal.returns-in-Ok-clause-ok
+returns-in-Ok-clause-ok g c = fed_other _ c.args.self.now _ c.args.byte (ne_eqb _ _ c.if-byte-eq10.false) c.in-Ok.ensures c.requires.fits
 
 pub returns-in-Err-clause-err : goal.returns-in-Err-clause-err
-returns-in-Err-clause-err g c = stopped_first _ _ _ _ c.args.self.now _ (nothing_same _ _)
+returns-in-Err-clause-err g c = fell_first _ c.args.self.now (c.args.byte ∷ [])

@@ -1,0 +1,298 @@
+-- How a run ends, from what its bytes came to.
+use Rattle.std.proofs.Common.{◌≡◌, ℕ, ◌-◌, ◌^◌, Bool, true, false, ◌⊎◌, inl, inr, List, [], ◌++◌, take, refl, ap, sym, ◌∙◌, subst, append-nil, Option, None, Some, Result, Ok, Err}
+use Rattle.std.specs.Io.KnownBytes.{Appends, Consumes, IsAtEnd}
+use Rattle.std.specs.Prelude.{IfOk, IfErr}
+use Rattle.card_keeper.specs.Rows.{AddsRows, KeepsRows}
+use Rattle.card_keeper.specs.declared.row.Row.{Row}
+use Rattle.card_model.specs.Machine.{State}
+use Rattle.card_ports.specs.Bytes.{IsFront}
+use Rattle.card_ports.specs.Counts.{Rose}
+use Rattle.billctl.specs.Commands.{ended_by, ended_of, status_of, statuses_of, IsOneOf}
+use Rattle.billctl.specs.Feed.{Progress, feed_all, text_all, rows_all, new_run, end_text, end_rows, end_refused}
+use Rattle.billctl.specs.Input.{ended_items, all_items, lines}
+use Rattle.billctl.specs.Outside.{Outside, Outcome, ReadFirst, ReadAll, Wrote, WroteFront, Runs, HasCause, Unfailed, NotLoaded, NoCommand, Loads, Loaded, Ends, but_last, sides_of, AreFirst}
+use Rattle.billctl.specs.Ran.{Finished, HeldAt, StoppedAt, Ran, FellReading}
+use Rattle.billctl.specs.Run.{text_of, rows_kept}
+use Rattle.billctl.specs.Written.{TookFront, TookBetween, Did, DidPart, SameCounts, FellIn}
+use Rattle.billctl.specs.declared.command.Command.{Command}
+use Rattle.billctl.specs.declared.command.Command.TheVariants as command
+use Rattle.billctl.specs.declared.end.End.{End}
+use Rattle.billctl.specs.declared.end.End.TheVariants as end
+use Rattle.billctl.specs.declared.ended.Ended.{Ended}
+use Rattle.billctl.specs.declared.ended.Ended.TheVariants as ended
+use Rattle.billctl.specs.declared.item.Item.{Item}
+use Rattle.billctl.proofs.ApplyLemmas.{text_is, rows_are, whole_text, whole_rows, whole_refused, first_items, all_first, OneMore, one_byte, low_front, last_more, none_more}
+use Rattle.billctl.proofs.FeedLemmas.{cause_of, cause_after}
+use Rattle.billctl.proofs.RowLemmas.{AddsRows-trans, kept_then}
+use Rattle.billctl.proofs.SideLemmas.{front_trans, front_refl, took_whole, took_part, did_then, counts_then}
+
+-- ---- the bytes that were read were handled
+
+wrote : {I K : Type 0} (old new : Outside I K) (s : State) (bytes : List ℕ) → Did (sides_of old) (sides_of new) (text_all (new_run s) bytes) (rows_all (new_run s) bytes) → Wrote old new s (ended_items bytes)
+wrote old new s bytes did = (subst (Appends old.taken new.taken) (text_is s bytes) did.written, subst (AddsRows old.rows new.rows) (rows_are s bytes) did.kept)
+
+pub endless_run : {I K : Type 0} (old new : Outside I K) (s : State) (q : Progress) (n : ℕ) → Ran old new (new_run s) q n → n ≡ 2 ^ 36 → Runs old new lines s ended.Endless
+endless_run old new s q n ran all = record { bytes = ran.bytes; read = ran.read; stands = (ran.length_is ∙ all, wrote old new s ran.bytes ran.fed.did) }
+
+-- ---- some first bytes were handled
+
+held : {I K : Type 0} (old new : Outside I K) (s : State) (bytes : List ℕ) (at : HeldAt (sides_of old) (sides_of new) (new_run s) bytes) → (items : List Item) × AreFirst items (ended_items bytes) × Wrote old new s items
+held old new s bytes at =
+    let front = take at.count bytes in
+    (ended_items front, first_items at.count bytes, wrote old new s front at.did)
+
+-- all items but the last have their replies, and the last a front of its own
+wrote_front : {I K : Type 0} (old new : Outside I K) (s : State) (fewer ls : List Item) → OneMore fewer ls → TookBetween old.taken new.taken (text_of s fewer) (text_of s ls) → AddsRows old.rows new.rows (rows_kept s ls)
+    → WroteFront old new s ls
+wrote_front old new s fewer ls one took kept = (
+  record {
+    bytes = took.bytes;
+    taken = took.taken;
+    whole = front_trans (text_of s (but_last ls)) (text_of s fewer) took.bytes (low_front s fewer ls one) took.whole;
+    front = took.front;
+  },
+  kept,
+)
+
+stopped : {I K : Type 0} (old new : Outside I K) (s : State) (bytes : List ℕ) (at : StoppedAt (sides_of old) (sides_of new) (new_run s) bytes) → (items : List Item) × AreFirst items (ended_items bytes) × WroteFront old new s items
+stopped old new s bytes at =
+    let fewer = take (at.count - 1) bytes in
+    let front = take at.count bytes in
+    let took : TookBetween old.taken new.taken (text_of s (ended_items fewer)) (text_of s (ended_items front)) = record {
+      bytes = at.took.bytes;
+      taken = at.took.taken;
+      whole = subst (λ (x : List ℕ). IsFront x at.took.bytes) (text_is s fewer) at.took.whole;
+      front = subst (IsFront at.took.bytes) (text_is s front) at.took.front;
+    } in (
+      ended_items front,
+      first_items at.count bytes,
+      wrote_front old new s (ended_items fewer) (ended_items front) (one_byte at.count bytes at.within) took (subst (AddsRows old.rows new.rows) (rows_are s front) at.kept),
+    )
+
+-- a run that was ended early
+fell_run : {I K : Type 0} (old new : Outside I K) (s : State) (e : End) → FellReading old new (new_run s) e → Runs old new lines s (ended_by e)
+fell_run old new s end.Source fell = record { bytes = fell.bytes; read = fell.read; stands = wrote old new s fell.bytes fell.did }
+fell_run old new s end.Sink fell = let some = stopped old new s fell.bytes fell.did in record { bytes = fell.bytes; read = fell.read; stands = (some.0, inl some.1, some.2) }
+fell_run old new s end.Keeper fell = let some = held old new s fell.bytes fell.did in record { bytes = fell.bytes; read = fell.read; stands = (some.0, inl some.1, some.2) }
+fell_run old new s end.Memory fell = let some = stopped old new s fell.bytes fell.did in record { bytes = fell.bytes; read = fell.read; stands = (some.0, inl some.1, some.2) }
+fell_run old new s end.Endless fell = absurd fell.did
+
+pub fell_end : {I K : Type 0} (old new : Outside I K) (s : State) (e : End) (x : Ended) → x ≡ ended_by e → FellReading old new (new_run s) e → Runs old new lines s x
+fell_end old new s e x is fell = subst (λ (y : Ended). Runs old new lines s y) (sym is) (fell_run old new s e fell)
+
+pub fell_end_cause : {I K : Type 0} (old new : Outside I K) (s : State) (e : End) (x : Ended) → x ≡ ended_by e → FellReading old new (new_run s) e → HasCause old new x
+fell_end_cause old new s e x is fell = subst (λ (y : Ended). HasCause old new y) (sym is) fell.cause
+
+-- ---- the input was read to its end: what was done of its last line
+
+-- the source is as it was
+pub record SameSource {I K : Type 0} (old new : Outside I K) : Type 0 where
+  pub left : new.left ≡ old.left
+  pub count : new.source_faults ≡ old.source_faults
+
+read_on : {I K : Type 0} (old mid new : Outside I K) (p q : Progress) (n : ℕ) (ran : Ran old mid p q n) → SameSource mid new → Consumes old.left new.left ran.bytes
+read_on old mid new p q n ran same = subst (λ (x : Option (List ℕ)). Consumes old.left x ran.bytes) (sym same.left) ran.read
+
+at_end : {I K : Type 0} (mid new : Outside I K) → SameSource mid new → IsAtEnd mid.left → IsAtEnd new.left
+at_end mid new same ends = subst IsAtEnd (sym same.left) ends
+
+whole_run : {I K : Type 0} (old mid new : Outside I K) (s : State) (q : Progress) (n : ℕ) (refused : Bool) → Ran old mid (new_run s) q n → SameSource mid new → IsAtEnd mid.left → Finished (sides_of mid) (sides_of new) q refused
+    → ReadAll old new lines s refused
+whole_run old mid new s q n refused ran same ends last =
+    let bytes = ran.bytes in
+    let did = did_then (sides_of old) (sides_of mid) (sides_of new) _ _ _ _ ran.fed.did last.did in
+    record {
+      bytes = bytes;
+      read = read_on old mid new (new_run s) q n ran same;
+      stands = (
+        at_end mid new same ends,
+        (
+          subst (Appends old.taken new.taken) (ap (λ r. text_all (new_run s) bytes ++ end_text r) ran.fed.progress ∙ whole_text s bytes) did.written,
+          subst (AddsRows old.rows new.rows) (ap (λ r. rows_all (new_run s) bytes ++ end_rows r) ran.fed.progress ∙ whole_rows s bytes) did.kept,
+        ),
+        sym (last.refused_is ∙ ap end_refused ran.fed.progress ∙ whole_refused s bytes),
+      );
+    }
+
+-- nothing was done of it
+held_end : {I K : Type 0} (old mid new : Outside I K) (s : State) (q : Progress) (n : ℕ) (ran : Ran old mid (new_run s) q n) → Did (sides_of mid) (sides_of new) [] [] → Wrote old new s (ended_items ran.bytes)
+held_end old mid new s q n ran none =
+    let bytes = ran.bytes in
+    let did = did_then (sides_of old) (sides_of mid) (sides_of new) _ [] _ [] ran.fed.did none in (
+      subst (Appends old.taken new.taken) (append-nil (text_all (new_run s) bytes) ∙ text_is s bytes) did.written,
+      subst (AddsRows old.rows new.rows) (append-nil (rows_all (new_run s) bytes) ∙ rows_are s bytes) did.kept,
+    )
+
+stopped_none : {I K : Type 0} (old mid new : Outside I K) (s : State) (q : Progress) (n : ℕ) (ran : Ran old mid (new_run s) q n) → Did (sides_of mid) (sides_of new) [] [] → WroteFront old new s (ended_items ran.bytes)
+stopped_none old mid new s q n ran none =
+    let ls = ended_items ran.bytes in
+    let text = subst (Appends old.taken mid.taken) (text_is s ran.bytes) ran.fed.did.written in
+    let took = took_whole old.taken mid.taken new.taken (text_of s ls) (text_of s ls) text none.written (front_refl (text_of s ls)) in
+    wrote_front old new s ls ls (none_more ls) took (held_end old mid new s q n ran none).1
+
+-- its row was kept, and a front of its reply was written
+stopped_last : {I K : Type 0} (old mid new : Outside I K) (s : State) (q : Progress) (n : ℕ) (ran : Ran old mid (new_run s) q n) → DidPart (sides_of mid) (sides_of new) (end_text q) (end_rows q) → WroteFront old new s (all_items ran.bytes)
+stopped_last old mid new s q n ran part =
+    let bytes = ran.bytes in
+    let ls = ended_items bytes in
+    let end = end_text (feed_all (new_run s) bytes) in
+    let text = subst (Appends old.taken mid.taken) (text_is s bytes) ran.fed.did.written in
+    let last : TookFront mid.taken new.taken end = subst (λ (r : Progress). TookFront mid.taken new.taken (end_text r)) ran.fed.progress part.took in
+    let joined : text_of s ls ++ end ≡ text_of s (all_items bytes) = ap (λ t. t ++ end) (sym (text_is s bytes)) ∙ whole_text s bytes in
+    let rows = subst (AddsRows old.rows new.rows) (ap (λ r. rows_all (new_run s) bytes ++ end_rows r) ran.fed.progress ∙ whole_rows s bytes) (AddsRows-trans old.rows mid.rows new.rows _ _ ran.fed.did.kept part.kept) in
+    let took = subst (TookBetween old.taken new.taken (text_of s ls)) joined (took_part old.taken mid.taken new.taken (text_of s ls) end text last) in
+    wrote_front old new s ls (all_items bytes) (last_more bytes) took rows
+
+stopped_end : {I K : Type 0} (old mid new : Outside I K) (s : State) (q : Progress) (n : ℕ) → Ran old mid (new_run s) q n → SameSource mid new → IsAtEnd mid.left
+    → Did (sides_of mid) (sides_of new) [] [] ⊎ DidPart (sides_of mid) (sides_of new) (end_text q) (end_rows q) → ReadFirst old new lines (WroteFront old new s)
+stopped_end old mid new s q n ran same ends (inl none) = record {
+  bytes = ran.bytes;
+  read = read_on old mid new (new_run s) q n ran same;
+  stands = (ended_items ran.bytes, inl (all_first (ended_items ran.bytes)), stopped_none old mid new s q n ran none);
+}
+stopped_end old mid new s q n ran same ends (inr part) = record {
+  bytes = ran.bytes;
+  read = read_on old mid new (new_run s) q n ran same;
+  stands = (all_items ran.bytes, inr (at_end mid new same ends, all_first (all_items ran.bytes)), stopped_last old mid new s q n ran part);
+}
+
+fell_last : {I K : Type 0} (old mid new : Outside I K) (s : State) (q : Progress) (n : ℕ) (e : End) → Ran old mid (new_run s) q n → SameSource mid new → IsAtEnd mid.left
+    → FellIn (sides_of mid) (sides_of new) (end_text q) (end_rows q) e → Runs old new lines s (ended_by e)
+fell_last old mid new s q n end.Source ran same ends fell = absurd fell.cause
+fell_last old mid new s q n end.Sink ran same ends fell = stopped_end old mid new s q n ran same ends fell.did
+fell_last old mid new s q n end.Keeper ran same ends fell = record {
+  bytes = ran.bytes;
+  read = read_on old mid new (new_run s) q n ran same;
+  stands = (ended_items ran.bytes, inl (all_first (ended_items ran.bytes)), held_end old mid new s q n ran fell.did);
+}
+fell_last old mid new s q n end.Memory ran same ends fell = stopped_end old mid new s q n ran same ends fell.did
+fell_last old mid new s q n end.Endless ran same ends fell = absurd fell.cause
+
+-- its last line was handled, or ended it
+ended_run_of : {I K : Type 0} (old mid new : Outside I K) (s : State) (q : Progress) (n : ℕ) (r : Result Bool End) → Ran old mid (new_run s) q n → SameSource mid new → IsAtEnd mid.left
+    → IfOk r (Finished (sides_of mid) (sides_of new) q) → IfErr r (FellIn (sides_of mid) (sides_of new) (end_text q) (end_rows q)) → Runs old new lines s (ended_of r)
+ended_run_of old mid new s q n (Ok false) ran same ends ok err = whole_run old mid new s q n false ran same ends ok
+ended_run_of old mid new s q n (Ok true) ran same ends ok err = whole_run old mid new s q n true ran same ends ok
+ended_run_of old mid new s q n (Err e) ran same ends ok err = fell_last old mid new s q n e ran same ends err
+
+pub ended_run : {I K : Type 0} (old mid new : Outside I K) (s : State) (q : Progress) (n : ℕ) (r : Result Bool End) (e : Ended) → e ≡ ended_of r → Ran old mid (new_run s) q n → SameSource mid new → IsAtEnd mid.left
+    → IfOk r (Finished (sides_of mid) (sides_of new) q) → IfErr r (FellIn (sides_of mid) (sides_of new) (end_text q) (end_rows q)) → Runs old new lines s e
+ended_run old mid new s q n r e is ran same ends ok err = subst (λ (y : Ended). Runs old new lines s y) (sym is) (ended_run_of old mid new s q n r ran same ends ok err)
+
+-- ---- what failed
+
+unfailed_then : {I K : Type 0} (old mid new : Outside I K) (s : State) (q : Progress) (n : ℕ) → Ran old mid (new_run s) q n → SameSource mid new → SameCounts (sides_of mid) (sides_of new) → Unfailed old new
+unfailed_then old mid new s q n ran same counts = record { source = same.count ∙ ran.source_count; sides = counts_then (sides_of old) (sides_of mid) (sides_of new) ran.fed.counts counts }
+
+ended_cause_of : {I K : Type 0} (old mid new : Outside I K) (s : State) (q : Progress) (n : ℕ) (r : Result Bool End) → Ran old mid (new_run s) q n → SameSource mid new
+    → IfOk r (Finished (sides_of mid) (sides_of new) q) → IfErr r (FellIn (sides_of mid) (sides_of new) (end_text q) (end_rows q)) → HasCause old new (ended_of r)
+unfolding HasCause
+ended_cause_of old mid new s q n (Ok false) ran same ok err = unfailed_then old mid new s q n ran same ok.counts
+ended_cause_of old mid new s q n (Ok true) ran same ok err = unfailed_then old mid new s q n ran same ok.counts
+ended_cause_of old mid new s q n (Err e) ran same ok err = cause_after old mid new e ran.source_count ran.fed.counts (cause_of mid new e same.count err.cause)
+
+pub ended_cause : {I K : Type 0} (old mid new : Outside I K) (s : State) (q : Progress) (n : ℕ) (r : Result Bool End) (e : Ended) → e ≡ ended_of r → Ran old mid (new_run s) q n → SameSource mid new
+    → IfOk r (Finished (sides_of mid) (sides_of new) q) → IfErr r (FellIn (sides_of mid) (sides_of new) (end_text q) (end_rows q)) → HasCause old new e
+ended_cause old mid new s q n r e is ran same ok err = subst (λ (y : Ended). HasCause old new y) (sym is) (ended_cause_of old mid new s q n r ran same ok err)
+
+pub endless_cause : {I K : Type 0} (old new : Outside I K) (s : State) (q : Progress) (n : ℕ) → Ran old new (new_run s) q n → HasCause old new ended.Endless
+unfolding HasCause
+endless_cause old new s q n ran = record { source = ran.source_count; sides = ran.fed.counts }
+
+-- ---- a run from a keeper that was loaded
+
+-- the keeper after the load
+abbrev pub reloaded : {I K : Type 0} → Outside I K → K → Option (List Row) → ℕ → Outside I K
+reloaded old k rows faults = record old { keeper = k; rows = rows; keeper_faults = faults }
+
+pub loaded_run : {I K : Type 0} (old new : Outside I K) (k : K) (rows : Option (List Row)) (faults : ℕ) (s : State) (e : Ended) → KeepsRows old.rows rows → Runs (reloaded old k rows faults) new lines s e → Runs old new lines s e
+loaded_run old new k rows faults s ended.Done keeps ran =
+    record { bytes = ran.bytes; read = ran.read; stands = (ran.stands.0, (ran.stands.1.0, kept_then old.rows rows new.rows _ keeps ran.stands.1.1), ran.stands.2) }
+loaded_run old new k rows faults s ended.Refused keeps ran =
+    record { bytes = ran.bytes; read = ran.read; stands = (ran.stands.0, (ran.stands.1.0, kept_then old.rows rows new.rows _ keeps ran.stands.1.1), ran.stands.2) }
+loaded_run old new k rows faults s ended.Usage keeps ran = absurd ran
+loaded_run old new k rows faults s ended.Source keeps ran = record { bytes = ran.bytes; read = ran.read; stands = (ran.stands.0, kept_then old.rows rows new.rows _ keeps ran.stands.1) }
+loaded_run old new k rows faults s ended.Sink keeps ran =
+    record { bytes = ran.bytes; read = ran.read; stands = (ran.stands.0, ran.stands.1, (ran.stands.2.0, kept_then old.rows rows new.rows _ keeps ran.stands.2.1)) }
+loaded_run old new k rows faults s ended.Keeper keeps ran =
+    record { bytes = ran.bytes; read = ran.read; stands = (ran.stands.0, ran.stands.1, (ran.stands.2.0, kept_then old.rows rows new.rows _ keeps ran.stands.2.1)) }
+loaded_run old new k rows faults s ended.Memory keeps ran =
+    record { bytes = ran.bytes; read = ran.read; stands = (ran.stands.0, ran.stands.1, (ran.stands.2.0, kept_then old.rows rows new.rows _ keeps ran.stands.2.1)) }
+loaded_run old new k rows faults s ended.Damaged keeps ran = absurd ran
+loaded_run old new k rows faults s ended.Endless keeps ran =
+    record { bytes = ran.bytes; read = ran.read; stands = (ran.stands.0, (ran.stands.1.0, kept_then old.rows rows new.rows _ keeps ran.stands.1.1)) }
+
+loaded_unfailed : {I K : Type 0} (old new : Outside I K) (k : K) (rows : Option (List Row)) (faults : ℕ) → faults ≡ old.keeper_faults → Unfailed (reloaded old k rows faults) new → Unfailed old new
+loaded_unfailed old new k rows faults same un = record { source = un.source; sides = record { sink = un.sides.sink; keeper = un.sides.keeper ∙ same } }
+
+pub loaded_cause : {I K : Type 0} (old new : Outside I K) (k : K) (rows : Option (List Row)) (faults : ℕ) (e : Ended) → faults ≡ old.keeper_faults → HasCause (reloaded old k rows faults) new e → HasCause old new e
+unfolding HasCause
+loaded_cause old new k rows faults ended.Done same cause = loaded_unfailed old new k rows faults same cause
+loaded_cause old new k rows faults ended.Refused same cause = loaded_unfailed old new k rows faults same cause
+loaded_cause old new k rows faults ended.Usage same cause = tt
+loaded_cause old new k rows faults ended.Source same cause = cause
+loaded_cause old new k rows faults ended.Sink same cause = cause
+loaded_cause old new k rows faults ended.Keeper same cause = subst (λ (n : ℕ). Rose n new.keeper_faults) same cause
+loaded_cause old new k rows faults ended.Memory same cause = loaded_unfailed old new k rows faults same cause
+loaded_cause old new k rows faults ended.Damaged same cause = tt
+loaded_cause old new k rows faults ended.Endless same cause = loaded_unfailed old new k rows faults same cause
+
+pub loaded_outcome : {I K : Type 0} (old new : Outside I K) (k : K) (rows : Option (List Row)) (faults : ℕ) (e : Ended) → KeepsRows old.rows rows → faults ≡ old.keeper_faults
+    → Loaded old.rows (λ s. Runs (reloaded old k rows faults) new lines s e) → HasCause (reloaded old k rows faults) new e → Outcome old new (Some command.Apply) e
+unfolding Ends
+loaded_outcome old new k rows faults e keeps same run cause = record {
+  ends = inr (record { ledger = run.ledger; loaded = run.loaded; ran = loaded_run old new k rows faults run.ledger e keeps run.ran });
+  cause = loaded_cause old new k rows faults e same cause;
+}
+
+-- ---- the statuses
+
+run_status : {I K : Type 0} (old new : Outside I K) (s : State) (e : Ended) → Runs old new lines s e → IsOneOf (status_of e) (statuses_of (Some command.Apply))
+run_status old new s ended.Done ran = inl refl
+run_status old new s ended.Refused ran = inr (inl refl)
+run_status old new s ended.Usage ran = absurd ran
+run_status old new s ended.Source ran = inr (inr (inl refl))
+run_status old new s ended.Sink ran = inr (inr (inr (inl refl)))
+run_status old new s ended.Keeper ran = inr (inr (inr (inr (inl refl))))
+run_status old new s ended.Memory ran = inr (inr (inr (inr (inr (inl refl)))))
+run_status old new s ended.Damaged ran = absurd ran
+run_status old new s ended.Endless ran = inr (inr (inr (inr (inr (inr (inr (inl refl)))))))
+
+not_loaded_status : {I K : Type 0} (old new : Outside I K) (e : Ended) → NotLoaded old new e → IsOneOf (status_of e) (statuses_of (Some command.Apply))
+not_loaded_status old new ended.Done none = absurd none
+not_loaded_status old new ended.Refused none = absurd none
+not_loaded_status old new ended.Usage none = absurd none
+not_loaded_status old new ended.Source none = absurd none
+not_loaded_status old new ended.Sink none = absurd none
+not_loaded_status old new ended.Keeper none = inr (inr (inr (inr (inl refl))))
+not_loaded_status old new ended.Memory none = inr (inr (inr (inr (inr (inl refl)))))
+not_loaded_status old new ended.Damaged none = inr (inr (inr (inr (inr (inr (inl refl))))))
+not_loaded_status old new ended.Endless none = absurd none
+
+no_command_status : {I K : Type 0} (old new : Outside I K) (e : Ended) → NoCommand old new e → IsOneOf (status_of e) (statuses_of None)
+no_command_status old new ended.Done said = absurd said
+no_command_status old new ended.Refused said = absurd said
+no_command_status old new ended.Usage said = inl refl
+no_command_status old new ended.Source said = absurd said
+no_command_status old new ended.Sink said = absurd said
+no_command_status old new ended.Keeper said = absurd said
+no_command_status old new ended.Memory said = inr (inl refl)
+no_command_status old new ended.Damaged said = absurd said
+no_command_status old new ended.Endless said = absurd said
+
+loads_status : {I K : Type 0} (old new : Outside I K) (e : Ended) → Loads old new (Runs old new lines) e → IsOneOf (status_of e) (statuses_of (Some command.Apply))
+loads_status old new e (inl none) = not_loaded_status old new e none.1
+loads_status old new e (inr run) = run_status old new run.ledger e run.ran
+
+ends_status : {I K : Type 0} (old new : Outside I K) (c : Option Command) (e : Ended) → Ends old new c e → IsOneOf (status_of e) (statuses_of c)
+unfolding Ends
+ends_status old new None e ends = no_command_status old new e ends.2
+ends_status old new (Some command.Apply) e ends = loads_status old new e ends
+
+-- an end that is in these words has one of the command's statuses
+pub status_is : {I K : Type 0} (old new : Outside I K) (c : Option Command) (e : Ended) (n : ℕ) → Outcome old new c e → n ≡ status_of e → IsOneOf n (statuses_of c)
+status_is old new c e n outcome is = subst (λ (m : ℕ). IsOneOf m (statuses_of c)) (sym is) (ends_status old new c e outcome.ends)
+
+-- the same outcome of the same command
+pub outcome_of : {I K : Type 0} (old new : Outside I K) (c d : Option Command) (e : Ended) → c ≡ d → Outcome old new c e → Outcome old new d e
+outcome_of old new c d e same outcome = subst (λ x. Outcome old new x e) same outcome

@@ -1,0 +1,136 @@
+-- What a call finds outside and leaves there, and what the one has to do with the other.
+use Rattle.std.specs.Prelude.{◌≡◌, ◌⊎◌, ℕ, ◌-◌, Bool, true, false, List, [], ◌++◌, length, take, Option, Some, None, ⊤}
+use Rattle.std.specs.Io.KnownBytes.{Appends, Consumes, IsAtEnd}
+use Rattle.card_desk.specs.Kept.{IsLoadedOf}
+use Rattle.card_keeper.specs.Rows.{AddsRows, KeepsRows}
+use Rattle.card_keeper.specs.declared.row.Row.{Row}
+use Rattle.card_model.specs.Machine.{State}
+use Rattle.card_ports.specs.Counts.{Rose}
+use Rattle.billctl.specs.Input.{Cut, lines}
+use Rattle.billctl.specs.Run.{text_of, rows_kept, any_refused}
+use Rattle.billctl.specs.Words.{usage_line, DamagedRows, TookLine}
+use Rattle.billctl.specs.Written.{Sides, TookFront, TookBetween, SameCounts}
+use Rattle.billctl.specs.declared.command.Command.{Command}
+use Rattle.billctl.specs.declared.command.Command.TheVariants as command
+use Rattle.billctl.specs.declared.ended.Ended.{Ended}
+use Rattle.billctl.specs.declared.ended.Ended.TheVariants as ended
+use Rattle.billctl.specs.declared.item.Item.{Item}
+
+-- the source and the bytes left in it, the bytes that the sink took, the keeper and its rows; and how often each failed
+pub record Outside (I K : Type 0) : Type 0 where
+  pub input : I
+  pub left : Option (List ℕ)
+  pub source_faults : ℕ
+  pub taken : Option (List ℕ)
+  pub sink_faults : ℕ
+  pub keeper : K
+  pub rows : Option (List Row)
+  pub keeper_faults : ℕ
+
+-- what a source, a sink and a keeper tell of themselves
+abbrev pub outside : {I O K : Type 0} → (I → Option (List ℕ)) → (I → ℕ) → (O → Option (List ℕ)) → (O → ℕ) → (K → Option (List Row)) → (K → ℕ) → I → O → K → Outside I K
+outside left source_faults taken sink_faults rows keeper_faults input output keeper = record {
+  input = input;
+  left = left input;
+  source_faults = source_faults input;
+  taken = taken output;
+  sink_faults = sink_faults output;
+  keeper = keeper;
+  rows = rows keeper;
+  keeper_faults = keeper_faults keeper;
+}
+
+-- of these the sink and the keeper
+abbrev pub sides_of : {I K : Type 0} → Outside I K → Sides
+sides_of o = record { sink = record { taken = o.taken; faults = o.sink_faults }; keeper = record { rows = o.rows; faults = o.keeper_faults } }
+
+-- these are the first of all
+abbrev pub AreFirst : List Item → List Item → Type 0
+AreFirst items all = (others : List Item) × (all ≡ items ++ others)
+
+abbrev pub but_last : List Item → List Item
+but_last items = take (length items - 1) items
+
+-- the kept rows gave a ledger, and P is so of it
+pub record Loaded (rows : Option (List Row)) (P : State → Type 0) : Type 0 where
+  pub ledger : State
+  pub loaded : IsLoadedOf rows ledger
+  pub ran : P ledger
+
+module _ {I K : Type 0} (old new : Outside I K) where
+  -- the replies to these items were written, and their rows kept
+  abbrev pub Wrote : State → List Item → Type 0
+  Wrote s items = Appends old.taken new.taken (text_of s items) × AddsRows old.rows new.rows (rows_kept s items)
+
+  -- the same, but of the last reply a front was written
+  abbrev pub WroteFront : State → List Item → Type 0
+  WroteFront s items = TookBetween old.taken new.taken (text_of s (but_last items)) (text_of s items) × AddsRows old.rows new.rows (rows_kept s items)
+
+  -- bytes were read, and P is so of them
+  pub record HasRead (P : List ℕ → Type 0) : Type 0 where
+    pub bytes : List ℕ
+    pub read : Consumes old.left new.left bytes
+    pub stands : P bytes
+
+  -- P is so of some first items of what was read; one that only the end of the input ends is among them only there
+  abbrev pub ReadFirst : Cut → (List Item → Type 0) → Type 0
+  ReadFirst cut P = HasRead (λ bytes. (items : List Item) × (AreFirst items (cut.whole bytes) ⊎ (IsAtEnd new.left × AreFirst items (cut.all bytes))) × P items)
+
+  -- the input was read to its end, and all of its items were handled
+  abbrev pub ReadAll : Cut → State → Bool → Type 0
+  ReadAll cut s refused = HasRead (λ bytes. IsAtEnd new.left × Wrote s (cut.all bytes) × (any_refused s (cut.all bytes) ≡ refused))
+
+  -- how a run over an input ends
+  abbrev pub Runs : Cut → State → Ended → Type 0
+  Runs cut s ended.Done = ReadAll cut s false
+  Runs cut s ended.Refused = ReadAll cut s true
+  Runs cut s ended.Source = HasRead (λ bytes. Wrote s (cut.whole bytes))
+  Runs cut s ended.Endless = HasRead (λ bytes. (length bytes ≡ cut.limit) × Wrote s (cut.whole bytes))
+  Runs cut s ended.Keeper = ReadFirst cut (Wrote s)
+  Runs cut s ended.Sink = ReadFirst cut (WroteFront s)
+  Runs cut s ended.Memory = ReadFirst cut (WroteFront s)
+  Runs cut s _ = ⊥
+
+  -- the source wasn't touched, and the rows stay
+  abbrev pub Untouched : Type 0
+  Untouched = (new.input ≡ old.input) × KeepsRows old.rows new.rows
+
+  -- no ledger was loaded: the keeper failed, memory was wanted, or the rows are damaged, which is said
+  abbrev pub NotLoaded : Ended → Type 0
+  NotLoaded ended.Keeper = Appends old.taken new.taken []
+  NotLoaded ended.Memory = Appends old.taken new.taken [] ⊎ DamagedRows old.rows (TookFront old.taken new.taken)
+  NotLoaded ended.Damaged = DamagedRows old.rows (TookLine old.taken new.taken old.sink_faults new.sink_faults)
+  NotLoaded _ = ⊥
+
+  -- a ledger was loaded, from which P is so; or none was
+  abbrev pub Loads : (State → Ended → Type 0) → Ended → Type 0
+  Loads P e = (Untouched × NotLoaded e) ⊎ Loaded old.rows (λ s. P s e)
+
+  -- the usage line was said
+  abbrev pub NoCommand : Ended → Type 0
+  NoCommand ended.Usage = TookLine old.taken new.taken old.sink_faults new.sink_faults usage_line
+  NoCommand ended.Memory = TookFront old.taken new.taken usage_line
+  NoCommand _ = ⊥
+
+  -- how a command ends; and words that are none
+  unfoldable pub Ends : Option Command → Ended → Type 0
+  Ends None e = (new.keeper ≡ old.keeper) × Untouched × NoCommand e
+  Ends (Some command.Apply) e = Loads (Runs lines) e
+
+  -- nothing failed
+  pub record Unfailed : Type 0 where
+    pub source : new.source_faults ≡ old.source_faults
+    pub sides : SameCounts (sides_of old) (sides_of new)
+
+  -- what failed is what an end names, and where it names nothing outside nothing failed
+  unfoldable pub HasCause : Ended → Type 0
+  HasCause ended.Source = Rose old.source_faults new.source_faults
+  HasCause ended.Sink = Rose old.sink_faults new.sink_faults
+  HasCause ended.Keeper = Rose old.keeper_faults new.keeper_faults
+  HasCause ended.Usage = ⊤
+  HasCause ended.Damaged = ⊤
+  HasCause _ = Unfailed
+
+  pub record Outcome (c : Option Command) (e : Ended) : Type 0 where
+    pub ends : Ends c e
+    pub cause : HasCause e

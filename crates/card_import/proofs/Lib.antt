@@ -1,0 +1,4 @@
+mod DatedLemmas
+mod RecordLemmas
+mod ItemLemmas
+mod HeaderLemmas

@@ -1,0 +1,5 @@
+mod NumberLemmas
+mod FieldLemmas
+pub mod TextRules
+pub mod DatedLemmas
+mod NameLemmas

@@ -1,0 +1,6 @@
+pub mod Forms
+pub mod Fields
+pub mod Words
+pub mod Posts
+pub mod Lines
+pub mod Replies

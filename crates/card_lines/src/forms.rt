@@ -1,0 +1,171 @@
+// The forms of fields.
+ghost use Rattle.std.specs.Prelude.{◌≡◌, true, ◌≤◌, ◌<◌, ◌^◌, length};
+ghost use Rattle.std.specs.Char.{is_ascii_digit};
+ghost use Rattle.std.specs.List.{list_all};
+ghost use Rattle.card_lines.specs.Forms.{number_of, is_decimal, value_after, day_of, request_day_at, category_of, place_in, place_of, channel_of, plan_kind_of, finding_of};
+ghost use Rattle.card_lines.specs.Forms as spec;
+
+use card_days::{Channel, Day};
+use card_events::{Category, Finding, Num, Place, PlanKind};
+
+/// The number with these digits: at most twelve, without a sign, and with no leading zero but `0` itself.
+#[tactic(auto, unfolding(crate::specs::Forms::number_of, crate::specs::Forms::is_decimal))]
+pub fn read_number(text: &[u8]) -> Option<Num>
+    ensures { result ≡ number_of text.now }
+{
+    if !is_decimal_text(text) {
+        return None;
+    }
+    Num::new(value_of(text))
+}
+
+#[tactic(auto, unfolding(crate::specs::Forms::is_decimal))]
+fn is_decimal_text(text: &[u8]) -> bool
+    ensures { result ≡ is_decimal text.now }
+{
+    match text {
+        [] => false,
+        [first, others @ ..] => {
+            others.len() < 12 && are_digits(text) && (others.is_empty() || *first != b'0')
+        }
+    }
+}
+
+fn are_digits(text: &[u8]) -> bool
+    ensures { result ≡ list_all is_ascii_digit text.now }
+{
+    text.iter().all(|b| b.is_ascii_digit())
+}
+
+// The number of at most twelve digits.
+fn value_of(text: &[u8]) -> u64
+    requires digits { list_all is_ascii_digit text.now ≡ true }
+    requires length { length text.now ≤ 12 }
+    ensures value { result ≡ value_after 0 text.now }
+    ensures bound { result < 10 ^ length text.now }
+{
+    let mut value = 0;
+    for b in text {
+        value = 10 * value + (*b - b'0') as u64;
+    }
+    value
+}
+
+/// The day that is written `YYYY-MM-DD`, where the calendar has it and it lies from 2011-01-01 to 2099-12-31.
+#[tactic(auto, unfolding(crate::specs::Forms::day_of, crate::specs::Forms::is_day_text))]
+pub fn read_day(text: &[u8]) -> Option<Day>
+    ensures { result ≡ day_of text.now }
+{
+    if !is_day_text(text) {
+        return None;
+    }
+    request_day(
+        value_of(&text[..4]),
+        value_of(&text[5..7]),
+        value_of(&text[8..]),
+    )
+}
+
+#[tactic(auto, unfolding(crate::specs::Forms::is_day_text))]
+fn is_day_text(text: &[u8]) -> bool
+    ensures { result ≡ spec.is_day_text text.now }
+{
+    text.len() == 10
+        && text[4] == b'-'
+        && text[7] == b'-'
+        && are_digits(&text[..4])
+        && are_digits(&text[5..7])
+        && are_digits(&text[8..])
+}
+
+#[tactic(auto, unfolding(crate::specs::Forms::request_day_at))]
+fn request_day(year: u64, month: u64, day: u64) -> Option<Day>
+    ensures { result ≡ request_day_at year month day }
+{
+    if year > 2102 || month > 12 || day > 31 {
+        return None;
+    }
+    match Day::from_ymd(year as u16, month as u8, day as u8) {
+        Some(day) if day.is_request_day() => Some(day),
+        _ => None,
+    }
+}
+
+/// The category with this word.
+#[tactic(auto, unfolding(crate::specs::Forms::category_of))]
+pub fn read_category(text: &[u8]) -> Option<Category>
+    ensures { result ≡ category_of text.now }
+{
+    if text == b"purchase".as_slice() {
+        Some(Category::Purchase)
+    } else if text == b"cash".as_slice() {
+        Some(Category::Cash)
+    } else if text == b"transfer".as_slice() {
+        Some(Category::Transfer)
+    } else {
+        None
+    }
+}
+
+/// The place with this word: a category's, or `plan:` and the number of a plan.
+#[tactic(auto, unfolding(crate::specs::Forms::place_of))]
+pub fn read_place(text: &[u8]) -> Option<Place>
+    ensures { result ≡ place_of text.now }
+{
+    match text.strip_prefix(b"plan:".as_slice()) {
+        Some(number) => read_number(number).map(Place::Plan),
+        None => read_category(text).map(whole_category),
+    }
+}
+
+fn whole_category(category: Category) -> Place
+    ensures { result ≡ place_in category }
+{
+    match category {
+        Category::Purchase => Place::Purchase,
+        Category::Cash => Place::Cash,
+        Category::Transfer => Place::Transfer,
+    }
+}
+
+/// The channel with this word.
+#[tactic(auto, unfolding(crate::specs::Forms::channel_of))]
+pub fn read_channel(text: &[u8]) -> Option<Channel>
+    ensures { result ≡ channel_of text.now }
+{
+    if text == b"mail".as_slice() {
+        Some(Channel::Mail)
+    } else if text == b"online".as_slice() {
+        Some(Channel::Online)
+    } else {
+        None
+    }
+}
+
+/// The kind of plan with this word.
+#[tactic(auto, unfolding(crate::specs::Forms::plan_kind_of))]
+pub fn read_plan_kind(text: &[u8]) -> Option<PlanKind>
+    ensures { result ≡ plan_kind_of text.now }
+{
+    if text == b"promo".as_slice() {
+        Some(PlanKind::Promo)
+    } else if text == b"deferred".as_slice() {
+        Some(PlanKind::Deferred)
+    } else {
+        None
+    }
+}
+
+/// The finding with this word.
+#[tactic(auto, unfolding(crate::specs::Forms::finding_of))]
+pub fn read_finding(text: &[u8]) -> Option<Finding>
+    ensures { result ≡ finding_of text.now }
+{
+    if text == b"keep".as_slice() {
+        Some(Finding::Keep)
+    } else if text == b"reduce".as_slice() {
+        Some(Finding::Reduce)
+    } else {
+        None
+    }
+}

@@ -1,0 +1,138 @@
+// Lines, by their word.
+ghost use Rattle.std.specs.Prelude.{◌≡◌, ℕ, List, Result, IfOk};
+ghost use Rattle.card_events.specs.declared.request.Request.{Request};
+ghost use Rattle.card_lines.specs.Fields.{fields_left, GivesAll, ReadsAll};
+ghost use Rattle.card_lines.specs.Lines.{roll_of, holiday_of, fee_row_of, posted_of, show_of, line_of_word, line_of, IsDatedLine};
+ghost use Rattle.card_lines.specs.Lines as spec;
+
+use crate::fields::{at_end, day_field, name_field, number_field, split_field};
+use crate::line::{BadField, Line, LineFault};
+use crate::post_reading::read_post;
+use crate::word::{PostKind, Word, read_word};
+use card_events::{Name, Request, Shared};
+use card_units::NoMemory;
+use std::alloc::Global;
+
+/// What the line says, given without its line feed and without a carriage return before that. `Line::Bad` has the number of
+/// the first field that is missing, surplus or not of its form; a line of more than 512 bytes is bad at 0.
+pub fn read_line(alloc: Global, line: &[u8]) -> Result<Line, NoMemory>
+    ensures line { IfOk result (λ l. l ≡ line_of line.now) }
+    ensures dated { IfOk result IsDatedLine }
+{
+    read_words(alloc, line)
+}
+
+#[tactic(auto, unfolding(crate::specs::Lines::line_of, crate::specs::Lines::line_of_fields))]
+fn read_words(alloc: Global, line: &[u8]) -> Result<Line, NoMemory>
+    ensures { IfOk result (λ l. l ≡ line_of line.now) }
+{
+    if line.len() > 512 {
+        return Ok(Line::Bad(0));
+    }
+    let (word, rest) = split_field(line);
+    match read_word(word) {
+        None => Ok(Line::Bad(1)),
+        Some(word) => read_fields(alloc, word, rest),
+    }
+}
+
+#[tactic(auto, unfolding(crate::specs::Lines::line_of_word))]
+fn read_fields(alloc: Global, word: Word, rest: &[u8]) -> Result<Line, NoMemory>
+    ensures { IfOk result (λ l. l ≡ line_of_word word (fields_left rest.now)) }
+{
+    match word {
+        Word::Roll => Ok(shared_line(read_roll(rest))),
+        Word::Holiday => Ok(shared_line(read_holiday(rest))),
+        Word::FeeRow => Ok(shared_line(read_fee_row(rest))),
+        Word::Show => show_line(read_show(alloc, rest)),
+        Word::Post(kind) => request_line(read_posted(alloc, kind, rest)),
+    }
+}
+
+fn shared_line(read: Result<Request, BadField>) -> Line
+    ensures { (r : Result Request ℕ) → ReadsAll read r → result ≡ spec.request_line r }
+{
+    match read {
+        Ok(request) => Line::Request(request),
+        Err(BadField(number)) => Line::Bad(number),
+    }
+}
+
+fn request_line(read: Result<Request, LineFault>) -> Result<Line, NoMemory>
+    ensures { (r : Result Request ℕ) → GivesAll read r → IfOk result (λ l. l ≡ spec.request_line r) }
+{
+    match read {
+        Ok(request) => Ok(Line::Request(request)),
+        Err(LineFault::Bad(number)) => Ok(Line::Bad(number)),
+        Err(LineFault::Memory) => Err(NoMemory),
+    }
+}
+
+fn show_line(read: Result<Name, LineFault>) -> Result<Line, NoMemory>
+    ensures { (r : Result (List ℕ) ℕ) → GivesAll read r → IfOk result (λ l. l ≡ spec.show_line r) }
+{
+    match read {
+        Ok(account) => Ok(Line::Show(account)),
+        Err(LineFault::Bad(number)) => Ok(Line::Bad(number)),
+        Err(LineFault::Memory) => Err(NoMemory),
+    }
+}
+
+#[tactic(auto, unfolding(crate::specs::Lines::roll_of))]
+fn read_roll(text: &[u8]) -> Result<Request, BadField>
+    ensures { ReadsAll result (roll_of (fields_left text.now)) }
+{
+    let mut left = text;
+    let rest = &mut left;
+    let day = day_field(2, rest)?;
+    at_end(3, rest)?;
+    Ok(Request::Shared(Shared::Roll(day)))
+}
+
+#[tactic(auto, unfolding(crate::specs::Lines::holiday_of))]
+fn read_holiday(text: &[u8]) -> Result<Request, BadField>
+    ensures { ReadsAll result (holiday_of (fields_left text.now)) }
+{
+    let mut left = text;
+    let rest = &mut left;
+    let day = day_field(2, rest)?;
+    at_end(3, rest)?;
+    Ok(Request::Shared(Shared::Holiday(day)))
+}
+
+#[tactic(auto, unfolding(crate::specs::Lines::fee_row_of))]
+fn read_fee_row(text: &[u8]) -> Result<Request, BadField>
+    ensures { ReadsAll result (fee_row_of (fields_left text.now)) }
+{
+    let mut left = text;
+    let rest = &mut left;
+    let day = day_field(2, rest)?;
+    let first = number_field(3, rest)?;
+    let repeat = number_field(4, rest)?;
+    let row = Shared::FeeRow { day, first, repeat };
+    at_end(5, rest)?;
+    Ok(Request::Shared(row))
+}
+
+#[tactic(auto, unfolding(crate::specs::Lines::posted_of))]
+fn read_posted(alloc: Global, kind: PostKind, text: &[u8]) -> Result<Request, LineFault>
+    ensures { GivesAll result (posted_of kind (fields_left text.now)) }
+{
+    let mut left = text;
+    let rest = &mut left;
+    let account = name_field(alloc, 2, rest)?;
+    let key = name_field(alloc, 3, rest)?;
+    let post = read_post(kind, rest)?;
+    Ok(Request::Post { account, key, post })
+}
+
+#[tactic(auto, unfolding(crate::specs::Lines::show_of))]
+fn read_show(alloc: Global, text: &[u8]) -> Result<Name, LineFault>
+    ensures { GivesAll result (show_of (fields_left text.now)) }
+{
+    let mut left = text;
+    let rest = &mut left;
+    let account = name_field(alloc, 2, rest)?;
+    at_end(3, rest)?;
+    Ok(account)
+}

@@ -1,5 +1,0 @@
-use Rattle.card_text.proofs.FieldLemmas.{first_field}
-use Rattle.card_text.proofs.fields.split_field.Goals as goal
-
-pub returns : goal.returns
-returns c = rw (c.split_at.ensures.front, c.split_at.ensures.back, c.space_at-at.ensures.value) (first_field c.args.text.now)
