@@ -28,11 +28,11 @@ pub fn carry_out<K: Keeper>(
     item: &Item,
 ) -> Result<Option<Reply>, Fault>
     requires dated { IsDatedItem item.now }
-    requires fits { Fits (K.rows keeper.old) desk.old }
-    ensures reply { IfOk result (λ reply. reply ≡ reply_in desk.old item.now) }
-    ensures next { OnOk result (desk.new ≡ next desk.old item.now) }
-    ensures kept { OnOk result (AddsRows (K.rows keeper.old) (K.rows keeper.new) (item_rows desk.old item.now)) }
-    ensures fits { OnOk result (Fits (K.rows keeper.new) desk.new) }
+    requires fits { Fits (K.rows keeper.old) desk.old.state }
+    ensures reply { IfOk result (λ reply. reply ≡ reply_in desk.old.state item.now) }
+    ensures next { OnOk result (desk.new.state ≡ next desk.old.state item.now) }
+    ensures kept { OnOk result (AddsRows (K.rows keeper.old) (K.rows keeper.new) (item_rows desk.old.state item.now)) }
+    ensures fits { OnOk result (Fits (K.rows keeper.new) desk.new.state) }
     ensures rows_stay { OnErr result (KeepsRows (K.rows keeper.old) (K.rows keeper.new)) }
     ensures unfailed { OnOk result (K.faults keeper.new ≡ K.faults keeper.old) }
     ensures cause { IsErrOf result Fault.Keeper → Rose (K.faults keeper.old) (K.faults keeper.new) }
@@ -55,8 +55,8 @@ pub fn answer(
     item: &Item,
     reply: &Option<Reply>,
 ) -> Result<(String, bool), NoMemory>
-    ensures text { (s : State) → desk.now ≡ next s item.now → reply.now ≡ reply_in s item.now → IfOk result (λ a. string_bytes a.0 ≡ answer_text s item.now) }
-    ensures refused { (s : State) → desk.now ≡ next s item.now → reply.now ≡ reply_in s item.now → IfOk result (λ a. a.1 ≡ is_refused s item.now) }
+    ensures text { (s : State) → desk.now.state ≡ next s item.now → reply.now ≡ reply_in s item.now → IfOk result (λ a. string_bytes a.0 ≡ answer_text s item.now) }
+    ensures refused { (s : State) → desk.now.state ≡ next s item.now → reply.now ≡ reply_in s item.now → IfOk result (λ a. a.1 ≡ is_refused s item.now) }
 {
     match item {
         Item::Request(_) => answer_request(alloc, reply),
@@ -77,8 +77,8 @@ fn answer_request(alloc: Global, reply: &Option<Reply>) -> Result<(String, bool)
 
 #[tactic(auto, unfolding(card_desk::specs::Views::seen))]
 fn answer_show(alloc: Global, desk: &Desk, account: &Name) -> Result<(String, bool), NoMemory>
-    ensures text { IfOk result (λ a. string_bytes a.0 ≡ spec.view_text account.now (seen desk.now (ask.Show account.now))) }
-    ensures refused { IfOk result (λ a. a.1 ≡ spec.is_no_account (seen desk.now (ask.Show account.now))) }
+    ensures text { IfOk result (λ a. string_bytes a.0 ≡ spec.view_text account.now (seen desk.now.state (ask.Show account.now))) }
+    ensures refused { IfOk result (λ a. a.1 ≡ spec.is_no_account (seen desk.now.state (ask.Show account.now))) }
 {
     let view = desk.show(alloc, account)?;
     Ok((view_text(alloc, account, &view)?, is_no_account(&view)))

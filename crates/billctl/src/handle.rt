@@ -24,7 +24,7 @@ impl Model for Run {
 
     ghost Value = { spec.Run };
 
-    ghost view = { λ r. record { ledger = r.desk; refused = r.refused } };
+    ghost view = { λ r. record { ledger = r.desk.state; refused = r.refused } };
 }
 
 impl Run {
@@ -37,7 +37,7 @@ impl Run {
 
     /// The start of a run.
     pub fn new(desk: Desk) -> Run
-        ensures { result ≡ record { ledger = desk; refused = false } }
+        ensures { result ≡ record { ledger = desk.state; refused = false } }
     {
         Run {
             desk,

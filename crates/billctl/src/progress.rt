@@ -64,7 +64,7 @@ impl Progress {
 
     /// The start of a run.
     pub fn new(alloc: Global, desk: Desk) -> Progress
-        ensures { result ≡ new_run desk }
+        ensures { result ≡ new_run desk.state }
     {
         Progress {
             run: Run::new(desk),
