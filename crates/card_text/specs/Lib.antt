@@ -1,3 +1,4 @@
 pub mod Tasks
 pub mod Export
 pub mod Records
+pub mod Statements
