@@ -1,1 +1,4 @@
 pub mod Texts
+pub mod Statements
+pub mod Order
+pub mod Loading

@@ -11,16 +11,7 @@ use Rattle.sqlite_resolve.specs.Compile.{table_defined_by}
 use Rattle.sqlite_tied.specs.Compute.{everything}
 use Rattle.sqlite.specs.Listing.{understood, reads_listing}
 use Rattle.sqlite.proofs.Callers.{IsPlain, command_of, statement_of}
-use Rattle.card_sqlite.specs.Kept.{kept, no_schema, kept_schema}
-
-abbrev pub create_text : List ℕ
-create_text = codes "CREATE TABLE IF NOT EXISTS kept (seq INTEGER PRIMARY KEY, body BLOB NOT NULL) STRICT"
-
-abbrev pub select_text : List ℕ
-select_text = codes "SELECT seq, body FROM kept ORDER BY seq"
-
-abbrev pub insert_text : List ℕ
-insert_text = codes "INSERT INTO kept (seq, body) VALUES (?1, ?2)"
+use Rattle.card_sqlite.specs.Kept.{kept, no_schema, kept_schema, create_text, select_text, insert_text}
 
 pub create_missing : (command_of (understood no_schema create_text) ≡ CreateTable) × (statement_of create_text (understood no_schema create_text) ≡ create_text) × (table_defined_by create_text ≡ Ok kept)
 unfolding understood everything
