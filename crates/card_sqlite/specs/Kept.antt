@@ -40,6 +40,16 @@ kept = record {
   is_counted = false;
 }
 
+-- neither a UNIQUE, a CHECK, a REFERENCES, a computed default nor AUTOINCREMENT
+pub record HasNoRules (t : Table) : Type 0 where
+  pub uniques : t.uniques ≡ []
+  pub orders : t.orders ≡ []
+  pub checks : t.checks ≡ []
+  pub references : t.references ≡ []
+  pub computed : t.computed ≡ []
+  pub stamps : t.stamps ≡ record { places = []; terms = []; formats = [] }
+  pub uncounted : t.is_counted ≡ false
+
 abbrev pub no_schema : Schema
 no_schema = record { tables = []; indexes = []; views = [] }
 
@@ -137,3 +147,11 @@ AddsRow row old new = (new.now.schema ≡ kept_schema) × IsAdded old.now.trees 
 
 abbrev pub AddsAll : List Row → State → State → Type 0
 AddsAll rows old new = (new.now.schema ≡ kept_schema) × Grows old.now.trees rows new.now.trees × IsTrue new.in_transaction
+
+-- the rows that the one keeps the other keeps too
+abbrev pub KeepsAll : Database → Database → Type 0
+KeepsAll old new = (rows : List Row) → Keeps old rows → Keeps new rows
+
+-- the other keeps the new rows behind them, where their numbers go on from the last
+abbrev pub Extends : Database → List Row → Database → Type 0
+Extends old more new = (rows : List Row) → Keeps old rows → are_from (next_seq rows) more ≡ true → Keeps new (rows ++ more)

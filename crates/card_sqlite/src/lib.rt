@@ -4,6 +4,7 @@
 mod append;
 mod fault;
 mod file;
+mod fits;
 mod load;
 mod store;
 
