@@ -1,0 +1,15 @@
+ghost use Rattle.std.specs.Prelude.{◌≡◌};
+ghost use Rattle.card_sqlite.specs.Faults as spec;
+
+use card_keeper::KeeperFault;
+use sqlite::{Error, ErrorCode};
+
+// Only want of memory is `Memory`.
+pub(crate) fn fault_of(error: Error) -> KeeperFault
+    ensures { result ≡ spec.fault_of error }
+{
+    match error {
+        Error::SqliteFailure(ErrorCode::OutOfMemory) => KeeperFault::Memory,
+        _ => KeeperFault::Failed,
+    }
+}

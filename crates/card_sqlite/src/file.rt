@@ -1,0 +1,115 @@
+ghost use Rattle.std.specs.Prelude.{◌≡◌};
+
+use crate::StoreKeeper;
+use crate::fault::fault_of;
+use crate::store::counted;
+use card_keeper::{Keeper, KeeperFault, Row};
+use sqlite::{Connection, File, FileStore};
+use std::alloc::Global;
+use std::rt::HostRuntime;
+
+type Store = StoreKeeper<FileStore<File>>;
+
+/// Rows in a SQLite file, which is opened at the first call. It tells no rows.
+#[derive(Drop)]
+pub struct SqliteKeeper {
+    rt: HostRuntime,
+    path: String,
+    store: Option<Store>,
+    faults: u64,
+}
+
+// Opens the file.
+fn opened(rt: &HostRuntime, path: &str) -> Result<Store, KeeperFault> {
+    match Connection::open(rt, path) {
+        Ok(conn) => Ok(StoreKeeper::adopt(conn)),
+        Err(error) => Err(fault_of(error)),
+    }
+}
+
+fn load(
+    store: &mut Option<Store>,
+    rt: &HostRuntime,
+    path: &str,
+    alloc: Global,
+) -> Result<Vec<Row>, KeeperFault> {
+    match store {
+        Some(store) => store.load_rows(alloc),
+        None => {
+            let mut fresh = opened(rt, path)?;
+            let loaded = fresh.load_rows(alloc);
+            *store = Some(fresh);
+            loaded
+        }
+    }
+}
+
+fn append(
+    store: &mut Option<Store>,
+    rt: &HostRuntime,
+    path: &str,
+    rows: &[Row],
+) -> Result<(), KeeperFault> {
+    match store {
+        Some(store) => store.append_rows(rows),
+        None => {
+            let mut fresh = opened(rt, path)?;
+            let appended = fresh.append_rows(rows);
+            *store = Some(fresh);
+            appended
+        }
+    }
+}
+
+impl SqliteKeeper {
+    /// A keeper over the file at the path, which isn't opened yet, with no fault counted.
+    pub fn new(rt: &HostRuntime, path: String) -> SqliteKeeper
+        ensures { result.faults ≡ 0 }
+    {
+        SqliteKeeper {
+            rt: *rt,
+            path,
+            store: None,
+            faults: 0,
+        }
+    }
+
+    /// Copies the log into the file and closes both. Where that fails, every row stands in the file and its log.
+    pub fn close(self) -> Result<(), KeeperFault> {
+        let SqliteKeeper {
+            rt: _,
+            path: _,
+            store,
+            faults: _,
+        } = self;
+        match store {
+            None => Ok(()),
+            Some(store) => match store.give_back().close() {
+                Ok(()) => Ok(()),
+                Err(error) => Err(fault_of(error)),
+            },
+        }
+    }
+}
+
+impl Keeper for SqliteKeeper {
+    ghost use Rattle.std.specs.Prelude.{None};
+
+    ghost rows = { λ k. None };
+
+    ghost faults = { λ k. k.faults };
+
+    fn load(&mut self, alloc: Global) -> Result<Vec<Row>, KeeperFault> {
+        match load(&mut self.store, &self.rt, self.path.as_str(), alloc) {
+            Ok(rows) => Ok(rows),
+            Err(fault) => Err(counted(&mut self.faults, fault)),
+        }
+    }
+
+    fn append(&mut self, _: Global, more: &[Row]) -> Result<(), KeeperFault> {
+        match append(&mut self.store, &self.rt, self.path.as_str(), more) {
+            Ok(()) => Ok(()),
+            Err(fault) => Err(counted(&mut self.faults, fault)),
+        }
+    }
+}
