@@ -2,3 +2,4 @@ pub mod Texts
 pub mod Statements
 pub mod Order
 pub mod Loading
+pub mod Tells

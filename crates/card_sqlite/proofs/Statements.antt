@@ -240,3 +240,11 @@ pub uncommitted : (old start mid new : State) (r : Result (Unit {0}) Error) → 
 uncommitted old start mid new (Ok _) was keeps inside h = tt
 uncommitted old start mid new (Err e) was keeps inside (inl fails) = undone old start mid new was keeps fails.3
 uncommitted old start mid new (Err e) was keeps inside (inr none) = absurd (let e : true ≡ false = sym inside ∙ none.1 in cc)
+
+mode_after : (old new : State) → IsUnchanged old new ⊎ IsRolledBack old new → old.in_transaction ≡ false → new.in_transaction ≡ false
+mode_after old new (inl same) e = same.0.mode ∙ e
+mode_after old new (inr back) e = back.autocommit
+
+pub mode_created : (old new : State) (r : Result ℕ Error) → IsFor old.now.schema → IsSettled old → Executes create_text [] old new r → new.in_transaction ≡ false
+mode_created old new (Ok count) for settled h = (settles old new count for settled h).0
+mode_created old new (Err e) for settled h = mode_after old new (executes_not old new create_text [] e h) settled.0

@@ -5,11 +5,14 @@ mod append;
 mod fault;
 mod file;
 mod fits;
+mod keeper;
 mod load;
 mod store;
+mod told;
 
 pub use file::SqliteKeeper;
 pub use store::StoreKeeper;
+pub use told::Told;
 
 #[cfg(test)]
 mod tests;

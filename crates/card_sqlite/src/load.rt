@@ -1,4 +1,4 @@
-ghost use Rattle.std.specs.Prelude.{◌≡◌, ◌≤◌, map, All, IfOk, OnOk, OnErr};
+ghost use Rattle.std.specs.Prelude.{◌≡◌, ◌≤◌, false, map, All, IfOk, OnOk, OnErr};
 ghost use Rattle.sqlite_trees.specs.View.{doubt};
 ghost use Rattle.sqlite_value.specs.Order.{column};
 ghost use Rattle.sqlite.specs.State.{HasCleanDisk, IsUnchanged};
@@ -16,6 +16,7 @@ fn create<S: Alter>(conn: &mut Connection<S>) -> Result<usize, Error>
     ensures made { HasCleanDisk (state S.Store conn.new) → IsFor (state S.Store conn.old).now.schema → OnOk result (Creates (state S.Store conn.old).now (state S.Store conn.new).now) }
     ensures settled { HasCleanDisk (state S.Store conn.new) → IsFor (state S.Store conn.old).now.schema → IsSettled (state S.Store conn.old) → OnOk result (IsSettled (state S.Store conn.new)) }
     ensures err { HasCleanDisk (state S.Store conn.new) → IsSettled (state S.Store conn.old) → OnErr result (Stays (state S.Store conn.old) (state S.Store conn.new)) }
+    ensures mode { HasCleanDisk (state S.Store conn.new) → IsFor (state S.Store conn.old).now.schema → IsSettled (state S.Store conn.old) → (state S.Store conn.new).in_transaction ≡ false }
     ensures clean { doubt (state S.Store conn.old).is_clean ≤ doubt (state S.Store conn.new).is_clean }
 {
     conn.execute(
@@ -29,6 +30,7 @@ fn records<S: Alter>(conn: &mut Connection<S>) -> Result<Vec<Record>, Error>
     ensures shown { HasCleanDisk (state S.Store conn.new) → (state S.Store conn.old).now.schema ≡ kept_schema → IfOk result (λ records. AreShown (state S.Store conn.old).now.trees records.items) }
     ensures ok { HasCleanDisk (state S.Store conn.new) → (state S.Store conn.old).now.schema ≡ kept_schema → OnOk result (IsUnchanged (state S.Store conn.old) (state S.Store conn.new)) }
     ensures err { HasCleanDisk (state S.Store conn.new) → IsSettled (state S.Store conn.old) → OnErr result (Stays (state S.Store conn.old) (state S.Store conn.new)) }
+    ensures mode { (state S.Store conn.old).in_transaction ≡ false → (state S.Store conn.new).in_transaction ≡ false }
     ensures clean { doubt (state S.Store conn.old).is_clean ≤ doubt (state S.Store conn.new).is_clean }
 {
     conn.query_all("SELECT seq, body FROM kept ORDER BY seq", &[])
@@ -68,6 +70,7 @@ fn rows_of(alloc: Global, records: &[Record]) -> Result<Vec<Row>, Error>
 pub(crate) fn load<S: Alter>(conn: &mut Connection<S>, alloc: Global) -> Result<Vec<Row>, Error>
     ensures given { HasCleanDisk (state S.Store conn.new) → IsFor (state S.Store conn.old).now.schema → IfOk result (λ rows. Keeps (state S.Store conn.old).now rows.items) }
     ensures kept { HasCleanDisk (state S.Store conn.new) → IsFor (state S.Store conn.old).now.schema → IsSettled (state S.Store conn.old) → StaysKept (state S.Store conn.old) (state S.Store conn.new) }
+    ensures mode { HasCleanDisk (state S.Store conn.new) → IsFor (state S.Store conn.old).now.schema → IsSettled (state S.Store conn.old) → (state S.Store conn.new).in_transaction ≡ false }
     ensures clean { doubt (state S.Store conn.old).is_clean ≤ doubt (state S.Store conn.new).is_clean }
 {
     create(conn)?;
