@@ -1,7 +1,7 @@
 -- The book after the parts of a payment were put back.
 use Rattle.std.proofs.Common.{◌≡◌, ℕ, ◌<◌, ◌≤◌, Bool, true, false, cond, List, [], ◌∷◌, ◌++◌, length, refl, sym, ap, ◌∙◌, subst, arith, eqb, eq-eqb, get_or, ℤ, pos, Option, Result, Ok, Err}
 use Rattle.std.specs.Prelude.{OnOk}
-use Rattle.std.specs.List.{All, Contains, filter}
+use Rattle.std.specs.List.{All, filter}
 use Rattle.std.proofs.lemmas.Bool.{false≢true}
 use Rattle.std.proofs.lemmas.Int.{ints}
 use Rattle.std.proofs.lemmas.List.Elements.{All-append, All-cons, All-filter, All-head, All-nil, All-tail}
@@ -16,9 +16,9 @@ use Rattle.card_model.proofs.Posted.{debit-known, length-posted, posted-append}
 use Rattle.card_model.specs.Books.{Account, Book, newest_purchase, note_of, with_fee}
 use Rattle.card_model.specs.Cycles.{IssuedRow, Seen}
 use Rattle.card_model.specs.Effects.{effect, is_part_of, meant_for, payment_at, put_back, returned, returned_fee, size}
-use Rattle.card_model.specs.Entries.{balance, credit_in, debit, posted}
+use Rattle.card_model.specs.Entries.{credit_in, debit, posted}
 use Rattle.card_model.specs.Limits.{balance_limit}
-use Rattle.card_model.specs.Segments.{SegmentTerms, newest}
+use Rattle.card_model.specs.Segments.{newest}
 use Rattle.card_model.specs.declared.entry.Entry.{Entry}
 use Rattle.card_model.specs.declared.entry.EntryKind.TheVariants as kind
 use Rattle.card_model.specs.declared.entry.Note.{Note}

@@ -1,3 +1,4 @@
+pub mod Entering
 pub mod Laws
 pub mod Places
 pub mod Ranks

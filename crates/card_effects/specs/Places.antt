@@ -1,5 +1,5 @@
 -- The segments of a place, as they are kept.
-use Rattle.std.specs.Prelude.{ℕ, Bool, ◌&&◌, ◌||◌, ◌==◌, nat_le, map, List}
+use Rattle.std.specs.Prelude.{ℕ, ◌<◌, ◌≤◌, Bool, ◌&&◌, ◌||◌, ◌==◌, nat_le, map, length, List, ℤ}
 use Rattle.std.specs.List.{filter}
 use Rattle.card_events.specs.declared.post.Place.{Place}
 use Rattle.card_events.specs.declared.post.Place.TheVariants as place
@@ -21,3 +21,8 @@ is_kept_of (place.Plan n) s = (s.post == n) && (is_sort sort.Promo s.sort || is_
 -- the numbers of those that are of a place
 abbrev pub numbers_of : Place → List SegmentTerms → List ℕ
 numbers_of p gs = map (λ g. g.id) (filter (is_of_place p) gs)
+
+-- the number of a segment that is kept, other than Credit and Held
+pub record IsBilled (id : ℕ) (balances : List ℤ) : Type 0 where
+  pub low : 2 ≤ id
+  pub known : id < length balances

@@ -1,7 +1,7 @@
 // What is debited to a segment.
 ghost use Rattle.std.specs.Prelude.{◌≡◌, ℕ, Option, Some, OnOk, OnErr, pos, ◌≤ℤ◌};
 ghost use Rattle.card_model.specs.Limits.{balance_limit};
-ghost use Rattle.card_effects.specs.Standing.{AreRated, IsSlotOf, StandsAt};
+ghost use Rattle.card_effects.specs.Entering.{ChargesFee, Enters, Leaves, MayMove};
 ghost use Rattle.card_events.specs.History.{CorrectedPost};
 ghost use Rattle.card_events.specs.declared.post.Post.TheVariants as post;
 ghost use Rattle.card_model.specs.Books.{Account, Book, with_fee};
@@ -39,14 +39,9 @@ pub fn charge(
     place: &Place,
     out: &mut Vec<Entry>,
 ) -> Result<(), NoMemory>
-    requires rated { AreRated segments.old.segments rates.now }
-    requires amount { pos 0 ≤ℤ slot.now.cents }
-    requires limit { slot.now.cents ≤ℤ pos balance_limit }
-    requires small { AreWithin balance_limit segments.old.balances }
-    ensures stands { OnOk result ((issued : Option IssuedRow) (a : Account) (seen : Seen) (p : CorrectedPost) (b : Book) (day cents : ℕ) → StandsAt a seen b rates.now segments.old.balances out.old.items → IsSlotOf seen p slot.now → StandsAt a seen (effect issued a seen p (post.Charge day place.now cents) b) rates.now segments.new.balances out.new.items) }
-    ensures segments { segments.new.segments ≡ segments.old.segments }
-    ensures err { OnErr result (segments.new ≡ segments.old) }
-    ensures err_entries { OnErr result (out.new.items ≡ out.old.items) }
+    requires asked { MayMove segments.old rates.now slot.now.cents }
+    ensures stands { OnOk result ((day cents : ℕ) → Enters (post.Charge day place.now cents) slot.now rates.now segments.old out.old.items segments.new out.new.items) }
+    ensures left { Leaves result segments.old segments.new out.old.items out.new.items }
 {
     let segment = segment_at(segments, rates, place, slot.day);
     let note = note_of(slot, EntryKind::Charge);
@@ -63,14 +58,9 @@ pub fn refund(
     slot: &Slot,
     out: &mut Vec<Entry>,
 ) -> Result<(), NoMemory>
-    requires rated { AreRated segments.old.segments rates.now }
-    requires amount { pos 0 ≤ℤ slot.now.cents }
-    requires limit { slot.now.cents ≤ℤ pos balance_limit }
-    requires small { AreWithin balance_limit segments.old.balances }
-    ensures stands { OnOk result ((issued : Option IssuedRow) (a : Account) (seen : Seen) (p : CorrectedPost) (b : Book) (cents : ℕ) → StandsAt a seen b rates.now segments.old.balances out.old.items → IsSlotOf seen p slot.now → StandsAt a seen (effect issued a seen p (post.Refund cents) b) rates.now segments.new.balances out.new.items) }
-    ensures segments { segments.new.segments ≡ segments.old.segments }
-    ensures err { OnErr result (segments.new ≡ segments.old) }
-    ensures err_entries { OnErr result (out.new.items ≡ out.old.items) }
+    requires asked { MayMove segments.old rates.now slot.now.cents }
+    ensures stands { OnOk result ((cents : ℕ) → Enters (post.Refund cents) slot.now rates.now segments.old out.old.items segments.new out.new.items) }
+    ensures left { Leaves result segments.old segments.new out.old.items out.new.items }
 {
     let segment = newest(segments, rates, Category::Purchase, slot.day);
     let note = note_of(slot, EntryKind::Refund);
@@ -89,14 +79,9 @@ pub fn fee(
     fee: &Fee,
     out: &mut Vec<Entry>,
 ) -> Result<(), NoMemory>
-    requires rated { AreRated segments.old.segments rates.now }
-    requires amount { pos 0 ≤ℤ fee.now.cents }
-    requires limit { fee.now.cents ≤ℤ pos balance_limit }
-    requires small { AreWithin balance_limit segments.old.balances }
-    ensures stands { OnOk result ((a : Account) (seen : Seen) (b : Book) → StandsAt a seen b rates.now segments.old.balances out.old.items → day ≡ seen.day → StandsAt a seen (with_fee a seen number (Some fee.now) b) rates.now segments.new.balances out.new.items) }
-    ensures segments { segments.new.segments ≡ segments.old.segments }
-    ensures err { OnErr result (segments.new ≡ segments.old) }
-    ensures err_entries { OnErr result (out.new.items ≡ out.old.items) }
+    requires asked { MayMove segments.old rates.now fee.now.cents }
+    ensures stands { OnOk result (ChargesFee day number (Some fee.now) rates.now segments.old out.old.items segments.new out.new.items) }
+    ensures left { Leaves result segments.old segments.new out.old.items out.new.items }
 {
     let segment = newest(segments, rates, Category::Purchase, day);
     let note = Note {

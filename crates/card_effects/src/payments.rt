@@ -2,7 +2,7 @@
 ghost use Rattle.std.specs.Prelude.{◌≡◌, ℕ, ◌++◌, Option, IfOk, OnOk, OnErr, min, pos, ◌≤ℤ◌};
 ghost use Rattle.card_model.specs.Limits.{balance_limit};
 ghost use Rattle.card_alloc.specs.Parts.{AreParts};
-ghost use Rattle.card_effects.specs.Standing.{AreRated, IsSlotOf, StandsAt};
+ghost use Rattle.card_effects.specs.Entering.{ClosesNext, EntersPayment, EntersWhere, Leaves, MayMove};
 ghost use Rattle.card_days.specs.declared.anchor.Channel.{Channel};
 ghost use Rattle.card_events.specs.History.{CorrectedPost};
 ghost use Rattle.card_events.specs.declared.post.Post.TheVariants as post;
@@ -38,17 +38,13 @@ pub fn payment(
     following_closing: Day,
     out: &mut Vec<Entry>,
 ) -> Result<Parts, NoMemory>
-    requires rated { AreRated segments.old.segments rates.now }
+    requires asked { MayMove segments.old rates.now slot.now.cents }
     requires minimum { pos 0 ≤ℤ minimum_part }
     requires within { minimum_part ≤ℤ slot.now.cents }
-    requires limit { slot.now.cents ≤ℤ pos balance_limit }
-    requires small { AreWithin balance_limit segments.old.balances }
-    ensures stands { OnOk result ((issued : Option IssuedRow) (a : Account) (seen : Seen) (p : CorrectedPost) (b : Book) (day minute cents : ℕ) (by : Channel) → StandsAt a seen b rates.now segments.old.balances out.old.items → IsSlotOf seen p slot.now → following_closing ≡ second_closing a seen.day → minimum_part ≡ pos (min p.cents (minimum_left seen p (last_cycle b.cycles))) → StandsAt a seen (effect issued a seen p (post.Payment day minute by cents) b) rates.now segments.new.balances out.new.items) }
+    ensures stands { OnOk result (EntersPayment following_closing minimum_part slot.now rates.now segments.old out.old.items segments.new out.new.items) }
     ensures entries { IfOk result (λ parts. out.new.items ≡ out.old.items ++ parts_entries (record { day = slot.now.day; kind = kind.Payment; post = slot.now.number }) parts) }
     ensures whole { IfOk result (λ parts. AreParts segments.old.balances (at_least_zero slot.now.cents) parts) }
-    ensures segments { segments.new.segments ≡ segments.old.segments }
-    ensures err { OnErr result (segments.new ≡ segments.old) }
-    ensures err_entries { OnErr result (out.new.items ≡ out.old.items) }
+    ensures left { Leaves result segments.old segments.new out.old.items out.new.items }
 {
     let ranks = ranks(alloc, segments, rates, following_closing, slot.day)?;
     let parts = allocate(alloc, segments, &ranks, minimum_part, slot.cents)?;
@@ -70,16 +66,11 @@ pub fn credit(
     following_closing: Day,
     out: &mut Vec<Entry>,
 ) -> Result<Parts, NoMemory>
-    requires rated { AreRated segments.old.segments rates.now }
-    requires amount { pos 0 ≤ℤ slot.now.cents }
-    requires limit { slot.now.cents ≤ℤ pos balance_limit }
-    requires small { AreWithin balance_limit segments.old.balances }
-    ensures stands { OnOk result ((issued : Option IssuedRow) (a : Account) (seen : Seen) (p : CorrectedPost) (b : Book) (day cents : ℕ) → StandsAt a seen b rates.now segments.old.balances out.old.items → IsSlotOf seen p slot.now → following_closing ≡ second_closing a seen.day → StandsAt a seen (effect issued a seen p (post.Credit day place.now cents) b) rates.now segments.new.balances out.new.items) }
+    requires asked { MayMove segments.old rates.now slot.now.cents }
+    ensures stands { OnOk result ((day cents : ℕ) → EntersWhere (ClosesNext following_closing) (post.Credit day place.now cents) slot.now rates.now segments.old out.old.items segments.new out.new.items) }
     ensures entries { IfOk result (λ parts. out.new.items ≡ out.old.items ++ parts_entries (record { day = slot.now.day; kind = kind.Credit; post = slot.now.number }) parts) }
     ensures whole { IfOk result (λ parts. AreParts segments.old.balances (at_least_zero slot.now.cents) parts) }
-    ensures segments { segments.new.segments ≡ segments.old.segments }
-    ensures err { OnErr result (segments.new ≡ segments.old) }
-    ensures err_entries { OnErr result (out.new.items ≡ out.old.items) }
+    ensures left { Leaves result segments.old segments.new out.old.items out.new.items }
 {
     let ranks = ranks(alloc, segments, rates, following_closing, slot.day)?;
     let first = numbers_of(alloc, segments, place)?;

@@ -2,7 +2,7 @@
 ghost use Rattle.std.specs.Prelude.{◌≡◌, ◌++◌, ◌<◌, ◌≤◌, if◌then◌else◌, List, [], ◌∷◌, IfOk, OnOk, drop, length, map};
 ghost use Rattle.std.specs.List.{filter};
 ghost use Rattle.card_model.specs.Segments.{SegmentTerms, kept_segment, newest, plan_segment, segment_at, sort_of_category};
-ghost use Rattle.card_effects.specs.Places.{is_kept_of, is_plan_by, numbers_of};
+ghost use Rattle.card_effects.specs.Places.{IsBilled, is_kept_of, is_plan_by, numbers_of};
 ghost use Rattle.card_effects.specs.Standing.{AreRated, is_added};
 ghost use Rattle.card_rates.specs.RateBooks.{AreByNumber};
 
@@ -29,8 +29,7 @@ fn is_plan_by(post: u64, day: Day, segment: &Segment) -> bool
 // The segment of a plan that is there on a day, else that of the opening purchases.
 fn plan_segment(segments: &Segments, post: u64, day: Day) -> u8
     ensures value { (gs : List SegmentTerms) → AreByNumber 2 gs → drop 2 segments.now.segments ≡ map kept_segment gs → result ≡ plan_segment post (filter (is_added day) gs) }
-    ensures low { 2 ≤ result }
-    ensures known { result < length segments.now.balances }
+    ensures billed { IsBilled result segments.now.balances }
 {
     for id in 2..segments.len() {
         if is_plan_by(post, day, segments.get(id)) {
@@ -44,8 +43,7 @@ fn plan_segment(segments: &Segments, post: u64, day: Day) -> u8
 pub fn newest(segments: &Segments, rates: &RateBook, category: Category, day: Day) -> u8
     requires { AreRated segments.now.segments rates.now }
     ensures value { result ≡ newest (sort_of_category category) day (filter (is_added day) rates.now.segments) }
-    ensures low { 2 ≤ result }
-    ensures known { result < length segments.now.balances }
+    ensures billed { IsBilled result segments.now.balances }
 {
     let _count = segments.len();
     rates.vintage(category, day)
@@ -55,8 +53,7 @@ pub fn newest(segments: &Segments, rates: &RateBook, category: Category, day: Da
 pub fn segment_at(segments: &Segments, rates: &RateBook, place: &Place, day: Day) -> u8
     requires { AreRated segments.now.segments rates.now }
     ensures value { result ≡ segment_at place.now day (filter (is_added day) rates.now.segments) }
-    ensures low { 2 ≤ result }
-    ensures known { result < length segments.now.balances }
+    ensures billed { IsBilled result segments.now.balances }
 {
     match place {
         Place::Purchase => newest(segments, rates, Category::Purchase, day),

@@ -3,7 +3,8 @@ ghost use Rattle.std.specs.Prelude.{◌≡◌, ℕ, ◌++◌, ◌<◌, ◌≤◌
 ghost use Rattle.card_model.specs.Limits.{balance_limit};
 ghost use Rattle.card_alloc.specs.Parts.{back_entries};
 ghost use Rattle.card_effects.specs.Returned.{AreOfThose, AreReturnable, IsChargeable, parts_of};
-ghost use Rattle.card_effects.specs.Standing.{AreRated, IsSlotOf, StandsAt};
+ghost use Rattle.card_effects.specs.Entering.{ChargesFee, EntersWhere, IsReturnOf, PutsBack};
+ghost use Rattle.card_effects.specs.Standing.{AreRated};
 ghost use Rattle.card_events.specs.History.{CorrectedPost};
 ghost use Rattle.card_events.specs.declared.post.Post.TheVariants as post;
 ghost use Rattle.card_model.specs.Books.{Account, Book, with_fee};
@@ -36,7 +37,7 @@ fn put_parts_back(
     requires rated { AreRated segments.old.segments rates.now }
     requires parts { AreReturnable (length segments.old.balances) (parts_of payment out.old.items) }
     requires small { AreWithin balance_limit segments.old.balances }
-    ensures stands { OnOk result ((a : Account) (seen : Seen) (p : CorrectedPost) (b : Book) → StandsAt a seen b rates.now segments.old.balances out.old.items → AreOfThose seen.day rates.now b.entries → IsSlotOf seen p slot.now → StandsAt a seen (model.returned a seen p.number payment b) rates.now segments.new.balances out.new.items) }
+    ensures stands { OnOk result (PutsBack payment slot.now rates.now segments.old out.old.items segments.new out.new.items) }
     ensures segments { segments.new.segments ≡ segments.old.segments }
     ensures small { OnOk result (AreWithin 10_000_000_000_000_000 segments.new.balances) }
     ensures begins { take (length out.old.items) out.new.items ≡ out.old.items }
@@ -59,7 +60,7 @@ fn charge_fee(
     requires amount { pos 0 ≤ℤ fee.now.cents }
     requires limit { fee.now.cents ≤ℤ pos balance_limit }
     requires small { AreWithin 10_000_000_000_000_000 segments.old.balances }
-    ensures stands { OnOk result ((a : Account) (seen : Seen) (b : Book) → StandsAt a seen b rates.now segments.old.balances out.old.items → slot.now.day ≡ seen.day → StandsAt a seen (with_fee a seen slot.now.number (Some fee.now) b) rates.now segments.new.balances out.new.items) }
+    ensures stands { OnOk result (ChargesFee slot.now.day slot.now.number (Some fee.now) rates.now segments.old out.old.items segments.new out.new.items) }
     ensures segments { segments.new.segments ≡ segments.old.segments }
     ensures err_entries { OnErr result (out.new.items ≡ out.old.items) }
 {
@@ -80,7 +81,7 @@ fn charge_if_any(
     requires rated { AreRated segments.old.segments rates.now }
     requires charged { IsChargeable charged.now }
     requires small { AreWithin 10_000_000_000_000_000 segments.old.balances }
-    ensures stands { OnOk result ((a : Account) (seen : Seen) (b : Book) → StandsAt a seen b rates.now segments.old.balances out.old.items → slot.now.day ≡ seen.day → StandsAt a seen (with_fee a seen slot.now.number charged.now b) rates.now segments.new.balances out.new.items) }
+    ensures stands { OnOk result (ChargesFee slot.now.day slot.now.number charged.now rates.now segments.old out.old.items segments.new out.new.items) }
     ensures segments { segments.new.segments ≡ segments.old.segments }
     ensures err_entries { OnErr result (out.new.items ≡ out.old.items) }
 {
@@ -109,7 +110,7 @@ pub fn returned(
     requires parts { AreReturnable (length segments.old.balances) (parts_of payment out.old.items) }
     requires charged { IsChargeable charged.now }
     requires small { AreWithin balance_limit segments.old.balances }
-    ensures stands { OnOk result ((issued : Option IssuedRow) (a : Account) (seen : Seen) (p : CorrectedPost) (b : Book) (day : ℕ) → StandsAt a seen b rates.now segments.old.balances out.old.items → AreOfThose seen.day rates.now b.entries → IsSlotOf seen p slot.now → charged.now ≡ model.returned_fee issued seen b (meant_for b.cycles (payment_at payment seen.posts)) → StandsAt a seen (effect issued a seen p (post.Return day payment) b) rates.now segments.new.balances out.new.items) }
+    ensures stands { OnOk result ((day : ℕ) → EntersWhere (IsReturnOf payment charged.now rates.now) (post.Return day payment) slot.now rates.now segments.old out.old.items segments.new out.new.items) }
     ensures segments { segments.new.segments ≡ segments.old.segments }
     ensures err { OnErr result (take (length out.old.items) out.new.items ≡ out.old.items) }
 {

@@ -1,4 +1,5 @@
 pub mod Accounts
+pub mod Entering
 pub mod Laws
 pub mod Seen
 pub mod TestAccount

@@ -2,6 +2,7 @@
 use Rattle.std.specs.Prelude.{ℕ, nat_le, if◌then◌else◌, List, Option, Some, None, option_map, unsigned_abs}
 use Rattle.card_events.specs.declared.kept.Kept.{Kept}
 use Rattle.card_events.specs.declared.kept.Slot.{Slot}
+use Rattle.card_events.specs.declared.post.Post.{Post}
 use Rattle.card_model.specs.Cycles.{Seen, post_at}
 use Rattle.card_model.specs.Effects.{charge_at, charge_disputed, is_charge, place_charged, place_segment}
 use Rattle.card_model.specs.Segments.{SegmentTerms}
@@ -27,10 +28,14 @@ post_by day history (Some s) = if nat_le s.day day then only_folded (found_for h
 abbrev pub if_charge : DayPost → Option DayPost
 if_charge p = if is_charge p.post then Some p else None
 
+-- the segment of a post's place on a day
+abbrev pub segment_in : List SegmentTerms → ℕ → Post → ℕ
+segment_in all day p = place_segment day all (place_charged p)
+
 -- the segment of a charge, the opening purchases where there is none
 abbrev pub segment_of : List SegmentTerms → Option DayPost → ℕ
 segment_of all None = 2
-segment_of all (Some p) = place_segment p.day all (place_charged p.post)
+segment_of all (Some p) = segment_in all p.day p.post
 
 -- its cents, 0 where there is none
 abbrev pub cents_of : Option DayPost → ℕ

@@ -3,10 +3,9 @@ ghost use Rattle.std.specs.Prelude.{◌≡◌, ◌<◌, ◌≤◌, IfSome, List,
 ghost use Rattle.card_events.specs.SharedRows.{SharedRows};
 ghost use Rattle.card_events.specs.declared.kept.Kept.{Kept};
 ghost use Rattle.card_model.specs.Cycles.{IssuedRow};
-ghost use Rattle.card_model.specs.Effects.{place_charged, place_segment};
 ghost use Rattle.card_rates.specs.Laws.{segments_on};
 ghost use Rattle.card_holds.specs.Accounts.{AreOf};
-ghost use Rattle.card_holds.specs.Seen.{cents_of, segment_of};
+ghost use Rattle.card_holds.specs.Seen.{cents_of, segment_in, segment_of};
 
 use card_days::Day;
 use card_events::Post;
@@ -17,7 +16,7 @@ use card_slots::{DayPost, segment_at};
 // The segment of a post's place on a day, as the fold of this or a later day sees it.
 fn segment_in(rates: &RateBook, segments: &Segments, post: &Post, day: Day, today: Day) -> u8
     requires { day ≤ today }
-    ensures value { (history : List Kept) (issued : List IssuedRow) (shared : SharedRows) → AreOf history segments.now.segments rates.now → result ≡ place_segment day (segments_on history issued shared today) (place_charged post.now) }
+    ensures value { (history : List Kept) (issued : List IssuedRow) (shared : SharedRows) → AreOf history segments.now.segments rates.now → result ≡ segment_in (segments_on history issued shared today) day post.now }
 {
     match post {
         Post::Charge { place, .. } => segment_at(rates, segments, place, day, today),

@@ -1,7 +1,7 @@
 // A charge that is disputed.
 ghost use Rattle.std.specs.Prelude.{◌≡◌, ℕ, List, OnOk, OnErr, min, pos, ◌≤ℤ◌, unsigned_abs, Option};
 ghost use Rattle.card_model.specs.Limits.{balance_limit};
-ghost use Rattle.card_effects.specs.Standing.{IsSlotOf, StandsAt};
+ghost use Rattle.card_effects.specs.Entering.{Leaves};
 ghost use Rattle.card_events.specs.History.{CorrectedPost};
 ghost use Rattle.card_events.specs.SharedRows.{SharedRows};
 ghost use Rattle.card_events.specs.declared.post.Post.TheVariants as post;
@@ -13,6 +13,7 @@ ghost use Rattle.card_posts.specs.Posted.{StandsFor};
 ghost use Rattle.card_rates.specs.Laws.{seen_in};
 ghost use Rattle.card_segments.specs.Balances.{AreWithin};
 ghost use Rattle.card_holds.specs.Accounts.{AreOf};
+ghost use Rattle.card_holds.specs.Entering.{EntersOf};
 
 use crate::charges::{cents_of, segment_of};
 use crate::seen::charge_seen;
@@ -58,10 +59,8 @@ pub fn dispute(
 ) -> Result<(), NoMemory>
     requires account { AreOf posts.now.history segments.old.segments rates.now }
     requires small { AreWithin balance_limit segments.old.balances }
-    ensures stands { OnOk result ((row : Option IssuedRow) (issued : List IssuedRow) (shared : SharedRows) (p : CorrectedPost) (b : Book) (day : ℕ) → StandsFor shared.holidays posts.now → StandsAt (account_of posts.now.history) (seen_in posts.now.history issued shared slot.now.day) b rates.now segments.old.balances out.old.items → IsSlotOf (seen_in posts.now.history issued shared slot.now.day) p slot.now → StandsAt (account_of posts.now.history) (seen_in posts.now.history issued shared slot.now.day) (effect row (account_of posts.now.history) (seen_in posts.now.history issued shared slot.now.day) p (post.Dispute day charge claim) b) rates.now segments.new.balances out.new.items) }
-    ensures segments { segments.new.segments ≡ segments.old.segments }
-    ensures err { OnErr result (segments.new ≡ segments.old) }
-    ensures err_entries { OnErr result (out.new.items ≡ out.old.items) }
+    ensures stands { OnOk result ((day : ℕ) → EntersOf posts.now (post.Dispute day charge claim) slot.now rates.now segments.old out.old.items segments.new out.new.items) }
+    ensures left { Leaves result segments.old segments.new out.old.items out.new.items }
 {
     let disputed = charge_seen(posts, charge.get(), slot.day);
     let segment = segment_of(rates, segments, &disputed, slot.day);

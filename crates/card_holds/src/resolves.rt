@@ -2,7 +2,7 @@
 ghost use Rattle.std.specs.Prelude.{◌≡◌, ◌≤◌, ℕ, List, OnOk, OnErr, pos, ◌≤ℤ◌, cond, Option, slice_index_or};
 ghost use Rattle.card_model.specs.Limits.{balance_limit};
 ghost use Rattle.card_bounds.specs.Bounds.{moved};
-ghost use Rattle.card_effects.specs.Standing.{IsSlotOf, StandsAt};
+ghost use Rattle.card_effects.specs.Entering.{Leaves};
 ghost use Rattle.card_events.specs.History.{CorrectedPost};
 ghost use Rattle.card_events.specs.SharedRows.{SharedRows};
 ghost use Rattle.card_events.specs.declared.post.Post.TheVariants as post;
@@ -14,6 +14,7 @@ ghost use Rattle.card_posts.specs.Posted.{StandsFor};
 ghost use Rattle.card_rates.specs.Laws.{seen_in};
 ghost use Rattle.card_segments.specs.Balances.{AreWithin};
 ghost use Rattle.card_holds.specs.Accounts.{AreOf};
+ghost use Rattle.card_holds.specs.Entering.{EntersOf};
 ghost use Rattle.card_holds.specs.Seen.{charge_named};
 
 use crate::charges::segment_of;
@@ -95,10 +96,8 @@ pub fn resolve(
     requires moved { moved out.old.items ≤ balance_limit }
     requires held { pos (moved_by dispute out.old.items) ≤ℤ slice_index_or segments.old.balances 1 (pos 0) }
     requires small { AreWithin balance_limit segments.old.balances }
-    ensures stands { OnOk result ((row : Option IssuedRow) (issued : List IssuedRow) (shared : SharedRows) (p : CorrectedPost) (b : Book) (day cents : ℕ) → StandsFor shared.holidays posts.now → StandsAt (account_of posts.now.history) (seen_in posts.now.history issued shared slot.now.day) b rates.now segments.old.balances out.old.items → IsSlotOf (seen_in posts.now.history issued shared slot.now.day) p slot.now → StandsAt (account_of posts.now.history) (seen_in posts.now.history issued shared slot.now.day) (effect row (account_of posts.now.history) (seen_in posts.now.history issued shared slot.now.day) p (post.Resolve day dispute cents) b) rates.now segments.new.balances out.new.items) }
-    ensures segments { segments.new.segments ≡ segments.old.segments }
-    ensures err { OnErr result (segments.new ≡ segments.old) }
-    ensures err_entries { OnErr result (out.new.items ≡ out.old.items) }
+    ensures stands { OnOk result ((day cents : ℕ) → EntersOf posts.now (post.Resolve day dispute cents) slot.now rates.now segments.old out.old.items segments.new out.new.items) }
+    ensures left { Leaves result segments.old segments.new out.old.items out.new.items }
 {
     let disputed = charge_named(&post_seen(posts, dispute.get(), slot.day));
     let charge = charge_seen(posts, disputed, slot.day);

@@ -7,15 +7,11 @@ use Rattle.card_effects.proofs.place.newest.Goals as goal
 pub returns-clause-value : goal.returns-clause-value
 returns-clause-value c = c.vintage.ensures ∙ newest-added (sort_of_category c.args.category) c.args.day c.args.rates.now.segments
 
-pub returns-clause-low : goal.returns-clause-low
-returns-clause-low c =
+pub returns-clause-billed : goal.returns-clause-billed
+returns-clause-billed c =
     let gs = c.args.rates.now.segments in
-    subst (λ (k : ℕ). 2 ≤ k) (sym c.vintage.ensures) (last-all (λ (k : ℕ). 2 ≤ k) (omega arith) (λ (g : SegmentTerms). is_sort (sort_of_category c.args.category) g.sort && leb g.begins c.args.day) gs (all-above 2 gs c.requires.numbers))
-
-pub returns-clause-known : goal.returns-clause-known
-returns-clause-known c =
-    let gs = c.args.rates.now.segments in
+    let low = subst (λ (k : ℕ). 2 ≤ k) (sym c.vintage.ensures) (last-all (λ (k : ℕ). 2 ≤ k) (omega arith) (λ (g : SegmentTerms). is_sort (sort_of_category c.args.category) g.sort && leb g.begins c.args.day) gs (all-above 2 gs c.requires.numbers)) in
     let n = how-many c.args.segments.now.segments gs c.requires.kept in
     let below = last-below (λ (g : SegmentTerms). is_sort (sort_of_category c.args.category) g.sort && leb g.begins c.args.day) (length c.args.segments.now.balances) 2 gs c.requires.numbers
     (omega (arith, c.len-count.ensures.balances, c.len-count.ensures.five)) (omega (arith, n, c.len-count.ensures.balances, c.len-count.ensures.segments, c.len-count.ensures.five)) in
-    omega (arith, c.vintage.ensures, below)
+    record { low = low; known = omega (arith, c.vintage.ensures, below) }

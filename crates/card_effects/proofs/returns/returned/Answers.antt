@@ -6,6 +6,6 @@ use Rattle.card_effects.proofs.returns.returned.Goals as goal
 pub returns-clause-stands : goal.returns-clause-stands
 returns-clause-stands c =
     both-ok c.charge_if_any.result _ _ _ c.charge_if_any.ensures.stands c.charge_if_any.ensures.stands
-    (λ did again issued a seen p b day s those is e.
-    return-stands issued a seen p b day c.args.payment c.args.rates.now c.charge_if_any.new.segments.balances c.charge_if_any.new.out.items c.args.charged.now c.args.slot.now is e
-    (did a seen (returned a seen p.number c.args.payment b) (c.in_ok-put_parts_back.ensures.stands a seen p b s those is) (slot-day seen p c.args.slot.now is)))
+    (λ did again day issued a seen p b s is paid.
+    return-stands issued a seen p b day c.args.payment c.args.rates.now c.charge_if_any.new.segments.balances c.charge_if_any.new.out.items c.args.charged.now c.args.slot.now is paid.fee
+    (did a seen (returned a seen p.number c.args.payment b) (c.in_ok-put_parts_back.ensures.stands a seen p b s paid.those is) (slot-day seen p c.args.slot.now is)))

@@ -11,7 +11,7 @@ use Rattle.card_holds.proofs.Standing.{abs-of, dispute-stands, least-is}
 use Rattle.card_holds.proofs.disputes.dispute.Goals as goal
 
 pub returns-clause-stands : goal.returns-clause-stands
-returns-clause-stands c row issued shared p b day stands s is =
+returns-clause-stands c day issued shared stands row p b s is =
     let history = c.args.posts.now.history in
     let a = account_of history in
     let seen = seen_in history issued shared c.args.slot.now.day in
