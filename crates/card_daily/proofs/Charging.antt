@@ -1,12 +1,9 @@
 -- The fee for a payment that is returned.
-use Rattle.std.proofs.Common.{◌≡◌, ℕ, zero, suc, ◌+◌, ◌-◌, ◌<◌, ◌≤◌, Bool, true, false, cond, eqb, List, [], ◌∷◌, map, length, refl, sym, ap, ◌∙◌, subst, arith, Option, Some, None, ℤ, pos, negsuc}
-use Rattle.std.specs.List.{find}
+use Rattle.std.proofs.Common.{◌≡◌, ℕ, zero, suc, ◌+◌, ◌-◌, ◌≤◌, List, length, refl, sym, ap, ◌∙◌, subst, arith, Option, Some, None, ℤ, pos, negsuc}
 use Rattle.std.specs.Prelude.{◌≤ℤ◌, nat_lt}
-use Rattle.std.specs.Option.{option_map}
-use Rattle.std.proofs.lemmas.Bool.{eqb-true, ltb-true, ne_eqb}
+use Rattle.std.proofs.lemmas.Bool.{ltb-true}
 use Rattle.std.proofs.lemmas.Int.{ints}
 use Rattle.card_bounds.proofs.Steps.{returned-small}
-use Rattle.card_bounds.proofs.Totals.{Numbers}
 use Rattle.card_bounds.proofs.Whole.{folded-few, limits-on}
 use Rattle.card_days.specs.Billing.{cycle_of}
 use Rattle.card_days.specs.Range.{last_request_day}
@@ -14,16 +11,15 @@ use Rattle.card_days.specs.declared.anchor.Anchor.{Anchor}
 use Rattle.card_due.proofs.LateFees.{caps-fold}
 use Rattle.card_due.specs.Charged.{capped_if_any}
 use Rattle.card_due.specs.Laws.{issued_fees}
-use Rattle.card_events.specs.History.{CorrectedPost, anchor_of, slot_of}
+use Rattle.card_events.specs.History.{anchor_of}
 use Rattle.card_events.specs.SharedRows.{FeeRow}
-use Rattle.card_events.specs.declared.kept.Slot.{Slot}
 use Rattle.card_fees.proofs.Charges.{fee-fold}
 use Rattle.card_fees.specs.Charged.{fee_by}
 use Rattle.card_model.proofs.Calendar.{cycles_are_of_the_calendar}
 use Rattle.card_model.specs.Books.{Book, penalty_fee, present_cycle}
 use Rattle.card_model.specs.CycleDays.{HasItsDays}
 use Rattle.card_model.specs.Caps.{capped_by, charged_fee, fee_above, issued_fee, row_for}
-use Rattle.card_model.specs.Cycles.{Cycle, IssuedRow, Seen, post_at}
+use Rattle.card_model.specs.Cycles.{Cycle, IssuedRow, Seen}
 use Rattle.card_model.specs.Effects.{returned_fee}
 use Rattle.card_model.specs.Entries.{at_least_zero}
 use Rattle.card_model.specs.Fees.{fee_cents, fee_for, last_due}

@@ -42,7 +42,7 @@ use Rattle.card_daily.proofs.Returning.{not-returned, returned-next, sees-paymen
 use Rattle.card_daily.proofs.Standing.{amid-lies, begins-with, rated, stands}
 use Rattle.card_daily.specs.Given.{Given, IsSound, account_in, opened_in, row_in, seen_in}
 use Rattle.card_daily.specs.Penalties.{begun_on}
-use Rattle.card_daily.specs.Posts.{IsRestKept, MayFollow, StandWith, done_by, is_penalty, place_in, returned_after}
+use Rattle.card_daily.specs.Posts.{EntersPost, IsRestKept, MayFollow, StandWith, done_by, is_penalty, place_in, returned_after}
 use Rattle.card_daily.specs.Returns.{SeesPayment}
 use Rattle.card_daily.specs.Stands.{AreAmid, Begins, StandFor, amid, before, first_in, posts_of, returned_by, rows_amid, rows_through}
 use Rattle.card_daily.specs.declared.state.State.{State}
@@ -235,14 +235,6 @@ place-named g day place n x s low high h gives =
     let there = sees-payment g day (place - place_in g day) n any_post s (omega (arith, low, high)) (ap (λ (d : DayPost). returns n d.post) (sym h.same) ∙ gives) in
     (there.0, subst (λ d. SeesPayment g d n) (sym (place-day g day place x h)) there.1)
 
--- ---- one post more
--- what entering the post of a place makes of state and track
-abbrev pub Enters : Given → DayPost → State → State → Track → Track → Type 0
-Enters g x s new t after =
-    (first : ℕ) (returned : ℕ → Bool) (held : SegmentTerms → Rows) (p : CorrectedPost) (b : Book) → first ≤ x.day → b.cycles ≡ (before g x.day).cycles → MayFollow x.day s.rates returned p b → x ≡ day_post p
-    → StandWith (account_in g) (seen_in g x.day) first returned held b s t
-    → StandWith (account_in g) (seen_in g x.day) first (returned_after returned p.post) held (effect (row_in g (x.day - opened_in g)) (account_in g) (seen_in g x.day) p p.post b) new after
-
 -- the book after the post at a place
 abbrev after_place : Given → ℕ → ℕ → Book
 after_place g day place =
@@ -274,7 +266,7 @@ may-follow g day place s t sound o low high h =
     }
 
 -- the same of another day that is this one
-moved : (g : Given) (from day : ℕ) (x : DayPost) (s new : State) (t after : Track) (first : ℕ) (returned : ℕ → Bool) (held : SegmentTerms → Rows) (p : CorrectedPost) (b : Book) → x.day ≡ day → Enters g x s new t after
+moved : (g : Given) (from day : ℕ) (x : DayPost) (s new : State) (t after : Track) (first : ℕ) (returned : ℕ → Bool) (held : SegmentTerms → Rows) (p : CorrectedPost) (b : Book) → x.day ≡ day → EntersPost g x s new t after
     → first ≤ day → b.cycles ≡ (before g day).cycles → MayFollow day s.rates returned p b → x ≡ day_post p → StandWith (account_in g) (seen_in g day) first returned held b s t
     → StandWith (account_in g) (seen_in g day) first (returned_after returned p.post) held (effect (row_in g (day - opened_in g)) (account_in g) (seen_in g day) p p.post b) new after
 moved g from day x s new t after first returned held p b e did =
@@ -282,7 +274,7 @@ moved g from day x s new t after first returned held p b e did =
     → StandWith (account_in g) (seen_in g d) first (returned_after returned p.post) held (effect (row_in g (d - opened_in g)) (account_in g) (seen_in g d) p p.post b) new after) e (did first returned held p b)
 
 pub after-post : (g : Given) (day place : ℕ) (x : DayPost) (s new : State) (t after : Track) → IsSound g → opened_in g ≤ day → day ≤ last_request_day → place_in g day ≤ place → place < place_in g day + length (posts_of g day)
-    → IsAtPlace g day place x → AreAmid g day (done_by g day place) s t → Enters g x s new t after
+    → IsAtPlace g day place x → AreAmid g day (done_by g day place) s t → EntersPost g x s new t after
     → StandWith (account_in g) (seen_in g day) (first_in g day) (returned_by g day (done_by g day (place + 1))) (rows_through g (first_in g day) (day - 1) (before g day)) (after_place g day place) new after
 after-post g day place x s new t after sound o l low high p h did =
     let q = post_at_place g day place in
@@ -294,13 +286,13 @@ after-post g day place x s new t after sound o l low high p h did =
     (first-by g day sound o l) (cycles-before g day done) (may-follow g day place s t sound o low high h) p.same (with-rows g day done s t o h))
 
 pub next-amid : (g : Given) (day place : ℕ) (x : DayPost) (s new : State) (t after : Track) → IsSound g → opened_in g ≤ day → day ≤ last_request_day → place_in g day ≤ place → place < place_in g day + length (posts_of g day)
-    → IsAtPlace g day place x → is_penalty x.post ≡ false → AreAmid g day (done_by g day place) s t → IsRestKept s new t after → Enters g x s new t after → AreAmid g day (done_by g day (place + 1)) new after
+    → IsAtPlace g day place x → is_penalty x.post ≡ false → AreAmid g day (done_by g day place) s t → IsRestKept s new t after → EntersPost g x s new t after → AreAmid g day (done_by g day (place + 1)) new after
 next-amid g day place x s new t after sound o l low high p kind h k did =
     let adds = effect-adds (row_in g (day - opened_in g)) (account_in g) (seen_in g day) (post_at_place g day place) (post_at_place g day place).post (amid g day (done_by g day place)) (post-kind g day place x p kind) in
     amid-with g day (done_by g day place) (done_by g day (place + 1)) (after_place g day place) s new t after h k adds (next-place g day place o low high) (after-post g day place x s new t after sound o l low high p h did)
 
 pub next-begins : (g : Given) (day place : ℕ) (x : DayPost) (s new : State) (t after : Track) → IsSound g → opened_in g ≤ day → day ≤ last_request_day → place_in g day ≤ place → place < place_in g day + length (posts_of g day)
-    → IsAtPlace g day place x → is_penalty x.post ≡ false → AreAmid g day (done_by g day place) s t → IsRestKept s new t after → Enters g x s new t after → Begins t after
+    → IsAtPlace g day place x → is_penalty x.post ≡ false → AreAmid g day (done_by g day place) s t → IsRestKept s new t after → EntersPost g x s new t after → Begins t after
 next-begins g day place x s new t after sound o l low high p kind h k did =
     let adds = effect-adds (row_in g (day - opened_in g)) (account_in g) (seen_in g day) (post_at_place g day place) (post_at_place g day place).post (amid g day (done_by g day place)) (post-kind g day place x p kind) in
     let w = after-post g day place x s new t after sound o l low high p h did in

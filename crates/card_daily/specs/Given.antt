@@ -52,6 +52,11 @@ abbrev pub row_in : Given → ℕ → Option IssuedRow
 row_in g n = row_for (present_cycle (book_in g n)) g.issued
 
 -- ---- what is asked of them
+-- a day that may be folded: from the opening day on, and at most 2099-12-31
+pub record IsDayOf (g : Given) (day : ℕ) : Type 0 where
+  pub opened : opened_in g ≤ day
+  pub last : day ≤ last_request_day
+
 -- a plan's last day is a closing, from the opening day on
 abbrev pub EndsWithAClosing : Anchor → Kept → Type 0
 EndsWithAClosing a k = (first end : ℕ) → plan_days k.post ≡ Some (first, end) → (a.opened ≤ end) × (day_of_month end ≡ a.close_day)

@@ -10,6 +10,7 @@ use Rattle.card_grace.specs.Growth.{with_repaid}
 use Rattle.card_grace.specs.Rows.{Rows}
 use Rattle.card_model.specs.Books.{Book}
 use Rattle.card_model.specs.Closing.{first_day_of}
+use Rattle.card_model.specs.Cycles.{Cycle}
 use Rattle.card_model.specs.Entries.{AreBalances}
 use Rattle.card_model.specs.Payments.{is_returned, returns}
 use Rattle.card_model.specs.Segments.{SegmentTerms, is_over, is_sort}
@@ -17,7 +18,7 @@ use Rattle.card_model.specs.declared.segment.Sort.TheVariants as sort
 use Rattle.card_rates.specs.RateBooks.{rates_of}
 use Rattle.card_slots.specs.Laws.{day_posts}
 use Rattle.card_slots.specs.Segments.{account_segments}
-use Rattle.card_daily.specs.Given.{Given, account_in, book_in, opened_in, seen_in}
+use Rattle.card_daily.specs.Given.{Given, IsDayOf, account_in, book_in, opened_in, seen_in}
 use Rattle.card_daily.specs.declared.state.State.{State}
 use Rattle.card_daily.specs.declared.track.Track.{Track}
 
@@ -25,6 +26,11 @@ use Rattle.card_daily.specs.declared.track.Track.{Track}
 -- the book of the days before a day
 abbrev pub before : Given → ℕ → Book
 before g day = book_in g (day - opened_in g)
+
+-- the cycles that closed before a day that may be folded
+pub record AreClosedBefore (g : Given) (day : ℕ) (closed : List Cycle) : Type 0 where
+  pub dated : IsDayOf g day
+  pub cycles : closed ≡ (before g day).cycles
 
 -- the book of a day after what a due date brought and these of its posts
 abbrev pub amid : Given → ℕ → List CorrectedPost → Book

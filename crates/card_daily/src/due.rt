@@ -2,7 +2,7 @@
 ghost use Rattle.std.specs.Prelude.{◌≡◌, ◌+◌, ◌-◌, ◌<◌, ◌≤◌, ◌==◌, ℕ, List, [], ◌∷◌, ◌++◌, Some, None, OnOk, OnErr, pos, ◌≤ℤ◌, option_copied, option_map, vec_len, vec_capacity};
 ghost use Rattle.card_model.specs.Limits.{balance_limit};
 ghost use Rattle.card_days.specs.Range.{last_request_day, last_calendar_day};
-ghost use Rattle.card_effects.specs.Standing.{AreRated, StandsAt};
+ghost use Rattle.card_effects.specs.Entering.{ChargesFee, MayMove};
 ghost use Rattle.card_model.specs.Books.{Account, Book, with_fee};
 ghost use Rattle.card_segments.specs.Balances.{AreWithin};
 ghost use Rattle.card_daily.specs.Due as spec;
@@ -13,7 +13,7 @@ ghost use Rattle.card_due.specs.Laws.{due_cycle_of, issue_day, issued_fees};
 ghost use Rattle.card_model.specs.Caps.{row_for};
 ghost use Rattle.card_model.specs.Cycles.{Cycle, Seen, last_cycle};
 ghost use Rattle.card_model.specs.DueDates as model;
-ghost use Rattle.card_daily.specs.Given.{account_in, opened_in, row_in, seen_in};
+ghost use Rattle.card_daily.specs.Given.{IsDayOf, opened_in, row_in, seen_in};
 ghost use Rattle.card_daily.specs.Stands.{AreAmid, AreBefore, Begins, before};
 
 use crate::penalties::end_penalties;
@@ -86,8 +86,7 @@ pub(crate) fn fees_of(issued: Option<&Issued>) -> Option<&[Fee]>
 
 // The late fee for the due date of the last closed cycle, on the day after it.
 fn late_fee(inputs: &Inputs, day: Day, fees: &[Fee], cycle: &Cycle) -> Option<Fee>
-    requires opened { opened_in inputs.now ≤ day }
-    requires last { day ≤ last_request_day }
+    requires dated { IsDayOf inputs.now day }
     requires cycle { last_cycle (before inputs.now day).cycles ≡ Some cycle.now }
     requires due { day ≡ cycle.now.due + 1 }
     requires fees { fees.now ≡ (before inputs.now day).fees }
@@ -108,8 +107,7 @@ pub(crate) fn is_day_after(due: Day, day: Day) -> bool
 // The late fee that a day begins with.
 #[tactic(auto, unfolding(crate::specs::Due::fee_due))]
 fn fee_due(inputs: &Inputs, day: Day, fees: &[Fee], last: Option<&Cycle>) -> Option<Fee>
-    requires opened { opened_in inputs.now ≤ day }
-    requires last_day { day ≤ last_request_day }
+    requires dated { IsDayOf inputs.now day }
     requires last { option_copied last ≡ last_cycle (before inputs.now day).cycles }
     requires fees { fees.now ≡ (before inputs.now day).fees }
     ensures { result ≡ spec.fee_due inputs.now day }
@@ -128,11 +126,8 @@ fn fee_due(inputs: &Inputs, day: Day, fees: &[Fee], last: Option<&Cycle>) -> Opt
 
 // Charges the fee that a day begins with.
 fn charge(day: Day, late: Fee, state: &mut State, track: &mut Track) -> Result<(), NoMemory>
-    requires rated { AreRated state.old.segments.segments state.old.rates }
-    requires low { pos 0 ≤ℤ late.cents }
-    requires high { late.cents ≤ℤ pos balance_limit }
-    requires small { AreWithin balance_limit state.old.segments.balances }
-    ensures stands { OnOk result ((a : Account) (seen : Seen) (b : Book) → StandsAt a seen b state.old.rates state.old.segments.balances track.old.entries.items → day ≡ seen.day → StandsAt a seen (with_fee a seen 0 (Some late) b) state.new.rates state.new.segments.balances track.new.entries.items) }
+    requires { MayMove state.old.segments state.old.rates late.cents }
+    ensures stands { OnOk result (ChargesFee day 0 (Some late) state.old.rates state.old.segments track.old.entries.items state.new.segments track.new.entries.items) }
     ensures segments { OnOk result (state.new.segments.segments ≡ state.old.segments.segments) }
     ensures fees { OnOk result (state.new.fees.items ≡ state.old.fees.items ++ late ∷ []) }
     ensures rates { OnOk result (state.new.rates ≡ state.old.rates) }
@@ -161,8 +156,7 @@ fn charge_late(
     state: &mut State,
     track: &mut Track,
 ) -> Result<(), NoMemory>
-    requires opened { opened_in inputs.now ≤ day }
-    requires last { day ≤ last_request_day }
+    requires dated { IsDayOf inputs.now day }
     requires before { AreBefore inputs.now day state.old track.old }
     ensures charged { OnOk result (AreCharged inputs.now day state.new track.new) }
     ensures begins { Begins track.old track.new }
@@ -184,8 +178,7 @@ pub fn due_day(
     state: &mut State,
     track: &mut Track,
 ) -> Result<(), NoMemory>
-    requires opened { opened_in inputs.now ≤ day }
-    requires last { day ≤ last_request_day }
+    requires dated { IsDayOf inputs.now day }
     requires before { AreBefore inputs.now day state.old track.old }
     ensures amid { OnOk result (AreAmid inputs.now day [] state.new track.new) }
     ensures begins { Begins track.old track.new }

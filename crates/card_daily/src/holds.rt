@@ -13,7 +13,7 @@ ghost use Rattle.card_model.specs.Effects.{effect, moved_by};
 ghost use Rattle.card_model.specs.Segments.{SegmentTerms};
 ghost use Rattle.card_segments.specs.Balances.{AreWithin};
 ghost use Rattle.card_daily.specs.Given.{account_in, seen_in};
-ghost use Rattle.card_daily.specs.Posts.{IsRestKept, StandWith};
+ghost use Rattle.card_daily.specs.Posts.{EntersOn, LeavesRest};
 ghost use Rattle.card_daily.specs.Stands.{Begins};
 
 use crate::{Inputs, State, Track};
@@ -32,9 +32,8 @@ pub(crate) fn enter_dispute(
 ) -> Result<(), NoMemory>
     requires account { AreOf inputs.now.history state.old.segments.segments state.old.rates }
     requires small { AreWithin balance_limit state.old.segments.balances }
-    ensures stands { OnOk result ((issued : Option IssuedRow) (first : ℕ) (returned : ℕ → Bool) (rows : SegmentTerms → Rows) (p : CorrectedPost) (b : Book) (on : ℕ) → IsSlotOf (seen_in inputs.now slot.now.day) p slot.now → StandWith (account_in inputs.now) (seen_in inputs.now slot.now.day) first returned rows b state.old track.old → StandWith (account_in inputs.now) (seen_in inputs.now slot.now.day) first returned rows (effect issued (account_in inputs.now) (seen_in inputs.now slot.now.day) p (post.Dispute on charge claim) b) state.new track.new) }
-    ensures rest { IsRestKept state.old state.new track.old track.new }
-    ensures err { OnErr result (Begins track.old track.new) }
+    ensures stands { OnOk result ((on : ℕ) → EntersOn inputs.now (post.Dispute on charge claim) slot.now state.old state.new track.old track.new) }
+    ensures left { LeavesRest result state.old state.new track.old track.new }
 {
     dispute(
         inputs.posts(),
@@ -59,9 +58,8 @@ pub(crate) fn enter_resolve(
     requires moved { moved track.old.entries.items ≤ balance_limit }
     requires held { pos (moved_by target track.old.entries.items) ≤ℤ slice_index_or state.old.segments.balances 1 (pos 0) }
     requires small { AreWithin balance_limit state.old.segments.balances }
-    ensures stands { OnOk result ((issued : Option IssuedRow) (first : ℕ) (returned : ℕ → Bool) (rows : SegmentTerms → Rows) (p : CorrectedPost) (b : Book) (on cents : ℕ) → IsSlotOf (seen_in inputs.now slot.now.day) p slot.now → StandWith (account_in inputs.now) (seen_in inputs.now slot.now.day) first returned rows b state.old track.old → StandWith (account_in inputs.now) (seen_in inputs.now slot.now.day) first returned rows (effect issued (account_in inputs.now) (seen_in inputs.now slot.now.day) p (post.Resolve on target cents) b) state.new track.new) }
-    ensures rest { IsRestKept state.old state.new track.old track.new }
-    ensures err { OnErr result (Begins track.old track.new) }
+    ensures stands { OnOk result ((on cents : ℕ) → EntersOn inputs.now (post.Resolve on target cents) slot.now state.old state.new track.old track.new) }
+    ensures left { LeavesRest result state.old state.new track.old track.new }
 {
     resolve(
         inputs.posts(),

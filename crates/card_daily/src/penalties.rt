@@ -10,10 +10,10 @@ ghost use Rattle.card_model.specs.Payments.{met, sixty_days_late};
 ghost use Rattle.card_model.specs.declared.segment.Interval.{Interval};
 ghost use Rattle.card_penalties.specs.Ending.{awaits_end, cured_with};
 ghost use Rattle.card_rates.specs.RateBooks.{with_penalties};
-ghost use Rattle.card_daily.specs.Given.{opened_in, seen_in};
+ghost use Rattle.card_daily.specs.Given.{seen_in};
 ghost use Rattle.card_daily.specs.Penalties.{IsClosed, begun_on, cured_on};
-ghost use Rattle.card_daily.specs.Returns.{IsDueBy};
-ghost use Rattle.card_daily.specs.Stands.{before};
+ghost use Rattle.card_daily.specs.Returns.{AreDueOn, IsDueBy};
+ghost use Rattle.card_daily.specs.Stands.{AreClosedBefore};
 
 use crate::Inputs;
 use crate::due::{due_cycle, is_day_after};
@@ -57,9 +57,7 @@ pub(crate) fn begin_penalty(
     cycles: &[Cycle],
     rates: &mut RateBook,
 ) -> Result<(), NoMemory>
-    requires opened { opened_in inputs.now ≤ day }
-    requires last { day ≤ last_request_day }
-    requires cycles { cycles.now ≡ (before inputs.now day).cycles }
+    requires closed { AreClosedBefore inputs.now day cycles.now }
     ensures { OnOk result (rates.new ≡ with_penalties (begun_on (seen_in inputs.now day) cycles.now rates.old.penalties) rates.old) }
 {
     let _sound = inputs.anchor();
@@ -92,8 +90,7 @@ fn is_missed(inputs: &Inputs, day: Day, cycle: &Cycle, begins: Day) -> bool
 
 // Whether all due dates after a day were met.
 fn are_met(inputs: &Inputs, day: Day, cycles: &[Cycle], begins: Day) -> bool
-    requires due { All (IsDueBy inputs.now day) cycles.now }
-    requires last { day ≤ last_request_day }
+    requires due { AreDueOn inputs.now day cycles.now }
     ensures { result ≡ list_all (met (seen_in inputs.now day)) (due_after_day begins cycles.now) }
 {
     for cycle in cycles {
@@ -106,8 +103,7 @@ fn are_met(inputs: &Inputs, day: Day, cycles: &[Cycle], begins: Day) -> bool
 
 // Whether a penalty ends: it has no end, and the six due dates after its first day were met.
 fn is_cured(inputs: &Inputs, day: Day, cycles: &[Cycle], penalty: &Interval) -> bool
-    requires due { All (IsDueBy inputs.now day) cycles.now }
-    requires last { day ≤ last_request_day }
+    requires due { AreDueOn inputs.now day cycles.now }
     ensures { result ≡ (awaits_end cycles.now penalty.now && list_all (met (seen_in inputs.now day)) (due_after_day penalty.now.begins cycles.now)) }
 {
     awaits_end(cycles, penalty) && are_met(inputs, day, cycles, penalty.begins)
@@ -122,8 +118,7 @@ fn end_if_cured(
     which: usize,
     rates: &mut RateBook,
 )
-    requires due { All (IsDueBy inputs.now day) cycles.now }
-    requires last { day ≤ last_request_day }
+    requires due { AreDueOn inputs.now day cycles.now }
     requires which { which < length rates.old.penalties }
     ensures { (i : Interval) → rates.new ≡ with_penalties (slice_set rates.old.penalties which (cured_with (seen_in inputs.now day) cycles.now due (slice_index_or rates.old.penalties which i))) rates.old }
 {
@@ -134,8 +129,7 @@ fn end_if_cured(
 
 // So has each of them.
 fn end_cured(inputs: &Inputs, day: Day, cycles: &[Cycle], due: Day, rates: &mut RateBook)
-    requires due { All (IsDueBy inputs.now day) cycles.now }
-    requires last { day ≤ last_request_day }
+    requires due { AreDueOn inputs.now day cycles.now }
     ensures { rates.new ≡ with_penalties (map (cured_with (seen_in inputs.now day) cycles.now due) rates.old.penalties) rates.old }
 {
     for which in 0..rates.penalties().len() {
@@ -146,9 +140,7 @@ fn end_cured(inputs: &Inputs, day: Day, cycles: &[Cycle], due: Day, rates: &mut 
 // On the day after the last cycle's due date, each penalty that is cured ends with it.
 #[tactic(auto, unfolding(crate::specs::Penalties::cured_on))]
 pub(crate) fn end_penalties(inputs: &Inputs, day: Day, cycles: &[Cycle], rates: &mut RateBook)
-    requires opened { opened_in inputs.now ≤ day }
-    requires last { day ≤ last_request_day }
-    requires cycles { cycles.now ≡ (before inputs.now day).cycles }
+    requires closed { AreClosedBefore inputs.now day cycles.now }
     ensures { rates.new ≡ with_penalties (cured_on (seen_in inputs.now day) cycles.now (last_cycle cycles.now) rates.old.penalties) rates.old }
 {
     let _sound = inputs.anchor();

@@ -7,7 +7,7 @@ ghost use Rattle.card_bounds.specs.Bounds.{moved};
 ghost use Rattle.card_days.specs.Billing.{IsCloseDay};
 ghost use Rattle.card_days.specs.declared.anchor.Channel.{Channel};
 ghost use Rattle.card_effects.specs.Returned.{AreReturnable, parts_of};
-ghost use Rattle.card_effects.specs.Standing.{AreRated, IsSlotOf, StandsAt};
+ghost use Rattle.card_effects.specs.Entering.{MayMove};
 ghost use Rattle.card_events.specs.History.{CorrectedPost, anchor_of};
 ghost use Rattle.card_events.specs.declared.post.Post.TheVariants as post;
 ghost use Rattle.card_grace.specs.Rows.{Rows};
@@ -22,10 +22,10 @@ ghost use Rattle.card_model.specs.Payments.{returns};
 ghost use Rattle.card_model.specs.Segments.{SegmentTerms};
 ghost use Rattle.card_segments.specs.Balances.{AreWithin};
 ghost use Rattle.card_slots.specs.Days.{day_post};
-ghost use Rattle.card_daily.specs.Given.{account_in, opened_in, row_in, seen_in};
-ghost use Rattle.card_daily.specs.Posts.{IsRestKept, MayFollow, StandWith, done_by, is_penalty, place_in, returned_after};
+ghost use Rattle.card_daily.specs.Given.{IsDayOf, seen_in};
+ghost use Rattle.card_daily.specs.Posts.{EntersIf, EntersPost, EntersWith, HasBegun, IsUnreturned, LeavesRest, done_by, is_penalty, place_in};
 ghost use Rattle.card_daily.specs.Returns.{SeesPayment};
-ghost use Rattle.card_daily.specs.Stands.{AreAmid, Begins, before, posts_of};
+ghost use Rattle.card_daily.specs.Stands.{AreAmid, AreClosedBefore, Begins, before, posts_of};
 
 use crate::due::due_cycle;
 use crate::holds::{enter_dispute, enter_resolve};
@@ -64,8 +64,7 @@ fn lesser(cents: Cents, left: Cents) -> Cents
 
 // What is left of the minimum payment of the last closed cycle for the payment of a day with this number.
 fn left_of(inputs: &Inputs, day: Day, number: u32, cycle: &Cycle) -> Cents
-    requires opened { opened_in inputs.now ≤ day }
-    requires last { day ≤ last_request_day }
+    requires dated { IsDayOf inputs.now day }
     requires cycle { last_cycle (before inputs.now day).cycles ≡ Some cycle.now }
     ensures value { (p : CorrectedPost) → p.day ≡ day → p.number ≡ number → result ≡ pos (model.minimum_left (seen_in inputs.now day) p (Some cycle.now)) }
     ensures low { pos 0 ≤ℤ result }
@@ -77,8 +76,7 @@ fn left_of(inputs: &Inputs, day: Day, number: u32, cycle: &Cycle) -> Cents
 
 // The same, 0 where no cycle is closed.
 fn left_if_any(inputs: &Inputs, day: Day, number: u32, last: Option<&Cycle>) -> Cents
-    requires opened { opened_in inputs.now ≤ day }
-    requires last_day { day ≤ last_request_day }
+    requires dated { IsDayOf inputs.now day }
     requires last { option_copied last ≡ last_cycle (before inputs.now day).cycles }
     ensures value { (p : CorrectedPost) → p.day ≡ day → p.number ≡ number → result ≡ pos (model.minimum_left (seen_in inputs.now day) p (last_cycle (before inputs.now day).cycles)) }
     ensures low { pos 0 ≤ℤ result }
@@ -96,13 +94,9 @@ fn enter_charge(
     state: &mut State,
     track: &mut Track,
 ) -> Result<(), NoMemory>
-    requires rated { AreRated state.old.segments.segments state.old.rates }
-    requires amount { pos 0 ≤ℤ slot.now.cents }
-    requires limit { slot.now.cents ≤ℤ pos balance_limit }
-    requires small { AreWithin balance_limit state.old.segments.balances }
-    ensures stands { OnOk result ((issued : Option IssuedRow) (a : Account) (seen : Seen) (first : ℕ) (returned : ℕ → Bool) (rows : SegmentTerms → Rows) (p : CorrectedPost) (b : Book) (on cents : ℕ) → IsSlotOf seen p slot.now → StandWith a seen first returned rows b state.old track.old → StandWith a seen first returned rows (effect issued a seen p (post.Charge on place.now cents) b) state.new track.new) }
-    ensures rest { IsRestKept state.old state.new track.old track.new }
-    ensures err { OnErr result (Begins track.old track.new) }
+    requires asked { MayMove state.old.segments state.old.rates slot.now.cents }
+    ensures stands { OnOk result ((a : Account) (seen : Seen) (on cents : ℕ) → EntersWith a seen (post.Charge on place.now cents) slot.now state.old state.new track.old track.new) }
+    ensures left { LeavesRest result state.old state.new track.old track.new }
 {
     charge(
         &mut state.segments,
@@ -115,13 +109,9 @@ fn enter_charge(
 
 // Enters a refund.
 fn enter_refund(slot: &Slot, state: &mut State, track: &mut Track) -> Result<(), NoMemory>
-    requires rated { AreRated state.old.segments.segments state.old.rates }
-    requires amount { pos 0 ≤ℤ slot.now.cents }
-    requires limit { slot.now.cents ≤ℤ pos balance_limit }
-    requires small { AreWithin balance_limit state.old.segments.balances }
-    ensures stands { OnOk result ((issued : Option IssuedRow) (a : Account) (seen : Seen) (first : ℕ) (returned : ℕ → Bool) (rows : SegmentTerms → Rows) (p : CorrectedPost) (b : Book) (cents : ℕ) → IsSlotOf seen p slot.now → StandWith a seen first returned rows b state.old track.old → StandWith a seen first returned rows (effect issued a seen p (post.Refund cents) b) state.new track.new) }
-    ensures rest { IsRestKept state.old state.new track.old track.new }
-    ensures err { OnErr result (Begins track.old track.new) }
+    requires asked { MayMove state.old.segments state.old.rates slot.now.cents }
+    ensures stands { OnOk result ((a : Account) (seen : Seen) (cents : ℕ) → EntersWith a seen (post.Refund cents) slot.now state.old state.new track.old track.new) }
+    ensures left { LeavesRest result state.old state.new track.old track.new }
 {
     refund(&mut state.segments, &state.rates, slot, &mut track.entries)
 }
@@ -134,17 +124,11 @@ fn enter_payment(
     state: &mut State,
     track: &mut Track,
 ) -> Result<(), NoMemory>
-    requires opened { opened_in inputs.now ≤ slot.now.day }
-    requires last { slot.now.day ≤ last_request_day }
-    requires cycles { track.old.cycles.items ≡ (before inputs.now slot.now.day).cycles }
-    requires rated { AreRated state.old.segments.segments state.old.rates }
-    requires amount { pos 0 ≤ℤ slot.now.cents }
-    requires limit { slot.now.cents ≤ℤ pos balance_limit }
-    requires small { AreWithin balance_limit state.old.segments.balances }
+    requires closed { AreClosedBefore inputs.now slot.now.day track.old.cycles.items }
+    requires asked { MayMove state.old.segments state.old.rates slot.now.cents }
     requires rows { length state.old.rows.items + 2 ≡ length state.old.segments.balances }
-    ensures stands { OnOk result ((issued : Option IssuedRow) (first : ℕ) (returned : ℕ → Bool) (rows : SegmentTerms → Rows) (p : CorrectedPost) (b : Book) (on minute cents : ℕ) (by : Channel) → first ≤ slot.now.day → returned p.number ≡ false → b.cycles ≡ (before inputs.now slot.now.day).cycles → IsSlotOf (seen_in inputs.now slot.now.day) p slot.now → StandWith (account_in inputs.now) (seen_in inputs.now slot.now.day) first returned rows b state.old track.old → StandWith (account_in inputs.now) (seen_in inputs.now slot.now.day) first returned rows (effect issued (account_in inputs.now) (seen_in inputs.now slot.now.day) p (post.Payment on minute by cents) b) state.new track.new) }
-    ensures rest { IsRestKept state.old state.new track.old track.new }
-    ensures err { OnErr result (Begins track.old track.new) }
+    ensures stands { OnOk result ((on minute cents : ℕ) (by : Channel) → EntersIf IsUnreturned inputs.now (post.Payment on minute by cents) slot.now state.old state.new track.old track.new) }
+    ensures left { LeavesRest result state.old state.new track.old track.new }
 {
     let anchor = inputs.anchor();
     let left = left_if_any(inputs, slot.day, slot.number, track.cycles.last());
@@ -170,16 +154,11 @@ fn enter_credit(
     state: &mut State,
     track: &mut Track,
 ) -> Result<(), NoMemory>
-    requires opened { opened_in inputs.now ≤ slot.now.day }
-    requires last { slot.now.day ≤ last_request_day }
-    requires rated { AreRated state.old.segments.segments state.old.rates }
-    requires amount { pos 0 ≤ℤ slot.now.cents }
-    requires limit { slot.now.cents ≤ℤ pos balance_limit }
-    requires small { AreWithin balance_limit state.old.segments.balances }
+    requires dated { IsDayOf inputs.now slot.now.day }
+    requires asked { MayMove state.old.segments state.old.rates slot.now.cents }
     requires rows { length state.old.rows.items + 2 ≡ length state.old.segments.balances }
-    ensures stands { OnOk result ((issued : Option IssuedRow) (first : ℕ) (returned : ℕ → Bool) (rows : SegmentTerms → Rows) (p : CorrectedPost) (b : Book) (on cents : ℕ) → first ≤ slot.now.day → IsSlotOf (seen_in inputs.now slot.now.day) p slot.now → StandWith (account_in inputs.now) (seen_in inputs.now slot.now.day) first returned rows b state.old track.old → StandWith (account_in inputs.now) (seen_in inputs.now slot.now.day) first returned rows (effect issued (account_in inputs.now) (seen_in inputs.now slot.now.day) p (post.Credit on place.now cents) b) state.new track.new) }
-    ensures rest { IsRestKept state.old state.new track.old track.new }
-    ensures err { OnErr result (Begins track.old track.new) }
+    ensures stands { OnOk result ((on cents : ℕ) → EntersIf HasBegun inputs.now (post.Credit on place.now cents) slot.now state.old state.new track.old track.new) }
+    ensures left { LeavesRest result state.old state.new track.old track.new }
 {
     let anchor = inputs.anchor();
     let parts = credit(
@@ -203,13 +182,8 @@ fn enter_post(
     state: &mut State,
     track: &mut Track,
 ) -> Result<(), NoMemory>
-    requires opened { opened_in inputs.now ≤ post.now.day }
-    requires last { post.now.day ≤ last_request_day }
-    requires cycles { track.old.cycles.items ≡ (before inputs.now post.now.day).cycles }
-    requires rated { AreRated state.old.segments.segments state.old.rates }
-    requires amount { pos 0 ≤ℤ post.now.cents }
-    requires limit { post.now.cents ≤ℤ pos balance_limit }
-    requires small { AreWithin balance_limit state.old.segments.balances }
+    requires closed { AreClosedBefore inputs.now post.now.day track.old.cycles.items }
+    requires asked { MayMove state.old.segments state.old.rates post.now.cents }
     requires rows { length state.old.rows.items + 2 ≡ length state.old.segments.balances }
     requires parts { (n : ℕ) → AreReturnable (length state.old.segments.balances) (parts_of n track.old.entries.items) }
     requires kind { is_penalty post.now.post ≡ false }
@@ -217,9 +191,8 @@ fn enter_post(
     requires moved { moved track.old.entries.items ≤ balance_limit }
     requires held { (n : ℕ) → resolves n post.now.post ≡ true → pos (moved_by n track.old.entries.items) ≤ℤ slice_index_or state.old.segments.balances 1 (pos 0) }
     requires named { (n : ℕ) → returns n post.now.post ≡ true → (n ≤ post_limit) × SeesPayment inputs.now post.now.day n }
-    ensures stands { OnOk result ((first : ℕ) (returned : ℕ → Bool) (rows : SegmentTerms → Rows) (p : CorrectedPost) (b : Book) → first ≤ post.now.day → b.cycles ≡ (before inputs.now post.now.day).cycles → MayFollow post.now.day state.old.rates returned p b → post.now ≡ day_post p → StandWith (account_in inputs.now) (seen_in inputs.now post.now.day) first returned rows b state.old track.old → StandWith (account_in inputs.now) (seen_in inputs.now post.now.day) first (returned_after returned p.post) rows (effect (row_in inputs.now (post.now.day - opened_in inputs.now)) (account_in inputs.now) (seen_in inputs.now post.now.day) p p.post b) state.new track.new) }
-    ensures rest { IsRestKept state.old state.new track.old track.new }
-    ensures err { OnErr result (Begins track.old track.new) }
+    ensures stands { OnOk result (EntersPost inputs.now post.now state.old state.new track.old track.new) }
+    ensures left { LeavesRest result state.old state.new track.old track.new }
 {
     let slot = Slot {
         day: post.day,
@@ -251,8 +224,7 @@ fn enter(
     state: &mut State,
     track: &mut Track,
 ) -> Result<(), NoMemory>
-    requires opened { opened_in inputs.now ≤ day }
-    requires last { day ≤ last_request_day }
+    requires dated { IsDayOf inputs.now day }
     requires from { place_in inputs.now day ≤ place }
     requires within { place < place_in inputs.now day + length (posts_of inputs.now day) }
     requires amid { AreAmid inputs.now day (done_by inputs.now day place) state.old track.old }
@@ -282,8 +254,7 @@ pub fn post_day(
     state: &mut State,
     track: &mut Track,
 ) -> Result<(), NoMemory>
-    requires opened { opened_in inputs.now ≤ day }
-    requires last { day ≤ last_request_day }
+    requires dated { IsDayOf inputs.now day }
     requires amid { AreAmid inputs.now day [] state.old track.old }
     ensures posted { OnOk result (AreAmid inputs.now day (posts_of inputs.now day) state.new track.new) }
     ensures begins { Begins track.old track.new }

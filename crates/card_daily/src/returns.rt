@@ -17,9 +17,9 @@ ghost use Rattle.card_model.specs.Segments.{SegmentTerms, last_that};
 ghost use Rattle.card_model.specs.declared.fee.FeeKind.TheVariants as kind;
 ghost use Rattle.card_segments.specs.Balances.{AreWithin};
 ghost use Rattle.card_daily.specs.Given.{account_in, opened_in, row_in, seen_in};
-ghost use Rattle.card_daily.specs.Returns.{IsDueBy, SeesPayment, fees_with};
-ghost use Rattle.card_daily.specs.Posts.{IsRestKept, StandWith};
-ghost use Rattle.card_daily.specs.Stands.{Begins, before};
+ghost use Rattle.card_daily.specs.Returns.{IsDueBy, SeesPayment, fee_of, fees_with};
+ghost use Rattle.card_daily.specs.Posts.{EntersReturn, LeavesRest};
+ghost use Rattle.card_daily.specs.Stands.{AreClosedBefore};
 
 use crate::due::{due_cycle, fees_of, minimum_of, push_fee};
 use crate::{Inputs, State, Track};
@@ -104,9 +104,7 @@ fn asked_by(inputs: &Inputs, day: Day, cycle: Option<&Cycle>) -> Cents
 
 // The fee for the due date of a cycle, for which a payment was meant that is returned.
 fn fee_for(inputs: &Inputs, day: Day, fees: &[Fee], cycles: &[Cycle], meant: &Cycle) -> Option<Fee>
-    requires opened { opened_in inputs.now ≤ day }
-    requires last { day ≤ last_request_day }
-    requires cycles { cycles.now ≡ (before inputs.now day).cycles }
+    requires closed { AreClosedBefore inputs.now day cycles.now }
     ensures { (b : Book) → b.cycles ≡ cycles.now → b.fees ≡ fees.now → result ≡ penalty_fee (row_in inputs.now (day - opened_in inputs.now)) (seen_in inputs.now day) b kind.Returned meant.now }
 {
     let anchor = inputs.anchor();
@@ -128,11 +126,9 @@ fn fee_for(inputs: &Inputs, day: Day, fees: &[Fee], cycles: &[Cycle], meant: &Cy
 
 // The fee for a payment that is returned on a day, by its number.
 fn fee_of(inputs: &Inputs, day: Day, payment: u32, fees: &[Fee], cycles: &[Cycle]) -> Option<Fee>
-    requires opened { opened_in inputs.now ≤ day }
-    requires last { day ≤ last_request_day }
-    requires cycles { cycles.now ≡ (before inputs.now day).cycles }
+    requires closed { AreClosedBefore inputs.now day cycles.now }
     requires seen { SeesPayment inputs.now day payment }
-    ensures { (b : Book) → b.cycles ≡ cycles.now → b.fees ≡ fees.now → result ≡ model.returned_fee (row_in inputs.now (day - opened_in inputs.now)) (seen_in inputs.now day) b (model.meant_for b.cycles (model.payment_at payment (seen_in inputs.now day).posts)) }
+    ensures { (b : Book) → b.cycles ≡ cycles.now → b.fees ≡ fees.now → result ≡ fee_of inputs.now day payment b }
 {
     let slot = inputs.posts().slot(payment as u64);
     match meant_for(cycles, slot) {
@@ -160,16 +156,13 @@ pub(crate) fn enter_return(
     state: &mut State,
     track: &mut Track,
 ) -> Result<(), NoMemory>
-    requires opened { opened_in inputs.now ≤ slot.now.day }
-    requires last { slot.now.day ≤ last_request_day }
-    requires cycles { track.old.cycles.items ≡ (before inputs.now slot.now.day).cycles }
+    requires closed { AreClosedBefore inputs.now slot.now.day track.old.cycles.items }
     requires rated { AreRated state.old.segments.segments state.old.rates }
     requires small { AreWithin balance_limit state.old.segments.balances }
     requires parts { AreReturnable (length state.old.segments.balances) (parts_of payment track.old.entries.items) }
     requires seen { SeesPayment inputs.now slot.now.day payment }
-    ensures stands { OnOk result ((first : ℕ) (returned : ℕ → Bool) (rows : SegmentTerms → Rows) (p : CorrectedPost) (b : Book) (on : ℕ) → b.cycles ≡ (before inputs.now slot.now.day).cycles → IsOfNoCredit payment b.entries → AreOfThose slot.now.day state.old.rates b.entries → IsSlotOf (seen_in inputs.now slot.now.day) p slot.now → StandWith (account_in inputs.now) (seen_in inputs.now slot.now.day) first returned rows b state.old track.old → StandWith (account_in inputs.now) (seen_in inputs.now slot.now.day) first (or_post returned payment) rows (model.effect (row_in inputs.now (slot.now.day - opened_in inputs.now)) (account_in inputs.now) (seen_in inputs.now slot.now.day) p (post.Return on payment) b) state.new track.new) }
-    ensures rest { IsRestKept state.old state.new track.old track.new }
-    ensures err { OnErr result (Begins track.old track.new) }
+    ensures stands { OnOk result (EntersReturn inputs.now payment slot.now state.old state.new track.old track.new) }
+    ensures left { LeavesRest result state.old state.new track.old track.new }
 {
     let _anchor = inputs.anchor();
     let charged = fee_of(inputs, slot.day, payment, &state.fees, &track.cycles);

@@ -14,7 +14,7 @@ ghost use Rattle.card_model.specs.Cycles.{Cycle, last_cycle};
 ghost use Rattle.card_model.specs.Folds.{cycle_at};
 ghost use Rattle.card_model.specs.Payments as payments;
 ghost use Rattle.card_daily.specs.Closing.{IsClosing, IsClosingOf};
-ghost use Rattle.card_daily.specs.Given.{account_in, opened_in, seen_in};
+ghost use Rattle.card_daily.specs.Given.{IsDayOf, account_in, seen_in};
 ghost use Rattle.card_daily.specs.Stands.{AreBefore, ArePosted, Begins, posted};
 
 use card_closing::{Closing, Cycle, GraceCase, close};
@@ -112,8 +112,7 @@ fn purchases(inputs: &Inputs, day: Day, cycles: &[Cycle]) -> GraceCase
 
 // What is left of a minimum payment at the closing after its own.
 fn left_of(inputs: &Inputs, day: Day, number: u32, cycle: &Cycle) -> Cents
-    requires opened { opened_in inputs.now ≤ day }
-    requires last_day { day ≤ last_request_day }
+    requires dated { IsDayOf inputs.now day }
     requires closing { IsClosingOf inputs.now number day }
     requires last { last_cycle (posted inputs.now day).cycles ≡ Some cycle.now }
     ensures { result ≡ pos (payments.past_due (seen_in inputs.now day) day (Some cycle.now)) }
@@ -125,8 +124,7 @@ fn left_of(inputs: &Inputs, day: Day, number: u32, cycle: &Cycle) -> Cents
 
 // What is left of the last minimum payment, 0 at the first closing.
 fn left_at(inputs: &Inputs, day: Day, number: u32, last: Option<&Cycle>) -> Cents
-    requires opened { opened_in inputs.now ≤ day }
-    requires last_day { day ≤ last_request_day }
+    requires dated { IsDayOf inputs.now day }
     requires closing { IsClosingOf inputs.now number day }
     requires last { option_copied last ≡ last_cycle (posted inputs.now day).cycles }
     ensures { result ≡ pos (payments.past_due (seen_in inputs.now day) day (last_cycle (posted inputs.now day).cycles)) }
@@ -139,8 +137,7 @@ fn left_at(inputs: &Inputs, day: Day, number: u32, last: Option<&Cycle>) -> Cent
 
 // The closing of the present cycle.
 fn closing_on(inputs: &Inputs, day: Day, cycles: &[Cycle]) -> Closing
-    requires opened { opened_in inputs.now ≤ day }
-    requires last { day ≤ last_request_day }
+    requires dated { IsDayOf inputs.now day }
     requires closes { day_of_month day ≡ (anchor_of inputs.now.history).close_day }
     requires cycles { cycles.now ≡ (posted inputs.now day).cycles }
     ensures of_book { IsOfBook result (account_in inputs.now) (seen_in inputs.now day) (posted inputs.now day) }
@@ -200,8 +197,7 @@ fn close_cycle(
     state: &mut State,
     track: &mut Track,
 ) -> Result<(), NoMemory>
-    requires opened { opened_in inputs.now ≤ day }
-    requires last { day ≤ last_request_day }
+    requires dated { IsDayOf inputs.now day }
     requires closes { day_of_month day ≡ (anchor_of inputs.now.history).close_day }
     requires posted { ArePosted inputs.now day state.old track.old }
     ensures closed { OnOk result (AreBefore inputs.now (day + 1) state.new track.new) }
@@ -237,8 +233,7 @@ pub fn close_day(
     state: &mut State,
     track: &mut Track,
 ) -> Result<(), NoMemory>
-    requires opened { opened_in inputs.now ≤ day }
-    requires last { day ≤ last_request_day }
+    requires dated { IsDayOf inputs.now day }
     requires posted { ArePosted inputs.now day state.old track.old }
     ensures closed { OnOk result (AreBefore inputs.now (day + 1) state.new track.new) }
     ensures begins { Begins track.old track.new }

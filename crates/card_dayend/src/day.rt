@@ -1,7 +1,6 @@
 // A day of an account.
-ghost use Rattle.std.specs.Prelude.{◌≡◌, ◌+◌, ◌≤◌, OnOk};
-ghost use Rattle.card_days.specs.Range.{last_request_day};
-ghost use Rattle.card_daily.specs.Given.{opened_in};
+ghost use Rattle.std.specs.Prelude.{◌+◌, OnOk};
+ghost use Rattle.card_daily.specs.Given.{IsDayOf};
 ghost use Rattle.card_daily.specs.Stands.{AreBefore, Begins};
 
 use crate::{close_day, opening_day, row_day};
@@ -20,8 +19,7 @@ pub fn next_day(
     state: &mut State,
     track: &mut Track,
 ) -> Result<(), NoMemory>
-    requires opened { opened_in inputs.now ≤ day }
-    requires last { day ≤ last_request_day }
+    requires dated { IsDayOf inputs.now day }
     requires before { AreBefore inputs.now day state.old track.old }
     ensures folded { OnOk result (AreBefore inputs.now (day + 1) state.new track.new) }
     ensures begins { Begins track.old track.new }

@@ -18,26 +18,22 @@ fee_due-requires-clause-last c =
     let cycles = c.deref-2.ensures.value ∙ c.requires.before.stand.cycles in
     c.last.ensures.value ∙ (ap (λ (cs : List Cycle). slice_get cs (length cs - 1)) cycles ∙ last-get (before c.args.inputs.now c.args.day).cycles)
 
-pub charge-requires-clause-rated : goal.charge-requires-clause-rated
-charge-requires-clause-rated c = rated c.args.inputs.now _ (before c.args.inputs.now c.args.day) c.args.state.now c.args.track.now c.requires.before.stand
-
-pub charge-requires-clause-low : goal.charge-requires-clause-low
-charge-requires-clause-low c =
-    (fee-few c.args.inputs.now c.args.day c.in-Some.late c.anchor-anchor.ensures.sound (sym c.fee_due.ensures ∙ c.in-Some.is)).0
-
-pub charge-requires-clause-high : goal.charge-requires-clause-high
-charge-requires-clause-high c =
-    (fee-few c.args.inputs.now c.args.day c.in-Some.late c.anchor-anchor.ensures.sound (sym c.fee_due.ensures ∙ c.in-Some.is)).1
-
 from-one : (g : Given) (day : ℕ) → IsSound g → opened_in g ≤ day → 1 ≤ day
 from-one g day s l = let o = s.opening.first in omega arith
 
-pub charge-requires-clause-small : goal.charge-requires-clause-small
-charge-requires-clause-small c =
+pub charge-requires : goal.charge-requires
+charge-requires c =
     let g = c.args.inputs.now in
-    let sums = c.requires.before.stand.sums in
-    within (before g c.args.day).entries c.args.state.now.segments.balances sums
-    (before-small g c.args.day c.anchor-anchor.ensures.sound (from-one g c.args.day c.anchor-anchor.ensures.sound c.requires.opened) c.requires.last)
+    let day = c.args.day in
+    let sound = c.anchor-anchor.ensures.sound in
+    let few = fee-few g day c.in-Some.late sound (sym c.fee_due.ensures ∙ c.in-Some.is) in
+    let stand = c.requires.before.stand in
+    record {
+      rated = rated g _ (before g day) c.args.state.now c.args.track.now stand;
+      amount = few.0;
+      limit = few.1;
+      small = within (before g day).entries c.args.state.now.segments.balances stand.sums (before-small g day sound (from-one g day sound c.requires.dated.opened) c.requires.dated.last);
+    }
 
 -- state and track stand for the book of the days before
 abbrev stand-before : (g : Given) (day : ℕ) (s : State) (t : Track) → opened_in g ≤ day → AreBefore g day s t → StandsAt (account_in g) (seen_in g day) (before g day) s.rates s.segments.balances t.entries.items
@@ -55,7 +51,7 @@ returns-in_ok-charge-clause-charged c =
     let t = c.args.track.now in
     let due = sym c.fee_due.ensures ∙ c.in-Some.is in
     let did = c.in_ok-charge.ensures in
-    let at = did.stands (account_in g) (seen_in g day) (before g day) (stand-before g day s t c.requires.opened c.requires.before) refl in
+    let at = did.stands (account_in g) (seen_in g day) (before g day) (stand-before g day s t c.requires.dated.opened c.requires.before) refl in
     begun g day (Some c.in-Some.late) s c.charge.new.state t c.charge.new.track due c.requires.before
     (record {
       entries = at.same;
@@ -75,7 +71,7 @@ returns-in_ok-charge-clause-begins c =
     let s = c.args.state.now in
     let t = c.args.track.now in
     let did = c.in_ok-charge.ensures in
-    let at = did.stands (account_in g) (seen_in g day) (before g day) (stand-before g day s t c.requires.opened c.requires.before) refl in
+    let at = did.stands (account_in g) (seen_in g day) (before g day) (stand-before g day s t c.requires.dated.opened c.requires.before) refl in
     record {
       entries = subst (λ es. take (length es) c.charge.new.track.entries.items ≡ es) (sym c.requires.before.stand.entries) (ap (take (length (before g day).entries)) at.same ∙ fee-front (account_in g) (seen_in g day) 0 c.in-Some.late (before g day));
       cycles = begins-same t.cycles.items c.charge.new.track.cycles.items c.charge.ensures.cycles;

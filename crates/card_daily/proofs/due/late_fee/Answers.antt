@@ -16,37 +16,37 @@ late-days g day s l = let o = s.opening.first in omega arith
 pub due_cycle-due-requires-clause-days : goal.due_cycle-due-requires-clause-days
 due_cycle-due-requires-clause-days c =
     let s = c.anchor-anchor.ensures.sound in
-    (last-is c.args.inputs.now c.args.day c.args.cycle.now s (late-days c.args.inputs.now c.args.day s c.requires.opened) c.requires.last c.requires.cycle).days
+    (last-is c.args.inputs.now c.args.day c.args.cycle.now s (late-days c.args.inputs.now c.args.day s c.requires.dated.opened) c.requires.dated.last c.requires.cycle).days
 
 pub due_cycle-due-requires-clause-number : goal.due_cycle-due-requires-clause-number
 due_cycle-due-requires-clause-number c =
     let s = c.anchor-anchor.ensures.sound in
-    (last-is c.args.inputs.now c.args.day c.args.cycle.now s (late-days c.args.inputs.now c.args.day s c.requires.opened) c.requires.last c.requires.cycle).first
+    (last-is c.args.inputs.now c.args.day c.args.cycle.now s (late-days c.args.inputs.now c.args.day s c.requires.dated.opened) c.requires.dated.last c.requires.cycle).first
 
 pub overflow_add-cycle-inside : goal.overflow_add-cycle-inside
 overflow_add-cycle-inside c =
     let s = c.anchor-anchor.ensures.sound in
     let g = c.args.inputs.now in
-    let is = last-is g c.args.day c.args.cycle.now s (late-days g c.args.day s c.requires.opened) c.requires.last c.requires.cycle in
+    let is = last-is g c.args.day c.args.cycle.now s (late-days g c.args.day s c.requires.dated.opened) c.requires.dated.last c.requires.cycle in
     let small = few g c.args.day c.args.cycle.now is c.requires.due in
     let same = ap (λ (x : Cycle). x.number) c.cycle.view_is in
-    let last = c.requires.last in
+    let last = c.requires.dated.last in
     omega arith
 
 pub due_fee-requires-clause-cycle : goal.due_fee-requires-clause-cycle
 due_fee-requires-clause-cycle c =
     let s = c.anchor-anchor.ensures.sound in
     let g = c.args.inputs.now in
-    let is = last-is g c.args.day c.args.cycle.now s (late-days g c.args.day s c.requires.opened) c.requires.last c.requires.cycle in
+    let is = last-is g c.args.day c.args.cycle.now s (late-days g c.args.day s c.requires.dated.opened) c.requires.dated.last c.requires.cycle in
     subst (λ (x : DueCycle). 1 ≤ x.cycle) (sym c.due_cycle-due.ensures) is.first
 
 pub due_fee-requires-clause-last : goal.due_fee-requires-clause-last
 due_fee-requires-clause-last c =
     let s = c.anchor-anchor.ensures.sound in
     let g = c.args.inputs.now in
-    let is = last-is g c.args.day c.args.cycle.now s (late-days g c.args.day s c.requires.opened) c.requires.last c.requires.cycle in
+    let is = last-is g c.args.day c.args.cycle.now s (late-days g c.args.day s c.requires.dated.opened) c.requires.dated.last c.requires.cycle in
     let day = c.requires.due in
-    let last = c.requires.last in
+    let last = c.requires.dated.last in
     let on = is.days.due in
     let here : due (anchor_of g.history) c.args.cycle.now.number < 47846 = omega arith in
     subst (λ (x : DueCycle). due c.anchor-anchor.result x.cycle < 47846) (sym c.due_cycle-due.ensures)
@@ -56,7 +56,7 @@ pub returns : goal.returns
 returns c =
     let s = c.anchor-anchor.ensures.sound in
     let g = c.args.inputs.now in
-    let is = last-is g c.args.day c.args.cycle.now s (late-days g c.args.day s c.requires.opened) c.requires.last c.requires.cycle in
+    let is = last-is g c.args.day c.args.cycle.now s (late-days g c.args.day s c.requires.dated.opened) c.requires.dated.last c.requires.cycle in
     let number = ap (λ (x : Cycle). x.number) c.cycle.view_is in
     let issued = c.fees_of-issued.ensures ∙ (ap issued_fees c.issued_for.ensures ∙ ap (λ n. issued_fees (row_for (n + 1) g.issued)) number) in
     let posts = c.posts.ensures.stands ∙ ap (λ h. corrected (anchor_of h) g.shared.holidays h) c.posts.ensures.history in

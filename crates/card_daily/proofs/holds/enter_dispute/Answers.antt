@@ -17,12 +17,12 @@ dispute-requires-clause-account c = subst (λ (h : List Kept). AreOf h c.args.st
 pub returns-clause-stands : goal.returns-clause-stands
 returns-clause-stands c =
     on-ok c.dispute.result _ _ c.dispute.ensures.stands
-    (λ did issued first returned rows_by p b on is h.
+    (λ did on issued first returned rows_by p b is h.
     let g = c.args.inputs.now in
     let day = c.args.slot.now.day in
     let s = c.args.state.now in
     let at = same-history c.posts.result.now.history g.history
     (λ (k : List Kept). StandsAt (account_of k) (seen_in k g.issued g.shared day) b s.rates s.segments.balances c.args.track.now.entries.items → IsSlotOf (seen_in k g.issued g.shared day) p c.args.slot.now
     → StandsAt (account_of k) (seen_in k g.issued g.shared day) (effect issued (account_of k) (seen_in k g.issued g.shared day) p (post.Dispute on c.args.charge c.args.claim) b) s.rates c.dispute.new.segments.balances c.dispute.new.out.items)
-    c.posts.ensures.history (λ at is. did issued g.issued g.shared p b on c.posts.ensures.stands at is) in
+    c.posts.ensures.history (λ at is. did on g.issued g.shared c.posts.ensures.stands issued p b at is) in
     dispute-stand issued (given.account_in g) (given.seen_in g day) first returned rows_by p b on c.args.charge c.args.claim s _ c.args.track.now _ h (at h.at is) refl refl refl)

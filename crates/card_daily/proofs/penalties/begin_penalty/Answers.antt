@@ -6,4 +6,4 @@ use Rattle.card_daily.proofs.penalties.begin_penalty.Goals as goal
 
 pub is_sixty_days_late-requires : goal.is_sixty_days_late-requires
 is_sixty_days_late-requires c =
-    record { closed = subst (All (IsClosed c.args.inputs.now)) (sym c.requires.cycles) (closed-before c.args.inputs.now c.args.day c.anchor-sound.ensures.sound c.requires.opened c.requires.last) }
+    record { closed = subst (All (IsClosed c.args.inputs.now)) (sym c.requires.closed.cycles) (closed-before c.args.inputs.now c.args.day c.anchor-sound.ensures.sound c.requires.closed.dated.opened c.requires.closed.dated.last) }

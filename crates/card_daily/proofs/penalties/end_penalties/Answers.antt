@@ -11,16 +11,17 @@ use Rattle.card_daily.specs.Given.{seen_in}
 use Rattle.card_daily.specs.Returns.{IsDueBy}
 use Rattle.card_daily.proofs.penalties.end_penalties.Goals as goal
 
-pub end_cured-requires-clause-due : goal.end_cured-requires-clause-due
-end_cured-requires-clause-due c =
+pub end_cured-requires : goal.end_cured-requires
+end_cured-requires c =
     let g = c.args.inputs.now in
     let day = c.args.day in
     let cycles = c.args.cycles.now in
     let last = sym (last-get cycles) ∙ (sym c.last.ensures.value ∙ ap option_copied c.in-Some.is) in
-    let due = ap (λ (x : Cycle). x.due) c.cycle.view_is in
-    let on = ap (λ d. eqb day (d + 1)) (sym due) ∙ (sym c.is_day_after.ensures ∙ c.if-is_day_after.true) in
-    subst (All (IsDueBy g day)) (sym c.requires.cycles)
-    (all-due g day c.in-Some.cycle.now c.anchor-sound.ensures.sound c.requires.opened c.requires.last (ap last_cycle (sym c.requires.cycles) ∙ last) (eqb-true day (c.in-Some.cycle.now.due + 1) on))
+    let at = ap (λ (x : Cycle). x.due) c.cycle.view_is in
+    let on = ap (λ d. eqb day (d + 1)) (sym at) ∙ (sym c.is_day_after.ensures ∙ c.if-is_day_after.true) in
+    let due = subst (All (IsDueBy g day)) (sym c.requires.closed.cycles)
+    (all-due g day c.in-Some.cycle.now c.anchor-sound.ensures.sound c.requires.closed.dated.opened c.requires.closed.dated.last (ap last_cycle (sym c.requires.closed.cycles) ∙ last) (eqb-true day (c.in-Some.cycle.now.due + 1) on)) in
+    record { due = record { due = due; last = c.requires.closed.dated.last } }
 
 pub returns-then-is_day_after : goal.returns-then-is_day_after
 returns-then-is_day_after c =

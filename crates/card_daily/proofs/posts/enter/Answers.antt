@@ -16,8 +16,8 @@ use Rattle.card_model.specs.declared.segment.Interval.{Interval}
 use Rattle.card_rates.specs.RateBooks.{Rates, with_penalties}
 use Rattle.card_daily.proofs.posts.enter.Goals as goal
 
-pub enter_post-requires-clause-opened : goal.enter_post-requires-clause-opened
-enter_post-requires-clause-opened c =
+pub enter_post-requires-clause-closed : goal.enter_post-requires-clause-closed
+enter_post-requires-clause-closed c =
     let g = c.args.inputs.now in
     let day = c.args.day in
     let place = c.args.place in
@@ -25,61 +25,27 @@ enter_post-requires-clause-opened c =
     let sound = c.anchor-anchor.ensures.sound in
     let here = place-found g day place c.posts.result.now c.folded_at.result x sound c.posts.ensures.stands c.posts.ensures.history c.requires.from c.requires.within c.folded_at.ensures c.in-Some.is in
     let on = place-day g day place x here in
-    let opened = c.requires.opened in
-    omega (arith, on, opened)
+    let opened = c.requires.dated.opened in
+    let last = c.requires.dated.last in
+    record {
+      dated = record { opened = omega (arith, on, opened); last = omega (arith, on, last) };
+      cycles = place-cycles g day place x (done_by g day place) c.args.state.now c.args.track.now here c.requires.amid;
+    }
 
-pub enter_post-requires-clause-last : goal.enter_post-requires-clause-last
-enter_post-requires-clause-last c =
+pub enter_post-requires-clause-asked : goal.enter_post-requires-clause-asked
+enter_post-requires-clause-asked c =
     let g = c.args.inputs.now in
     let day = c.args.day in
     let place = c.args.place in
     let x = c.in-Some.post in
     let sound = c.anchor-anchor.ensures.sound in
     let here = place-found g day place c.posts.result.now c.folded_at.result x sound c.posts.ensures.stands c.posts.ensures.history c.requires.from c.requires.within c.folded_at.ensures c.in-Some.is in
-    let on = place-day g day place x here in
-    let last = c.requires.last in
-    omega (arith, on, last)
-
-pub enter_post-requires-clause-cycles : goal.enter_post-requires-clause-cycles
-enter_post-requires-clause-cycles c =
-    let g = c.args.inputs.now in
-    let day = c.args.day in
-    let place = c.args.place in
-    let x = c.in-Some.post in
-    let sound = c.anchor-anchor.ensures.sound in
-    let here = place-found g day place c.posts.result.now c.folded_at.result x sound c.posts.ensures.stands c.posts.ensures.history c.requires.from c.requires.within c.folded_at.ensures c.in-Some.is in
-    place-cycles g day place x (done_by g day place) c.args.state.now c.args.track.now here c.requires.amid
-
-pub enter_post-requires-clause-rated : goal.enter_post-requires-clause-rated
-enter_post-requires-clause-rated c =
-    rated c.args.inputs.now _ (amid c.args.inputs.now c.args.day (done_by c.args.inputs.now c.args.day c.args.place)) c.args.state.now c.args.track.now c.requires.amid.stand
-
-pub enter_post-requires-clause-amount : goal.enter_post-requires-clause-amount
-enter_post-requires-clause-amount c =
-    let g = c.args.inputs.now in
-    let day = c.args.day in
-    let place = c.args.place in
-    let x = c.in-Some.post in
-    let sound = c.anchor-anchor.ensures.sound in
-    let here = place-found g day place c.posts.result.now c.folded_at.result x sound c.posts.ensures.stands c.posts.ensures.history c.requires.from c.requires.within c.folded_at.ensures c.in-Some.is in
-    place-low g day place x here
-
-pub enter_post-requires-clause-limit : goal.enter_post-requires-clause-limit
-enter_post-requires-clause-limit c =
-    let g = c.args.inputs.now in
-    let day = c.args.day in
-    let place = c.args.place in
-    let x = c.in-Some.post in
-    let sound = c.anchor-anchor.ensures.sound in
-    let here = place-found g day place c.posts.result.now c.folded_at.result x sound c.posts.ensures.stands c.posts.ensures.history c.requires.from c.requires.within c.folded_at.ensures c.in-Some.is in
-    place-high g day place x here
-
-pub enter_post-requires-clause-small : goal.enter_post-requires-clause-small
-enter_post-requires-clause-small c =
-    let g = c.args.inputs.now in
-    let day = c.args.day in
-    let place = c.args.place in
-    within (amid g day (done_by g day place)).entries c.args.state.now.segments.balances c.requires.amid.stand.sums (front-small g day (place - place_in g day) c.anchor-anchor.ensures.sound c.requires.opened c.requires.last)
+    record {
+      rated = rated g _ (amid g day (done_by g day place)) c.args.state.now c.args.track.now c.requires.amid.stand;
+      amount = place-low g day place x here;
+      limit = place-high g day place x here;
+      small = within (amid g day (done_by g day place)).entries c.args.state.now.segments.balances c.requires.amid.stand.sums (front-small g day (place - place_in g day) sound c.requires.dated.opened c.requires.dated.last);
+    }
 
 pub enter_post-requires-clause-rows : goal.enter_post-requires-clause-rows
 enter_post-requires-clause-rows c =
@@ -93,7 +59,7 @@ enter_post-requires-clause-parts c n =
     let g = c.args.inputs.now in
     let day = c.args.day in
     let balances = c.args.state.now.segments.balances in
-    subst (λ es. AreReturnable (length balances) (parts_of n es)) (sym c.requires.amid.stand.entries) (returnable g day (c.args.place - place_in g day) n balances c.anchor-anchor.ensures.sound c.requires.opened c.requires.amid.stand.sums)
+    subst (λ es. AreReturnable (length balances) (parts_of n es)) (sym c.requires.amid.stand.entries) (returnable g day (c.args.place - place_in g day) n balances c.anchor-anchor.ensures.sound c.requires.dated.opened c.requires.amid.stand.sums)
 
 pub enter_post-requires-clause-named : goal.enter_post-requires-clause-named
 enter_post-requires-clause-named c n gives =
@@ -125,14 +91,15 @@ returns-in_default c =
     let here = place-found g day place c.posts.result.now c.folded_at.result x sound c.posts.ensures.stands c.posts.ensures.history c.requires.from c.requires.within c.folded_at.ensures c.in-Some.is in
     let kind = place-kind g day place x here c.in_default.not-Penalty in
     record {
-      amid = on-ok c.enter_post.result _ _ c.enter_post.ensures.stands (λ did. next-amid g day place x c.args.state.now c.enter_post.new.state c.args.track.now c.enter_post.new.track sound c.requires.opened c.requires.last c.requires.from c.requires.within here kind c.requires.amid c.enter_post.ensures.rest did);
-      begins = either-way c.enter_post.result _ (on-ok c.enter_post.result _ _ c.enter_post.ensures.stands (λ did. next-begins g day place x c.args.state.now c.enter_post.new.state c.args.track.now c.enter_post.new.track sound c.requires.opened c.requires.last c.requires.from c.requires.within here kind c.requires.amid c.enter_post.ensures.rest did)) c.enter_post.ensures.err;
+      amid = on-ok c.enter_post.result _ _ c.enter_post.ensures.stands (λ did. next-amid g day place x c.args.state.now c.enter_post.new.state c.args.track.now c.enter_post.new.track sound c.requires.dated.opened c.requires.dated.last c.requires.from c.requires.within here kind c.requires.amid c.enter_post.ensures.left.rest did);
+      begins = either-way c.enter_post.result _ (on-ok c.enter_post.result _ _ c.enter_post.ensures.stands (λ did. next-begins g day place x c.args.state.now c.enter_post.new.state c.args.track.now c.enter_post.new.track sound c.requires.dated.opened c.requires.dated.last c.requires.from c.requires.within here kind c.requires.amid c.enter_post.ensures.left.rest did)) c.enter_post.ensures.left.err;
     }
 
-pub begin_penalty-requires-clause-cycles : goal.begin_penalty-requires-clause-cycles
-begin_penalty-requires-clause-cycles c =
+pub begin_penalty-requires : goal.begin_penalty-requires
+begin_penalty-requires c =
     let g = c.args.inputs.now in
-    c.deref.ensures.value ∙ (c.requires.amid.stand.cycles ∙ cycles-before g c.args.day (done_by g c.args.day c.args.place))
+    let cycles = c.deref.ensures.value ∙ (c.requires.amid.stand.cycles ∙ cycles-before g c.args.day (done_by g c.args.day c.args.place)) in
+    record { closed = record { dated = c.requires.dated; cycles = cycles } }
 
 pub returns-in-Penalty-clause-amid : goal.returns-in-Penalty-clause-amid
 returns-in-Penalty-clause-amid c =
@@ -148,7 +115,7 @@ returns-in-Penalty-clause-amid c =
     let alike : (ps : List Interval) → ps ≡ (amid g day done).penalties → begun_on (seen_in g day) c.deref.result.now ps ≡ begun_on (seen_in g day) (before g day).cycles (amid g day done).penalties =
     λ ps e. ap (λ (cs : List Cycle). begun_on (seen_in g day) cs ps) cycles ∙ ap (begun_on (seen_in g day) (before g day).cycles) e in
     on-ok c.begin_penalty.result _ _ c.begin_penalty.ensures
-    (λ rates. next-penalty g day place x s _ c.args.track.now c.requires.opened c.requires.from c.requires.within here c.in-Penalty.is h
+    (λ rates. next-penalty g day place x s _ c.args.track.now c.requires.dated.opened c.requires.from c.requires.within here c.in-Penalty.is h
     (record {
       segments = refl;
       rates = rates ∙ ap (λ (is : List Interval). with_penalties is s.rates) (alike s.rates.penalties (ap (λ (r : Rates). r.penalties) h.stand.rates));
@@ -162,7 +129,7 @@ returns-in-None-clause-amid c =
     let g = c.args.inputs.now in
     let day = c.args.day in
     let place = c.args.place in
-    next-idle g day place c.args.state.now c.args.track.now c.requires.opened c.requires.from c.requires.within
+    next-idle g day place c.args.state.now c.args.track.now c.requires.dated.opened c.requires.from c.requires.within
     (none-found (post_at_place g day place) (sym (told-here g day place c.posts.result.now c.folded_at.result c.posts.ensures.stands c.posts.ensures.history c.requires.from c.requires.within c.folded_at.ensures) ∙ c.in-None.is)) c.requires.amid
 
 pub enter_post-requires-clause-account : goal.enter_post-requires-clause-account
@@ -173,7 +140,7 @@ pub enter_post-requires-clause-moved : goal.enter_post-requires-clause-moved
 enter_post-requires-clause-moved c =
     let g = c.args.inputs.now in
     let day = c.args.day in
-    subst (λ es. moved es ≤ balance_limit) (sym c.requires.amid.stand.entries) (front-moves g day (c.args.place - place_in g day) c.anchor-anchor.ensures.sound c.requires.opened c.requires.last)
+    subst (λ es. moved es ≤ balance_limit) (sym c.requires.amid.stand.entries) (front-moves g day (c.args.place - place_in g day) c.anchor-anchor.ensures.sound c.requires.dated.opened c.requires.dated.last)
 
 pub enter_post-requires-clause-held : goal.enter_post-requires-clause-held
 enter_post-requires-clause-held c n gives =
@@ -183,5 +150,5 @@ enter_post-requires-clause-held c n gives =
     let x = c.in-Some.post in
     let sound = c.anchor-anchor.ensures.sound in
     let here = place-found g day place c.posts.result.now c.folded_at.result x sound c.posts.ensures.stands c.posts.ensures.history c.requires.from c.requires.within c.folded_at.ensures c.in-Some.is in
-    place-held g day place n x c.args.state.now.segments.balances c.args.track.now.entries.items sound c.requires.opened c.requires.from c.requires.within here gives c.requires.amid.stand.entries c.requires.amid.stand.sums
+    place-held g day place n x c.args.state.now.segments.balances c.args.track.now.entries.items sound c.requires.dated.opened c.requires.from c.requires.within here gives c.requires.amid.stand.entries c.requires.amid.stand.sums
     (let five = c.len-count.ensures.five in omega (arith, five, c.len-count.ensures.balances))

@@ -5,5 +5,5 @@ use Rattle.card_daily.proofs.posts.enter_charge.Goals as goal
 pub returns-clause-stands : goal.returns-clause-stands
 returns-clause-stands c =
     on-ok c.charge.result _ _ c.charge.ensures.stands
-    (λ did issued a seen first returned rows_by p b on cents is h.
-    charge-stand issued a seen first returned rows_by p b on cents c.args.place.now c.args.state.now _ c.args.track.now _ h (did issued a seen p b on cents h.at is) refl refl refl)
+    (λ did a seen on cents issued first returned rows_by p b is h.
+    charge-stand issued a seen first returned rows_by p b on cents c.args.place.now c.args.state.now _ c.args.track.now _ h (did on cents a seen issued p b h.at is) refl refl refl)

@@ -27,36 +27,36 @@ closed g day c s o l is =
 pub due_cycle-due-requires-clause-days : goal.due_cycle-due-requires-clause-days
 due_cycle-due-requires-clause-days c =
     let s = c.anchor-anchor.ensures.sound in
-    (last-is c.args.inputs.now c.args.day c.args.cycle.now s (from-one c.args.inputs.now c.args.day s c.requires.opened) c.requires.last c.requires.cycle).days
+    (last-is c.args.inputs.now c.args.day c.args.cycle.now s (from-one c.args.inputs.now c.args.day s c.requires.dated.opened) c.requires.dated.last c.requires.cycle).days
 
 pub due_cycle-due-requires-clause-number : goal.due_cycle-due-requires-clause-number
 due_cycle-due-requires-clause-number c =
     let s = c.anchor-anchor.ensures.sound in
-    (last-is c.args.inputs.now c.args.day c.args.cycle.now s (from-one c.args.inputs.now c.args.day s c.requires.opened) c.requires.last c.requires.cycle).first
+    (last-is c.args.inputs.now c.args.day c.args.cycle.now s (from-one c.args.inputs.now c.args.day s c.requires.dated.opened) c.requires.dated.last c.requires.cycle).first
 
 pub due_cycle-due-requires-clause-last : goal.due_cycle-due-requires-clause-last
 due_cycle-due-requires-clause-last c =
     let s = c.anchor-anchor.ensures.sound in
     let g = c.args.inputs.now in
-    let is = last-is g c.args.day c.args.cycle.now s (from-one g c.args.day s c.requires.opened) c.requires.last c.requires.cycle in
-    let before = closed g c.args.day c.args.cycle.now s c.requires.opened c.requires.last is in
+    let is = last-is g c.args.day c.args.cycle.now s (from-one g c.args.day s c.requires.dated.opened) c.requires.dated.last c.requires.cycle in
+    let before = closed g c.args.day c.args.cycle.now s c.requires.dated.opened c.requires.dated.last is in
     let most = due-most (anchor_of g.history) c.args.cycle.now.number in
     let on = is.days.due in
-    let last = c.requires.last in
+    let last = c.requires.dated.last in
     omega (arith, before, most, on, last)
 
 pub minimum_left-requires-clause-cycle : goal.minimum_left-requires-clause-cycle
 minimum_left-requires-clause-cycle c =
     let s = c.anchor-anchor.ensures.sound in
-    let is = last-is c.args.inputs.now c.args.day c.args.cycle.now s (from-one c.args.inputs.now c.args.day s c.requires.opened) c.requires.last c.requires.cycle in
+    let is = last-is c.args.inputs.now c.args.day c.args.cycle.now s (from-one c.args.inputs.now c.args.day s c.requires.dated.opened) c.requires.dated.last c.requires.cycle in
     subst (λ (x : DueCycle). 1 ≤ x.cycle) (sym c.due_cycle-due.ensures) is.first
 
 pub minimum_left-requires-clause-closed : goal.minimum_left-requires-clause-closed
 minimum_left-requires-clause-closed c =
     let s = c.anchor-anchor.ensures.sound in
     let g = c.args.inputs.now in
-    let is = last-is g c.args.day c.args.cycle.now s (from-one g c.args.day s c.requires.opened) c.requires.last c.requires.cycle in
-    let before = closed g c.args.day c.args.cycle.now s c.requires.opened c.requires.last is in
+    let is = last-is g c.args.day c.args.cycle.now s (from-one g c.args.day s c.requires.dated.opened) c.requires.dated.last c.requires.cycle in
+    let before = closed g c.args.day c.args.cycle.now s c.requires.dated.opened c.requires.dated.last is in
     subst (λ (x : DueCycle). closing c.anchor-anchor.result x.cycle < c.args.day) (sym c.due_cycle-due.ensures)
     (subst (λ (a : Anchor). closing a c.args.cycle.now.number < c.args.day) (sym c.anchor-anchor.ensures.value) before)
 
@@ -69,7 +69,7 @@ returns-clause-value c p on number =
     let g = c.args.inputs.now in
     let cycle = c.args.cycle.now in
     let all = corrected (anchor_of g.history) g.shared.holidays g.history in
-    let is = last-is g c.args.day cycle s (from-one g c.args.day s c.requires.opened) c.requires.last c.requires.cycle in
+    let is = last-is g c.args.day cycle s (from-one g c.args.day s c.requires.dated.opened) c.requires.dated.last c.requires.cycle in
     let posts = c.posts.ensures.stands ∙ ap (λ h. corrected (anchor_of h) g.shared.holidays h) c.posts.ensures.history in
     to_z-of_z w64 c.minimum_left.result (record { sfits = c.minimum_left.type_inv })
     ∙ (c.minimum_left.ensures g.shared.holidays c.posts.ensures.stands

@@ -13,11 +13,11 @@ use Rattle.card_daily.proofs.returns.fee_for.Goals as goal
 
 pub asked_by-least-requires-clause-due : goal.asked_by-least-requires-clause-due
 asked_by-least-requires-clause-due c x e =
-    due-by c.args.inputs.now c.args.day x c.args.cycles.now c.anchor-anchor.ensures.sound c.requires.opened c.requires.last c.requires.cycles (sym c.due_before.ensures ∙ e)
+    due-by c.args.inputs.now c.args.day x c.args.cycles.now c.anchor-anchor.ensures.sound c.requires.closed.dated.opened c.requires.closed.dated.last c.requires.closed.cycles (sym c.due_before.ensures ∙ e)
 
 pub overflow_add-cycles : goal.overflow_add-cycles
 overflow_add-cycles c =
-    let few = few-cycles c.args.inputs.now c.args.day c.args.cycles.now c.anchor-anchor.ensures.sound c.requires.opened c.requires.last c.requires.cycles in
+    let few = few-cycles c.args.inputs.now c.args.day c.args.cycles.now c.anchor-anchor.ensures.sound c.requires.closed.dated.opened c.requires.closed.dated.last c.requires.closed.cycles in
     omega (arith, few)
 
 pub returns-in-Some : goal.returns-in-Some
@@ -35,7 +35,7 @@ returns-in-Some c b own fees =
     c.capped_fee.ensures
     ∙ (ap (capped_if_any i) (sym c.in-Some.is ∙ c.returned_fee.ensures)
     ∙ (by-parts c.fees.result.now c.args.fees.now i _ meant.number (cycle_of c.anchor-anchor.result day) day _ meant.minimum _ least number minimum asks
-    ∙ fee-is g day meant b c.fees.result.now i c.args.fees.now c.anchor-anchor.result cycles least c.anchor-anchor.ensures.sound c.requires.opened c.requires.last c.requires.cycles own fees c.fees.ensures issued c.anchor-anchor.ensures.value refl))
+    ∙ fee-is g day meant b c.fees.result.now i c.args.fees.now c.anchor-anchor.result cycles least c.anchor-anchor.ensures.sound c.requires.closed.dated.opened c.requires.closed.dated.last c.requires.closed.cycles own fees c.fees.ensures issued c.anchor-anchor.ensures.value refl))
 
 pub returns-in-None : goal.returns-in-None
 returns-in-None c b own fees =
@@ -51,4 +51,4 @@ returns-in-None c b own fees =
     let asks = ap unsigned_abs (to_z-of_z w64 c.asked_by-least.result (record { sfits = c.asked_by-least.type_inv }) ∙ (c.asked_by-least.ensures.value ∙ ap (λ o. pos (asked (seen_in g day).issued o)) c.due_before.ensures)) in
     ap (capped_if_any i) (sym c.in-None.is ∙ c.returned_fee.ensures)
     ∙ (by-parts c.fees.result.now c.args.fees.now i _ meant.number (cycle_of c.anchor-anchor.result day) day _ meant.minimum _ least number minimum asks
-    ∙ fee-is g day meant b c.fees.result.now i c.args.fees.now c.anchor-anchor.result cycles least c.anchor-anchor.ensures.sound c.requires.opened c.requires.last c.requires.cycles own fees c.fees.ensures issued c.anchor-anchor.ensures.value refl)
+    ∙ fee-is g day meant b c.fees.result.now i c.args.fees.now c.anchor-anchor.result cycles least c.anchor-anchor.ensures.sound c.requires.closed.dated.opened c.requires.closed.dated.last c.requires.closed.cycles own fees c.fees.ensures issued c.anchor-anchor.ensures.value refl)

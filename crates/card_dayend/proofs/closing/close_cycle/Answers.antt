@@ -22,7 +22,7 @@ close-requires-clause-step c =
     let stand = c.requires.posted.stand in
     record {
       sums = subst (λ es. AreBalances es s.segments.balances) (sym stand.entries) stand.sums;
-      small = within (posted g day).entries s.segments.balances stand.sums (posted-small g day c.anchor-anchor.ensures.sound c.requires.opened c.requires.last);
+      small = within (posted g day).entries s.segments.balances stand.sums (posted-small g day c.anchor-anchor.ensures.sound c.requires.dated.opened c.requires.dated.last);
     }
 
 pub close-requires-clause-rows : goal.close-requires-clause-rows
@@ -57,9 +57,9 @@ returns-clause-closed c =
     let row = row_in g (day - opened_in g) in
     let did = c.in_ok-cycle.ensures in
     let given = given-for g day s t c.closing_on-closing.result (option_copied c.statement-issued.result) c.deref-2.result.now c.deref-3.result.now c.deref-4.result.now
-    c.anchor-anchor.ensures.sound c.requires.opened c.requires.last c.requires.closes h c.closing_on-closing.ensures.of_book
+    c.anchor-anchor.ensures.sound c.requires.dated.opened c.requires.dated.last c.requires.closes h c.closing_on-closing.ensures.of_book
     (c.statement-issued.ensures ∙ ap statement_of c.issued_for.ensures) c.deref-2.ensures.value c.deref-3.ensures.value c.deref-4.ensures.value in
-    closed-of g day s _ t _ c.requires.opened c.requires.closes h
+    closed-of g day s _ t _ c.requires.dated.opened c.requires.closes h
     (record {
       entries = did.entries row s.rates.segments (is_added day) (account_in g) (seen_in g day) (posted g day) given;
       cycles = c.in_ok-push.ensures.items ∙ (ap (λ (cs : List Cycle). cs ++ c.in_ok-cycle.cycle ∷ []) h.stand.cycles ∙ did.cycle row s.rates.segments (is_added day) (account_in g) (seen_in g day) (posted g day) given);

@@ -8,5 +8,5 @@ use Rattle.card_dayend.proofs.closing.close_day.Goals as goal
 pub returns-else-is_closing-clause-closed : goal.returns-else-is_closing-clause-closed
 returns-else-is_closing-clause-closed c =
     open-of c.args.inputs.now c.args.day c.args.state.now c.args.track.now
-    c.requires.opened
+    c.requires.dated.opened
     (λ q. eqb-false (day_of_month c.args.day) c.anchor.result.close_day (sym c.is_closing.ensures ∙ c.if-is_closing.false) (q ∙ ap (λ (a : Anchor). a.close_day) (sym c.anchor.ensures.value))) c.requires.posted

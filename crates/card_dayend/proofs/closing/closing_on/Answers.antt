@@ -21,7 +21,7 @@ first_day-requires c k e =
     let day = c.args.day in
     let s = c.anchor-anchor.ensures.sound in
     let last = c.last-last.ensures.value ∙ (last-get c.args.cycles.now ∙ ap last_cycle c.requires.cycles) in
-    (last-at g day (cycle_of (anchor_of g.history) day) k s c.requires.opened c.requires.last (closes-of g day s c.requires.opened c.requires.last c.requires.closes) (sym last ∙ e)).closed
+    (last-at g day (cycle_of (anchor_of g.history) day) k s c.requires.dated.opened c.requires.dated.last (closes-of g day s c.requires.dated.opened c.requires.dated.last c.requires.closes) (sym last ∙ e)).closed
 
 pub due_date-requires-clause-closing : goal.due_date-requires-clause-closing
 due_date-requires-clause-closing c =
@@ -30,7 +30,7 @@ due_date-requires-clause-closing c =
     let anchor = c.anchor-anchor.ensures.value in
     let number : c.cycle_of-number.result ≡ cycle_of (anchor_of g.history) day = c.cycle_of-number.ensures.value ∙ ap (λ (a : Anchor). cycle_of a day) anchor in
     subst (λ (a : Anchor). IsClosing a c.cycle_of-number.result day) (sym anchor)
-    (subst (λ n. IsClosing (anchor_of g.history) n day) (sym number) (closes-on g day c.anchor-anchor.ensures.sound c.requires.opened c.requires.last c.requires.closes))
+    (subst (λ n. IsClosing (anchor_of g.history) n day) (sym number) (closes-on g day c.anchor-anchor.ensures.sound c.requires.dated.opened c.requires.dated.last c.requires.closes))
 
 pub next_closing-requires-clause-closing : goal.next_closing-requires-clause-closing
 next_closing-requires-clause-closing c =
@@ -39,25 +39,25 @@ next_closing-requires-clause-closing c =
     let anchor = c.anchor-anchor.ensures.value in
     let number : c.cycle_of-number.result ≡ cycle_of (anchor_of g.history) day = c.cycle_of-number.ensures.value ∙ ap (λ (a : Anchor). cycle_of a day) anchor in
     subst (λ (a : Anchor). IsClosing a c.cycle_of-number.result day) (sym anchor)
-    (subst (λ n. IsClosing (anchor_of g.history) n day) (sym number) (closes-on g day c.anchor-anchor.ensures.sound c.requires.opened c.requires.last c.requires.closes))
+    (subst (λ n. IsClosing (anchor_of g.history) n day) (sym number) (closes-on g day c.anchor-anchor.ensures.sound c.requires.dated.opened c.requires.dated.last c.requires.closes))
 
 pub purchases-requires-clause-days : goal.purchases-requires-clause-days
 purchases-requires-clause-days c k x e =
-    their-days c.args.inputs.now c.args.day c.anchor-anchor.ensures.sound c.requires.opened c.requires.last k x (ap (cycle_at k) (sym c.requires.cycles) ∙ e)
+    their-days c.args.inputs.now c.args.day c.anchor-anchor.ensures.sound c.requires.dated.opened c.requires.dated.last k x (ap (cycle_at k) (sym c.requires.cycles) ∙ e)
 
 pub purchases-requires-clause-due : goal.purchases-requires-clause-due
 purchases-requires-clause-due c k x e =
     let g = c.args.inputs.now in
     let day = c.args.day in
     let s = c.anchor-anchor.ensures.sound in
-    due-by g day (cycle_of (anchor_of g.history) day) s c.requires.opened c.requires.last (closes-of g day s c.requires.opened c.requires.last c.requires.closes) k x (ap (cycle_at k) (sym c.requires.cycles) ∙ e)
+    due-by g day (cycle_of (anchor_of g.history) day) s c.requires.dated.opened c.requires.dated.last (closes-of g day s c.requires.dated.opened c.requires.dated.last c.requires.closes) k x (ap (cycle_at k) (sym c.requires.cycles) ∙ e)
 
 pub left_at-requires-clause-closing : goal.left_at-requires-clause-closing
 left_at-requires-clause-closing c =
     let g = c.args.inputs.now in
     let day = c.args.day in
     let number : c.cycle_of-number.result ≡ cycle_of (anchor_of g.history) day = c.cycle_of-number.ensures.value ∙ ap (λ (a : Anchor). cycle_of a day) c.anchor-anchor.ensures.value in
-    subst (λ n. IsClosingOf g n day) (sym number) (closes-of g day c.anchor-anchor.ensures.sound c.requires.opened c.requires.last c.requires.closes)
+    subst (λ n. IsClosingOf g n day) (sym number) (closes-of g day c.anchor-anchor.ensures.sound c.requires.dated.opened c.requires.dated.last c.requires.closes)
 
 pub left_at-requires-clause-last : goal.left_at-requires-clause-last
 left_at-requires-clause-last c = c.last-last.ensures.value ∙ (last-get c.args.cycles.now ∙ ap last_cycle c.requires.cycles)
@@ -71,7 +71,7 @@ returns-clause-of_book c =
     let last : option_copied c.last-last.result ≡ last_cycle (posted g day).cycles = c.last-last.ensures.value ∙ (last-get c.args.cycles.now ∙ ap last_cycle c.requires.cycles) in
     let few = c.get.ensures.bound in
     record {
-      cycle = number ∙ sym (present-is g day c.anchor-anchor.ensures.sound c.requires.opened);
+      cycle = number ∙ sym (present-is g day c.anchor-anchor.ensures.sound c.requires.dated.opened);
       first_day = c.first_day.ensures ∙ ap (first_of (account_in g)) last;
       today = refl;
       due_day = c.due_date.ensures ∙ ap (λ (a : Anchor). due_after a.close_day day) anchor;

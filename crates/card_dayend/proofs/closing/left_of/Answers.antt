@@ -10,17 +10,17 @@ use Rattle.card_dayend.proofs.closing.left_of.Goals as goal
 
 pub due_cycle-due-requires-clause-days : goal.due_cycle-due-requires-clause-days
 due_cycle-due-requires-clause-days c =
-    (last-at c.args.inputs.now c.args.day c.args.number c.args.cycle.now c.anchor-anchor.ensures.sound c.requires.opened c.requires.last_day c.requires.closing c.requires.last).days
+    (last-at c.args.inputs.now c.args.day c.args.number c.args.cycle.now c.anchor-anchor.ensures.sound c.requires.dated.opened c.requires.dated.last c.requires.closing c.requires.last).days
 
 pub due_cycle-due-requires-clause-number : goal.due_cycle-due-requires-clause-number
 due_cycle-due-requires-clause-number c =
-    (last-at c.args.inputs.now c.args.day c.args.number c.args.cycle.now c.anchor-anchor.ensures.sound c.requires.opened c.requires.last_day c.requires.closing c.requires.last).first
+    (last-at c.args.inputs.now c.args.day c.args.number c.args.cycle.now c.anchor-anchor.ensures.sound c.requires.dated.opened c.requires.dated.last c.requires.closing c.requires.last).first
 
 pub due_cycle-due-requires-clause-last : goal.due_cycle-due-requires-clause-last
 due_cycle-due-requires-clause-last c =
-    let is = last-at c.args.inputs.now c.args.day c.args.number c.args.cycle.now c.anchor-anchor.ensures.sound c.requires.opened c.requires.last_day c.requires.closing c.requires.last in
+    let is = last-at c.args.inputs.now c.args.day c.args.number c.args.cycle.now c.anchor-anchor.ensures.sound c.requires.dated.opened c.requires.dated.last c.requires.closing c.requires.last in
     let due = is.due in
-    let last = c.requires.last_day in
+    let last = c.requires.dated.last in
     omega arith
 
 pub returns : goal.returns
@@ -34,4 +34,4 @@ returns c =
     (c.posts.ensures.stands ∙ ap (λ h. corrected (anchor_of h) g.shared.holidays h) c.posts.ensures.history) minimum in
     to_z-of_z w64 c.past_due.result (record { sfits = c.past_due.type_inv })
     ∙ (c.past_due.ensures g.shared.holidays c.posts.ensures.stands
-    ∙ ap pos (same ∙ sym (left-is g c.args.day c.args.number c.args.cycle.now c.anchor-anchor.ensures.sound c.requires.opened c.requires.last_day c.requires.closing c.requires.last)))
+    ∙ ap pos (same ∙ sym (left-is g c.args.day c.args.number c.args.cycle.now c.anchor-anchor.ensures.sound c.requires.dated.opened c.requires.dated.last c.requires.closing c.requires.last)))

@@ -5,6 +5,6 @@ row_day-requires-clause-amid c = record {
   given = c.args.inputs.now;
   track = c.post_day.new.track;
   sound = c.opening_day-opening.ensures.sound;
-  opened = c.requires.opened;
+  opened = c.requires.dated.opened;
   amid = c.in_ok-post_day.ensures.posted;
 }
