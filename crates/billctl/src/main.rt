@@ -11,9 +11,11 @@ mod item;
 pub mod laws;
 mod progress;
 mod run;
+mod stored;
 mod write;
 
 pub use call::billctl;
+pub use stored::billctl_over_store;
 use card_keeper::{Keeper, MemoryKeeper};
 use card_ports::{StdSink, StdSource};
 use card_sqlite::SqliteKeeper;

@@ -6,6 +6,7 @@ mod fault;
 mod file;
 mod fits;
 mod keeper;
+pub mod laws;
 mod load;
 mod store;
 mod told;

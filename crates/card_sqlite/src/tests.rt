@@ -1,32 +1,131 @@
-use crate::StoreKeeper;
-use card_keeper::{Body, Row};
-use sqlite::{Connection, MemStore};
+use crate::{SqliteKeeper, StoreKeeper};
+use card_keeper::{Body, Keeper, KeeperFault, Row};
+use sqlite::{Alter, Connection, Error, FileStore, Files, Options};
+use sqlite_disk::{Crash, Fuse, Memory};
 use std::alloc::Global;
+use std::fs;
 use std::test::Fail;
 
-fn row(alloc: Global, seq: u64, byte: u8) -> Result<Row, Fail> {
-    let mut bytes = Vec::new(alloc);
-    bytes.push(byte)?;
-    Ok(Row { seq, body: Body::of(bytes) })
+const ENDLESS: u64 = u64::MAX;
+
+type Fused = Fuse<Memory>;
+
+fn two_rows(alloc: Global) -> Result<Vec<Row>, Fail> {
+    let mut rows = Vec::new(alloc);
+    for seq in 1u64..3 {
+        let bytes = Vec::from_slice(alloc, b"row")?;
+        rows.push(Row {
+            seq,
+            body: Body::of(bytes),
+        })?;
+    }
+    Ok(rows)
+}
+
+// How many of the two rows are kept, where nothing else is.
+fn kept(loaded: Result<Vec<Row>, KeeperFault>) -> Option<usize> {
+    let rows = loaded.ok()?;
+    let mut seq = 0u64;
+    for row in rows.iter() {
+        seq = seq.saturating_add(1);
+        if row.seq != seq || row.body.bytes() != b"row".as_slice() {
+            return None;
+        }
+    }
+    Some(rows.len())
 }
 
 #[test]
 fn rows_are_kept(rt: HostRuntime) -> Result<(), Fail> {
     let alloc = rt.alloc();
     let mut keeper = StoreKeeper::adopt(Connection::open_in_memory(alloc)?);
-    let none = keeper.load_rows(alloc);
-    assert_eq!(rt; none.map(|rows| rows.len()), Ok(0));
-    let mut two = Vec::new(alloc);
-    two.push(row(alloc, 1, 7)?)?;
-    two.push(row(alloc, 2, 8)?)?;
-    assert_eq!(rt; keeper.append_rows(&two), Ok(()));
-    match keeper.load_rows(alloc) {
-        Ok(rows) => {
-            assert_eq!(rt; rows.len(), 2);
-            assert_eq!(rt; rows[1].seq, 2);
-            assert_eq!(rt; rows[1].body.bytes(), b"\x08".as_slice());
+    assert_eq!(rt; kept(keeper.load(alloc)), Some(0));
+    let two = two_rows(alloc)?;
+    assert_eq!(rt; keeper.append(alloc, &two), Ok(()));
+    assert_eq!(rt; kept(keeper.load(alloc)), Some(2));
+    Ok(())
+}
+
+fn add<S: Alter>(keeper: &mut StoreKeeper<S>, alloc: Global, two: &[Row]) -> bool {
+    keeper.load_rows(alloc).is_ok() && keeper.append_rows(two).is_ok()
+}
+
+// An append of two rows over files that stop after so many calls: what is left of the files, and whether nothing stopped it.
+fn stopped(alloc: Global, log: u64, db: u64, two: &[Row]) -> (Files<Fused>, bool) {
+    let files = Files {
+        log: Fuse::new(Memory::new(alloc), log),
+        db: Fuse::new(Memory::new(alloc), db),
+    };
+    match Connection::open_files(alloc, files, Options::new(7)) {
+        Ok(conn) => {
+            let mut keeper = StoreKeeper::adopt(conn);
+            let done = add(&mut keeper, alloc, two);
+            (keeper.give_back().into_store().close(), done)
         }
-        Err(_) => assert_eq!(rt; 1, 2),
+        Err((_, left)) => (left.into_files(), false),
     }
+}
+
+fn crashed(mut files: Files<Fused>) -> Files<Fused> {
+    files.log.crash();
+    files.db.crash();
+    files
+}
+
+// The rows after the crash. None where the files can't be opened or the rows aren't whole.
+fn rows_left(alloc: Global, files: Files<Fused>) -> Option<usize> {
+    if !files.may_be_used() {
+        return None;
+    }
+    match Connection::open_files(alloc, files, Options::new(8)) {
+        Ok(conn) => kept(StoreKeeper::adopt(conn).load_rows(alloc)),
+        Err(_) => None,
+    }
+}
+
+// Stops one of the files after 0 calls, 1 call and so on, until a run isn't stopped: how many runs were stopped, where each
+// left none of the rows or both.
+fn stops(alloc: Global, is_log: bool, two: &[Row]) -> Option<u64> {
+    for calls in 0u64..2000 {
+        let (log, db) = if is_log {
+            (calls, ENDLESS)
+        } else {
+            (ENDLESS, calls)
+        };
+        let (files, done) = stopped(alloc, log, db, two);
+        match rows_left(alloc, crashed(files)) {
+            Some(2) if done => return Some(calls),
+            Some(0 | 2) if !done => {}
+            _ => return None,
+        }
+    }
+    None
+}
+
+#[test]
+fn stopped_at_each_call(rt: HostRuntime) -> Result<(), Fail> {
+    let two = two_rows(rt.alloc())?;
+    let log = stops(rt.alloc(), true, &two);
+    let db = stops(rt.alloc(), false, &two);
+    assert!(rt; log.is_some());
+    assert!(rt; db.is_some());
+    Ok(())
+}
+
+#[test]
+fn a_second_keeper_finds_the_rows(rt: HostRuntime) -> Result<(), Fail> {
+    let alloc = rt.alloc();
+    let _ = fs::remove_dir_all(&rt, "card_sqlite_test");
+    fs::create_dir(&rt, "card_sqlite_test")?;
+    let two = two_rows(alloc)?;
+    let mut first = SqliteKeeper::new(&rt, String::from_str(alloc, "card_sqlite_test/rows")?);
+    assert_eq!(rt; kept(first.load(alloc)), Some(0));
+    assert_eq!(rt; first.append(alloc, &two), Ok(()));
+    assert_eq!(rt; first.close(), Ok(()));
+    let mut second = SqliteKeeper::new(&rt, String::from_str(alloc, "card_sqlite_test/rows")?);
+    assert_eq!(rt; kept(second.load(alloc)), Some(2));
+    let mut third = SqliteKeeper::new(&rt, String::from_str(alloc, "card_sqlite_test/rows")?);
+    assert_eq!(rt; kept(third.load(alloc)), None);
+    fs::remove_dir_all(&rt, "card_sqlite_test")?;
     Ok(())
 }
