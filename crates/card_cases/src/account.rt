@@ -1,0 +1,210 @@
+// The account of the cases: its posts, its segments and its rates.
+ghost use Rattle.std.specs.Prelude.{◌≡◌, ◌≤◌, ℕ, ◌++◌, [], ◌∷◌, map, true, Some, IfOk, OnOk};
+ghost use Rattle.card_cases.specs.Account.{IsOfAccount, asked, bill, cash, dispute, notice, opening, plan, purchase};
+ghost use Rattle.card_effects.specs.Standing.{AreRated};
+ghost use Rattle.card_holds.specs.Accounts.{AreOf};
+ghost use Rattle.card_posts.specs.Posted.{IsReceived, StandsFor, last_accepted, target_of};
+ghost use Rattle.card_segments.specs.Balances.{AreWithin};
+
+use crate::values::{day, name, num};
+use card_days::Calendar;
+use card_events::{Category, Place, PlanKind, Post, Terms};
+use card_posts::Posts;
+use card_rates::RateBook;
+use card_segments::{Entry, Segments};
+use card_slots::segments_of;
+use std::alloc::Global;
+use std::process::Abort;
+use std::test::Fail;
+
+fn opening(rt: &impl Abort) -> Post
+    ensures { result ≡ opening }
+{
+    Post::Open {
+        day: day(rt, 19_728),
+        terms: Terms {
+            close: num(rt, 5),
+            purchase: num(rt, 1_999),
+            cash: num(rt, 2_499),
+            transfer: num(rt, 2_199),
+            penalty: num(rt, 2_999),
+            floor: num(rt, 2_500),
+            pct: num(rt, 100),
+        },
+    }
+}
+
+fn purchase(rt: &impl Abort) -> Post
+    ensures { result ≡ purchase }
+{
+    Post::Charge {
+        day: day(rt, 19_732),
+        place: Place::Purchase,
+        cents: num(rt, 5_000),
+    }
+}
+
+fn cash(rt: &impl Abort) -> Post
+    ensures { result ≡ cash }
+{
+    Post::Charge {
+        day: day(rt, 19_732),
+        place: Place::Cash,
+        cents: num(rt, 30_000),
+    }
+}
+
+fn plan(rt: &impl Abort, kind: PlanKind, rate: u32) -> Post
+    ensures { result ≡ plan kind rate }
+{
+    Post::Plan {
+        day: day(rt, 19_732),
+        kind,
+        rate: num(rt, rate),
+        end: day(rt, 19_940),
+        after: num(rt, 2_499),
+    }
+}
+
+fn dispute(rt: &impl Abort) -> Post
+    ensures { result ≡ dispute }
+{
+    Post::Dispute {
+        day: day(rt, 19_734),
+        target: num(rt, 2),
+        cents: num(rt, 5_000),
+    }
+}
+
+fn notice(rt: &impl Abort) -> Post
+    ensures { result ≡ notice }
+{
+    Post::Notice {
+        day: day(rt, 20_148),
+        category: Category::Purchase,
+        rate: num(rt, 2_499),
+        effective: day(rt, 20_193),
+    }
+}
+
+// Accepts a post on a day.
+fn push(
+    rt: &impl Abort,
+    alloc: Global,
+    posts: &mut Posts,
+    calendar: &Calendar,
+    on: u16,
+    post: &Post,
+) -> Result<(), Fail>
+    requires stands { StandsFor calendar.now posts.old }
+    requires dated { on ≤ 47_481 }
+    requires accepted { last_accepted posts.old.history ≤ 47_481 }
+    requires received { (opened accepted : ℕ) → IsReceived opened accepted post.now }
+    ensures stands { OnOk result (StandsFor calendar.now posts.new) }
+    ensures accepted { OnOk result (last_accepted posts.new.history ≤ 47_481) }
+    ensures posts { OnOk result (map (λ k. k.post) posts.new.history ≡ map (λ k. k.post) posts.old.history ++ post.now ∷ []) }
+{
+    assert!(rt; posts.len() < 10_000);
+    assert!(rt; target_of(post) <= u64::from(posts.len()));
+    let key = name(rt, alloc, "k")?;
+    posts.push(key, day(rt, on), post, calendar)?;
+    Ok(())
+}
+
+fn target_of(post: &Post) -> u64
+    ensures { result ≡ target_of post.now }
+{
+    match post {
+        Post::Return { target, .. }
+        | Post::Dispute { target, .. }
+        | Post::Resolve { target, .. }
+        | Post::Amend { target, .. } => target.get(),
+        _ => 0,
+    }
+}
+
+// A charge of purchases and one of cash, and two plans.
+fn with_plans(rt: &impl Abort, alloc: Global, calendar: &Calendar) -> Result<Posts, Fail>
+    ensures stands { IfOk result (λ posts. StandsFor calendar.now posts) }
+    ensures accepted { IfOk result (λ posts. last_accepted posts.history ≤ 47_481) }
+    ensures posts { IfOk result (λ posts. map (λ k. k.post) posts.history ≡ opening ∷ purchase ∷ cash ∷ plan PlanKind.Promo 0 ∷ plan PlanKind.Deferred 2499 ∷ []) }
+{
+    let key = name(rt, alloc, "o")?;
+    let mut posts = Posts::start(alloc, &key, day(rt, 19_728), &opening(rt))?;
+    push(rt, alloc, &mut posts, calendar, 19_732, &purchase(rt))?;
+    push(rt, alloc, &mut posts, calendar, 19_732, &cash(rt))?;
+    let promo = plan(rt, PlanKind::Promo, 0);
+    push(rt, alloc, &mut posts, calendar, 19_732, &promo)?;
+    let deferred = plan(rt, PlanKind::Deferred, 2_499);
+    push(rt, alloc, &mut posts, calendar, 19_732, &deferred)?;
+    Ok(posts)
+}
+
+// All posts: the purchase is disputed, a refund asked for, a statement issued, and a higher rate told.
+pub fn posts(rt: &impl Abort, alloc: Global, calendar: &Calendar) -> Result<Posts, Fail>
+    ensures stands { IfOk result (λ posts. StandsFor calendar.now posts) }
+    ensures accepted { IfOk result (λ posts. last_accepted posts.history ≤ 47_481) }
+    ensures account { IfOk result (λ posts. IsOfAccount posts.history) }
+{
+    let mut posts = with_plans(rt, alloc, calendar)?;
+    push(rt, alloc, &mut posts, calendar, 19_734, &dispute(rt))?;
+    let asked = Post::AskRefund {
+        day: day(rt, 19_732),
+    };
+    push(rt, alloc, &mut posts, calendar, 19_734, &asked)?;
+    let bill = Post::Bill { cycle: num(rt, 1) };
+    push(rt, alloc, &mut posts, calendar, 19_759, &bill)?;
+    push(rt, alloc, &mut posts, calendar, 20_163, &notice(rt))?;
+    Ok(posts)
+}
+
+#[derive(Drop)]
+pub struct Account {
+    pub posts: Posts,
+    pub segments: Segments,
+    pub rates: RateBook,
+    pub entries: Vec<Entry>,
+}
+
+// Its segments and rates, nothing owed yet.
+pub fn start(rt: &impl Abort, alloc: Global) -> Result<Account, Fail>
+    ensures of { IfOk result (λ a. AreOf a.posts.history a.segments.segments a.rates) }
+    ensures rated { IfOk result (λ a. AreRated a.segments.segments a.rates) }
+{
+    let posts = posts(rt, alloc, &Calendar::new(alloc))?;
+    let rates = RateBook::of(alloc, &posts)?;
+    let segments = segments_of(alloc, &posts)?;
+    Ok(Account {
+        posts,
+        segments,
+        rates,
+        entries: Vec::new(alloc),
+    })
+}
+
+// Whether each balance is at most 10^13 dollars in size.
+pub fn are_small(segments: &Segments) -> bool
+    ensures { result ≡ true → AreWithin 1_000_000_000_000_000 segments.now.balances }
+{
+    for id in 0..segments.len() {
+        let balance = segments.balance(id);
+        if balance < -1_000_000_000_000_000 || balance > 1_000_000_000_000_000 {
+            return false;
+        }
+    }
+    true
+}
+
+// The notice's vintage takes charges from its 15th day on, 2025-03-16. A penalty begins in the rates and not in their copy.
+#[test]
+fn rates_of_the_account(rt: HostRuntime) -> Result<(), Fail> {
+    let mut rates = start(&rt, rt.alloc())?.rates;
+    assert_eq!(rt; rates.vintage(Category::Purchase, day(&rt, 20_162)), 2);
+    assert_eq!(rt; rates.vintage(Category::Purchase, day(&rt, 20_163)), 7);
+    let copy = rates.copy(rt.alloc())?;
+    rates.begin_penalty(day(&rt, 19_889))?;
+    assert_eq!(rt; rates.penalties().len(), 1);
+    assert_eq!(rt; rates.penalties()[0].begins.number(), 19_889);
+    assert_eq!(rt; copy.penalties().len(), 0);
+    Ok(())
+}

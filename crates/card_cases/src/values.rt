@@ -1,0 +1,85 @@
+// Days, numbers, names and tables.
+ghost use Rattle.std.specs.Prelude.{◌≡◌};
+
+use card_days::{Calendar, Day, next_business};
+use card_events::{Name, Num};
+use card_fees::FeeTable;
+use card_index::NameIndex;
+use card_units::Money;
+use std::alloc::Global;
+use std::process::Abort;
+use std::test::Fail;
+
+pub fn day(rt: &impl Abort, n: u16) -> Day
+    ensures { result ≡ n }
+{
+    Day::from_number(i32::from(n)).expect(rt, "a day")
+}
+
+pub fn num(rt: &impl Abort, n: u32) -> Num
+    ensures { result ≡ n }
+{
+    Num::new(u64::from(n)).expect(rt, "a number")
+}
+
+pub fn name(rt: &impl Abort, alloc: Global, text: &str) -> Result<Name, Fail> {
+    Ok(Name::read(alloc, text.as_bytes())?.expect(rt, "a name"))
+}
+
+#[test]
+fn texts_of_values(rt: HostRuntime) -> Result<(), Fail> {
+    for (cents, text) in [
+        (5, "0.05"),
+        (-123_456, "-1234.56"),
+        (i64::MIN, "-92233720368547758.08"),
+    ] {
+        assert_eq!(rt; Money(cents).to_string(rt.alloc())?.as_str(), text);
+    }
+    let leap = day(&rt, 19_782);
+    assert_eq!(rt; leap.to_string(rt.alloc())?.as_str(), "2024-02-29");
+    Ok(())
+}
+
+// Monday, 2024-11-25 is a holiday in a copy of the calendar, and none in an empty one.
+#[test]
+fn holidays(rt: HostRuntime) -> Result<(), Fail> {
+    let alloc = rt.alloc();
+    let (sunday, monday) = (day(&rt, 20_051), day(&rt, 20_052));
+    let mut calendar = Calendar::new(alloc);
+    calendar.add(monday)?;
+    calendar.add(monday)?;
+    let copy = calendar.copy(alloc)?;
+    assert!(rt; !copy.is_business(monday));
+    assert_eq!(rt; next_business(sunday, &copy).number(), 20_053);
+    assert_eq!(rt; next_business(sunday, &Calendar::new(alloc)), monday);
+    Ok(())
+}
+
+#[test]
+fn names(rt: HostRuntime) -> Result<(), Fail> {
+    let alloc = rt.alloc();
+    let account = name(&rt, alloc, "h-1")?.copy(alloc)?;
+    assert_eq!(rt; account.bytes(), b"h-1".as_slice());
+    assert!(rt; Name::read(alloc, b"-1")?.is_none());
+    let mut index = NameIndex::new(alloc);
+    index.insert(alloc, account.bytes(), 1)?;
+    index.insert(alloc, b"H-1", 2)?;
+    assert_eq!(rt; index.find(b"h-1"), Some(1));
+    index.remove(b"h-1");
+    assert_eq!(rt; (index.find(b"h-1"), index.find(b"H-1")), (None, Some(2)));
+    Ok(())
+}
+
+// Rows for 2011-01-02, and two for 2024-02-01, of which the later one counts.
+#[test]
+fn fee_rows(rt: HostRuntime) -> Result<(), Fail> {
+    let mut table = FeeTable::new(rt.alloc());
+    table.add(day(&rt, 19_754), 3_200, 4_300)?;
+    table.add(day(&rt, 14_976), 3_000, 4_100)?;
+    table.add(day(&rt, 19_754), 3_100, 4_200)?;
+    let table = table.copy(rt.alloc())?;
+    assert_eq!(rt; table.on(day(&rt, 14_975)), None);
+    assert_eq!(rt; table.on(day(&rt, 19_753)), Some((3_000, 4_100)));
+    assert_eq!(rt; table.on(day(&rt, 19_754)), Some((3_100, 4_200)));
+    Ok(())
+}
