@@ -1,0 +1,42 @@
+#!/bin/sh
+# Runs the proved program where it can't go on, and holds its exit status and what it wrote against what
+# docs/FORMATS.md says: words that are no command, an input that can't be read, an output that takes nothing, and no input.
+#
+#     tests/statuses.sh
+top=$(cd "$(dirname "$0")/.." && pwd) || exit 1
+program="$top/crates/billctl/out/billctl"
+day="$top/examples/first-day.txt"
+written=$(mktemp) || exit 1
+trap 'rm -f "$written"' EXIT
+
+# The name of a case, the status that came and the one that is wanted.
+expect() {
+    if [ "$2" -ne "$3" ]; then
+        echo "statuses: $1: status $2, wanted $3"
+        exit 1
+    fi
+}
+
+usage='usage: apply | import | statement ACCOUNT CYCLE | restate ACCOUNT CYCLE | export ACCOUNT | work | demo START ACCOUNTS CYCLES | serve PORT COUNT'
+for words in '' '-' '- apply now' '- Apply' '- --help'; do
+    # shellcheck disable=SC2086
+    "$program" $words <"$day" >"$written"
+    expect "the words '$words'" $? 2
+    if [ "$(cat "$written")" != "$usage" ]; then
+        echo "statuses: the words '$words': no usage line"
+        exit 1
+    fi
+done
+"$program" - apply </dev/null >"$written"
+expect 'no input' $? 0
+if [ -s "$written" ]; then
+    echo 'statuses: no input: something was written'
+    exit 1
+fi
+"$program" - apply <"$top" >"$written"
+expect 'an input that is a directory' $? 3
+if [ -w /dev/full ]; then
+    "$program" - apply <"$day" >/dev/full
+    expect 'an output that is full' $? 4
+fi
+echo 'statuses: 2, 0, 3 and 4 come where they should'
