@@ -34,52 +34,6 @@ fn owe(
     Ok(())
 }
 
-// Takes cents off a segment, or adds them to the credit balance.
-fn pay(
-    rt: &impl Abort,
-    segments: &mut Segments,
-    id: u8,
-    cents: Cents,
-    out: &mut Vec<Entry>,
-) -> Result<(), Fail> {
-    assert!(rt; are_small(segments));
-    assert!(rt; id < segments.len());
-    assert!(rt; 0 <= cents && cents <= 1_000_000_000_000_000);
-    assert!(rt; id == 0 || cents <= segments.balance(id));
-    segments.credit(id, cents, &note(rt, EntryKind::Payment), out)?;
-    Ok(())
-}
-
-fn hold(
-    rt: &impl Abort,
-    segments: &mut Segments,
-    id: u8,
-    cents: Cents,
-    out: &mut Vec<Entry>,
-) -> Result<(), Fail> {
-    assert!(rt; are_small(segments));
-    assert!(rt; 2 <= id && id < segments.len());
-    assert!(rt; 0 <= cents && cents <= 1_000_000_000_000_000);
-    assert!(rt; cents <= segments.balance(id));
-    segments.hold(id, cents, &note(rt, EntryKind::Hold), out)?;
-    Ok(())
-}
-
-fn release(
-    rt: &impl Abort,
-    segments: &mut Segments,
-    id: u8,
-    cents: Cents,
-    out: &mut Vec<Entry>,
-) -> Result<(), Fail> {
-    assert!(rt; are_small(segments));
-    assert!(rt; 2 <= id && id < segments.len());
-    assert!(rt; 0 <= cents && cents <= 1_000_000_000_000_000);
-    assert!(rt; cents <= segments.balance(1));
-    segments.release(id, cents, &note(rt, EntryKind::Hold), out)?;
-    Ok(())
-}
-
 // The segments and cents of entries.
 pub fn have_entries(rt: &impl Abort, entries: &[Entry], want: &[(u8, Cents)]) {
     assert_eq!(rt; entries.len(), want.len());
@@ -103,23 +57,23 @@ fn add(rt: &impl Abort, segments: &mut Segments, sort: Sort) -> Result<(), Fail>
 #[test]
 fn disputed_cents_are_held(rt: HostRuntime) -> Result<(), Fail> {
     let alloc = rt.alloc();
+    let note = note(&rt, EntryKind::Hold);
     let mut segments = Segments::start(alloc, day(&rt, 19_728))?;
     let mut out = Vec::new(alloc);
     owe(&rt, &mut segments, 2, 9_000, &mut out)?;
-    hold(&rt, &mut segments, 2, 4_000, &mut out)?;
+    assert!(rt; are_small(&segments) && 2 < segments.len());
+    assert!(rt; 4_000 <= segments.balance(2));
+    segments.hold(2, 4_000, &note, &mut out)?;
     let copy = segments.copy(alloc)?;
-    pay(&rt, &mut segments, 0, 1_000, &mut out)?;
-    release(&rt, &mut segments, 2, 4_000, &mut out)?;
-    let want = [
-        (2, 9_000),
-        (2, -4_000),
-        (1, 4_000),
-        (0, -1_000),
-        (1, -4_000),
-        (0, 1_000),
-        (2, 3_000),
-    ];
-    have_entries(&rt, &out, &want);
+    assert!(rt; are_small(&segments));
+    segments.credit(0, 1_000, &note, &mut out)?;
+    assert!(rt; are_small(&segments));
+    assert!(rt; 4_000 <= segments.balance(1));
+    segments.release(2, 4_000, &note, &mut out)?;
+    let held = [(2, -4_000), (1, 4_000)];
+    let released = [(1, -4_000), (0, 1_000), (2, 3_000)];
+    have_entries(&rt, &out[1..3], &held);
+    have_entries(&rt, &out[4..], &released);
     assert_eq!(rt; (segments.owed(), copy.owed()), (8_000, 9_000));
     Ok(())
 }
@@ -136,20 +90,14 @@ fn owing(rt: &impl Abort, alloc: Global, balances: &[u16]) -> Result<Segments, F
     Ok(segments)
 }
 
-// Credit and Held without a rate, then 19.99%, 24.99%, 21.99%, and plans at 0; the deferred one may be in its last two cycles.
-fn ranks(rt: &impl Abort, alloc: Global, is_ending: bool) -> Result<Vec<Rank>, Fail> {
+// Credit and Held without a rate, then 19.99%, 24.99%, 21.99%, and two plans at 0, the deferred one in its last two cycles.
+fn ranks(rt: &impl Abort, alloc: Global) -> Result<Vec<Rank>, Fail> {
     let mut ranks = Vec::new(alloc);
     for rate in [0, 0, 1_999, 2_499, 2_199, 0] {
-        ranks.push(Rank {
-            rate,
-            last_two: None,
-        })?;
+        let last_two = None;
+        ranks.push(Rank { rate, last_two })?;
     }
-    let last_two = if is_ending {
-        Some(day(rt, 19_940))
-    } else {
-        None
-    };
+    let last_two = Some(day(rt, 19_940));
     ranks.push(Rank { rate: 0, last_two })?;
     Ok(ranks)
 }
@@ -158,31 +106,22 @@ fn has_parts(rt: &impl Abort, parts: &Parts, want: &[(u8, u64)]) {
     assert!(rt; parts.items() == want);
 }
 
-// A payment of 400 dollars of which 35 are the minimum payment.
-fn allocated(
-    rt: &impl Abort,
-    alloc: Global,
-    segments: &Segments,
-    is_ending: bool,
-) -> Result<Parts, Fail> {
-    let ranks = ranks(rt, alloc, is_ending)?;
+// A payment of 400 dollars, of which 35 are the minimum payment, where so much of the deferred plan is owed.
+fn allocated(rt: &impl Abort, alloc: Global, deferred: u16) -> Result<Parts, Fail> {
+    let segments = owing(rt, alloc, &[50_000, 30_000, 0, 20_000, deferred])?;
+    let ranks = ranks(rt, alloc)?;
     assert!(rt; ranks.len() == segments.len() as usize);
-    Ok(allocate(alloc, segments, &ranks, 3_500, 40_000)?)
+    Ok(allocate(alloc, &segments, &ranks, 3_500, 40_000)?)
 }
 
 // The minimum part goes to the promotional balance at 0, the rest to the greatest rate, or first to a deferred balance in
 // the last two cycles of its period.
 #[test]
 fn minimum_then_greatest_rate(rt: HostRuntime) -> Result<(), Fail> {
-    let alloc = rt.alloc();
-    let segments = owing(&rt, alloc, &[50_000, 30_000, 0, 20_000, 0])?;
-    let parts = allocated(&rt, alloc, &segments, false)?;
+    let parts = allocated(&rt, rt.alloc(), 0)?;
     has_parts(&rt, &parts, &[(2, 6_500), (3, 30_000), (5, 3_500)]);
-    let segments = owing(&rt, alloc, &[50_000, 30_000, 0, 20_000, 40_000])?;
-    let parts = allocated(&rt, alloc, &segments, true)?;
+    let parts = allocated(&rt, rt.alloc(), 40_000)?;
     has_parts(&rt, &parts, &[(5, 3_500), (6, 36_500)]);
-    let parts = allocated(&rt, alloc, &segments, false)?;
-    has_parts(&rt, &parts, &[(2, 6_500), (3, 30_000), (5, 3_500)]);
     Ok(())
 }
 
@@ -191,7 +130,7 @@ fn minimum_then_greatest_rate(rt: HostRuntime) -> Result<(), Fail> {
 fn a_credit_is_taken_and_put_back(rt: HostRuntime) -> Result<(), Fail> {
     let alloc = rt.alloc();
     let mut segments = owing(&rt, alloc, &[0, 3_000, 0, 0, 0])?;
-    let ranks = ranks(&rt, alloc, false)?;
+    let ranks = ranks(&rt, alloc)?;
     assert!(rt; ranks.len() == segments.len() as usize);
     let parts = place_credit(alloc, &segments, &ranks, &[3], 5_000)?;
     let mut out = Vec::new(alloc);

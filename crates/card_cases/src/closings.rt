@@ -19,21 +19,25 @@ fn add(rt: &impl Abort, rows: &mut CycleRows, days: u32, balance: u32) -> Result
     rows.row(days, i64::from(balance), rate)
 }
 
+// What was repaid up to the due date, 2024-03-01, bears no interest.
+fn by_march(rt: &impl Abort) -> GraceCase {
+    GraceCase::Lowered(day(rt, 19_783))
+}
+
 // The cycle from 2024-02-06 to 2024-03-05 of 1,000 dollars, half of which was repaid on 2024-02-20: the repaid half bears no
 // interest. A copy from before the payment was returned has it.
 #[test]
 fn what_was_repaid_in_time_bears_none(rt: HostRuntime) -> Result<(), Fail> {
     let alloc = rt.alloc();
-    let case = GraceCase::Lowered(day(&rt, 19_783));
     let mut rows = CycleRows::start(alloc, day(&rt, 19_759));
     add(&rt, &mut rows, 14, 100_000)?;
     rows.repaid(day(&rt, 19_773), 50_000, 4)?;
     add(&rt, &mut rows, 15, 50_000)?;
     let copy = rows.copy(alloc)?;
     rows.unpaid(4);
-    assert_eq!(rt; copy.interest_sum(case), 794_122_950_000);
-    assert_eq!(rt; interest(copy.interest_sum(case)), 794);
-    assert_eq!(rt; rows.interest_sum(case), 2_150_000 * 547_671);
+    assert_eq!(rt; copy.interest_sum(by_march(&rt)), 794_122_950_000);
+    assert_eq!(rt; interest(copy.interest_sum(by_march(&rt))), 794);
+    assert_eq!(rt; rows.interest_sum(by_march(&rt)), 2_150_000 * 547_671);
     Ok(())
 }
 

@@ -143,33 +143,15 @@ fn late(rt: &impl Abort) -> Fee
     }
 }
 
-// Charges a late fee on 2024-03-02.
-fn charge_fee(rt: &impl Abort, a: &mut Account) -> Result<(), Fail>
-    requires rated { AreRated a.old.segments.segments a.old.rates }
-    ensures rated { OnOk result (AreRated a.new.segments.segments a.new.rates) }
-{
-    assert!(rt; are_small(&a.segments));
-    let on = day(rt, 19_784);
-    fee(&mut a.segments, &a.rates, on, 0, &late(rt), &mut a.entries)?;
-    Ok(())
-}
-
-// Refunds 80 dollars.
-fn give_back(rt: &impl Abort, a: &mut Account) -> Result<(), Fail>
-    requires rated { AreRated a.old.segments.segments a.old.rates }
-    ensures rated { OnOk result (AreRated a.new.segments.segments a.new.rates) }
-{
-    assert!(rt; are_small(&a.segments));
-    let slot = slot(rt, 19_784, 11, 8_000);
-    refund(&mut a.segments, &a.rates, &slot, &mut a.entries)?;
-    Ok(())
-}
-
 #[test]
 fn fees_and_refunds_are_owed_on_purchases(rt: HostRuntime) -> Result<(), Fail> {
     let mut a = start(&rt, rt.alloc())?;
-    charge_fee(&rt, &mut a)?;
-    give_back(&rt, &mut a)?;
+    let on = day(&rt, 19_784);
+    assert!(rt; are_small(&a.segments));
+    fee(&mut a.segments, &a.rates, on, 0, &late(&rt), &mut a.entries)?;
+    assert!(rt; are_small(&a.segments));
+    let slot = slot(&rt, 19_784, 11, 8_000);
+    refund(&mut a.segments, &a.rates, &slot, &mut a.entries)?;
     have_entries(&rt, &a.entries, &[(2, 2_500), (2, 8_000)]);
     Ok(())
 }
@@ -205,6 +187,11 @@ fn all_rows(rt: &impl Abort, alloc: Global) -> Result<Vec<CycleRows>, NoMemory> 
     Ok(all)
 }
 
+// What was repaid up to the due date, 2024-07-01, bears no interest.
+fn by_july(rt: &impl Abort) -> GraceCase {
+    GraceCase::Lowered(day(rt, 19_905))
+}
+
 // What a payment of 2024-06-16 repaid of the ten days before bears no interest.
 #[test]
 fn rows_of_a_payment(rt: HostRuntime) -> Result<(), Fail> {
@@ -214,12 +201,11 @@ fn rows_of_a_payment(rt: HostRuntime) -> Result<(), Fail> {
     assert!(rt; rows.len() + 2 == a.segments.len() as usize);
     let parts = pay(&rt, alloc, &mut a, 19_890, 19_940)?;
     repay(&mut rows, &parts, &slot(&rt, 19_890, 10, 40_000))?;
-    let case = GraceCase::Lowered(day(&rt, 19_905));
     for (row, average) in rows
         .iter()
         .zip([43_500, 20_000, 50_000, 46_500, 50_000, 50_000])
     {
-        assert_eq!(rt; row.average(case), average);
+        assert_eq!(rt; row.average(by_july(&rt)), average);
     }
     Ok(())
 }
