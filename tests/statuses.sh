@@ -1,6 +1,7 @@
 #!/bin/sh
 # Runs the proved program where it can't go on, and holds its exit status and what it wrote against what
-# docs/FORMATS.md says: words that are no command, an input that can't be read, an output that takes nothing, and no input.
+# docs/FORMATS.md says: words that are no command, no input, an input that can't be read, an output that takes nothing, and
+# too little memory.
 #
 #     tests/statuses.sh
 top=$(cd "$(dirname "$0")/.." && pwd) || exit 1
@@ -39,4 +40,19 @@ if [ -w /dev/full ]; then
     "$program" - apply <"$day" >/dev/full
     expect 'an output that is full' $? 4
 fi
-echo 'statuses: 2, 0, 3 and 4 come where they should'
+accounts=$(mktemp) || exit 1
+trap 'rm -f "$written" "$accounts"' EXIT
+{
+    echo 'roll 2024-03-01'
+    seq 60000 | sed 's/.*/open a& o 2024-03-01 5 1999 2499 2199 2999 2500 100/'
+} >"$accounts"
+(
+    ulimit -v 65536
+    exec "$program" - apply <"$accounts" >"$written"
+)
+expect '60,000 accounts in 64 MB' $? 6
+if [ "$(sed '$d' "$written" | sort -u | tr '\n' ' ')" != 'ok ok 1 ' ]; then
+    echo 'statuses: 60,000 accounts in 64 MB: a reply is not of its request'
+    exit 1
+fi
+echo 'statuses: 2, 0, 3, 4 and 6 come where they should'
