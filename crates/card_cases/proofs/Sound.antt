@@ -11,6 +11,8 @@ use Rattle.card_events.specs.SharedRows.{FeeRow}
 use Rattle.card_events.specs.declared.kept.Kept.{Kept}
 use Rattle.card_events.specs.declared.post.PlanKind.TheVariants as kind
 use Rattle.card_events.specs.declared.post.Post.{Post}
+use Rattle.std.proofs.Math.Nat.{le-max_left, le-max_right, max-le}
+use Rattle.card_posts.specs.Posted.{last_accepted}
 use Rattle.card_model.specs.Accepted.{AreInRange, HasFewCents, HasFewFees, HasFewRates, posted_cents, posted_rate}
 use Rattle.card_model.specs.Caps.{row_for}
 use Rattle.card_model.specs.Cycles.{IssuedRow}
@@ -139,3 +141,12 @@ sound-of ks issued holidays fees e i h f =
     subst (λ (x : List IssuedRow). IsSound (record { history = ks; issued = x; shared = record { holidays = holidays; fees = fees } })) (sym i)
     (subst (λ (x : List ℕ). IsSound (record { history = ks; issued = []; shared = record { holidays = x; fees = fees } })) (sym h)
     (subst (λ (x : List FeeRow). IsSound (record { history = ks; issued = []; shared = record { holidays = []; fees = x } })) (sym f) (sound ks e)))
+
+-- ---- the last day on which a post was accepted
+pub accepted-more : (ks : List Kept) (k : Kept) → last_accepted ks ≤ 47481 → k.accepted ≤ 47481 → last_accepted (ks ++ k ∷ []) ≤ 47481
+unfolding last_accepted
+accepted-more [] k all last = max-le last (omega arith)
+accepted-more (x ∷ xs) k all last =
+    let first = le-max_left x.accepted (last_accepted xs) in
+    let others = le-max_right x.accepted (last_accepted xs) in
+    max-le (omega (arith, first, all)) (accepted-more xs k (omega (arith, others, all)) last)

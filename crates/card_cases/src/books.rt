@@ -1,5 +1,5 @@
 // The book of the account of the cases at the end of its first cycle, folded day by day, at once, and in the parts of a day.
-ghost use Rattle.std.specs.Prelude.{◌≡◌, ◌+◌, ◌≤◌, [], Some, IfOk, OnOk};
+ghost use Rattle.std.specs.Prelude.{◌≡◌, ◌+◌, ◌<◌, ◌≤◌, [], IfOk, OnOk};
 ghost use Rattle.card_cases.specs.Account.{IsOfAccount};
 ghost use Rattle.card_daily.specs.Given.{opened_in};
 ghost use Rattle.card_daily.specs.Stands.{AreBefore};
@@ -65,8 +65,8 @@ fn fold_parts(
     state: &mut State,
     track: &mut Track,
 ) -> Result<(), NoMemory>
-    requires opened { opened_in inputs.now ≡ 19_728 }
-    requires on { on ≡ 19_728 }
+    requires opened { opened_in inputs.now ≤ on }
+    requires last { on ≤ 47_481 }
     requires before { AreBefore inputs.now on state.old track.old }
     ensures folded { OnOk result (AreBefore inputs.now (on + 1) state.new track.new) }
 {

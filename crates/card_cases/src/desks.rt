@@ -81,22 +81,30 @@ fn shown(view: &View) -> Option<(i64, i64, i64)> {
     }
 }
 
+// Three rows are kept, the first that of the Roll.
+fn are_kept(rt: &impl Abort, alloc: Global, rows: &[Row]) -> Result<(), Fail> {
+    assert_eq!(rt; rows.len(), 3);
+    let roll = digits(alloc, rows[0].body.bytes())?;
+    assert_eq!(rt; roll.as_str(), "010100004d47");
+    Ok(())
+}
+
+fn is_first_day(rt: &impl Abort, alloc: Global, desk: &Desk) -> Result<(), Fail> {
+    assert_eq!(rt; (desk.today(), desk.count()), (day(rt, 19_783), 3));
+    let view = desk.show(alloc, &name(rt, alloc, "a")?)?;
+    assert_eq!(rt; shown(&view), Some((1_250, 0, 0)));
+    Ok(())
+}
+
 #[test]
 fn the_first_day_is_kept(rt: HostRuntime) -> Result<(), Fail> {
     let alloc = rt.alloc();
-    let mut keeper = MemoryKeeper::new(alloc);
     assert_eq!(rt; Desk::new(alloc).count(), 0);
+    let mut keeper = MemoryKeeper::new(alloc);
     accept_all(alloc, &mut keeper, &FIRST_DAY)?;
-    assert_eq!(rt; keeper.rows().len(), 3);
-    assert_eq!(rt;
-        digits(alloc, keeper.rows()[0].body.bytes())?.as_str(),
-        "010100004d47"
-    );
+    are_kept(&rt, alloc, keeper.rows())?;
     let desk = Desk::load(alloc, &mut keeper)?;
-    assert_eq!(rt; (desk.today(), desk.count()), (day(&rt, 19_783), 3));
-    let view = desk.show(alloc, &name(&rt, alloc, "a")?)?;
-    assert_eq!(rt; shown(&view), Some((1_250, 0, 0)));
-    Ok(())
+    is_first_day(&rt, alloc, &desk)
 }
 
 // The second append fails: the Roll's row alone is kept, and the Open is accepted when it comes again.
@@ -324,6 +332,51 @@ fn are_same(list: &[Statement], other: &[Statement]) -> bool {
     list.len() == other.len() && list.iter().zip(other).all(|(a, b)| is_same(a, b))
 }
 
+// Whether the statements as they were issued are these, and whether those of now are.
+fn stay(
+    rt: &impl Abort,
+    alloc: Global,
+    desk: &Desk,
+    issued: &[Statement],
+) -> Result<(bool, bool), Fail> {
+    let as_issued = statements(rt, alloc, desk, true)?;
+    let of_now = statements(rt, alloc, desk, false)?;
+    Ok((are_same(&as_issued, issued), are_same(&of_now, issued)))
+}
+
+// Has a line accepted, and answers whether the statements stay.
+fn stay_after<K: Keeper>(
+    rt: &impl Abort,
+    alloc: Global,
+    desk: &mut Desk,
+    keeper: &mut K,
+    line: &str,
+    issued: &[Statement],
+) -> Result<(bool, bool), Fail>
+    requires fits { Fits (K.rows keeper.old) desk.old }
+    ensures fits { OnOk result (Fits (K.rows keeper.new) desk.new) }
+{
+    enter(alloc, desk, keeper, line)?;
+    stay(rt, alloc, desk, issued)
+}
+
+// The desk of two years, and the statements that it issued.
+fn issued<K: Keeper>(
+    rt: &impl Abort,
+    alloc: Global,
+    desk: &mut Desk,
+    keeper: &mut K,
+) -> Result<Vec<Statement>, Fail>
+    requires fits { Fits (K.rows keeper.old) desk.old }
+    ensures fits { OnOk result (Fits (K.rows keeper.new) desk.new) }
+{
+    two_years(alloc, desk, keeper)?;
+    let issued = statements(rt, alloc, desk, true)?;
+    assert_eq!(rt; issued.len(), 24);
+    assert_eq!(rt; issued[23].cycle.new_balance, 133_923);
+    Ok(issued)
+}
+
 // A charge of the second cycle is corrected after two years, and corrected back: each statement is as before, and what was
 // issued never changes.
 #[test]
@@ -331,25 +384,12 @@ fn a_correction_that_is_taken_back(rt: HostRuntime) -> Result<(), Fail> {
     let alloc = rt.alloc();
     let mut keeper = MemoryKeeper::new(alloc);
     let mut desk = Desk::load(alloc, &mut keeper)?;
-    two_years(alloc, &mut desk, &mut keeper)?;
-    let issued = statements(&rt, alloc, &desk, true)?;
-    assert_eq!(rt; issued[23].cycle.new_balance, 133_923);
-    assert!(rt; are_same(&statements(&rt, alloc, &desk, false)?, &issued));
-    enter(
-        alloc,
-        &mut desk,
-        &mut keeper,
-        "amend a m1 4 2024-02-10 2000",
-    )?;
-    assert!(rt; !are_same(&statements(&rt, alloc, &desk, false)?, &issued));
-    assert!(rt; are_same(&statements(&rt, alloc, &desk, true)?, &issued));
-    enter(
-        alloc,
-        &mut desk,
-        &mut keeper,
-        "amend a m2 4 2024-02-10 1000",
-    )?;
-    assert!(rt; are_same(&statements(&rt, alloc, &desk, false)?, &issued));
-    assert!(rt; are_same(&statements(&rt, alloc, &desk, true)?, &issued));
+    let issued = issued(&rt, alloc, &mut desk, &mut keeper)?;
+    let raised = "amend a m1 4 2024-02-10 2000";
+    let stay = stay_after(&rt, alloc, &mut desk, &mut keeper, raised, &issued)?;
+    assert_eq!(rt; stay, (true, false));
+    let back = "amend a m2 4 2024-02-10 1000";
+    let stay = stay_after(&rt, alloc, &mut desk, &mut keeper, back, &issued)?;
+    assert_eq!(rt; stay, (true, true));
     Ok(())
 }

@@ -1,7 +1,7 @@
 // Days, numbers, names and tables.
-ghost use Rattle.std.specs.Prelude.{◌≡◌};
+ghost use Rattle.std.specs.Prelude.{◌≡◌, ◌≤◌};
 
-use card_days::{Calendar, Day, next_business};
+use card_days::{Anchor, Calendar, Channel, Day, closing, credit_day, due, next_business};
 use card_events::{Name, Num};
 use card_fees::FeeTable;
 use card_index::NameIndex;
@@ -53,6 +53,43 @@ fn holidays(rt: HostRuntime) -> Result<(), Fail> {
     assert_eq!(rt; next_business(sunday, &copy).number(), 20_053);
     assert_eq!(rt; next_business(sunday, &Calendar::new(alloc)), monday);
     Ok(())
+}
+
+// The closing and the due date of the first cycle, and none of a cycle 0. The shortest time between them is 24 days: from
+// 2023-02-28 to 2023-03-24.
+#[test]
+fn first_cycles(rt: HostRuntime) {
+    let late = Anchor {
+        opened: day(&rt, 19_386),
+        close_day: 28,
+    };
+    assert_eq!(rt; closing(late, 1), Some(day(&rt, 19_416)));
+    assert_eq!(rt; due(late, 1), Some(day(&rt, 19_440)));
+    let early = Anchor {
+        opened: day(&rt, 19_732),
+        close_day: 5,
+    };
+    assert_eq!(rt; closing(early, 1), Some(day(&rt, 19_758)));
+    assert_eq!(rt; due(early, 1), Some(day(&rt, 19_783)));
+    assert_eq!(rt; due(early, 0), None);
+}
+
+// The day as of which an online payment of 2024-11-24, a due date, counts.
+fn credited(rt: &impl Abort, alloc: Global, minute: u16) -> i32
+    requires { minute ≤ 1_439 }
+{
+    let anchor = Anchor {
+        opened: day(rt, 19_723),
+        close_day: 28,
+    };
+    let calendar = Calendar::new(alloc);
+    credit_day(anchor, day(rt, 20_051), minute, Channel::Online, &calendar).number()
+}
+
+#[test]
+fn payments_count_until_five(rt: HostRuntime) {
+    assert_eq!(rt; credited(&rt, rt.alloc(), 1_020), 20_051);
+    assert_eq!(rt; credited(&rt, rt.alloc(), 1_021), 20_052);
 }
 
 #[test]
