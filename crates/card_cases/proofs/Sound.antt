@@ -1,5 +1,5 @@
 -- The account of the cases may be folded, and its segments and rates be read.
-use Rattle.std.proofs.Common.{◌≡◌, ℕ, suc, ◌+◌, ◌≤◌, ◌×◌, Bool, true, false, cond, max, List, [], ◌∷◌, ◌++◌, length, map, refl, sym, ap, ◌∙◌, subst, arith, Option, Some, None}
+use Rattle.std.proofs.Common.{◌≡◌, ℕ, suc, ◌+◌, ◌≤◌, Bool, true, false, cond, max, List, [], ◌∷◌, ◌++◌, length, map, refl, sym, ap, ◌∙◌, subst, arith, Option, Some, None}
 use Rattle.std.proofs.lemmas.List.{length-map}
 use Rattle.std.proofs.lemmas.List.Elements.{All-cons, All-head, All-nil, All-tail}
 use Rattle.std.specs.List.{All, count_by}
@@ -9,12 +9,15 @@ use Rattle.card_events.specs.Dated.{is_dated_post}
 use Rattle.card_events.specs.History.{adds_segment, anchor_of, opening_in, terms_in, terms_of}
 use Rattle.card_events.specs.SharedRows.{FeeRow}
 use Rattle.card_events.specs.declared.kept.Kept.{Kept}
+use Rattle.card_events.specs.declared.post.PlanKind.{PlanKind}
 use Rattle.card_events.specs.declared.post.PlanKind.TheVariants as kind
 use Rattle.card_events.specs.declared.post.Post.{Post}
 use Rattle.std.proofs.Math.Nat.{le-max_left, le-max_right, max-le}
 use Rattle.card_posts.specs.Posted.{last_accepted}
 use Rattle.card_model.specs.Accepted.{AreInRange, HasFewCents, HasFewFees, HasFewRates, posted_cents, posted_rate}
+use Rattle.card_bounds.specs.Bounds.{moved}
 use Rattle.card_model.specs.Caps.{row_for}
+use Rattle.card_model.specs.declared.entry.Entry.{Entry}
 use Rattle.card_model.specs.Cycles.{IssuedRow}
 use Rattle.card_model.specs.CycleDays.{IsOpening}
 use Rattle.card_model.specs.Deadlines.{resolves}
@@ -95,12 +98,20 @@ no-days o days e f = cc
 ends-well : (p : Post) → plan_days p ≡ None → EndsWell p
 ends-well p none first end e = absurd (no-days (plan_days p) (first, end) none e)
 
-on-august-5 : (first end : ℕ) → Some (19732, 19940) ≡ Some (first, end) → (19728 ≤ end) × (day_of_month end ≡ 5)
-on-august-5 first end e = let same : 19940 ≡ end = cc in subst (λ d. (19728 ≤ d) × (day_of_month d ≡ 5)) same (omega arith, refl)
+abbrev of_plan : ℕ × ℕ
+of_plan = (19732, 19940)
+
+last-day : (o : Option (ℕ × ℕ)) (days : ℕ × ℕ) → o ≡ Some of_plan → o ≡ Some days → days.1 ≡ 19940
+last-day o days e f = let same : of_plan ≡ days = cc in ap (λ (d : ℕ × ℕ). d.1) (sym same)
+
+on-august-5 : (k : PlanKind) (rate : ℕ) → EndsWell (plan k rate)
+on-august-5 k rate first end e =
+    let same : end ≡ 19940 = last-day (plan_days (plan k rate)) (first, end) refl e in
+    subst (λ d. (19728 ≤ d) × (day_of_month d ≡ 5)) (sym same) (omega arith, refl)
 
 planned : (ks : List Kept) → IsOfAccount ks → ArePlanned ks
 planned ks e =
-    let all = every EndsWell ks e (each EndsWell (ends-well opening refl) (ends-well purchase refl) (ends-well cash refl) on-august-5 on-august-5 (ends-well dispute refl) (ends-well asked refl) (ends-well bill refl) (ends-well notice refl)) in
+    let all = every EndsWell ks e (each EndsWell (ends-well opening refl) (ends-well purchase refl) (ends-well cash refl) (on-august-5 kind.Promo 0) (on-august-5 kind.Deferred 2499) (ends-well dispute refl) (ends-well asked refl) (ends-well bill refl) (ends-well notice refl)) in
     subst (λ (a : Anchor). All (λ (k : Kept). (first end : ℕ) → plan_days k.post ≡ Some (first, end) → (a.opened ≤ end) × (day_of_month end ≡ a.close_day)) ks) (sym (anchor-is ks e)) all
 
 abbrev NamesNone : Post → Type 0
@@ -150,3 +161,12 @@ accepted-more (x ∷ xs) k all last =
     let first = le-max_left x.accepted (last_accepted xs) in
     let others = le-max_right x.accepted (last_accepted xs) in
     max-le (omega (arith, first, all)) (accepted-more xs k (omega (arith, others, all)) last)
+
+pub accepted-one : (ks : List Kept) (k : Kept) → ks ≡ k ∷ [] → k.accepted ≤ 47481 → last_accepted ks ≤ 47481
+unfolding last_accepted
+accepted-one ks k e last = subst (λ (xs : List Kept). last_accepted xs ≤ 47481) (sym e) (max-le last (omega arith))
+
+-- ---- no entry moves nothing
+pub none-moved : (es : List Entry) → es ≡ [] → moved es ≤ 1_000_000_000_000_000
+unfolding moved
+none-moved es e = subst (λ (xs : List Entry). moved xs ≤ 1_000_000_000_000_000) (sym e) (omega arith)

@@ -160,7 +160,8 @@ fn has_statement(rt: &impl Abort, alloc: Global, inputs: &Inputs) -> Result<(), 
 {
     let mut track = no_track(alloc);
     let book = advance_alone::<Brand>(rt, alloc, inputs, &mut track, Blank::new(1))?;
-    assert_eq!(rt; (book.copy(alloc)?.owed(), track.cycles.len()), (35_555, 1));
+    assert!(rt; track.cycles.len() == 1);
+    assert_eq!(rt; book.copy(alloc)?.owed(), 35_555);
     let statement = book.statement(alloc, inputs, &track, 1, day(rt, 19_759))?;
     let copy = statement.copy(alloc)?;
     assert_eq!(rt; copy.issue.number(), 19_759);

@@ -55,23 +55,32 @@ fn holidays(rt: HostRuntime) -> Result<(), Fail> {
     Ok(())
 }
 
-// The closing and the due date of the first cycle, and none of a cycle 0. The shortest time between them is 24 days: from
-// 2023-02-28 to 2023-03-24.
+// An account of 2023-01-29 that closes its cycles on the 28th, and one of 2024-01-10 that closes them on the 5th.
+fn of_28th(rt: &impl Abort) -> Anchor
+    ensures { result.close_day ≡ 28 }
+{
+    Anchor {
+        opened: day(rt, 19_386),
+        close_day: 28,
+    }
+}
+
+fn of_5th(rt: &impl Abort) -> Anchor
+    ensures { result.close_day ≡ 5 }
+{
+    Anchor {
+        opened: day(rt, 19_732),
+        close_day: 5,
+    }
+}
+
+// The closing and the due date of the first cycle. The shortest time between them is 24 days: from 2023-02-28 to 2023-03-24.
 #[test]
 fn first_cycles(rt: HostRuntime) {
-    let late = Anchor {
-        opened: day(&rt, 19_386),
-        close_day: 28,
-    };
-    assert_eq!(rt; closing(late, 1), Some(day(&rt, 19_416)));
-    assert_eq!(rt; due(late, 1), Some(day(&rt, 19_440)));
-    let early = Anchor {
-        opened: day(&rt, 19_732),
-        close_day: 5,
-    };
-    assert_eq!(rt; closing(early, 1), Some(day(&rt, 19_758)));
-    assert_eq!(rt; due(early, 1), Some(day(&rt, 19_783)));
-    assert_eq!(rt; due(early, 0), None);
+    assert_eq!(rt; closing(of_28th(&rt), 1), Some(day(&rt, 19_416)));
+    assert_eq!(rt; due(of_28th(&rt), 1), Some(day(&rt, 19_440)));
+    assert_eq!(rt; closing(of_5th(&rt), 1), Some(day(&rt, 19_758)));
+    assert_eq!(rt; due(of_5th(&rt), 1), Some(day(&rt, 19_783)));
 }
 
 // The day as of which an online payment of 2024-11-24, a due date, counts.
