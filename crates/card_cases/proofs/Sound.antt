@@ -3,7 +3,7 @@ use Rattle.std.proofs.Common.{◌≡◌, ℕ, suc, ◌+◌, ◌≤◌, Bool, tru
 use Rattle.std.proofs.lemmas.List.{length-map}
 use Rattle.std.proofs.lemmas.List.Elements.{All-cons, All-head, All-nil, All-tail}
 use Rattle.std.specs.List.{All, count_by}
-use Rattle.card_days.specs.Civil.{day_of_month}
+use Rattle.card_days.specs.Civil.{date_in, date_of, day_of_month, days_before_year, year_of}
 use Rattle.card_days.specs.declared.anchor.Anchor.{Anchor}
 use Rattle.card_events.specs.Dated.{is_dated_post}
 use Rattle.card_events.specs.History.{adds_segment, anchor_of, opening_in, terms_in, terms_of}
@@ -104,10 +104,14 @@ of_plan = (19732, 19940)
 last-day : (o : Option (ℕ × ℕ)) (days : ℕ × ℕ) → o ≡ Some of_plan → o ≡ Some days → days.1 ≡ 19940
 last-day o days e f = let same : of_plan ≡ days = cc in ap (λ (d : ℕ × ℕ). d.1) (sym same)
 
+closes : day_of_month 19940 ≡ 5
+unfolding days_before_year year_of date_in date_of
+closes = refl
+
 on-august-5 : (k : PlanKind) (rate : ℕ) → EndsWell (plan k rate)
 on-august-5 k rate first end e =
     let same : end ≡ 19940 = last-day (plan_days (plan k rate)) (first, end) refl e in
-    subst (λ d. (19728 ≤ d) × (day_of_month d ≡ 5)) (sym same) (omega arith, refl)
+    subst (λ d. (19728 ≤ d) × (day_of_month d ≡ 5)) (sym same) (omega arith, closes)
 
 planned : (ks : List Kept) → IsOfAccount ks → ArePlanned ks
 planned ks e =
