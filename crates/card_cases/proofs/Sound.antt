@@ -7,7 +7,7 @@ use Rattle.card_days.specs.Civil.{date_in, date_of, day_of_month, days_before_ye
 use Rattle.card_days.specs.declared.anchor.Anchor.{Anchor}
 use Rattle.card_events.specs.Dated.{is_dated_post}
 use Rattle.card_events.specs.History.{adds_segment, anchor_of, opening_in, terms_in, terms_of}
-use Rattle.card_events.specs.SharedRows.{FeeRow}
+use Rattle.card_events.specs.SharedRows.{SharedRows}
 use Rattle.card_events.specs.declared.kept.Kept.{Kept}
 use Rattle.card_events.specs.declared.post.PlanKind.{PlanKind}
 use Rattle.card_events.specs.declared.post.PlanKind.TheVariants as kind
@@ -150,15 +150,14 @@ sound ks e = record {
   returns = returns-none ks e;
 }
 
-pub sound-of : (ks : List Kept) (issued : List IssuedRow) (holidays : List ℕ) (fees : List FeeRow) → IsOfAccount ks → issued ≡ [] → holidays ≡ [] → fees ≡ []
-    → IsSound (record { history = ks; issued = issued; shared = record { holidays = holidays; fees = fees } })
-sound-of ks issued holidays fees e i h f =
-    subst (λ (x : List IssuedRow). IsSound (record { history = ks; issued = x; shared = record { holidays = holidays; fees = fees } })) (sym i)
-    (subst (λ (x : List ℕ). IsSound (record { history = ks; issued = []; shared = record { holidays = x; fees = fees } })) (sym h)
-    (subst (λ (x : List FeeRow). IsSound (record { history = ks; issued = []; shared = record { holidays = []; fees = x } })) (sym f) (sound ks e)))
+pub sound-of : (ks : List Kept) (shared : SharedRows) → IsOfAccount ks → shared ≡ record { holidays = []; fees = [] } → IsSound (record { history = ks; issued = []; shared = shared })
+sound-of ks shared e nothing = subst (λ (x : SharedRows). IsSound (record { history = ks; issued = []; shared = x })) (sym nothing) (sound ks e)
+
+pub opened : (ks : List Kept) → IsOfAccount ks → (anchor_of ks).opened ≡ 19728
+opened ks e = ap (λ (a : Anchor). a.opened) (anchor-is ks e)
 
 -- ---- the last day on which a post was accepted
-pub accepted-more : (ks : List Kept) (k : Kept) → last_accepted ks ≤ 47481 → k.accepted ≤ 47481 → last_accepted (ks ++ k ∷ []) ≤ 47481
+pub accepted-more : (ks : List Kept) (k : Kept) → last_accepted ks ≤ 20163 → k.accepted ≤ 20163 → last_accepted (ks ++ k ∷ []) ≤ 20163
 unfolding last_accepted
 accepted-more [] k all last = max-le last (omega arith)
 accepted-more (x ∷ xs) k all last =
@@ -166,9 +165,9 @@ accepted-more (x ∷ xs) k all last =
     let others = le-max_right x.accepted (last_accepted xs) in
     max-le (omega (arith, first, all)) (accepted-more xs k (omega (arith, others, all)) last)
 
-pub accepted-one : (ks : List Kept) (k : Kept) → ks ≡ k ∷ [] → k.accepted ≤ 47481 → last_accepted ks ≤ 47481
+pub accepted-one : (ks : List Kept) (k : Kept) → ks ≡ k ∷ [] → k.accepted ≤ 20163 → last_accepted ks ≤ 20163
 unfolding last_accepted
-accepted-one ks k e last = subst (λ (xs : List Kept). last_accepted xs ≤ 47481) (sym e) (max-le last (omega arith))
+accepted-one ks k e last = subst (λ (xs : List Kept). last_accepted xs ≤ 20163) (sym e) (max-le last (omega arith))
 
 -- ---- no entry moves nothing
 pub none-moved : (es : List Entry) → es ≡ [] → moved es ≤ 1_000_000_000_000_000

@@ -97,11 +97,11 @@ fn push(
     post: &Post,
 ) -> Result<(), Fail>
     requires stands { StandsFor calendar.now posts.old }
-    requires dated { on ≤ 47_481 }
-    requires accepted { last_accepted posts.old.history ≤ 47_481 }
+    requires dated { on ≤ 20_163 }
+    requires accepted { last_accepted posts.old.history ≤ 20_163 }
     requires received { (opened accepted : ℕ) → IsReceived opened accepted post.now }
     ensures stands { OnOk result (StandsFor calendar.now posts.new) }
-    ensures accepted { OnOk result (last_accepted posts.new.history ≤ 47_481) }
+    ensures accepted { OnOk result (last_accepted posts.new.history ≤ 20_163) }
     ensures posts { OnOk result (map (λ k. k.post) posts.new.history ≡ map (λ k. k.post) posts.old.history ++ post.now ∷ []) }
 {
     assert!(rt; posts.len() < 10_000);
@@ -126,7 +126,7 @@ fn target_of(post: &Post) -> u64
 // A charge of purchases and one of cash, and two plans.
 fn with_plans(rt: &impl Abort, alloc: Global, calendar: &Calendar) -> Result<Posts, Fail>
     ensures stands { IfOk result (λ posts. StandsFor calendar.now posts) }
-    ensures accepted { IfOk result (λ posts. last_accepted posts.history ≤ 47_481) }
+    ensures accepted { IfOk result (λ posts. last_accepted posts.history ≤ 20_163) }
     ensures posts { IfOk result (λ posts. map (λ k. k.post) posts.history ≡ opening ∷ purchase ∷ cash ∷ plan PlanKind.Promo 0 ∷ plan PlanKind.Deferred 2499 ∷ []) }
 {
     let key = name(rt, alloc, "o")?;
@@ -143,7 +143,7 @@ fn with_plans(rt: &impl Abort, alloc: Global, calendar: &Calendar) -> Result<Pos
 // All posts: the purchase is disputed, a refund asked for, a statement issued, and a higher rate told.
 pub fn posts(rt: &impl Abort, alloc: Global, calendar: &Calendar) -> Result<Posts, Fail>
     ensures stands { IfOk result (λ posts. StandsFor calendar.now posts) }
-    ensures accepted { IfOk result (λ posts. last_accepted posts.history ≤ 47_481) }
+    ensures accepted { IfOk result (λ posts. last_accepted posts.history ≤ 20_163) }
     ensures account { IfOk result (λ posts. IsOfAccount posts.history) }
 {
     let mut posts = with_plans(rt, alloc, calendar)?;

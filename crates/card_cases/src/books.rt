@@ -3,17 +3,17 @@ ghost use Rattle.std.specs.Prelude.{◌≡◌, ◌+◌, ◌<◌, ◌≤◌, [], 
 ghost use Rattle.card_cases.specs.Account.{IsOfAccount};
 ghost use Rattle.card_daily.specs.Given.{opened_in};
 ghost use Rattle.card_daily.specs.Stands.{AreBefore};
-ghost use Rattle.card_posts.specs.Posted.{StandsFor};
+ghost use Rattle.card_posts.specs.Posted.{StandsFor, last_accepted};
 ghost use Rattle.card_book.specs.Stands as kept;
 
 use crate::account::posts;
 use crate::values::day;
 use card_book::{Book, Folded, fold};
-use card_daily::{Cycle, Inputs, State, Track, due_day, post_day};
+use card_daily::{Cycle, Inputs, Present, State, Track, due_day, post_day};
 use card_dayend::{close_day, next_day, opening_day, row_day, start};
-use card_days::{Calendar, Day};
-use card_fees::FeeTable;
+use card_days::Day;
 use card_posts::Posts;
+use card_shared::SharedRows;
 use card_steps::Steps;
 use card_units::NoMemory;
 use std::alloc::Global;
@@ -23,14 +23,13 @@ use std::sync::ledger::{Blank, Ledger};
 use std::test::Fail;
 
 // What its fold is given: no issued statement, no holiday and no fee row.
-fn inputs<'a>(posts: &'a Posts, calendar: &'a Calendar, fees: &'a FeeTable) -> Inputs<'a>
-    requires stands { StandsFor calendar.now posts.now }
+fn inputs<'a>(posts: &'a Posts, shared: &'a SharedRows) -> Inputs<'a>
+    requires stands { StandsFor shared.now.holidays posts.now }
     requires account { IsOfAccount posts.now.history }
-    requires calendar { calendar.now ≡ [] }
-    requires fees { fees.now ≡ [] }
+    requires nothing { shared.now ≡ record { holidays = []; fees = [] } }
     ensures { opened_in result ≡ 19_728 }
 {
-    Inputs::new(posts, &[], calendar, fees)
+    Inputs::new(posts, &[], shared)
 }
 
 fn no_track(alloc: Global) -> Track
@@ -107,9 +106,9 @@ fn folded_days(rt: &impl Abort, alloc: Global, inputs: &Inputs) -> Result<Track,
 #[test]
 fn a_cycle_day_by_day(rt: HostRuntime) -> Result<(), Fail> {
     let alloc = rt.alloc();
-    let (calendar, fees) = (Calendar::new(alloc), FeeTable::new(alloc));
-    let posts = posts(&rt, alloc, &calendar)?;
-    let inputs = inputs(&posts, &calendar, &fees);
+    let shared = SharedRows::new(alloc);
+    let posts = posts(&rt, alloc, shared.calendar())?;
+    let inputs = inputs(&posts, &shared);
     let track = folded_days(&rt, alloc, &inputs)?;
     assert_eq!(rt; (track.entries.len(), track.cycles.len()), (5, 1));
     is_first_cycle(&rt, &track.cycles[0]);
@@ -172,37 +171,38 @@ fn has_statement(rt: &impl Abort, alloc: Global, inputs: &Inputs) -> Result<(), 
 #[test]
 fn a_book_and_its_statement(rt: HostRuntime) -> Result<(), Fail> {
     let alloc = rt.alloc();
-    let (calendar, fees) = (Calendar::new(alloc), FeeTable::new(alloc));
-    let posts = posts(&rt, alloc, &calendar)?;
-    let inputs = inputs(&posts, &calendar, &fees);
+    let shared = SharedRows::new(alloc);
+    let posts = posts(&rt, alloc, shared.calendar())?;
+    let inputs = inputs(&posts, &shared);
     has_statement(&rt, alloc, &inputs)?;
     Ok(())
 }
 
+// Its book on the day of the notice, 2025-03-16.
 fn fold_at_once(
     rt: &impl Abort,
     alloc: Global,
     posts: &Posts,
-    calendar: &Calendar,
-    fees: &FeeTable,
+    shared: &SharedRows,
 ) -> Result<Folded, NoMemory>
-    requires stands { StandsFor calendar.now posts.now }
+    requires stands { StandsFor shared.now.holidays posts.now }
     requires account { IsOfAccount posts.now.history }
-    requires calendar { calendar.now ≡ [] }
-    requires fees { fees.now ≡ [] }
+    requires accepted { last_accepted posts.now.history ≤ 20_163 }
+    requires nothing { shared.now ≡ record { holidays = []; fees = [] } }
 {
-    fold(alloc, posts, &[], calendar, fees, day(rt, 19_758))
+    let present = Present::new(posts, &[], shared, day(rt, 20_163));
+    fold(alloc, &present)
 }
 
 #[test]
 fn a_book_at_once(rt: HostRuntime) -> Result<(), Fail> {
     let alloc = rt.alloc();
-    let (calendar, fees) = (Calendar::new(alloc), FeeTable::new(alloc));
-    let posts = posts(&rt, alloc, &calendar)?;
-    let book = fold_at_once(&rt, alloc, &posts, &calendar, &fees)?;
+    let shared = SharedRows::new(alloc);
+    let posts = posts(&rt, alloc, shared.calendar())?;
+    let book = fold_at_once(&rt, alloc, &posts, &shared)?;
     assert_eq!(rt;
         (book.owed(), book.credit(), book.held()),
-        (35_555, 0, 5_000)
+        (44_907, 0, 5_000)
     );
     is_first_cycle(&rt, book.cycle(1).expect(&rt, "a closed cycle"));
     Ok(())

@@ -4,9 +4,10 @@ ghost use Rattle.card_desk.specs.Kept.{Fits};
 
 use crate::lines::{digits, request};
 use crate::values::{day, name};
-use card_desk::{Ask, Desk, Fault, LoadFault, Statement, Tasks, View};
+use card_desk::{Ask, Desk, Fault, LoadFault, Statement, View};
 use card_events::{Num, Refusal, Reply};
 use card_keeper::{Body, FailingKeeper, Keeper, MemoryKeeper, Row};
+use card_text::tasks_text;
 use std::alloc::Global;
 use std::process::Abort;
 use std::test::Fail;
@@ -30,8 +31,8 @@ fn answer<K: Keeper>(
 
 // Has a line accepted.
 fn enter<K: Keeper>(alloc: Global, desk: &mut Desk, keeper: &mut K, line: &str) -> Result<(), Fail>
-    requires fits { Fits (K.rows keeper.old) desk.old }
-    ensures fits { OnOk result (Fits (K.rows keeper.new) desk.new) }
+    requires fits { Fits (K.rows keeper.old) desk.old.state }
+    ensures fits { OnOk result (Fits (K.rows keeper.new) desk.new.state) }
 {
     let request = request(alloc, line)?;
     match desk.apply(alloc, keeper, &request) {
@@ -47,8 +48,8 @@ fn enter_all<K: Keeper>(
     keeper: &mut K,
     lines: &[&str],
 ) -> Result<(), Fail>
-    requires fits { Fits (K.rows keeper.old) desk.old }
-    ensures fits { OnOk result (Fits (K.rows keeper.new) desk.new) }
+    requires fits { Fits (K.rows keeper.old) desk.old.state }
+    ensures fits { OnOk result (Fits (K.rows keeper.new) desk.new.state) }
 {
     for line in lines {
         enter(alloc, desk, keeper, line)?;
@@ -200,30 +201,24 @@ static DISPUTES: [&str; 10] = [
     "dispute b x1 2024-04-16 2 5000",
 ];
 
-// Acknowledged by 2024-05-16 and resolved by 2024-07-15, each the account that comes first by its name.
-fn are_of_disputes(rt: &impl Abort, tasks: &Tasks) {
-    let want = [
-        (19_859, b"b"),
-        (19_859, b"d"),
-        (19_919, b"b"),
-        (19_919, b"d"),
-    ];
-    assert_eq!(rt; tasks.as_slice().len(), 4);
-    for (task, (by, account)) in tasks.as_slice().iter().zip(want) {
-        assert_eq!(rt; (task.by.number(), task.post), (by, 4));
-        assert_eq!(rt; task.account.bytes(), account.as_slice());
+// The texts of the open tasks of the kept rows.
+fn work(alloc: Global, keeper: &mut MemoryKeeper) -> Result<String, Fail> {
+    match seen(alloc, keeper, &Ask::Work)? {
+        View::Work(tasks) => Ok(tasks_text(alloc, tasks.as_slice())?),
+        _ => Err(Fail::from("no tasks")),
     }
 }
 
+// Acknowledged in 30 days and resolved in two cycles, first that of the account whose name comes first.
 #[test]
 fn disputes_of_two_accounts_have_their_tasks(rt: HostRuntime) -> Result<(), Fail> {
     let alloc = rt.alloc();
     let mut keeper = MemoryKeeper::new(alloc);
     accept_all(alloc, &mut keeper, &DISPUTES)?;
-    match seen(alloc, &mut keeper, &Ask::Work)? {
-        View::Work(tasks) => are_of_disputes(&rt, &tasks),
-        _ => return Err(Fail::from("no tasks")),
-    }
+    let text = work(alloc, &mut keeper)?;
+    let want =
+        "2024-05-16 b ACK 4\n2024-05-16 d ACK 4\n2024-07-15 b RESOLVE 4\n2024-07-15 d RESOLVE 4\n";
+    assert_eq!(rt; text.as_str(), want);
     Ok(())
 }
 
@@ -249,8 +244,8 @@ fn pass_month<K: Keeper>(
     month: &str,
     cycle: u32,
 ) -> Result<(), Fail>
-    requires fits { Fits (K.rows keeper.old) desk.old }
-    ensures fits { OnOk result (Fits (K.rows keeper.new) desk.new) }
+    requires fits { Fits (K.rows keeper.old) desk.old.state }
+    ensures fits { OnOk result (Fits (K.rows keeper.new) desk.new.state) }
 {
     let sixth = format!(in alloc; "roll {month}-06")?;
     let bill = format!(in alloc; "bill a b{cycle} {cycle}")?;
@@ -270,8 +265,8 @@ fn pass_month<K: Keeper>(
 }
 
 fn two_years<K: Keeper>(alloc: Global, desk: &mut Desk, keeper: &mut K) -> Result<(), Fail>
-    requires fits { Fits (K.rows keeper.old) desk.old }
-    ensures fits { OnOk result (Fits (K.rows keeper.new) desk.new) }
+    requires fits { Fits (K.rows keeper.old) desk.old.state }
+    ensures fits { OnOk result (Fits (K.rows keeper.new) desk.new.state) }
 {
     enter_all(alloc, desk, keeper, &OPENING)?;
     let mut cycle = 1;
@@ -353,8 +348,8 @@ fn stay_after<K: Keeper>(
     line: &str,
     issued: &[Statement],
 ) -> Result<(bool, bool), Fail>
-    requires fits { Fits (K.rows keeper.old) desk.old }
-    ensures fits { OnOk result (Fits (K.rows keeper.new) desk.new) }
+    requires fits { Fits (K.rows keeper.old) desk.old.state }
+    ensures fits { OnOk result (Fits (K.rows keeper.new) desk.new.state) }
 {
     enter(alloc, desk, keeper, line)?;
     stay(rt, alloc, desk, issued)
@@ -367,8 +362,8 @@ fn issued<K: Keeper>(
     desk: &mut Desk,
     keeper: &mut K,
 ) -> Result<Vec<Statement>, Fail>
-    requires fits { Fits (K.rows keeper.old) desk.old }
-    ensures fits { OnOk result (Fits (K.rows keeper.new) desk.new) }
+    requires fits { Fits (K.rows keeper.old) desk.old.state }
+    ensures fits { OnOk result (Fits (K.rows keeper.new) desk.new.state) }
 {
     two_years(alloc, desk, keeper)?;
     let issued = statements(rt, alloc, desk, true)?;

@@ -5,6 +5,7 @@ use card_days::{Anchor, Calendar, Channel, Day, closing, credit_day, due, next_b
 use card_events::{Name, Num};
 use card_fees::FeeTable;
 use card_index::NameIndex;
+use card_shared::SharedRows;
 use card_units::Money;
 use std::alloc::Global;
 use std::process::Abort;
@@ -113,6 +114,17 @@ fn names(rt: HostRuntime) -> Result<(), Fail> {
     assert_eq!(rt; index.find(b"h-1"), Some(1));
     index.remove(b"h-1");
     assert_eq!(rt; (index.find(b"h-1"), index.find(b"H-1")), (None, Some(2)));
+    Ok(())
+}
+
+// A holiday and a fee row that all accounts share.
+#[test]
+fn shared_rows(rt: HostRuntime) -> Result<(), Fail> {
+    let alloc = rt.alloc();
+    let rows = SharedRows::new(alloc).with_holiday(alloc, day(&rt, 20_052))?;
+    let rows = rows.with_fees(alloc, day(&rt, 14_976), num(&rt, 3_000), num(&rt, 4_100))?;
+    assert!(rt; !rows.calendar().is_business(day(&rt, 20_052)));
+    assert_eq!(rt; rows.fees().on(day(&rt, 14_976)), Some((3_000, 4_100)));
     Ok(())
 }
 

@@ -12,4 +12,4 @@ pub returns-clause-accepted : goal.returns-clause-accepted
 returns-clause-accepted g c =
     let same = c.day.ensures in
     let last = c.requires.dated in
-    subst (λ (h : List Kept). last_accepted h ≤ 47481) (sym c.in_ok-push.ensures.history) (accepted-more c.args.posts.now.history _ c.requires.accepted (omega (arith, same, last)))
+    subst (λ (h : List Kept). last_accepted h ≤ 20163) (sym c.in_ok-push.ensures.history) (accepted-more c.args.posts.now.history _ c.requires.accepted (omega (arith, same, last)))
