@@ -1,7 +1,7 @@
 #!/bin/sh
 # Runs the proved program where it can't go on, and holds its exit status and what it wrote against what
-# docs/FORMATS.md says: words that are no command, no input, an input that can't be read, an output that takes nothing, and
-# too little memory.
+# docs/FORMATS.md says: words that are no command, no input, an input that can't be read, an output that takes nothing,
+# rows that can't be kept, rows that are damaged, and too little memory.
 #
 #     tests/statuses.sh
 top=$(cd "$(dirname "$0")/.." && pwd) || exit 1
@@ -40,8 +40,31 @@ if [ -w /dev/full ]; then
     "$program" - apply <"$day" >/dev/full
     expect 'an output that is full' $? 4
 fi
+"$program" "$top" apply <"$day" >"$written"
+expect 'rows in a directory' $? 5
+if [ -s "$written" ]; then
+    echo 'statuses: rows in a directory: something was written'
+    exit 1
+fi
+rows=$(mktemp -d) || exit 1
+trap 'rm -rf "$written" "$rows"' EXIT
+"$program" "$rows/kept" apply <"$day" >"$written"
+expect 'rows in a new file' $? 0
+python3 - "$rows/kept" <<'END'
+import sqlite3, sys
+
+file = sqlite3.connect(sys.argv[1])
+file.execute("UPDATE kept SET body = substr(body, 1, length(body) - 1) WHERE seq = 3")
+file.commit()
+END
+"$program" "$rows/kept" apply <"$day" >"$written"
+expect 'a third row without its last byte' $? 8
+if [ "$(cat "$written")" != 'damaged 3' ]; then
+    echo 'statuses: a third row without its last byte: the row is not named'
+    exit 1
+fi
 accounts=$(mktemp) || exit 1
-trap 'rm -f "$written" "$accounts"' EXIT
+trap 'rm -rf "$written" "$rows" "$accounts"' EXIT
 {
     echo 'roll 2024-03-01'
     seq 60000 | sed 's/.*/open a& o 2024-03-01 5 1999 2499 2199 2999 2500 100/'
@@ -55,4 +78,4 @@ if [ "$(sed '$d' "$written" | sort -u | tr '\n' ' ')" != 'ok ok 1 ' ]; then
     echo 'statuses: 60,000 accounts in 64 MB: a reply is not of its request'
     exit 1
 fi
-echo 'statuses: 2, 0, 3, 4 and 6 come where they should'
+echo 'statuses: 0, 2, 3, 4, 5, 6 and 8 come where they should'
