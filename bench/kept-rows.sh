@@ -1,78 +1,22 @@
 #!/bin/sh
-# How long `apply` takes over generated lines, and how long their rows take to load: for 50,000 and 200,000 lines over 1,000
-# accounts, or for the numbers of lines that are given; with the word `bills`, for 100 and 1,000 accounts, or for the numbers
-# of accounts that are given, over two years with a charge, a bill and a payment a month for each; with the word `amends`, for
-# 5,000 corrections of the charges of such an account, or for the numbers that are given. It isn't part of the gate. The
-# program is built in a copy.
+# How long the built program's `apply` takes over generated lines, with rows in memory, and how long their rows take to load
+# from a file: for 50,000 and 200,000 lines over 1,000 accounts, or for the numbers of lines that are given; with the word
+# `bills`, for 100 and 1,000 accounts, or for the numbers of accounts that are given, over two years with a charge, a bill and
+# a payment a month for each; with the word `amends`, for 5,000 corrections of the charges of such an account, or for the
+# numbers that are given. It isn't part of the gate. What a row in a file costs, bench/file-rows.sh measures.
 #
 #     bench/kept-rows.sh [LINES..]
 #     bench/kept-rows.sh bills [ACCOUNTS..]
 #     bench/kept-rows.sh amends [AMENDS..]
 set -e
 top=$(cd "$(dirname "$0")/.." && pwd)
+program="$top/crates/billctl/out/billctl"
+if [ ! -x "$program" ]; then
+    echo 'kept-rows: the program is not built; ./billctl builds it' >&2
+    exit 1
+fi
 work=$(mktemp -d)
 trap 'rm -rf "$work"' EXIT
-cp -r "$top/crates" "$top/crates.txt" "$top/HANDLES" "$work"
-cat >"$work/crates/billctl/src/main.rt" <<'END'
-//! The program of the benchmark: `apply` over standard input and rows in memory, and then, where the word `load` is given,
-//! `apply` over no input and the same rows, which loads them.
-#![tactic(auto)]
-
-mod answer;
-mod call;
-mod end;
-mod progress;
-mod run;
-mod write;
-
-pub use call::billctl;
-use card_keeper::MemoryKeeper;
-use card_ports::{MemorySource, StdSink, StdSource};
-use std::alloc::{AllocError, Global};
-use std::io;
-use std::process::ExitCode;
-
-fn apply(alloc: Global) -> Result<Vec<String>, AllocError> {
-    let mut words = Vec::new(alloc);
-    words.push(String::from_str(alloc, "apply")?)?;
-    Ok(words)
-}
-
-fn is_load(word: Option<String>) -> bool {
-    match word {
-        Some(word) => word.as_str() == "load",
-        None => false,
-    }
-}
-
-fn main(rt: HostRuntime) -> ExitCode {
-    let alloc = rt.alloc();
-    let mut keeper = MemoryKeeper::new(alloc);
-    let mut output = StdSink::new(io::writer(&rt));
-    let words = match apply(alloc) {
-        Ok(words) => words,
-        Err(_) => return ExitCode::from(6),
-    };
-    let mut input = StdSource::new(rt.reader());
-    let status = billctl(alloc, &words, &mut input, &mut output, &mut keeper);
-    let load = match std::env::args(&rt) {
-        Ok(mut args) => {
-            let _ = args.next();
-            is_load(args.next())
-        }
-        Err(_) => false,
-    };
-    if status != 0 || !load {
-        return ExitCode::from(status);
-    }
-    let mut nothing = MemorySource::new(Vec::new(alloc), Vec::new(alloc));
-    ExitCode::from(billctl(alloc, &words, &mut nothing, &mut output, &mut keeper))
-}
-END
-rm -rf "$work/crates/billctl/src/tests.rt" "$work/crates/billctl/must-fail"
-echo "building the program of the benchmark" >&2
-(cd "$work/crates/billctl" && rt run </dev/null >"$work/build.log" 2>&1) || { cat "$work/build.log" >&2; exit 1; }
-program="$work/crates/billctl/out/billctl"
 
 # One roll, the accounts, and charges to them in turn.
 lines() {
@@ -125,7 +69,7 @@ corrections() {
 seconds() {
     for try in 1 2 3 4 5; do
         before=$(date +%s%N)
-        "$program" $1 <"$2" >"$work/replies"
+        "$program" "$1" apply <"$2" >"$work/replies"
         after=$(date +%s%N)
         echo "$before $after"
     done | awk '{ t = ($2 - $1) / 1e9; if (NR == 1 || t < least) least = t } END { printf "%.2f", least }'
@@ -146,8 +90,10 @@ fi
 [ $# -gt 0 ] || set -- 50000 200000
 for n in "$@"; do
     "$form" "$n" >"$work/lines"
-    apply=$(seconds "" "$work/lines")
-    both=$(seconds load "$work/lines")
+    apply=$(seconds - "$work/lines")
     count=$(wc -l <"$work/lines")
-    echo "$form $n lines $count accepted $(grep -c '^ok' "$work/replies") apply ${apply}s apply and load ${both}s"
+    accepted=$(grep -c '^ok' "$work/replies")
+    "$program" "$work/rows$n" apply <"$work/lines" >/dev/null
+    load=$(seconds "$work/rows$n" /dev/null)
+    echo "$form $n lines $count accepted $accepted apply ${apply}s load ${load}s"
 done
