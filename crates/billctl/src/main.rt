@@ -15,13 +15,13 @@ mod stored;
 mod write;
 
 pub use call::billctl;
-pub use stored::billctl_over_store;
 use card_keeper::{Keeper, MemoryKeeper};
 use card_ports::{StdSink, StdSource};
 use card_sqlite::SqliteKeeper;
 use card_units::NoMemory;
 use std::io;
 use std::process::ExitCode;
+pub use stored::billctl_over_store;
 
 // The first word, which says where the rows are kept, and the words behind it. An empty list and words that aren't text give
 // no words, and no words are no command.
