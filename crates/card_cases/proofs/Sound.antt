@@ -14,11 +14,7 @@ use Rattle.card_events.specs.declared.post.PlanKind.TheVariants as kind
 use Rattle.card_events.specs.declared.post.Post.{Post}
 use Rattle.std.proofs.Math.Nat.{le-max_left, le-max_right, max-le}
 use Rattle.card_posts.specs.Posted.{last_accepted}
-<<<<<<< HEAD
-use Rattle.card_model.specs.Accepted.{AreInRange, HasFewCents, HasFewFees, HasFewRates, posted_cents, posted_rate}
-=======
 use Rattle.card_model.specs.Accepted.{AreInRange, HasFewCents, HasFewFees, HasFewRates, HasFewSegments, posted_cents, posted_rate}
->>>>>>> ae5394105367c85af22bbfdb5f6f1e1b04d981bc
 use Rattle.card_bounds.specs.Bounds.{moved}
 use Rattle.card_model.specs.Caps.{row_for}
 use Rattle.card_model.specs.declared.entry.Entry.{Entry}
@@ -28,10 +24,6 @@ use Rattle.card_model.specs.Deadlines.{resolves}
 use Rattle.card_model.specs.Refusals.{plan_days}
 use Rattle.card_daily.specs.Given.{ArePlanned, IsSound, NamePayments, NamesAPayment}
 use Rattle.card_grace.proofs.Days.{sum_by-map}
-<<<<<<< HEAD
-use Rattle.card_rates.specs.RateBooks.{HasFewSegments}
-=======
->>>>>>> ae5394105367c85af22bbfdb5f6f1e1b04d981bc
 use Rattle.card_slots.specs.Segments.{ArePostsDated}
 use Rattle.card_cases.specs.Account.{IsOfAccount, asked, bill, cash, dispute, notice, opening, plan, posts, purchase}
 

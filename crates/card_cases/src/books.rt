@@ -1,9 +1,6 @@
 // The book of the account of the cases at the end of its first cycle, folded day by day, at once, and in the parts of a day.
 ghost use Rattle.std.specs.Prelude.{◌≡◌, ◌+◌, ◌<◌, ◌≤◌, [], IfOk, OnOk};
-<<<<<<< HEAD
 ghost use Rattle.card_days.specs.Range.{last_request_day};
-=======
->>>>>>> ae5394105367c85af22bbfdb5f6f1e1b04d981bc
 ghost use Rattle.card_cases.specs.Account.{IsOfAccount};
 ghost use Rattle.card_daily.specs.Given.{opened_in};
 ghost use Rattle.card_daily.specs.Stands.{AreBefore};
@@ -69,11 +66,7 @@ fn fold_parts(
     track: &mut Track,
 ) -> Result<(), NoMemory>
     requires opened { opened_in inputs.now ≤ on }
-<<<<<<< HEAD
     requires last { on ≤ last_request_day }
-=======
-    requires last { on ≤ 47_481 }
->>>>>>> ae5394105367c85af22bbfdb5f6f1e1b04d981bc
     requires before { AreBefore inputs.now on state.old track.old }
     ensures folded { OnOk result (AreBefore inputs.now (on + 1) state.new track.new) }
 {

@@ -1,9 +1,6 @@
 // What an account asks to be done, and by when.
 ghost use Rattle.std.specs.Prelude.{◌≡◌, ◌≤◌};
-<<<<<<< HEAD
 ghost use Rattle.card_days.specs.Range.{last_request_day};
-=======
->>>>>>> ae5394105367c85af22bbfdb5f6f1e1b04d981bc
 ghost use Rattle.card_cases.specs.Account.{IsOfAccount};
 ghost use Rattle.card_days.specs.Billing.{IsCloseDay};
 ghost use Rattle.card_events.specs.History.{anchor_of};
@@ -79,11 +76,7 @@ fn tasks_of_an_account(rt: HostRuntime) -> Result<(), Fail> {
 fn last_days(rt: &impl Abort, posts: &Posts, today: u16) -> (i32, i32)
     requires account { IsOfAccount posts.now.history }
     requires accepted { last_accepted posts.now.history ≤ 20_163 }
-<<<<<<< HEAD
     requires today { today ≤ last_request_day }
-=======
-    requires today { today ≤ 47_481 }
->>>>>>> ae5394105367c85af22bbfdb5f6f1e1b04d981bc
 {
     let dispute = last_notice_day(posts, &anchor(rt), num(rt, 2));
     let review = review_by(posts, day(rt, today));
