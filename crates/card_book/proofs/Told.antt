@@ -24,7 +24,7 @@ use Rattle.card_daily.specs.Given.{Given, IsSound, book_on, opened_in}
 use Rattle.card_daily.specs.Stands.{AreBefore, HaveAccrued, before, first_in, rows_through}
 use Rattle.card_daily.specs.declared.state.State.{State}
 use Rattle.card_daily.specs.declared.track.Track.{Track}
-use Rattle.card_book.specs.Stands.{StandsFor, Summary, book_through, day_to_fold}
+use Rattle.card_book.specs.Stands.{StandsFor, Summary, book_through, day_to_fold, recorded}
 use Rattle.card_book.proofs.Balances.{each-any}
 use Rattle.card_book.proofs.Days.{book_is_the_fold}
 
@@ -41,7 +41,6 @@ pub record IsCopy (s from : State) : Type 0 where
   pub rates : s.rates ≡ from.rates
   pub rows : s.rows.items ≡ from.rows.items
   pub accruals : s.accruals.items ≡ from.accruals.items
-  pub fees : s.fees.items ≡ from.fees.items
 
 copy-before : (g : Given) (day : ℕ) (s from : State) (t : Track) → IsCopy s from → AreBefore g day from t → AreBefore g day s t
 copy-before g day s from t c h =
@@ -50,7 +49,7 @@ copy-before g day s from t c h =
       stand = record {
         entries = old.entries;
         cycles = old.cycles;
-        fees = c.fees ∙ old.fees;
+        fees = old.fees;
         rates = c.rates ∙ old.rates;
         segments = ap (λ (b : Balances). b.segments) c.segments ∙ old.segments;
         sums = subst (λ (b : Balances). AreBalances (before g day).entries b.balances) (sym c.segments) old.sums;
@@ -110,10 +109,10 @@ book-of : (b : Book) (es : List Entry) (cs : List Cycle) (fs : List Fee) (ps : L
 book-of b es cs fs ps e f g h = rw (e, f, g, h) refl
 
 pub whole-is : (g : Given) (b : Summary) (t : Track) (day : ℕ) → b.day ≡ Some day → StandsFor g b t
-    → record { entries = t.entries.items; cycles = t.cycles.items; fees = b.state.fees.items; penalties = b.state.rates.penalties } ≡ book_on g day
+    → recorded t b.state.rates.penalties ≡ book_on g day
 whole-is g b t day e h =
     let f = book_is_the_fold g b t h in
-    book-of (book_through g b.day) t.entries.items t.cycles.items b.state.fees.items b.state.rates.penalties f.entries f.cycles f.fees f.penalties ∙ ap (book_through g) e
+    book-of (book_through g b.day) t.entries.items t.cycles.items t.fees.items b.state.rates.penalties f.entries f.cycles f.fees f.penalties ∙ ap (book_through g) e
 
 pub sums-on : (g : Given) (b : Summary) (t : Track) (day : ℕ) → b.day ≡ Some day → StandsFor g b t → AreBalances (book_on g day).entries b.state.segments.balances
 sums-on g b t day e h = subst (λ d. AreBalances (book_through g d).entries b.state.segments.balances) e (book_is_the_fold g b t h).balances

@@ -1,8 +1,9 @@
 -- What a Book keeps of an account, and how it stands beside a track for the book of a day. Days are day numbers.
-use Rattle.std.specs.Prelude.{ℕ, ◌+◌, ◌-◌, ◌==◌, ◌≡◌, ◌≤◌, Bool, if◌then◌else◌, unwrap_or, Option, Some, None}
+use Rattle.std.specs.Prelude.{ℕ, ◌+◌, ◌-◌, ◌==◌, ◌≡◌, ◌≤◌, Bool, if◌then◌else◌, unwrap_or, List, Option, Some, None}
 use Rattle.card_model.specs.Books.{Book, empty_book}
 use Rattle.card_model.specs.Deadlines.{credit_since}
 use Rattle.card_model.specs.Entries.{AreBalances}
+use Rattle.card_model.specs.declared.segment.Interval.{Interval}
 use Rattle.card_slots.specs.Segments.{account_segments}
 use Rattle.card_daily.specs.Given.{Given, book_on, opened_in}
 use Rattle.card_daily.specs.Stands.{AreBefore}
@@ -15,6 +16,10 @@ pub record Summary : Type 0 where
   pub state : State
   pub credit_since : Option ℕ
   pub whole : Bool
+
+-- the book that a track records, with these penalties
+abbrev pub recorded : Track → List Interval → Book
+recorded t penalties = record { entries = t.entries.items; cycles = t.cycles.items; fees = t.fees.items; penalties = penalties }
 
 -- the book at the end of a day, and since when there is a credit balance (12 CFR 1026.11(a)(3))
 pub record FoldedBook : Type 0 where
@@ -50,7 +55,7 @@ pub record StandsFor (g : Given) (b : Summary) (t : Track) : Type 0 where
 pub record IsTheFold (g : Given) (b : Summary) (t : Track) : Type 0 where
   pub entries : t.entries.items ≡ (book_through g b.day).entries
   pub cycles : t.cycles.items ≡ (book_through g b.day).cycles
-  pub fees : b.state.fees.items ≡ (book_through g b.day).fees
+  pub fees : t.fees.items ≡ (book_through g b.day).fees
   pub penalties : b.state.rates.penalties ≡ (book_through g b.day).penalties
   pub segments : b.state.segments.segments ≡ account_segments g.shared.holidays g.history
   pub balances : AreBalances (book_through g b.day).entries b.state.segments.balances

@@ -16,19 +16,17 @@ fn copy_rows(rows: &[CycleRows], alloc: Global) -> Result<Vec<CycleRows>, NoMemo
     Ok(copy)
 }
 
-/// The same segments, rates, rows, accruals and fees in memory of their own.
+/// The same segments, rates, rows and accruals in memory of their own.
 pub fn copy_state(state: &State, alloc: Global) -> Result<State, NoMemory>
     ensures segments { IfOk result (λ s. s.segments ≡ state.now.segments) }
     ensures rates { IfOk result (λ s. s.rates ≡ state.now.rates) }
     ensures rows { IfOk result (λ s. s.rows.items ≡ state.now.rows.items) }
     ensures accruals { IfOk result (λ s. s.accruals.items ≡ state.now.accruals.items) }
-    ensures fees { IfOk result (λ s. s.fees.items ≡ state.now.fees.items) }
 {
     Ok(State {
         segments: state.segments.copy(alloc)?,
         rates: state.rates.copy(alloc)?,
         rows: copy_rows(&state.rows, alloc)?,
         accruals: Vec::from_slice(alloc, &state.accruals)?,
-        fees: Vec::from_slice(alloc, &state.fees)?,
     })
 }

@@ -29,14 +29,14 @@ pub struct Folded {
 }
 
 impl Model for Folded {
-    ghost use Rattle.card_book.specs.Stands.{FoldedBook};
+    ghost use Rattle.card_book.specs.Stands.{FoldedBook, recorded};
     ghost use Rattle.card_model.specs.Limits.{balance_limit};
     ghost use Rattle.card_model.specs.Entries.{AreBalances};
     ghost use Rattle.card_segments.specs.Balances.{AreWithin, HaveSigns};
 
     ghost Value = { FoldedBook };
 
-    ghost view = { λ f. record { book = record { entries = f.track.entries.items; cycles = f.track.cycles.items; fees = f.book.state.fees.items; penalties = f.book.state.rates.penalties }; since = f.book.credit_since } };
+    ghost view = { λ f. record { book = recorded f.track f.book.state.rates.penalties; since = f.book.credit_since } };
 
     ghost invariant = { λ f. AreBalances f.track.entries.items f.book.state.segments.balances × AreWithin balance_limit f.book.state.segments.balances };
 }
@@ -78,6 +78,7 @@ fn fold_counted<L: Ledger>(
     let mut track = Track {
         entries: Vec::new(alloc),
         cycles: Vec::new(alloc),
+        fees: Vec::new(alloc),
     };
     let mut steps = Steps::<L>::new(blank);
     book.advance(alloc, inputs, &mut track, to, &mut steps)?;

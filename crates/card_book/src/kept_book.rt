@@ -62,8 +62,8 @@ fn days_between(from: Day, to: Day) -> u32
     (to.number() + 1 - from.number()) as u32
 }
 
-/// The book of an account at the end of a day: balances, rates, the rows of the open cycle, and the fees charged, with the
-/// day since which there is a credit balance. Its entries and closed cycles lie in a track beside it. Only `advance` moves
+/// The book of an account at the end of a day: balances, rates and the rows of the open cycle, with the day since
+/// which there is a credit balance. Its entries, closed cycles and fees lie in a track beside it. Only `advance` moves
 /// it. Clauses see it as a summary, which with a track stands for the account's book.
 #[derive(Drop)]
 pub struct Book {
@@ -86,16 +86,16 @@ impl Book {
     ghost use Rattle.card_days.specs.Range.{last_request_day, last_calendar_day};
     ghost use Rattle.card_book.specs.Stands.{StandsFor, book_through, day_to_fold, days_through, since_after};
     ghost use Rattle.card_daily.specs.Given.{Given, book_on, opened_in, seen_in};
-    ghost use Rattle.card_daily.specs.Stands.{AreBefore, Begins};
+    ghost use Rattle.card_daily.specs.Stands.{AreBefore, Begins, IsBlank};
     ghost use Rattle.card_daily.specs.declared.track.Track.{Track};
     ghost use Rattle.card_model.specs.Entries.{AreBalances, balance, credit_in, owed};
     ghost use Rattle.card_model.specs.Folds.{cycle_at};
     ghost use Rattle.card_model.specs.Payments.{sixty_days_late};
     ghost use Rattle.card_slots.specs.Segments.{account_segments};
 
-    /// The book before the opening day. It stands beside a track without entries and cycles.
+    /// The book before the opening day. It stands beside a track without entries, cycles and fees.
     pub fn start(alloc: Global, inputs: &Inputs) -> Result<Book, NoMemory>
-        ensures stands { IfOk result (λ b. (t : Track) → t.entries.items ≡ [] → t.cycles.items ≡ [] → StandsFor inputs.now b t) }
+        ensures stands { IfOk result (λ b. (t : Track) → IsBlank t → StandsFor inputs.now b t) }
         ensures day { IfOk result (λ b. b.day ≡ None) }
         ensures whole { IfOk result (λ b. b.whole ≡ true) }
     {

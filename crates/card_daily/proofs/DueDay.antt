@@ -132,7 +132,7 @@ fee-cycles a seen n (Some f) b = refl
 pub record IsWithFee (g : Given) (day : ℕ) (o : Option Fee) (s new : State) (t after : Track) : Type 0 where
   pub entries : after.entries.items ≡ (with_fee (account_in g) (seen_in g day) 0 o (before g day)).entries
   pub cycles : after.cycles.items ≡ t.cycles.items
-  pub fees : new.fees.items ≡ (with_fee (account_in g) (seen_in g day) 0 o (before g day)).fees
+  pub fees : after.fees.items ≡ (with_fee (account_in g) (seen_in g day) 0 o (before g day)).fees
   pub sums : AreBalances (with_fee (account_in g) (seen_in g day) 0 o (before g day)).entries new.segments.balances
   pub segments : new.segments.segments ≡ s.segments.segments
   pub rates : new.rates ≡ s.rates

@@ -102,7 +102,7 @@ unfolding effect
 dispute-grown issued a seen p b on target claim = refl
 
 pub dispute-stand : (issued : Option IssuedRow) (a : Account) (seen : Seen) (first : ℕ) (returned : ℕ → Bool) (rows_by : SegmentTerms → Rows) (p : CorrectedPost) (b : Book) (on target claim : ℕ) (s new : State) (t after : Track)
-    → StandWith a seen first returned rows_by b s t → StandsAt a seen (effect issued a seen p (post.Dispute on target claim) b) new.rates new.segments.balances after.entries.items → new.rates ≡ s.rates → new.rows.items ≡ s.rows.items → new.fees.items ≡ s.fees.items
+    → StandWith a seen first returned rows_by b s t → StandsAt a seen (effect issued a seen p (post.Dispute on target claim) b) new.rates new.segments.balances after.entries.items → new.rates ≡ s.rates → new.rows.items ≡ s.rows.items → after.fees.items ≡ t.fees.items
     → StandWith a seen first returned rows_by (effect issued a seen p (post.Dispute on target claim) b) new after
 unfolding effect
 dispute-stand issued a seen first returned rows_by p b on target claim s new t after h at rates rows fees =
@@ -116,7 +116,7 @@ unfolding effect
 resolve-grown issued a seen p b on target cents = refl
 
 pub resolve-stand : (issued : Option IssuedRow) (a : Account) (seen : Seen) (first : ℕ) (returned : ℕ → Bool) (rows_by : SegmentTerms → Rows) (p : CorrectedPost) (b : Book) (on target cents : ℕ) (s new : State) (t after : Track)
-    → StandWith a seen first returned rows_by b s t → StandsAt a seen (effect issued a seen p (post.Resolve on target cents) b) new.rates new.segments.balances after.entries.items → new.rates ≡ s.rates → new.rows.items ≡ s.rows.items → new.fees.items ≡ s.fees.items
+    → StandWith a seen first returned rows_by b s t → StandsAt a seen (effect issued a seen p (post.Resolve on target cents) b) new.rates new.segments.balances after.entries.items → new.rates ≡ s.rates → new.rows.items ≡ s.rows.items → after.fees.items ≡ t.fees.items
     → StandWith a seen first returned rows_by (effect issued a seen p (post.Resolve on target cents) b) new after
 unfolding effect
 resolve-stand issued a seen first returned rows_by p b on target cents s new t after h at rates rows fees =

@@ -61,7 +61,6 @@ pub record IsWithPenalties (ps : List Interval) (s new : State) : Type 0 where
   pub rates : new.rates ≡ rates.with_penalties ps s.rates
   pub rows : new.rows ≡ s.rows
   pub accruals : new.accruals ≡ s.accruals
-  pub fees : new.fees ≡ s.fees
 
 map-each : {X Y : Type 0} (f h : X → Y) → ((x : X) → f x ≡ h x) → (xs : List X) → map f xs ≡ map h xs
 map-each f h e [] = refl
@@ -73,7 +72,7 @@ stand-with g rows_by next ps b s new t h same n =
     record {
       entries = h.entries;
       cycles = h.cycles;
-      fees = ap (λ v. v.items) n.fees ∙ h.fees;
+      fees = h.fees;
       rates = n.rates ∙ ap (rates.with_penalties ps) h.rates;
       segments = ap (λ v. v.segments) n.segments ∙ h.segments;
       sums = subst (λ v. AreBalances b.entries v.balances) (sym n.segments) h.sums;

@@ -296,7 +296,8 @@ pub next-begins : (g : Given) (day place : ℕ) (x : DayPost) (s new : State) (t
 next-begins g day place x s new t after sound o l low high p kind h k did =
     let adds = effect-adds (row_in g (day - opened_in g)) (account_in g) (seen_in g day) (post_at_place g day place) (post_at_place g day place).post (amid g day (done_by g day place)) (post-kind g day place x p kind) in
     let w = after-post g day place x s new t after sound o l low high p h did in
-    begins-more t after adds.more (w.at.same ∙ (adds.entries ∙ ap (λ es. es ++ adds.more) (sym h.stand.entries))) k.cycles
+    begins-more t after adds.more adds.charged (w.at.same ∙ (adds.entries ∙ ap (λ es. es ++ adds.more) (sym h.stand.entries))) k.cycles
+    (w.fees ∙ (adds.fees ∙ ap (λ fs. fs ++ adds.charged) (sym h.stand.fees)))
 
 -- a post of a kind that isn't folded returns nothing
 idle-none : (n : ℕ) (q : Post) → is_folded q ≡ false → returns n q ≡ false
@@ -410,4 +411,5 @@ pub begins-twice : (t mid after : Track) → Begins t mid → Begins mid after �
 begins-twice t mid after h k = record {
   entries = grown-twice t.entries.items mid.entries.items after.entries.items h.entries k.entries;
   cycles = grown-twice t.cycles.items mid.cycles.items after.cycles.items h.cycles k.cycles;
+  fees = grown-twice t.fees.items mid.fees.items after.fees.items h.fees k.fees;
 }

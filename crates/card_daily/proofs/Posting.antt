@@ -44,11 +44,13 @@ use Rattle.card_daily.specs.declared.state.State.{State}
 use Rattle.card_daily.specs.declared.track.Track.{Track}
 
 -- ---- a track that begins with what it held
-pub begins-kept : (t after : Track) → after.entries.items ≡ t.entries.items → after.cycles.items ≡ t.cycles.items → Begins t after
-begins-kept t after e f = record { entries = begins-same t.entries.items after.entries.items e; cycles = begins-same t.cycles.items after.cycles.items f }
+pub begins-kept : (t after : Track) → after.entries.items ≡ t.entries.items → after.cycles.items ≡ t.cycles.items → after.fees.items ≡ t.fees.items → Begins t after
+begins-kept t after e f h =
+    record { entries = begins-same t.entries.items after.entries.items e; cycles = begins-same t.cycles.items after.cycles.items f; fees = begins-same t.fees.items after.fees.items h }
 
-pub begins-more : (t after : Track) (more : List Entry) → after.entries.items ≡ t.entries.items ++ more → after.cycles.items ≡ t.cycles.items → Begins t after
-begins-more t after more e f = record { entries = begins-with t.entries.items after.entries.items more e; cycles = begins-same t.cycles.items after.cycles.items f }
+pub begins-more : (t after : Track) (more : List Entry) (charged : List Fee) → after.entries.items ≡ t.entries.items ++ more → after.cycles.items ≡ t.cycles.items → after.fees.items ≡ t.fees.items ++ charged → Begins t after
+begins-more t after more charged e f h =
+    record { entries = begins-with t.entries.items after.entries.items more e; cycles = begins-same t.cycles.items after.cycles.items f; fees = begins-with t.fees.items after.fees.items charged h }
 
 -- ---- rows
 pub each-same : {X Y : Type 0} (f h : X → Y) → ((x : X) → f x ≡ h x) → (xs : List X) → map f xs ≡ map h xs
@@ -71,7 +73,7 @@ same-returned a seen first f h rows_by b s t e w =
 -- entries that bring nothing
 pub others-stand : (a : Account) (seen : Seen) (first : ℕ) (returned : ℕ → Bool) (rows_by : SegmentTerms → Rows) (b c : Book) (s new : State) (t after : Track) (more : List Entry)
     → StandWith a seen first returned rows_by b s t → StandsAt a seen c new.rates new.segments.balances after.entries.items → new.rates ≡ s.rates → new.rows.items ≡ s.rows.items
-    → new.fees.items ≡ s.fees.items → c.fees ≡ b.fees → c.entries ≡ b.entries ++ more → All IsOther more → StandWith a seen first returned rows_by c new after
+    → after.fees.items ≡ t.fees.items → c.fees ≡ b.fees → c.entries ≡ b.entries ++ more → All IsOther more → StandWith a seen first returned rows_by c new after
 others-stand a seen first returned rows_by b c s new t after more h at rates rows fees same_fees grown others =
     record {
       at = at;
@@ -94,7 +96,7 @@ unfolding effect
 refund-grown issued a seen p b cents = refl
 
 pub charge-stand : (issued : Option IssuedRow) (a : Account) (seen : Seen) (first : ℕ) (returned : ℕ → Bool) (rows_by : SegmentTerms → Rows) (p : CorrectedPost) (b : Book) (on cents : ℕ) (pl : Place) (s new : State) (t after : Track)
-    → StandWith a seen first returned rows_by b s t → StandsAt a seen (effect issued a seen p (post.Charge on pl cents) b) new.rates new.segments.balances after.entries.items → new.rates ≡ s.rates → new.rows.items ≡ s.rows.items → new.fees.items ≡ s.fees.items
+    → StandWith a seen first returned rows_by b s t → StandsAt a seen (effect issued a seen p (post.Charge on pl cents) b) new.rates new.segments.balances after.entries.items → new.rates ≡ s.rates → new.rows.items ≡ s.rows.items → after.fees.items ≡ t.fees.items
     → StandWith a seen first returned rows_by (effect issued a seen p (post.Charge on pl cents) b) new after
 unfolding effect
 charge-stand issued a seen first returned rows_by p b on cents pl s new t after h at rates rows fees =
@@ -102,7 +104,7 @@ charge-stand issued a seen first returned rows_by p b on cents pl s new t after 
     (all-debit IsOther seen.day p.number (segment_at pl seen.day (all_segments a seen)) p.cents (credit_balance b.entries) kind.Charge (λ s z. refl))
 
 pub refund-stand : (issued : Option IssuedRow) (a : Account) (seen : Seen) (first : ℕ) (returned : ℕ → Bool) (rows_by : SegmentTerms → Rows) (p : CorrectedPost) (b : Book) (cents : ℕ) (s new : State) (t after : Track)
-    → StandWith a seen first returned rows_by b s t → StandsAt a seen (effect issued a seen p (post.Refund cents) b) new.rates new.segments.balances after.entries.items → new.rates ≡ s.rates → new.rows.items ≡ s.rows.items → new.fees.items ≡ s.fees.items
+    → StandWith a seen first returned rows_by b s t → StandsAt a seen (effect issued a seen p (post.Refund cents) b) new.rates new.segments.balances after.entries.items → new.rates ≡ s.rates → new.rows.items ≡ s.rows.items → after.fees.items ≡ t.fees.items
     → StandWith a seen first returned rows_by (effect issued a seen p (post.Refund cents) b) new after
 unfolding effect
 refund-stand issued a seen first returned rows_by p b cents s new t after h at rates rows fees =
@@ -112,7 +114,7 @@ refund-stand issued a seen first returned rows_by p b cents s new t after h at r
 -- parts that count as repaid
 pub repaid-stand : (k : EntryKind) (a : Account) (seen : Seen) (first : ℕ) (returned : ℕ → Bool) (rows_by : SegmentTerms → Rows) (b c : Book) (s new : State) (t after : Track) (slot : Slot) (parts : List (ℕ × ℕ)) (old now : List Rows)
     → AreByNumber 2 s.rates.segments → first ≤ slot.day → is_repaying returned (record { day = slot.day; kind = k; post = slot.number }) ≡ true
-    → StandWith a seen first returned rows_by b s t → StandsAt a seen c new.rates new.segments.balances after.entries.items → new.rates ≡ s.rates → new.fees.items ≡ s.fees.items → c.fees ≡ b.fees
+    → StandWith a seen first returned rows_by b s t → StandsAt a seen c new.rates new.segments.balances after.entries.items → new.rates ≡ s.rates → after.fees.items ≡ t.fees.items → c.fees ≡ b.fees
     → after.entries.items ≡ t.entries.items ++ parts_entries (record { day = slot.day; kind = k; post = slot.number }) parts
     → AreRepaid slot.day slot.number parts old now → old ≡ s.rows.items → new.rows.items ≡ now → StandWith a seen first returned rows_by c new after
 repaid-stand k a seen first returned rows_by b c s new t after slot parts old now numbers l r h at rates fees same_fees grown brings from to =
@@ -139,15 +141,17 @@ at_least-most (pos m) n l = omega (arith, ints)
 at_least-most (negsuc m) n l = omega arith
 
 -- ---- the book after a post
--- it has more entries, and cycles and penalties are as they were
+-- it has more entries and fees, and cycles and penalties are as they were
 pub record IsAdded (b c : Book) : Type 0 where
   pub more : List Entry
   pub entries : c.entries ≡ b.entries ++ more
   pub cycles : c.cycles ≡ b.cycles
   pub penalties : c.penalties ≡ b.penalties
+  pub charged : List Fee
+  pub fees : c.fees ≡ b.fees ++ charged
 
 none-added : (b : Book) → IsAdded b b
-none-added b = record { more = []; entries = sym (append-nil b.entries); cycles = refl; penalties = refl }
+none-added b = record { more = []; entries = sym (append-nil b.entries); cycles = refl; penalties = refl; charged = []; fees = sym (append-nil b.fees) }
 
 -- entries that bring nothing come behind those that there were
 pub record Behind (es new : List Entry) : Type 0 where
@@ -196,13 +200,25 @@ fee-fees : (a : Account) (seen : Seen) (n : ℕ) (o : Option Fee) (c : Book) →
 fee-fees a seen n None c = refl
 fee-fees a seen n (Some f) c = refl
 
+-- a fee comes behind those that there were
+fees-more : (o : Option Fee) (fs : List Fee) → fees_with o fs ≡ fs ++ fees_with o []
+fees-more None fs = sym (append-nil fs)
+fees-more (Some f) fs = refl
+
 return-added : (issued : Option IssuedRow) (a : Account) (seen : Seen) (p : CorrectedPost) (b : Book) (d target : ℕ) → IsAdded b (effect issued a seen p (post.Return d target) b)
 unfolding effect
 return-added issued a seen p b d target =
     let behind = return-behind issued a seen p b d target in
     let o = returned_fee issued seen b (meant_for b.cycles (payment_at target seen.posts)) in
     let back = returned a seen p.number target b in
-    record { more = behind.more; entries = behind.is; cycles = fee-cycles a seen p.number o back; penalties = fee-penalties a seen p.number o back }
+    record {
+      more = behind.more;
+      entries = behind.is;
+      cycles = fee-cycles a seen p.number o back;
+      penalties = fee-penalties a seen p.number o back;
+      charged = fees_with o [];
+      fees = fee-fees a seen p.number o back ∙ fees-more o b.fees;
+    }
 
 return-fees : (issued : Option IssuedRow) (a : Account) (seen : Seen) (p : CorrectedPost) (b : Book) (d target : ℕ)
     → (effect issued a seen p (post.Return d target) b).fees ≡ fees_with (returned_fee issued seen b (meant_for b.cycles (payment_at target seen.posts))) b.fees
@@ -217,13 +233,13 @@ no-way e = absurd (no e)
 
 pub effect-adds : (issued : Option IssuedRow) (a : Account) (seen : Seen) (s : CorrectedPost) (p : Post) (b : Book) → is_penalty p ≡ false → IsAdded b (effect issued a seen s p b)
 unfolding effect
-effect-adds issued a seen s (post.Charge d p n) b e = record { more = _; entries = refl; cycles = refl; penalties = refl }
-effect-adds issued a seen s (post.Payment d m c n) b e = record { more = _; entries = refl; cycles = refl; penalties = refl }
-effect-adds issued a seen s (post.Credit d p n) b e = record { more = _; entries = refl; cycles = refl; penalties = refl }
-effect-adds issued a seen s (post.Refund n) b e = record { more = _; entries = refl; cycles = refl; penalties = refl }
+effect-adds issued a seen s (post.Charge d p n) b e = record { more = _; entries = refl; cycles = refl; penalties = refl; charged = []; fees = sym (append-nil b.fees) }
+effect-adds issued a seen s (post.Payment d m c n) b e = record { more = _; entries = refl; cycles = refl; penalties = refl; charged = []; fees = sym (append-nil b.fees) }
+effect-adds issued a seen s (post.Credit d p n) b e = record { more = _; entries = refl; cycles = refl; penalties = refl; charged = []; fees = sym (append-nil b.fees) }
+effect-adds issued a seen s (post.Refund n) b e = record { more = _; entries = refl; cycles = refl; penalties = refl; charged = []; fees = sym (append-nil b.fees) }
 effect-adds issued a seen s (post.Return d target) b e = return-added issued a seen s b d target
-effect-adds issued a seen s (post.Dispute d target claim) b e = record { more = _; entries = refl; cycles = refl; penalties = refl }
-effect-adds issued a seen s (post.Resolve d target c) b e = record { more = _; entries = refl; cycles = refl; penalties = refl }
+effect-adds issued a seen s (post.Dispute d target claim) b e = record { more = _; entries = refl; cycles = refl; penalties = refl; charged = []; fees = sym (append-nil b.fees) }
+effect-adds issued a seen s (post.Resolve d target c) b e = record { more = _; entries = refl; cycles = refl; penalties = refl; charged = []; fees = sym (append-nil b.fees) }
 effect-adds issued a seen s post.Penalty b e = no-way e
 effect-adds issued a seen s (post.Open d t) b e = none-added b
 effect-adds issued a seen s (post.Plan d k r x f) b e = none-added b
@@ -241,14 +257,14 @@ mapped f h [] = refl
 mapped f h (x ∷ xs) = ap (λ ys. f (h x) ∷ ys) (mapped f h xs)
 
 -- what a return left of state and track
-pub record IsReturned (s new : State) (charged : Option Fee) (payment : ℕ) : Type 0 where
+pub record IsReturned (s new : State) (t after : Track) (charged : Option Fee) (payment : ℕ) : Type 0 where
   pub rates : new.rates ≡ s.rates
-  pub fees : new.fees.items ≡ fees_with charged s.fees.items
+  pub fees : after.fees.items ≡ fees_with charged t.fees.items
   pub rows : new.rows.items ≡ map (without_post payment) s.rows.items
 
 pub return-stand : (issued : Option IssuedRow) (a : Account) (seen : Seen) (first : ℕ) (gone : ℕ → Bool) (rows_by : SegmentTerms → Rows) (p : CorrectedPost) (b : Book) (d payment : ℕ) (s new : State) (t after : Track) (charged : Option Fee)
     → StandWith a seen first gone rows_by b s t → StandsAt a seen (effect issued a seen p (post.Return d payment) b) new.rates new.segments.balances after.entries.items
-    → charged ≡ returned_fee issued seen b (meant_for b.cycles (payment_at payment seen.posts)) → IsReturned s new charged payment → IsOfNoCredit payment b.entries
+    → charged ≡ returned_fee issued seen b (meant_for b.cycles (payment_at payment seen.posts)) → IsReturned s new t after charged payment → IsOfNoCredit payment b.entries
     → StandWith a seen first (or_post gone payment) rows_by (effect issued a seen p (post.Return d payment) b) new after
 return-stand issued a seen first gone rows_by p b d payment s new t after charged h at fee is credits =
     let c = effect issued a seen p (post.Return d payment) b in

@@ -45,7 +45,7 @@ returned_after returned p n = returned n || returns n p
 -- it from the first day of its cycle on, but for the payments that are returned
 pub record StandWith (a : Account) (seen : Seen) (first : ℕ) (returned : ℕ → Bool) (rows_by : SegmentTerms → Rows) (b : Book) (s : State) (t : Track) : Type 0 where
   pub at : StandsAt a seen b s.rates s.segments.balances t.entries.items
-  pub fees : s.fees.items ≡ b.fees
+  pub fees : t.fees.items ≡ b.fees
   pub rows : s.rows.items ≡ repaid_rows returned first rows_by s.rates.segments b.entries
 
 -- What a post may rely on, in the book before it: a payment isn't returned yet, and the payment that a Return names has the

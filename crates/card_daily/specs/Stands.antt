@@ -1,5 +1,5 @@
 -- What is kept of an account stands for its book, at the points of a day. Days are day numbers.
-use Rattle.std.specs.Prelude.{ℕ, ◌+◌, ◌-◌, ◌≡◌, ◌≤◌, ◌||◌, Bool, false, true, map, take, List, length, slice_index_or}
+use Rattle.std.specs.Prelude.{ℕ, ◌+◌, ◌-◌, ◌≡◌, ◌≤◌, ◌||◌, Bool, false, true, map, take, List, [], length, slice_index_or}
 use Rattle.std.specs.List.{All, Contains, filter, list_any}
 use Rattle.card_bounds.specs.Bounds.{book_amid}
 use Rattle.card_events.specs.History.{CorrectedPost, is_folded}
@@ -79,7 +79,7 @@ pub record HaveAccrued (g : Given) (day : ℕ) (b : Book) (segments : List Segme
 pub record StandFor (g : Given) (rows_by : SegmentTerms → Rows) (b : Book) (s : State) (t : Track) : Type 0 where
   pub entries : t.entries.items ≡ b.entries
   pub cycles : t.cycles.items ≡ b.cycles
-  pub fees : s.fees.items ≡ b.fees
+  pub fees : t.fees.items ≡ b.fees
   pub rates : s.rates ≡ rates_of g.shared.holidays g.history b.penalties
   pub segments : s.segments.segments ≡ account_segments g.shared.holidays g.history
   pub sums : AreBalances b.entries s.segments.balances
@@ -105,3 +105,10 @@ pub record ArePosted (g : Given) (day : ℕ) (s : State) (t : Track) : Type 0 wh
 pub record Begins (old new : Track) : Type 0 where
   pub entries : take (length old.entries.items) new.entries.items ≡ old.entries.items
   pub cycles : take (length old.cycles.items) new.cycles.items ≡ old.cycles.items
+  pub fees : take (length old.fees.items) new.fees.items ≡ old.fees.items
+
+-- a track without entries, closed cycles and fees
+pub record IsBlank (t : Track) : Type 0 where
+  pub entries : t.entries.items ≡ []
+  pub cycles : t.cycles.items ≡ []
+  pub fees : t.fees.items ≡ []

@@ -129,14 +129,15 @@ fn charge(day: Day, late: Fee, state: &mut State, track: &mut Track) -> Result<(
     requires { MayMove state.old.segments state.old.rates late.cents }
     ensures stands { OnOk result (ChargesFee day 0 (Some late) state.old.rates state.old.segments track.old.entries.items state.new.segments track.new.entries.items) }
     ensures segments { OnOk result (state.new.segments.segments ≡ state.old.segments.segments) }
-    ensures fees { OnOk result (state.new.fees.items ≡ state.old.fees.items ++ late ∷ []) }
+    ensures fees { OnOk result (track.new.fees.items ≡ track.old.fees.items ++ late ∷ []) }
     ensures rates { OnOk result (state.new.rates ≡ state.old.rates) }
     ensures rows { OnOk result (state.new.rows.items ≡ state.old.rows.items) }
     ensures accruals { OnOk result (state.new.accruals.items ≡ state.old.accruals.items) }
     ensures cycles { track.new.cycles.items ≡ track.old.cycles.items }
     ensures err { OnErr result (track.new.entries.items ≡ track.old.entries.items) }
+    ensures err_fees { OnErr result (track.new.fees.items ≡ track.old.fees.items) }
 {
-    state.fees.reserve(1)?;
+    track.fees.reserve(1)?;
     fee(
         &mut state.segments,
         &state.rates,
@@ -145,7 +146,7 @@ fn charge(day: Day, late: Fee, state: &mut State, track: &mut Track) -> Result<(
         &late,
         &mut track.entries,
     )?;
-    push_fee(&mut state.fees, late);
+    push_fee(&mut track.fees, late);
     Ok(())
 }
 
@@ -162,7 +163,7 @@ fn charge_late(
     ensures begins { Begins track.old track.new }
 {
     let _anchor = inputs.anchor();
-    if let Some(late) = fee_due(inputs, day, &state.fees, track.cycles.last()) {
+    if let Some(late) = fee_due(inputs, day, &track.fees, track.cycles.last()) {
         charge(day, late, state, track)?;
     }
     Ok(())

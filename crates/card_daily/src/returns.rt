@@ -165,8 +165,8 @@ pub(crate) fn enter_return(
     ensures left { LeavesRest result state.old state.new track.old track.new }
 {
     let _anchor = inputs.anchor();
-    let charged = fee_of(inputs, slot.day, payment, &state.fees, &track.cycles);
-    state.fees.reserve(1)?;
+    let charged = fee_of(inputs, slot.day, payment, &track.fees, &track.cycles);
+    track.fees.reserve(1)?;
     returned(
         alloc,
         &mut state.segments,
@@ -177,6 +177,6 @@ pub(crate) fn enter_return(
         &mut track.entries,
     )?;
     unpay(&mut state.rows, payment);
-    push_if_any(&mut state.fees, charged);
+    push_if_any(&mut track.fees, charged);
     Ok(())
 }

@@ -1,14 +1,16 @@
-use card_closing::{Cycle, Entry};
+use card_closing::{Cycle, Entry, Fee};
 use card_days::Day;
 use card_units::NoMemory;
 use std::alloc::Global;
 use std::marker::Model;
 
-/// What is recorded of an account: its entries and its closed cycles, each in order.
+/// What is recorded of an account: its entries, its closed cycles and the penalty fees charged so far, each in order. Each list
+/// only grows.
 #[derive(Drop)]
 pub struct Track {
     pub entries: Vec<Entry>,
     pub cycles: Vec<Cycle>,
+    pub fees: Vec<Fee>,
 }
 
 /// The statement of a closed cycle, and the day on which it is issued (12 CFR 1026.5(b)(2), .7(b)).

@@ -53,7 +53,7 @@ all-begin none h k e (t ∷ ts) = ap (λ r. r ∷ map (λ (r : Rows). none) (map
 -- ---- what a closing is given
 pub given-for : (g : Given) (day : ℕ) (s : State) (t : Track) (c : Closing) (issued : Option Cycle) (rows : List Rows) (accruals : List Accrued) (fees : List Fee)
     → IsSound g → opened_in g ≤ day → day ≤ last_request_day → day_of_month day ≡ (anchor_of g.history).close_day → ArePosted g day s t → IsOfBook c (account_in g) (seen_in g day) (posted g day)
-    → issued ≡ statement_of (row_for c.number g.issued) → rows ≡ s.rows.items → accruals ≡ s.accruals.items → fees ≡ s.fees.items
+    → issued ≡ statement_of (row_for c.number g.issued) → rows ≡ s.rows.items → accruals ≡ s.accruals.items → fees ≡ t.fees.items
     → IsGivenFor c issued s.segments rows accruals fees t.entries.items (row_in g (day - opened_in g)) s.rates.segments (is_added day) (account_in g) (seen_in g day) (posted g day)
 given-for g day s t c issued rows accruals fees sound o l e h of row er ea ef =
     let b = posted g day in
@@ -69,17 +69,17 @@ given-for g day s t c issued rows accruals fees sound o l e h of row er ea ef =
     }
 
 -- ---- with the closing
-pub record IsClosed (g : Given) (day : ℕ) (s new : State) (after : Track) : Type 0 where
+pub record IsClosed (g : Given) (day : ℕ) (s new : State) (t after : Track) : Type 0 where
   pub entries : after.entries.items ≡ (closed g day).entries
   pub cycles : after.cycles.items ≡ (closed g day).cycles
-  pub fees : new.fees ≡ s.fees
+  pub fees : after.fees ≡ t.fees
   pub rates : new.rates ≡ s.rates
   pub segments : new.segments.segments ≡ s.segments.segments
   pub sums : AreBalances after.entries.items new.segments.balances
   pub rows : new.rows.items ≡ map (λ (r : Rows). no_rows (day + 1)) s.rows.items
   pub accruals : new.accruals ≡ s.accruals
 
-pub closed-of : (g : Given) (day : ℕ) (s new : State) (t after : Track) → opened_in g ≤ day → day_of_month day ≡ (anchor_of g.history).close_day → ArePosted g day s t → IsClosed g day s new after → AreBefore g (day + 1) new after
+pub closed-of : (g : Given) (day : ℕ) (s new : State) (t after : Track) → opened_in g ≤ day → day_of_month day ≡ (anchor_of g.history).close_day → ArePosted g day s t → IsClosed g day s new t after → AreBefore g (day + 1) new after
 closed-of g day s new t after o e h n =
     let b = before g (day + 1) in
     let row = row_in g (day - opened_in g) in

@@ -19,7 +19,7 @@ use Rattle.card_segments.proofs.Sums.{sums-start}
 use Rattle.card_slots.specs.Segments.{AreUnused, account_segments}
 use Rattle.card_units.specs.Money.{daily}
 use Rattle.card_daily.specs.Given.{Given, IsSound, account_in, book_in, opened_in, seen_in}
-use Rattle.card_daily.specs.Stands.{AreBefore, HaveAccrued, StandFor, before, rows_through}
+use Rattle.card_daily.specs.Stands.{AreBefore, HaveAccrued, IsBlank, StandFor, before, rows_through}
 use Rattle.card_daily.specs.declared.state.State.{State}
 use Rattle.card_daily.specs.declared.track.Track.{Track}
 
@@ -68,7 +68,6 @@ pub record IsNew (g : Given) (s : State) : Type 0 where
   pub rates : s.rates ≡ rates_of g.shared.holidays g.history []
   pub rows : s.rows.items ≡ replicate (length s.segments.segments - 2) (no_rows (opened_in g))
   pub accruals : s.accruals.items ≡ replicate (length s.segments.segments - 2) nothing_accrued
-  pub fees : s.fees.items ≡ []
 
 count : (g : Given) (s : State) → IsNew g s → length s.segments.segments - 2 ≡ length s.rates.segments
 count g s h =
@@ -78,13 +77,13 @@ count g s h =
     let rates : length s.rates.segments ≡ length all = ap (λ (r : Rates). length r.segments) h.rates in
     omega (arith, kept, same, rates)
 
-stand : (g : Given) (s : State) (t : Track) → IsSound g → IsNew g s → t.entries.items ≡ [] → t.cycles.items ≡ [] → StandFor g (rows_through g (opened_in g) (opened_in g - 1) empty_book) empty_book s t
-stand g s t sound h entries cycles =
+stand : (g : Given) (s : State) (t : Track) → IsSound g → IsNew g s → IsBlank t → StandFor g (rows_through g (opened_in g) (opened_in g - 1) empty_book) empty_book s t
+stand g s t sound h blank =
     let first = sound.opening.first in
     record {
-      entries = entries;
-      cycles = cycles;
-      fees = h.fees;
+      entries = blank.entries;
+      cycles = blank.cycles;
+      fees = blank.fees;
       rates = h.rates;
       segments = h.segments;
       sums = subst (AreBalances []) (sym h.unused) (sums-start (length s.segments.segments));
@@ -101,10 +100,10 @@ accrued g s h =
     }
 
 -- they stand for the book of no day
-pub starts : (g : Given) (s : State) (t : Track) → IsSound g → IsNew g s → t.entries.items ≡ [] → t.cycles.items ≡ [] → AreBefore g (opened_in g) s t
-starts g s t sound h entries cycles =
+pub starts : (g : Given) (s : State) (t : Track) → IsSound g → IsNew g s → IsBlank t → AreBefore g (opened_in g) s t
+starts g s t sound h blank =
     let o = opened_in g in
     record {
-      stand = subst (λ (b : Book). StandFor g (rows_through g (first_day_of (account_in g) b) (o - 1) b) b s t) (sym (before-opening g)) (stand g s t sound h entries cycles);
+      stand = subst (λ (b : Book). StandFor g (rows_through g (first_day_of (account_in g) b) (o - 1) b) b s t) (sym (before-opening g)) (stand g s t sound h blank);
       accrued = subst (λ (b : Book). HaveAccrued g (o - 1) b s.rates.segments s.accruals.items) (sym (before-opening g)) (accrued g s h);
     }

@@ -243,7 +243,6 @@ amid-few g day s k sound o l h =
 pub record HasRow (day : ℕ) (s new : State) : Type 0 where
   pub segments : new.segments ≡ s.segments
   pub rates : new.rates ≡ s.rates
-  pub fees : new.fees ≡ s.fees
   pub balances : length s.segments.balances ≡ length s.rates.segments + 2
   pub rows : new.rows.items ≡ with_rows s.rates s.segments.balances day s.rows.items
   pub accruals : new.accruals.items ≡ with_accruals s.rates s.segments.balances day s.accruals.items
@@ -323,7 +322,7 @@ posted-of g day s new k sound o l n h =
       stand = record {
         entries = h.stand.entries;
         cycles = h.stand.cycles;
-        fees = ap (λ v. v.items) n.fees ∙ h.stand.fees;
+        fees = h.stand.fees;
         rates = n.rates ∙ h.stand.rates;
         segments = ap (λ v. v.segments) n.segments ∙ h.stand.segments;
         sums = subst (λ v. AreBalances (posted g day).entries v.balances) (sym n.segments) h.stand.sums;

@@ -1,9 +1,9 @@
 // An account before its opening day.
-ghost use Rattle.std.specs.Prelude.{◌≡◌, [], IfOk, replicate};
+ghost use Rattle.std.specs.Prelude.{◌≡◌, IfOk, replicate};
 ghost use Rattle.card_grace.specs.Accruals.{nothing_accrued};
 ghost use Rattle.card_grace.specs.Rows.{no_rows};
 ghost use Rattle.card_daily.specs.Given.{IsSound, opened_in};
-ghost use Rattle.card_daily.specs.Stands.{AreBefore};
+ghost use Rattle.card_daily.specs.Stands.{AreBefore, IsBlank};
 ghost use Rattle.card_daily.specs.declared.track.Track.{Track};
 
 use card_daily::{Inputs, State};
@@ -33,9 +33,9 @@ fn no_accruals(alloc: Global, count: usize) -> Result<Vec<Accrual>, NoMemory>
 }
 
 /// An account before its opening day: its segments with nothing owed on them, its rates, and a cycle without rows. It stands
-/// for the book without entries, beside a track without entries and cycles.
+/// for the book without entries, beside a track without entries, cycles and fees.
 pub fn start(alloc: Global, inputs: &Inputs) -> Result<State, NoMemory>
-    ensures { IfOk result (λ s. (t : Track) → t.entries.items ≡ [] → t.cycles.items ≡ [] → AreBefore inputs.now (opened_in inputs.now) s t) }
+    ensures { IfOk result (λ s. (t : Track) → IsBlank t → AreBefore inputs.now (opened_in inputs.now) s t) }
 {
     let opened = inputs.anchor().opened;
     let segments = segments_of(alloc, inputs.posts())?;
@@ -45,7 +45,6 @@ pub fn start(alloc: Global, inputs: &Inputs) -> Result<State, NoMemory>
         rates: RateBook::of(alloc, inputs.posts())?,
         rows: empty_rows(alloc, count, opened)?,
         accruals: no_accruals(alloc, count)?,
-        fees: Vec::new(alloc),
     })
 }
 

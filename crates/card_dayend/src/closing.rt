@@ -214,7 +214,7 @@ fn close_cycle(
         issued,
         &state.rows,
         &state.accruals,
-        &state.fees,
+        &track.fees,
         &mut track.entries,
     )?;
     track.cycles.push(cycle)?;

@@ -7,7 +7,8 @@ use Rattle.card_book.proofs.Told.{small-on, sums-on, whole-is}
 use Rattle.card_book.proofs.from_opening.fold_counted.Goals as goal
 
 pub advance-requires-clause-stands : goal.advance-requires-clause-stands
-advance-requires-clause-stands g c = c.in_ok-book.ensures.stands (record { entries = c.new.result; cycles = c.new-2.result }) c.new.ensures.items c.new-2.ensures.items
+advance-requires-clause-stands g c = c.in_ok-book.ensures.stands (record { entries = c.new.result; cycles = c.new-2.result; fees = c.new-3.result })
+    (record { entries = c.new.ensures.items; cycles = c.new-2.ensures.items; fees = c.new-3.ensures.items })
 
 pub invariant_of-result : goal.invariant_of-result
 invariant_of-result g c =

@@ -4,7 +4,7 @@ use Rattle.card_model.specs.Cycles.{Cycle}
 use Rattle.card_daily.proofs.Books.{before-small}
 use Rattle.card_daily.proofs.DueDay.{begun, fee-few, fee-front}
 use Rattle.card_daily.proofs.Lasts.{last-get}
-use Rattle.card_daily.proofs.Standing.{before-lies, begins-same, rated, stands, within}
+use Rattle.card_daily.proofs.Standing.{before-lies, begins-same, begins-with, rated, stands, within}
 use Rattle.card_daily.specs.Given.{Given, IsSound, account_in, opened_in, seen_in}
 use Rattle.card_daily.specs.Stands.{AreBefore, before}
 use Rattle.card_daily.specs.declared.state.State.{State}
@@ -75,6 +75,7 @@ returns-in_ok-charge-clause-begins c =
     record {
       entries = subst (λ es. take (length es) c.charge.new.track.entries.items ≡ es) (sym c.requires.before.stand.entries) (ap (take (length (before g day).entries)) at.same ∙ fee-front (account_in g) (seen_in g day) 0 c.in-Some.late (before g day));
       cycles = begins-same t.cycles.items c.charge.new.track.cycles.items c.charge.ensures.cycles;
+      fees = begins-with t.fees.items c.charge.new.track.fees.items (c.in-Some.late ∷ []) did.fees;
     }
 
 pub returns-in_default-clause-charged : goal.returns-in_default-clause-charged

@@ -23,4 +23,4 @@ returns-clause-amid c =
     let old = ap (λ (r : Rates). r.penalties) h.stand.rates ∙ charged-penalties g day in
     let ps = ap (λ (cs : List Cycle). cured_on (seen_in g day) cs (last_cycle cs) s.rates.penalties) cycles ∙ ap (cured_on (seen_in g day) (before g day).cycles (last_cycle (before g day).cycles)) old in
     ended g day s _ c.charge_late.new.track c.requires.dated.opened h
-    (record { segments = refl; rates = c.end_penalties.ensures ∙ ap (λ (is : List Interval). with_penalties is s.rates) ps; rows = refl; accruals = refl; fees = refl })
+    (record { segments = refl; rates = c.end_penalties.ensures ∙ ap (λ (is : List Interval). with_penalties is s.rates) ps; rows = refl; accruals = refl })

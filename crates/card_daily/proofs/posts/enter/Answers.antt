@@ -121,7 +121,6 @@ returns-in-Penalty-clause-amid c =
       rates = rates ∙ ap (λ (is : List Interval). with_penalties is s.rates) (alike s.rates.penalties (ap (λ (r : Rates). r.penalties) h.stand.rates));
       rows = refl;
       accruals = refl;
-      fees = refl;
     }))
 
 pub returns-in-None-clause-amid : goal.returns-in-None-clause-amid

@@ -15,7 +15,7 @@ returns-clause-stands c on cents issued first returned rows_by p b l is h =
     let day = c.args.slot.now.day in
     let following = c.following_closing.ensures (account_in g) (sym c.anchor-anchor.ensures.value) in
     let at = c.in_ok-parts.ensures.stands on cents issued (account_in g) (seen_in g day) p b h.at is following in
-    let new : State = record { segments = c.credit.new.segments; rates = c.args.state.now.rates; rows = with_items c.args.state.now.rows c.repay.new.rows; accruals = c.args.state.now.accruals; fees = c.args.state.now.fees } in
-    let after : Track = record { entries = c.credit.new.out; cycles = c.args.track.now.cycles } in
+    let new : State = record { segments = c.credit.new.segments; rates = c.args.state.now.rates; rows = with_items c.args.state.now.rows c.repay.new.rows; accruals = c.args.state.now.accruals } in
+    let after : Track = record { entries = c.credit.new.out; cycles = c.args.track.now.cycles; fees = c.args.track.now.fees } in
     repaid-stand kind.Credit (account_in g) (seen_in g day) first returned rows_by b _ c.args.state.now new c.args.track.now after c.args.slot.now c.in_ok-parts.parts c.deref_mut.result.now c.repay.new.rows c.requires.asked.rated.numbers l refl h at refl refl (credit-fees issued (account_in g) (seen_in g day) p b on cents c.args.place.now) c.in_ok-parts.ensures.entries c.in_ok-repay.ensures.repaid c.deref_mut.ensures.value
     (with_items_is c.args.state.now.rows c.repay.new.rows (omega (arith, c.repay.auto.rows, ap (λ (rs : List Rows). length rs) c.deref_mut.ensures.value, c.args.state.now.rows.ok.0)))

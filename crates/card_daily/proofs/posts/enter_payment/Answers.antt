@@ -32,7 +32,7 @@ returns-clause-stands c on minute cents by issued first returned rows_by p b un 
     ∙ ap (λ (cs : List Cycle). pos (min p.cents (minimum_left (seen_in g day) p (last_cycle cs)))) (sym un.cycles)) in
     let following = c.following_closing.ensures (account_in g) (sym c.anchor-anchor.ensures.value) in
     let at = c.in_ok-parts.ensures.stands on minute cents by issued (account_in g) (seen_in g day) p b h.at is (record { following = following; minimum = part }) in
-    let new : State = record { segments = c.payment.new.segments; rates = c.args.state.now.rates; rows = with_items c.args.state.now.rows c.repay.new.rows; accruals = c.args.state.now.accruals; fees = c.args.state.now.fees } in
-    let after : Track = record { entries = c.payment.new.out; cycles = c.args.track.now.cycles } in
+    let new : State = record { segments = c.payment.new.segments; rates = c.args.state.now.rates; rows = with_items c.args.state.now.rows c.repay.new.rows; accruals = c.args.state.now.accruals } in
+    let after : Track = record { entries = c.payment.new.out; cycles = c.args.track.now.cycles; fees = c.args.track.now.fees } in
     repaid-stand kind.Payment (account_in g) (seen_in g day) first returned rows_by b _ c.args.state.now new c.args.track.now after c.args.slot.now c.in_ok-parts.parts c.deref_mut.result.now c.repay.new.rows c.requires.asked.rated.numbers un.begun (ap not (ap returned (sym number) ∙ un.stands)) h at refl refl (payment-fees issued (account_in g) (seen_in g day) p b on minute cents by) c.in_ok-parts.ensures.entries c.in_ok-repay.ensures.repaid c.deref_mut.ensures.value
     (with_items_is c.args.state.now.rows c.repay.new.rows (omega (arith, c.repay.auto.rows, ap (λ (rs : List Rows). length rs) c.deref_mut.ensures.value, c.args.state.now.rows.ok.0)))

@@ -10,7 +10,7 @@ loop-place-init c =
     let first = place-is g c.args.day c.first_place-first.result c.posts-posts.result.now c.posts-posts.ensures.stands c.posts-posts.ensures.history (c.first_place-first.ensures.place g.shared.holidays c.posts-posts.ensures.stands) in
     record {
       amid = subst (λ done. AreAmid g c.args.day done c.args.state.now c.args.track.now) (done-none g c.args.day c.first_place-first.result first) c.requires.amid;
-      begins = begins-kept c.args.track.now c.args.track.now refl refl;
+      begins = begins-kept c.args.track.now c.args.track.now refl refl refl;
     }
 
 pub enter-requires-clause-from : goal.enter-requires-clause-from

@@ -26,8 +26,8 @@ returns-clause-stands c first gone rows_by p b on cycles credits those is h =
     let charged = c.fee_of-charged.result in
     let fee = c.fee_of-charged.ensures b (cycles ∙ sym (c.deref-2.ensures.value ∙ c.requires.closed.cycles)) (sym (c.deref.ensures.value ∙ h.fees)) in
     let at = c.in_ok-returned.ensures.stands on row (account_in g) (seen_in g day) p b h.at is (record { those = those; fee = fee }) in
-    let new : State = record { segments = c.returned.new.segments; rates = c.args.state.now.rates; rows = with_items c.args.state.now.rows c.unpay.new.rows; accruals = c.args.state.now.accruals; fees = c.push_if_any.new.list } in
-    let after : Track = record { entries = c.returned.new.out; cycles = c.args.track.now.cycles } in
+    let new : State = record { segments = c.returned.new.segments; rates = c.args.state.now.rates; rows = with_items c.args.state.now.rows c.unpay.new.rows; accruals = c.args.state.now.accruals } in
+    let after : Track = record { entries = c.returned.new.out; cycles = c.args.track.now.cycles; fees = c.push_if_any.new.list } in
     let rows = with_items_is c.args.state.now.rows c.unpay.new.rows (omega (arith, c.unpay.auto.rows, ap (λ (rs : List Rows). length rs) c.deref_mut.ensures.value, c.args.state.now.rows.ok.0)) in
     return-stand row (account_in g) (seen_in g day) first gone rows_by p b on c.args.payment c.args.state.now new c.args.track.now after charged h at fee
     (record {

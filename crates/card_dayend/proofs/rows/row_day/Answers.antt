@@ -38,5 +38,5 @@ pub returns : goal.returns
 returns c = record {
   posted = λ g t sound opened amid.
       posted-of g c.args.day c.args.state.now _ t sound opened c.requires.last
-      (record { segments = refl; rates = refl; fees = refl; balances = c.accrue_all.ensures.balances; rows = c.in_ok-add_rows.ensures; accruals = c.accrue_all.ensures.accruals }) amid;
+      (record { segments = refl; rates = refl; balances = c.accrue_all.ensures.balances; rows = c.in_ok-add_rows.ensures; accruals = c.accrue_all.ensures.accruals }) amid;
 }

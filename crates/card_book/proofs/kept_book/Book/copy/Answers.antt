@@ -7,4 +7,4 @@ pub returns-clause-stands : goal.returns-clause-stands
 returns-clause-stands c g t h =
     let i = subst (λ s. StandsFor g s t) (sym c.self.view_is) h in
     let did = c.in_ok-copy_state.ensures in
-    copy-stands g _ c.in_ok-copy_state.field-0 t (record { segments = did.segments; rates = did.rates; rows = did.rows; accruals = did.accruals; fees = did.fees }) i
+    copy-stands g _ c.in_ok-copy_state.field-0 t (record { segments = did.segments; rates = did.rates; rows = did.rows; accruals = did.accruals }) i
