@@ -3,7 +3,7 @@ ghost use Rattle.std.specs.Prelude.{◌≡◌, ◌+◌, ◌<◌, ◌≤◌, [], 
 ghost use Rattle.card_days.specs.Range.{last_request_day};
 ghost use Rattle.card_cases.specs.Account.{IsOfAccount};
 ghost use Rattle.card_daily.specs.Given.{opened_in};
-ghost use Rattle.card_daily.specs.Stands.{AreBefore};
+ghost use Rattle.card_daily.specs.Stands.{AreBefore, IsBlank};
 ghost use Rattle.card_posts.specs.Posted.{StandsFor, last_accepted};
 ghost use Rattle.card_book.specs.Stands as kept;
 
@@ -34,12 +34,12 @@ fn inputs<'a>(posts: &'a Posts, shared: &'a SharedRows) -> Inputs<'a>
 }
 
 fn no_track(alloc: Global) -> Track
-    ensures entries { result.entries.items ≡ [] }
-    ensures cycles { result.cycles.items ≡ [] }
+    ensures blank { IsBlank result }
 {
     Track {
         entries: Vec::new(alloc),
         cycles: Vec::new(alloc),
+        fees: Vec::new(alloc),
     }
 }
 
@@ -125,8 +125,7 @@ fn advance<L: Ledger>(
     steps: &mut Steps<L>,
 ) -> Result<Book, NoMemory>
     requires opened { opened_in inputs.now ≡ 19_728 }
-    requires entries { track.old.entries.items ≡ [] }
-    requires cycles { track.old.cycles.items ≡ [] }
+    requires blank { IsBlank track.old }
     ensures stands { IfOk result (λ b. kept.StandsFor inputs.now b track.new) }
 {
     let mut book = Book::start(alloc, inputs)?;
@@ -146,8 +145,7 @@ fn advance_alone<L: Ledger>(
     requires parts { blank.parts ≡ L.parts }
     requires some { 0 < blank.parts }
     requires opened { opened_in inputs.now ≡ 19_728 }
-    requires entries { track.old.entries.items ≡ [] }
-    requires cycles { track.old.cycles.items ≡ [] }
+    requires blank { IsBlank track.old }
     ensures stands { IfOk result (λ b. kept.StandsFor inputs.now b track.new) }
 {
     let mut steps = Steps::<L>::new(blank);
