@@ -7,10 +7,13 @@ mod command;
 mod end;
 mod ended;
 mod handle;
+mod import;
 mod item;
 pub mod laws;
+mod load;
 mod progress;
 mod run;
+mod tell;
 mod write;
 
 pub use call::billctl;
