@@ -1,21 +1,17 @@
 -- How a run ends, from what its bytes came to.
-use Rattle.std.proofs.Common.{◌≡◌, ℕ, ◌-◌, ◌^◌, Bool, true, false, ◌⊎◌, inl, inr, List, [], ◌++◌, take, refl, ap, sym, ◌∙◌, subst, append-nil, Option, None, Some, Result, Ok, Err}
+use Rattle.std.proofs.Common.{◌≡◌, ℕ, ◌-◌, ◌^◌, Bool, true, false, ◌⊎◌, inl, inr, List, [], ◌++◌, take, ap, sym, ◌∙◌, subst, append-nil, Option, Result, Ok, Err}
 use Rattle.std.specs.Io.KnownBytes.{Appends, Consumes, IsAtEnd}
 use Rattle.std.specs.Prelude.{IfOk, IfErr}
-use Rattle.card_keeper.specs.Rows.{AddsRows, KeepsRows}
-use Rattle.card_keeper.specs.declared.row.Row.{Row}
+use Rattle.card_keeper.specs.Rows.{AddsRows}
 use Rattle.card_model.specs.Machine.{State}
 use Rattle.card_ports.specs.Bytes.{IsFront}
-use Rattle.card_ports.specs.Counts.{Rose}
 use Rattle.billctl.specs.Commands.{ended_by, ended_of}
 use Rattle.billctl.specs.Feed.{Progress, feed_all, text_all, rows_all, new_run, end_text, end_rows, end_refused}
 use Rattle.billctl.specs.Input.{ended_items, all_items, lines}
-use Rattle.billctl.specs.Outside.{Outside, Outcome, ReadFirst, ReadAll, Wrote, WroteFront, Runs, HasCause, Unfailed, but_last, sides_of, AreFirst}
+use Rattle.billctl.specs.Outside.{Outside, ReadFirst, ReadAll, Wrote, WroteFront, Runs, HasCause, Unfailed, but_last, sides_of, AreFirst}
 use Rattle.billctl.specs.Ran.{Finished, HeldAt, StoppedAt, Ran, FellReading}
 use Rattle.billctl.specs.Run.{text_of, rows_kept}
 use Rattle.billctl.specs.Written.{TookFront, TookBetween, Did, DidPart, SameCounts, FellIn}
-use Rattle.billctl.specs.declared.command.Command.{Command}
-use Rattle.billctl.specs.declared.command.Command.TheVariants as command
 use Rattle.billctl.specs.declared.end.End.{End}
 use Rattle.billctl.specs.declared.end.End.TheVariants as end
 use Rattle.billctl.specs.declared.ended.Ended.{Ended}
@@ -23,7 +19,7 @@ use Rattle.billctl.specs.declared.ended.Ended.TheVariants as ended
 use Rattle.card_import.specs.declared.item.Item.{Item}
 use Rattle.billctl.proofs.ApplyLemmas.{text_is, rows_are, whole_text, whole_rows, whole_refused, first_items, all_first, OneMore, one_byte, low_front, last_more, none_more}
 use Rattle.billctl.proofs.FeedLemmas.{cause_of, cause_after}
-use Rattle.billctl.proofs.RowLemmas.{AddsRows-trans, kept_then}
+use Rattle.billctl.proofs.RowLemmas.{AddsRows-trans}
 use Rattle.billctl.proofs.SideLemmas.{front_trans, front_refl, took_whole, took_part, did_then, counts_then}
 
 -- ---- the bytes that were read were handled

@@ -1,6 +1,5 @@
 -- A run over the records of an input.
-use Rattle.std.proofs.Common.{◌≡◌, ℕ, ◌+◌, ◌-◌, ◌^◌, ◌<◌, ◌≤◌, Bool, true, false, ◌||◌, ◌⊎◌, inl, inr, Ok, List, [], ◌∷◌, ◌++◌, length, slice_get, drop, refl, ap, sym, ◌∙◌, subst, arith, append_assoc, append-nil, length-append, Option, None, Some}
-use Rattle.std.specs.Io.KnownBytes.{Appends, Consumes, IsAtEnd}
+use Rattle.std.proofs.Common.{◌≡◌, ℕ, ◌+◌, ◌<◌, Bool, true, false, ◌||◌, ◌⊎◌, inl, inr, Ok, List, [], ◌∷◌, ◌++◌, length, slice_get, drop, refl, ap, sym, ◌∙◌, subst, arith, append_assoc, append-nil, length-append, Option, None, Some}
 use Rattle.std.proofs.KnownBytes.{Appends-nil, Consumes-nil, Consumes-trans}
 use Rattle.card_desk.specs.Kept.{Fits}
 use Rattle.card_import.specs.Import.{items_of_bytes}
@@ -15,17 +14,17 @@ use Rattle.billctl.specs.Commands.{ended_by, ended_of}
 use Rattle.billctl.specs.Feed.{Run}
 use Rattle.billctl.specs.Imported.{SourceSide, source_of, HasTaken, TookMore, TookAllLeft, FellInPiece, FellTaking, HandledAll, DidFront, FellAmong}
 use Rattle.billctl.specs.Input.{records}
-use Rattle.billctl.specs.Outside.{Outside, AreFirst, Wrote, WroteFront, Runs, HasCause, sides_of}
+use Rattle.billctl.specs.Outside.{Outside, AreFirst, Runs, HasCause, sides_of}
 use Rattle.billctl.specs.Ran.{Handled}
 use Rattle.billctl.specs.Run.{after, text_of, rows_kept, any_refused}
 use Rattle.billctl.specs.Written.{Sides, Did, DidPart, SameCounts, FellIn}
 use Rattle.billctl.specs.declared.end.End.{End}
 use Rattle.billctl.specs.declared.end.End.TheVariants as end
 use Rattle.billctl.specs.declared.ended.Ended.{Ended}
-use Rattle.billctl.proofs.ApplyLemmas.{text_of-append, rows_kept-append, any_refused-append, or_assoc, or_false, all_first, OneMore, low_front, none_more}
-use Rattle.billctl.proofs.FeedLemmas.{cause_of, kept_is_consumed}
-use Rattle.billctl.proofs.RowLemmas.{AddsRows-nil, AddsRows-trans}
-use Rattle.billctl.proofs.SideLemmas.{front_refl, front_none, front_trans, took_whole, took_part, did_none, did_then, did_same, counts_refl, counts_then, failed_after}
+use Rattle.billctl.proofs.ApplyLemmas.{text_of-append, rows_kept-append, any_refused-append, or_assoc, or_false, OneMore, low_front, none_more}
+use Rattle.billctl.proofs.FeedLemmas.{cause_of}
+use Rattle.billctl.proofs.RowLemmas.{AddsRows-trans}
+use Rattle.billctl.proofs.SideLemmas.{front_trans, took_whole, took_part, did_none, did_then, did_same, counts_refl, counts_then, failed_after}
 
 -- ---- reading
 

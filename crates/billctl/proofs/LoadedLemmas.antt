@@ -1,23 +1,19 @@
 -- What a command comes to from the ledger that the kept rows gave.
-use Rattle.std.proofs.Common.{◌≡◌, ℕ, ◌⊎◌, inl, inr, List, [], ap, refl, sym, ◌∙◌, subst, Option, None, Some}
-use Rattle.std.specs.Io.KnownBytes.{Appends}
-use Rattle.std.proofs.KnownBytes.{Appends-nil}
+use Rattle.std.proofs.Common.{◌≡◌, ℕ, ◌⊎◌, inl, inr, List, ◌∙◌, subst, Option, None, Some}
 use Rattle.card_desk.specs.Views.{seen}
 use Rattle.card_desk.specs.declared.view.Ask.TheVariants as ask
 use Rattle.card_keeper.specs.Rows.{KeepsRows}
-use Rattle.card_keeper.specs.declared.row.Row.{Row}
 use Rattle.card_model.specs.Machine.{State}
 use Rattle.card_ports.specs.Counts.{Rose}
 use Rattle.billctl.specs.Input.{Cut, lines, records}
 use Rattle.billctl.specs.Outside.{Outside, Outcome, Runs, HasCause, Unfailed, Loads, Views, Ends, sides_of, work_text}
-use Rattle.billctl.specs.Views.{GaveLedger, GaveNone, Loaded, NotLoaded, SidesFailed, SinkEnded, Tells, Told, Viewed, view_told}
-use Rattle.billctl.specs.Written.{SinkSide, Sides, SameCounts}
+use Rattle.billctl.specs.Views.{GaveLedger, GaveNone, Loaded, NotLoaded, SidesFailed, Tells, Viewed, view_told}
+use Rattle.billctl.specs.Written.{SinkSide, Sides}
 use Rattle.billctl.specs.declared.command.Command.{Command}
 use Rattle.billctl.specs.declared.command.Command.TheVariants as command
 use Rattle.billctl.specs.declared.ended.Ended.{Ended}
 use Rattle.billctl.specs.declared.ended.Ended.TheVariants as ended
 use Rattle.billctl.proofs.RowLemmas.{kept_then}
-use Rattle.billctl.proofs.SideLemmas.{front_none}
 
 -- ---- a run from a keeper that was loaded
 
@@ -137,48 +133,3 @@ viewed_loads old new text e same keeps (inr some) = ((same, keeps), inr some)
 pub work_outcome : {I K : Type 0} (old new : Outside I K) (e : Ended) → new.input ≡ old.input → new.source_faults ≡ old.source_faults → Viewed (sides_of old) (sides_of new) (λ s. view_told (seen s ask.Work)) e → Outcome old new (Some command.Work) e
 unfolding Ends seen work_text
 work_outcome old new e same count viewed = record { ends = viewed_loads old new work_text e same viewed.rows viewed.ends; cause = viewed_cause old new _ e count viewed }
-
--- the ledger was loaded, and then its text told
-pub told_viewed : (a b : Sides) (c : SinkSide) (text : State → Option (List ℕ)) (told : Option (List ℕ)) (s : State) (e : Ended) → GaveLedger a b s → told ≡ text s → Told b.sink c told e → Viewed a (record { sink = c; keeper = b.keeper }) text e
-told_viewed a b c text told s e gave is did = record {
-  ends = inr (record { ledger = s; loaded = gave.loaded; ran = subst (λ (x : Option (List ℕ)). Tells x c.taken e (text s)) (ap (λ (x : SinkSide). x.taken) gave.sink) (subst (Tells b.sink.taken c.taken e) is did.ends) });
-  rows = gave.rows;
-  cause = sink_cause e (ap (λ (x : SinkSide). x.faults) gave.sink) did.ends did.cause;
-}
-  where
-    same : b.sink.faults ≡ a.sink.faults → c.faults ≡ b.sink.faults → SameCounts a (record { sink = c; keeper = b.keeper })
-    same was is = record { sink = is ∙ was; keeper = gave.count }
-
-    sink_cause : (e : Ended) → b.sink.faults ≡ a.sink.faults → Tells b.sink.taken c.taken e told → SinkEnded b.sink c e → SidesFailed a (record { sink = c; keeper = b.keeper }) e
-    sink_cause ended.Done was did cause = same was cause
-    sink_cause ended.Refused was did cause = same was cause
-    sink_cause ended.Usage was did cause = same was cause
-    sink_cause ended.Source was did cause = same was cause
-    sink_cause ended.Sink was did cause = subst (λ (n : ℕ). Rose n c.faults) was cause
-    sink_cause ended.Keeper was did cause = absurd (no_keeper told did)
-      where
-        no_keeper : (text : Option (List ℕ)) → Tells b.sink.taken c.taken ended.Keeper text → ⊥
-        no_keeper None did = did
-        no_keeper (Some t) did = did
-    sink_cause ended.Memory was did cause = same was cause
-    sink_cause ended.Damaged was did cause = tt
-    sink_cause ended.Endless was did cause = same was cause
-
--- memory was wanted for the text
-pub untold_viewed : (a b : Sides) (text : State → Option (List ℕ)) (s : State) → GaveLedger a b s → Viewed a b text ended.Memory
-untold_viewed a b text s gave = record {
-  ends = inr (record { ledger = s; loaded = gave.loaded; ran = of_text (text s) });
-  rows = gave.rows;
-  cause = record { sink = ap (λ (x : SinkSide). x.faults) gave.sink; keeper = gave.count };
-}
-  where
-    none : Appends a.sink.taken b.sink.taken []
-    none = subst (λ (x : SinkSide). Appends a.sink.taken x.taken []) (sym gave.sink) (Appends-nil a.sink.taken)
-
-    of_text : (t : Option (List ℕ)) → Tells a.sink.taken b.sink.taken ended.Memory t
-    of_text None = record { bytes = []; taken = none; front = front_none _ }
-    of_text (Some t) = record { bytes = []; taken = none; front = front_none _ }
-
--- no ledger was loaded
-pub none_viewed : (a b : Sides) (text : State → Option (List ℕ)) (e : Ended) → GaveNone a b e → Viewed a b text e
-none_viewed a b text e none = record { ends = inl none.ends; rows = none.rows; cause = none.cause }

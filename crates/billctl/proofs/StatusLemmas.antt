@@ -3,7 +3,7 @@ use Rattle.std.proofs.Common.{◌≡◌, ℕ, inl, inr, List, [], ◌∷◌, ref
 use Rattle.card_model.specs.Machine.{State}
 use Rattle.billctl.specs.Commands.{status_of, statuses_of, run_statuses, IsOneOf}
 use Rattle.billctl.specs.Input.{Cut, lines, records}
-use Rattle.billctl.specs.Outside.{Outside, Outcome, Runs, NoCommand, Loads, Views, Ends, sides_of, work_text}
+use Rattle.billctl.specs.Outside.{Outside, Outcome, Runs, NoCommand, Loads, Ends, sides_of, work_text}
 use Rattle.billctl.specs.Views.{NotLoaded, Tells}
 use Rattle.billctl.specs.Written.{Sides}
 use Rattle.billctl.specs.declared.command.Command.{Command}

@@ -1,7 +1,6 @@
 -- What a call finds outside and leaves there, and what the one has to do with the other.
-use Rattle.std.specs.Prelude.{◌≡◌, ◌⊎◌, ℕ, ◌-◌, Bool, true, false, List, [], ◌++◌, length, take, Option, Some, None, ⊤}
+use Rattle.std.specs.Prelude.{◌≡◌, ◌⊎◌, ℕ, ◌-◌, Bool, true, false, List, ◌++◌, length, take, Option, Some, None, ⊤}
 use Rattle.std.specs.Io.KnownBytes.{Appends, Consumes, IsAtEnd}
-use Rattle.card_desk.specs.Kept.{IsLoadedOf}
 use Rattle.card_text.specs.Tasks.{tasks_text}
 use Rattle.card_model.specs.Work.{work}
 use Rattle.card_keeper.specs.Rows.{AddsRows, KeepsRows}

@@ -14,7 +14,11 @@ use itoa::Buffer;
 use std::alloc::Global;
 
 /// The desk that the kept rows give. Where they give none, how the call ends; damaged rows are named.
-pub fn load<O: Sink, K: Keeper>(alloc: Global, output: &mut O, keeper: &mut K) -> Result<Desk, Ended>
+pub fn load<O: Sink, K: Keeper>(
+    alloc: Global,
+    output: &mut O,
+    keeper: &mut K,
+) -> Result<Desk, Ended>
     ensures ok { let at = sides O.taken O.faults K.rows K.faults in
         IfOk result (λ desk. GaveLedger (at output.old keeper.old) (at output.new keeper.new) desk.state) }
     ensures err { let at = sides O.taken O.faults K.rows K.faults in

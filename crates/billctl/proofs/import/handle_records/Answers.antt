@@ -1,6 +1,4 @@
 use Rattle.std.proofs.Common.{◌≡◌, [], ◌∷◌, ◌++◌, Some, slice_get, ap, sym, ◌∙◌}
-use Rattle.card_import.specs.declared.item.Item.{Item}
-use Rattle.card_import.specs.Import.{items_of_bytes}
 use Rattle.billctl.proofs.ImportLemmas.{fell_before, fell_between, fell_item, handled_more, handled_none, left_more}
 use Rattle.billctl.proofs.import.handle_records.Goals as goal
 
