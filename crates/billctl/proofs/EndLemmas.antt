@@ -1,29 +1,25 @@
 -- How a run ends, from what its bytes came to.
-use Rattle.std.proofs.Common.{◌≡◌, ℕ, ◌-◌, ◌^◌, Bool, true, false, ◌⊎◌, inl, inr, List, [], ◌++◌, take, refl, ap, sym, ◌∙◌, subst, append-nil, Option, None, Some, Result, Ok, Err}
+use Rattle.std.proofs.Common.{◌≡◌, ℕ, ◌-◌, ◌^◌, Bool, true, false, ◌⊎◌, inl, inr, List, [], ◌++◌, take, ap, sym, ◌∙◌, subst, append-nil, Option, Result, Ok, Err}
 use Rattle.std.specs.Io.KnownBytes.{Appends, Consumes, IsAtEnd}
 use Rattle.std.specs.Prelude.{IfOk, IfErr}
-use Rattle.card_keeper.specs.Rows.{AddsRows, KeepsRows}
-use Rattle.card_keeper.specs.declared.row.Row.{Row}
+use Rattle.card_keeper.specs.Rows.{AddsRows}
 use Rattle.card_model.specs.Machine.{State}
 use Rattle.card_ports.specs.Bytes.{IsFront}
-use Rattle.card_ports.specs.Counts.{Rose}
-use Rattle.billctl.specs.Commands.{ended_by, ended_of, status_of, statuses_of, IsOneOf}
+use Rattle.billctl.specs.Commands.{ended_by, ended_of}
 use Rattle.billctl.specs.Feed.{Progress, feed_all, text_all, rows_all, new_run, end_text, end_rows, end_refused}
 use Rattle.billctl.specs.Input.{ended_items, all_items, lines}
-use Rattle.billctl.specs.Outside.{Outside, Outcome, ReadFirst, ReadAll, Wrote, WroteFront, Runs, HasCause, Unfailed, NotLoaded, NoCommand, Loads, Loaded, Ends, but_last, sides_of, AreFirst}
+use Rattle.billctl.specs.Outside.{Outside, ReadFirst, ReadAll, Wrote, WroteFront, Runs, HasCause, Unfailed, but_last, sides_of, AreFirst}
 use Rattle.billctl.specs.Ran.{Finished, HeldAt, StoppedAt, Ran, FellReading}
 use Rattle.billctl.specs.Run.{text_of, rows_kept}
 use Rattle.billctl.specs.Written.{TookFront, TookBetween, Did, DidPart, SameCounts, FellIn}
-use Rattle.billctl.specs.declared.command.Command.{Command}
-use Rattle.billctl.specs.declared.command.Command.TheVariants as command
 use Rattle.billctl.specs.declared.end.End.{End}
 use Rattle.billctl.specs.declared.end.End.TheVariants as end
 use Rattle.billctl.specs.declared.ended.Ended.{Ended}
 use Rattle.billctl.specs.declared.ended.Ended.TheVariants as ended
-use Rattle.billctl.specs.declared.item.Item.{Item}
+use Rattle.card_import.specs.declared.item.Item.{Item}
 use Rattle.billctl.proofs.ApplyLemmas.{text_is, rows_are, whole_text, whole_rows, whole_refused, first_items, all_first, OneMore, one_byte, low_front, last_more, none_more}
 use Rattle.billctl.proofs.FeedLemmas.{cause_of, cause_after}
-use Rattle.billctl.proofs.RowLemmas.{AddsRows-trans, kept_then}
+use Rattle.billctl.proofs.RowLemmas.{AddsRows-trans}
 use Rattle.billctl.proofs.SideLemmas.{front_trans, front_refl, took_whole, took_part, did_then, counts_then}
 
 -- ---- the bytes that were read were handled
@@ -198,101 +194,3 @@ ended_cause old mid new s q n r e is ran same ok err = subst (λ (y : Ended). Ha
 pub endless_cause : {I K : Type 0} (old new : Outside I K) (s : State) (q : Progress) (n : ℕ) → Ran old new (new_run s) q n → HasCause old new ended.Endless
 unfolding HasCause
 endless_cause old new s q n ran = record { source = ran.source_count; sides = ran.fed.counts }
-
--- ---- a run from a keeper that was loaded
-
--- the keeper after the load
-abbrev pub reloaded : {I K : Type 0} → Outside I K → K → Option (List Row) → ℕ → Outside I K
-reloaded old k rows faults = record old { keeper = k; rows = rows; keeper_faults = faults }
-
-pub loaded_run : {I K : Type 0} (old new : Outside I K) (k : K) (rows : Option (List Row)) (faults : ℕ) (s : State) (e : Ended) → KeepsRows old.rows rows → Runs (reloaded old k rows faults) new lines s e → Runs old new lines s e
-loaded_run old new k rows faults s ended.Done keeps ran =
-    record { bytes = ran.bytes; read = ran.read; stands = (ran.stands.0, (ran.stands.1.0, kept_then old.rows rows new.rows _ keeps ran.stands.1.1), ran.stands.2) }
-loaded_run old new k rows faults s ended.Refused keeps ran =
-    record { bytes = ran.bytes; read = ran.read; stands = (ran.stands.0, (ran.stands.1.0, kept_then old.rows rows new.rows _ keeps ran.stands.1.1), ran.stands.2) }
-loaded_run old new k rows faults s ended.Usage keeps ran = absurd ran
-loaded_run old new k rows faults s ended.Source keeps ran = record { bytes = ran.bytes; read = ran.read; stands = (ran.stands.0, kept_then old.rows rows new.rows _ keeps ran.stands.1) }
-loaded_run old new k rows faults s ended.Sink keeps ran =
-    record { bytes = ran.bytes; read = ran.read; stands = (ran.stands.0, ran.stands.1, (ran.stands.2.0, kept_then old.rows rows new.rows _ keeps ran.stands.2.1)) }
-loaded_run old new k rows faults s ended.Keeper keeps ran =
-    record { bytes = ran.bytes; read = ran.read; stands = (ran.stands.0, ran.stands.1, (ran.stands.2.0, kept_then old.rows rows new.rows _ keeps ran.stands.2.1)) }
-loaded_run old new k rows faults s ended.Memory keeps ran =
-    record { bytes = ran.bytes; read = ran.read; stands = (ran.stands.0, ran.stands.1, (ran.stands.2.0, kept_then old.rows rows new.rows _ keeps ran.stands.2.1)) }
-loaded_run old new k rows faults s ended.Damaged keeps ran = absurd ran
-loaded_run old new k rows faults s ended.Endless keeps ran =
-    record { bytes = ran.bytes; read = ran.read; stands = (ran.stands.0, (ran.stands.1.0, kept_then old.rows rows new.rows _ keeps ran.stands.1.1)) }
-
-loaded_unfailed : {I K : Type 0} (old new : Outside I K) (k : K) (rows : Option (List Row)) (faults : ℕ) → faults ≡ old.keeper_faults → Unfailed (reloaded old k rows faults) new → Unfailed old new
-loaded_unfailed old new k rows faults same un = record { source = un.source; sides = record { sink = un.sides.sink; keeper = un.sides.keeper ∙ same } }
-
-pub loaded_cause : {I K : Type 0} (old new : Outside I K) (k : K) (rows : Option (List Row)) (faults : ℕ) (e : Ended) → faults ≡ old.keeper_faults → HasCause (reloaded old k rows faults) new e → HasCause old new e
-unfolding HasCause
-loaded_cause old new k rows faults ended.Done same cause = loaded_unfailed old new k rows faults same cause
-loaded_cause old new k rows faults ended.Refused same cause = loaded_unfailed old new k rows faults same cause
-loaded_cause old new k rows faults ended.Usage same cause = tt
-loaded_cause old new k rows faults ended.Source same cause = cause
-loaded_cause old new k rows faults ended.Sink same cause = cause
-loaded_cause old new k rows faults ended.Keeper same cause = subst (λ (n : ℕ). Rose n new.keeper_faults) same cause
-loaded_cause old new k rows faults ended.Memory same cause = loaded_unfailed old new k rows faults same cause
-loaded_cause old new k rows faults ended.Damaged same cause = tt
-loaded_cause old new k rows faults ended.Endless same cause = loaded_unfailed old new k rows faults same cause
-
-pub loaded_outcome : {I K : Type 0} (old new : Outside I K) (k : K) (rows : Option (List Row)) (faults : ℕ) (e : Ended) → KeepsRows old.rows rows → faults ≡ old.keeper_faults
-    → Loaded old.rows (λ s. Runs (reloaded old k rows faults) new lines s e) → HasCause (reloaded old k rows faults) new e → Outcome old new (Some command.Apply) e
-unfolding Ends
-loaded_outcome old new k rows faults e keeps same run cause = record {
-  ends = inr (record { ledger = run.ledger; loaded = run.loaded; ran = loaded_run old new k rows faults run.ledger e keeps run.ran });
-  cause = loaded_cause old new k rows faults e same cause;
-}
-
--- ---- the statuses
-
-run_status : {I K : Type 0} (old new : Outside I K) (s : State) (e : Ended) → Runs old new lines s e → IsOneOf (status_of e) (statuses_of (Some command.Apply))
-run_status old new s ended.Done ran = inl refl
-run_status old new s ended.Refused ran = inr (inl refl)
-run_status old new s ended.Usage ran = absurd ran
-run_status old new s ended.Source ran = inr (inr (inl refl))
-run_status old new s ended.Sink ran = inr (inr (inr (inl refl)))
-run_status old new s ended.Keeper ran = inr (inr (inr (inr (inl refl))))
-run_status old new s ended.Memory ran = inr (inr (inr (inr (inr (inl refl)))))
-run_status old new s ended.Damaged ran = absurd ran
-run_status old new s ended.Endless ran = inr (inr (inr (inr (inr (inr (inr (inl refl)))))))
-
-not_loaded_status : {I K : Type 0} (old new : Outside I K) (e : Ended) → NotLoaded old new e → IsOneOf (status_of e) (statuses_of (Some command.Apply))
-not_loaded_status old new ended.Done none = absurd none
-not_loaded_status old new ended.Refused none = absurd none
-not_loaded_status old new ended.Usage none = absurd none
-not_loaded_status old new ended.Source none = absurd none
-not_loaded_status old new ended.Sink none = absurd none
-not_loaded_status old new ended.Keeper none = inr (inr (inr (inr (inl refl))))
-not_loaded_status old new ended.Memory none = inr (inr (inr (inr (inr (inl refl)))))
-not_loaded_status old new ended.Damaged none = inr (inr (inr (inr (inr (inr (inl refl))))))
-not_loaded_status old new ended.Endless none = absurd none
-
-no_command_status : {I K : Type 0} (old new : Outside I K) (e : Ended) → NoCommand old new e → IsOneOf (status_of e) (statuses_of None)
-no_command_status old new ended.Done said = absurd said
-no_command_status old new ended.Refused said = absurd said
-no_command_status old new ended.Usage said = inl refl
-no_command_status old new ended.Source said = absurd said
-no_command_status old new ended.Sink said = absurd said
-no_command_status old new ended.Keeper said = absurd said
-no_command_status old new ended.Memory said = inr (inl refl)
-no_command_status old new ended.Damaged said = absurd said
-no_command_status old new ended.Endless said = absurd said
-
-loads_status : {I K : Type 0} (old new : Outside I K) (e : Ended) → Loads old new (Runs old new lines) e → IsOneOf (status_of e) (statuses_of (Some command.Apply))
-loads_status old new e (inl none) = not_loaded_status old new e none.1
-loads_status old new e (inr run) = run_status old new run.ledger e run.ran
-
-ends_status : {I K : Type 0} (old new : Outside I K) (c : Option Command) (e : Ended) → Ends old new c e → IsOneOf (status_of e) (statuses_of c)
-unfolding Ends
-ends_status old new None e ends = no_command_status old new e ends.2
-ends_status old new (Some command.Apply) e ends = loads_status old new e ends
-
--- an end that is in these words has one of the command's statuses
-pub status_is : {I K : Type 0} (old new : Outside I K) (c : Option Command) (e : Ended) (n : ℕ) → Outcome old new c e → n ≡ status_of e → IsOneOf n (statuses_of c)
-status_is old new c e n outcome is = subst (λ (m : ℕ). IsOneOf m (statuses_of c)) (sym is) (ends_status old new c e outcome.ends)
-
--- the same outcome of the same command
-pub outcome_of : {I K : Type 0} (old new : Outside I K) (c d : Option Command) (e : Ended) → c ≡ d → Outcome old new c e → Outcome old new d e
-outcome_of old new c d e same outcome = subst (λ x. Outcome old new x e) same outcome

@@ -17,7 +17,7 @@ use Rattle.billctl.specs.Ran.{Handled, Fed, HeldAt, StoppedAt, DidAt, FellAt, Ra
 use Rattle.billctl.specs.Written.{Sides, Did, DidPart, SameCounts, Failed, FellIn}
 use Rattle.billctl.specs.declared.end.End.{End}
 use Rattle.billctl.specs.declared.end.End.TheVariants as end
-use Rattle.billctl.specs.declared.item.Item.{Item}
+use Rattle.card_import.specs.declared.item.Item.{Item}
 use Rattle.billctl.proofs.LineLemmas.{feed_lf, feed_other, text_lf, text_other, rows_lf, rows_other}
 use Rattle.billctl.proofs.RowLemmas.{AddsRows-nil, AddsRows-trans}
 use Rattle.billctl.proofs.SideLemmas.{front_refl, front_none, front_trans, front_after, front_append, did_none, did_then, did_same, did_part_same, counts_refl, counts_then, failed_after}
@@ -319,7 +319,7 @@ ran_more a b c p q r m n one two = record {
   fed = fed_then (sides_of a) (sides_of b) (sides_of c) p q r one.bytes two.bytes one.fed two.fed;
 }
 
-kept_is_consumed : (a b : Option (List ℕ)) → Keeps a b → Consumes a b []
+pub kept_is_consumed : (a b : Option (List ℕ)) → Keeps a b → Consumes a b []
 kept_is_consumed None b k = tt
 kept_is_consumed (Some x) None k = absurd k
 kept_is_consumed (Some x) (Some y) k = sym k

@@ -5,5 +5,8 @@ pub mod DamagedLemmas
 pub mod FeedLemmas
 pub mod ApplyLemmas
 pub mod EndLemmas
+pub mod LoadedLemmas
+pub mod StatusLemmas
+pub mod ImportLemmas
 pub mod QuietLemmas
 pub mod ToldLemmas

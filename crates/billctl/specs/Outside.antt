@@ -1,20 +1,22 @@
 -- What a call finds outside and leaves there, and what the one has to do with the other.
-use Rattle.std.specs.Prelude.{◌≡◌, ◌⊎◌, ℕ, ◌-◌, Bool, true, false, List, [], ◌++◌, length, take, Option, Some, None, ⊤}
+use Rattle.std.specs.Prelude.{◌≡◌, ◌⊎◌, ℕ, ◌-◌, Bool, true, false, List, ◌++◌, length, take, Option, Some, None, ⊤}
 use Rattle.std.specs.Io.KnownBytes.{Appends, Consumes, IsAtEnd}
-use Rattle.card_desk.specs.Kept.{IsLoadedOf}
+use Rattle.card_text.specs.Tasks.{tasks_text}
+use Rattle.card_model.specs.Work.{work}
 use Rattle.card_keeper.specs.Rows.{AddsRows, KeepsRows}
 use Rattle.card_keeper.specs.declared.row.Row.{Row}
 use Rattle.card_model.specs.Machine.{State}
 use Rattle.card_ports.specs.Counts.{Rose}
-use Rattle.billctl.specs.Input.{Cut, lines}
+use Rattle.billctl.specs.Input.{Cut, lines, records}
 use Rattle.billctl.specs.Run.{text_of, rows_kept, any_refused}
-use Rattle.billctl.specs.Words.{usage_line, DamagedRows, TookLine}
+use Rattle.billctl.specs.Words.{usage_line, TookLine}
+use Rattle.billctl.specs.Views.{Loaded, NotLoaded, Tells}
 use Rattle.billctl.specs.Written.{Sides, TookFront, TookBetween, SameCounts}
 use Rattle.billctl.specs.declared.command.Command.{Command}
 use Rattle.billctl.specs.declared.command.Command.TheVariants as command
 use Rattle.billctl.specs.declared.ended.Ended.{Ended}
 use Rattle.billctl.specs.declared.ended.Ended.TheVariants as ended
-use Rattle.billctl.specs.declared.item.Item.{Item}
+use Rattle.card_import.specs.declared.item.Item.{Item}
 
 -- the source and the bytes left in it, the bytes that the sink took, the keeper and its rows; and how often each failed
 pub record Outside (I K : Type 0) : Type 0 where
@@ -51,11 +53,9 @@ AreFirst items all = (others : List Item) × (all ≡ items ++ others)
 abbrev pub but_last : List Item → List Item
 but_last items = take (length items - 1) items
 
--- the kept rows gave a ledger, and P is so of it
-pub record Loaded (rows : Option (List Row)) (P : State → Type 0) : Type 0 where
-  pub ledger : State
-  pub loaded : IsLoadedOf rows ledger
-  pub ran : P ledger
+-- the text of the open tasks of all accounts
+unfoldable pub work_text : State → Option (List ℕ)
+work_text s = Some (tasks_text (work s))
 
 module _ {I K : Type 0} (old new : Outside I K) where
   -- the replies to these items were written, and their rows kept
@@ -95,16 +95,13 @@ module _ {I K : Type 0} (old new : Outside I K) where
   abbrev pub Untouched : Type 0
   Untouched = (new.input ≡ old.input) × KeepsRows old.rows new.rows
 
-  -- no ledger was loaded: the keeper failed, memory was wanted, or the rows are damaged, which is said
-  abbrev pub NotLoaded : Ended → Type 0
-  NotLoaded ended.Keeper = Appends old.taken new.taken []
-  NotLoaded ended.Memory = Appends old.taken new.taken [] ⊎ DamagedRows old.rows (TookFront old.taken new.taken)
-  NotLoaded ended.Damaged = DamagedRows old.rows (TookLine old.taken new.taken old.sink_faults new.sink_faults)
-  NotLoaded _ = ⊥
-
   -- a ledger was loaded, from which P is so; or none was
   abbrev pub Loads : (State → Ended → Type 0) → Ended → Type 0
-  Loads P e = (Untouched × NotLoaded e) ⊎ Loaded old.rows (λ s. P s e)
+  Loads P e = (Untouched × NotLoaded (sides_of old) (sides_of new) e) ⊎ Loaded old.rows (λ s. P s e)
+
+  -- a text of the ledger was told, and nothing else was touched
+  abbrev pub Views : (State → Option (List ℕ)) → Ended → Type 0
+  Views text e = Untouched × Loads (λ s e. Tells old.taken new.taken e (text s)) e
 
   -- the usage line was said
   abbrev pub NoCommand : Ended → Type 0
@@ -116,6 +113,8 @@ module _ {I K : Type 0} (old new : Outside I K) where
   unfoldable pub Ends : Option Command → Ended → Type 0
   Ends None e = (new.keeper ≡ old.keeper) × Untouched × NoCommand e
   Ends (Some command.Apply) e = Loads (Runs lines) e
+  Ends (Some command.Import) e = Loads (Runs records) e
+  Ends (Some command.Work) e = Views work_text e
 
   -- nothing failed
   pub record Unfailed : Type 0 where

@@ -9,7 +9,7 @@ use Rattle.billctl.specs.Outside.{Outside, HasCause, sides_of}
 use Rattle.billctl.specs.Written.{Sides, TookBetween, Did, SameCounts, Failed}
 use Rattle.billctl.specs.declared.end.End.{End}
 use Rattle.billctl.specs.declared.end.End.TheVariants as end
-use Rattle.billctl.specs.declared.item.Item.{Item}
+use Rattle.card_import.specs.declared.item.Item.{Item}
 use Rattle.card_keeper.specs.Rows.{AddsRows}
 
 -- an item was handled: its text was written, and its rows were kept

@@ -9,11 +9,11 @@ ghost use Rattle.card_model.specs.Machine.{State};
 ghost use Rattle.card_ports.specs.Counts.{Rose};
 ghost use Rattle.billctl.specs.Answers.{answer_text, is_refused, item_rows, next, reply_in};
 ghost use Rattle.billctl.specs.Answers as spec;
-ghost use Rattle.billctl.specs.Items.{IsDatedItem};
+ghost use Rattle.card_import.specs.Items.{IsDatedItem};
 
-use crate::item::Item;
 use card_desk::{Desk, Fault, View};
 use card_events::{Name, Refusal, Reply};
+use card_import::Item;
 use card_keeper::Keeper;
 use card_lines::{bad_text, reply_text, show_text};
 use card_units::NoMemory;

@@ -1,22 +1,25 @@
 // The top call.
-ghost use Rattle.std.specs.Prelude.{◌≡◌, Some, map, OnOk, OnErr, IfErr};
+ghost use Rattle.std.specs.Prelude.{◌≡◌, Some, map, OnOk, OnErr};
 ghost use Rattle.std.specs.String.{string_bytes};
 ghost use Rattle.billctl.specs.Commands.{IsOneOf, statuses_of};
 ghost use Rattle.billctl.specs.Commands as spec;
 ghost use Rattle.billctl.specs.Outside.{outside, Outcome};
-ghost use Rattle.billctl.specs.Words.{usage_line, damaged_line, TookLine};
-ghost use Rattle.billctl.specs.Written.{sink_side, TookAll, TookPart};
+ghost use Rattle.billctl.specs.Words.{usage_line, TookLine};
+ghost use Rattle.billctl.specs.Written.{sink_side, TookPart};
 
 use crate::command::{Command, command_of};
 use crate::ended::{Ended, status_of};
+use crate::handle::Run;
+use crate::import::import;
+use crate::load::load;
 use crate::progress::Progress;
 use crate::run::run;
+use crate::tell::tell;
 use crate::write::write_all;
-use card_desk::{Desk, LoadFault};
+use card_desk::Ask;
 use card_keeper::Keeper;
 use card_ports::{Sink, SinkFault, Source};
 use card_units::NoMemory;
-use itoa::Buffer;
 use std::alloc::Global;
 
 const USAGE: &str =
@@ -50,7 +53,7 @@ pub fn billctl<I: Source, O: Sink, K: Keeper>(
     status_of(ended)
 }
 
-// Carries out a command.
+// Carries out a command, or says which words are one.
 #[tactic(auto, unfolding(crate::specs::Outside::Ends, crate::specs::Outside::HasCause))]
 fn carry_out<I: Source, O: Sink, K: Keeper>(
     alloc: Global,
@@ -67,13 +70,29 @@ fn carry_out<I: Source, O: Sink, K: Keeper>(
             Ok(()) => Ended::Usage,
             Err(NoMemory) => Ended::Memory,
         },
-        Some(Command::Apply) => apply(alloc, input, output, keeper),
+        Some(command) => carry_out_command(alloc, command, input, output, keeper),
+    }
+}
+
+fn carry_out_command<I: Source, O: Sink, K: Keeper>(
+    alloc: Global,
+    command: Command,
+    input: &mut I,
+    output: &mut O,
+    keeper: &mut K,
+) -> Ended
+    ensures { let at = outside I.left I.faults O.taken O.faults K.rows K.faults in
+        Outcome (at input.old output.old keeper.old) (at input.new output.new keeper.new) (Some command) result }
+{
+    match command {
+        Command::Apply => apply_lines(alloc, input, output, keeper),
+        Command::Import => import_records(alloc, input, output, keeper),
+        Command::Work => tell(alloc, &Ask::Work, output, keeper),
     }
 }
 
 // Loads the ledger, and runs over the lines of the input.
-#[tactic(auto, unfolding(crate::specs::Outside::Ends, crate::specs::Outside::HasCause))]
-fn apply<I: Source, O: Sink, K: Keeper>(
+fn apply_lines<I: Source, O: Sink, K: Keeper>(
     alloc: Global,
     input: &mut I,
     output: &mut O,
@@ -82,17 +101,31 @@ fn apply<I: Source, O: Sink, K: Keeper>(
     ensures { let at = outside I.left I.faults O.taken O.faults K.rows K.faults in
         Outcome (at input.old output.old keeper.old) (at input.new output.new keeper.new) (Some Command.Apply) result }
 {
-    match Desk::load(alloc, keeper) {
+    match load(alloc, output, keeper) {
         Ok(desk) => {
             let mut progress = Progress::new(alloc, desk);
             run(&mut progress, alloc, input, output, keeper)
         }
-        Err(LoadFault::Keeper) => Ended::Keeper,
-        Err(LoadFault::Memory) => Ended::Memory,
-        Err(LoadFault::Damaged(number)) => match damaged(output, number) {
-            Ok(()) => Ended::Damaged,
-            Err(NoMemory) => Ended::Memory,
-        },
+        Err(ended) => ended,
+    }
+}
+
+// Loads the ledger, and runs over the records of the input.
+fn import_records<I: Source, O: Sink, K: Keeper>(
+    alloc: Global,
+    input: &mut I,
+    output: &mut O,
+    keeper: &mut K,
+) -> Ended
+    ensures { let at = outside I.left I.faults O.taken O.faults K.rows K.faults in
+        Outcome (at input.old output.old keeper.old) (at input.new output.new keeper.new) (Some Command.Import) result }
+{
+    match load(alloc, output, keeper) {
+        Ok(desk) => {
+            let mut run = Run::new(desk);
+            import(&mut run, alloc, input, output, keeper)
+        }
+        Err(ended) => ended,
     }
 }
 
@@ -107,28 +140,4 @@ fn usage<O: Sink>(output: &mut O) -> Result<(), NoMemory>
         Err(SinkFault::Failed) => Ok(()),
         Err(SinkFault::Memory) => Err(NoMemory),
     }
-}
-
-// Names the first damaged row.
-fn damaged<O: Sink>(output: &mut O, number: u64) -> Result<(), NoMemory>
-    ensures ok { OnOk result (TookLine (O.taken output.old) (O.taken output.new) (O.faults output.old) (O.faults output.new) (damaged_line number)) }
-    ensures err { let at = sink_side O.taken O.faults in OnErr result (TookPart (at output.old) (at output.new) (damaged_line number) SinkFault.Memory) }
-{
-    match write_damaged(output, number) {
-        Ok(()) => Ok(()),
-        Err(SinkFault::Failed) => Ok(()),
-        Err(SinkFault::Memory) => Err(NoMemory),
-    }
-}
-
-// Writes the line without memory, in three pieces.
-fn write_damaged<O: Sink>(output: &mut O, number: u64) -> Result<(), SinkFault>
-    ensures ok { let at = sink_side O.taken O.faults in OnOk result (TookAll (at output.old) (at output.new) (damaged_line number)) }
-    ensures err { let at = sink_side O.taken O.faults in IfErr result (TookPart (at output.old) (at output.new) (damaged_line number)) }
-{
-    let mut buffer = Buffer::new();
-    let digits = buffer.format(number);
-    write_all(output, b"damaged ")?;
-    write_all(output, digits.as_bytes())?;
-    write_all(output, b"\n")
 }

@@ -3,9 +3,9 @@ ghost use Rattle.std.specs.Prelude.{◌≡◌, ◌||◌};
 
 use crate::answer::{answer, carry_out};
 use crate::end::End;
-use crate::item::Item;
 use crate::write::write_all;
 use card_desk::{Desk, Fault};
+use card_import::Item;
 use card_keeper::Keeper;
 use card_ports::{Sink, SinkFault};
 use card_units::NoMemory;
@@ -31,7 +31,7 @@ impl Run {
     ghost use Rattle.std.specs.Prelude.{◌≡◌, false, OnOk, IfErr};
     ghost use Rattle.card_desk.specs.Kept.{Fits};
     ghost use Rattle.billctl.specs.Answers.{answer_text, item_rows};
-    ghost use Rattle.billctl.specs.Items.{IsDatedItem};
+    ghost use Rattle.card_import.specs.Items.{IsDatedItem};
     ghost use Rattle.billctl.specs.Ran.{Handled};
     ghost use Rattle.billctl.specs.Written.{sides, sink_side, FellIn, TookAll, TookPart};
 

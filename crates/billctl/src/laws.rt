@@ -9,8 +9,8 @@ ghost use Rattle.billctl.specs.Run.{any_refused};
 
 use crate::command::Command;
 use crate::ended::Ended;
-use crate::item::Item;
 use card_desk::laws::load_of_rows;
+use card_import::Item;
 
 /// Where nothing outside fails, the kept rows are sound and the input isn't too long, a command ends in 0 or 1, or for want
 /// of memory.

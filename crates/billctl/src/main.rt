@@ -7,11 +7,14 @@ mod command;
 mod end;
 mod ended;
 mod handle;
+mod import;
 mod item;
 pub mod laws;
+mod load;
 mod progress;
 mod run;
 mod stored;
+mod tell;
 mod write;
 
 pub use call::billctl;

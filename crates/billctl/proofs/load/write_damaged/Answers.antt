@@ -1,6 +1,6 @@
 use Rattle.std.proofs.Common.{◌∙◌}
 use Rattle.billctl.proofs.DamagedLemmas.{damaged_word, damaged_digits, damaged_part, damaged_whole}
-use Rattle.billctl.proofs.call.write_damaged.Goals as goal
+use Rattle.billctl.proofs.load.write_damaged.Goals as goal
 
 pub returns-in_err-write_all-clause-err : goal.returns-in_err-write_all-clause-err
 returns-in_err-write_all-clause-err g c = damaged_word c.from_residual.result _ _ c.args.number _ c.from_residual.ensures.1 c.in_err-write_all.ensures.err
