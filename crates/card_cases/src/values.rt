@@ -1,6 +1,5 @@
 // Days, numbers, names and tables.
 ghost use Rattle.std.specs.Prelude.{◌≡◌, ◌≤◌};
-ghost use Rattle.card_days.specs.Range.{first_calendar_day};
 
 use card_days::{Anchor, Calendar, Channel, Day, closing, credit_day, due, next_business};
 use card_events::{Name, Num};
@@ -137,7 +136,7 @@ fn fee_rows(rt: HostRuntime) -> Result<(), Fail> {
     table.add(day(&rt, 14_976), 3_000, 4_100)?;
     table.add(day(&rt, 19_754), 3_100, 4_200)?;
     let table = table.copy(rt.alloc())?;
-    assert_eq!(rt; table.on(day(&rt, first_calendar_day)), None);
+    assert_eq!(rt; table.on(Day::first()), None);
     assert_eq!(rt; table.on(day(&rt, 19_753)), Some((3_000, 4_100)));
     assert_eq!(rt; table.on(day(&rt, 19_754)), Some((3_100, 4_200)));
     Ok(())
