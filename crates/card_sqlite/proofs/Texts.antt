@@ -60,4 +60,3 @@ insert_plain = (refl, refl)
 pub select_plain : IsPlain (understood kept_schema select_text)
 unfolding understood everything
 select_plain = (refl, refl)
-

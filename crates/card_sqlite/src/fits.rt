@@ -97,7 +97,6 @@ pub(crate) fn is_kept_alone(schema: &Schema) -> bool
 pub(crate) fn fits(schema: &Schema) -> bool
     ensures { IsTrue result ↔ IsFor schema.now }
 {
-    let empty =
-        schema.tables.is_empty() && schema.indexes.is_empty() && schema.views.is_empty();
+    let empty = schema.tables.is_empty() && schema.indexes.is_empty() && schema.views.is_empty();
     empty || is_kept_alone(schema)
 }
