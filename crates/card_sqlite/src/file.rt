@@ -10,7 +10,13 @@ use std::rt::HostRuntime;
 
 type Store = StoreKeeper<FileStore<File>>;
 
-/// Rows in a SQLite file, which is opened at the first call. It tells no rows.
+/// Rows in the table `kept` of a SQLite file, which is opened at the first call and made where it is missing. It tells no rows:
+/// what a file held before it was opened isn't known. Each call is one of a `StoreKeeper` over the file, whose clauses say what
+/// it gives and leaves.
+///
+/// Beside the faults of a `StoreKeeper`, `Failed`, which is counted, comes where the file can't be opened: its folder isn't
+/// there, it may not be read and written, another handle has it, or it is no sound SQLite database. The file is then as it
+/// was, though an empty log may lie beside it.
 #[derive(Drop)]
 pub struct SqliteKeeper {
     rt: HostRuntime,

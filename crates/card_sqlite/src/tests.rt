@@ -1,6 +1,6 @@
 use crate::{SqliteKeeper, StoreKeeper};
 use card_keeper::{Body, Keeper, KeeperFault, Row};
-use sqlite::{Alter, Connection, Error, FileStore, Files, Options};
+use sqlite::{Alter, Connection, Files, Options};
 use sqlite_disk::{Crash, Fuse, Memory};
 use std::alloc::Global;
 use std::fs;
@@ -41,7 +41,7 @@ fn rows_are_kept(rt: HostRuntime) -> Result<(), Fail> {
     let mut keeper = StoreKeeper::adopt(Connection::open_in_memory(alloc)?);
     assert_eq!(rt; kept(keeper.load(alloc)), Some(0));
     let two = two_rows(alloc)?;
-    assert_eq!(rt; keeper.append(alloc, &two), Ok(()));
+    assert_eq!(rt; keeper.append_rows(&two), Ok(()));
     assert_eq!(rt; kept(keeper.load(alloc)), Some(2));
     Ok(())
 }
