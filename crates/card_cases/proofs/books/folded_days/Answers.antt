@@ -5,7 +5,7 @@ use Rattle.card_cases.proofs.books.folded_days.Goals as goal
 pub fold_parts-requires-clause-before : goal.fold_parts-requires-clause-before
 fold_parts-requires-clause-before g c =
     subst (λ d. AreBefore c.args.inputs.now d c.in_ok-state.state c.no_track-track.result) (c.requires.opened ∙ sym c.day.ensures)
-    (c.in_ok-state.ensures c.no_track-track.result c.no_track-track.ensures)
+    (c.in_ok-state.ensures c.no_track-track.result c.no_track-track.ensures.blank)
 
 pub fold_days-requires-clause-before : goal.fold_days-requires-clause-before
 fold_days-requires-clause-before g c =
