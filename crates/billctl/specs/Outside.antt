@@ -1,13 +1,16 @@
 -- What a call finds outside and leaves there, and what the one has to do with the other.
-use Rattle.std.specs.Prelude.{◌≡◌, ◌⊎◌, ℕ, ◌-◌, Bool, true, false, List, ◌++◌, length, take, Option, Some, None, ⊤}
+use Rattle.std.specs.Prelude.{◌≡◌, ◌⊎◌, ℕ, ◌-◌, Bool, true, false, List, ◌++◌, length, map, take, Option, Some, None, ⊤}
 use Rattle.std.specs.Io.KnownBytes.{Appends, Consumes, IsAtEnd}
+use Rattle.std.specs.String.{string_bytes}
+use Rattle.std_alloc.specs.declared.string.String.{String}
 use Rattle.card_text.specs.Tasks.{tasks_text}
 use Rattle.card_model.specs.Work.{work}
 use Rattle.card_keeper.specs.Rows.{AddsRows, KeepsRows}
 use Rattle.card_keeper.specs.declared.row.Row.{Row}
 use Rattle.card_model.specs.Machine.{State}
 use Rattle.card_ports.specs.Counts.{Rose}
-use Rattle.billctl.specs.Input.{Cut, lines, records}
+use Rattle.billctl.specs.Commands.{command_of, status_of}
+use Rattle.billctl.specs.Input.{Cut, lines, records, all_items}
 use Rattle.billctl.specs.Run.{text_of, rows_kept, any_refused}
 use Rattle.billctl.specs.Words.{usage_line, TookLine}
 use Rattle.billctl.specs.Views.{Loaded, NotLoaded, Tells}
@@ -133,3 +136,26 @@ module _ {I K : Type 0} (old new : Outside I K) where
   pub record Outcome (c : Option Command) (e : Ended) : Type 0 where
     pub ends : Ends c e
     pub cause : HasCause e
+
+  -- words came to a status: what was read, written and kept, whatever the end is; and what failed, where the end names it
+  abbrev pub Answered : {Z : Type 0} → List (String Z) → ℕ → Type 0
+  Answered words status = (e : Ended) × (status ≡ status_of e) × Outcome (command_of (map string_bytes words)) e
+
+-- ---- where the bytes of the input are told
+-- a run that read it to its end handled all of its lines
+abbrev pub HandledAllLines : (I K : Type 0) → Type 0
+HandledAllLines I K =
+    (old new : Outside I K) (s : State) (refused : Bool) (input : List ℕ) → old.left ≡ Some input
+    → ReadAll old new lines s refused → Wrote old new s (all_items input) × (any_refused s (all_items input) ≡ refused)
+
+-- one that its keeper ended handled its first lines
+abbrev pub HandledFirstLines : (I K : Type 0) → Type 0
+HandledFirstLines I K =
+    (old new : Outside I K) (s : State) (input : List ℕ) → old.left ≡ Some input → ReadFirst old new lines (Wrote old new s)
+    → (items : List Item) × AreFirst items (all_items input) × Wrote old new s items
+
+-- and so did one that its sink or want of memory ended, which wrote a front of the last reply
+abbrev pub HandledFirstLinesInPart : (I K : Type 0) → Type 0
+HandledFirstLinesInPart I K =
+    (old new : Outside I K) (s : State) (input : List ℕ) → old.left ≡ Some input → ReadFirst old new lines (WroteFront old new s)
+    → (items : List Item) × AreFirst items (all_items input) × WroteFront old new s items

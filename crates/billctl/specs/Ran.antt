@@ -6,7 +6,7 @@ use Rattle.billctl.specs.Answers.{answer_text, item_rows}
 use Rattle.billctl.specs.Commands.{ended_by}
 use Rattle.billctl.specs.Feed.{Run, Progress, after_item, feed_all, text_all, rows_all, end_text, end_rows, end_refused}
 use Rattle.billctl.specs.Outside.{Outside, HasCause, sides_of}
-use Rattle.billctl.specs.Written.{Sides, TookBetween, Did, SameCounts, Failed}
+use Rattle.billctl.specs.Written.{Sides, TookBetween, Did, SameCounts, Failed, FellIn}
 use Rattle.billctl.specs.declared.end.End.{End}
 use Rattle.billctl.specs.declared.end.End.TheVariants as end
 use Rattle.card_import.specs.declared.item.Item.{Item}
@@ -18,6 +18,10 @@ pub record Handled (old new : Sides) (r : Run) (x : Item) (next : Run) : Type 0 
   pub did : Did old new (answer_text r.ledger x) (item_rows r.ledger x)
   pub counts : SameCounts old new
   pub fits : Fits new.keeper.rows next.ledger
+
+-- an item ended the run
+abbrev pub FellOn : Sides → Sides → Run → Item → End → Type 0
+FellOn old new r x e = FellIn old new (answer_text r.ledger x) (item_rows r.ledger x) e
 
 -- bytes were handled: what is written for them was, and their rows were kept
 pub record Fed (old new : Sides) (p : Progress) (bytes : List ℕ) (q : Progress) : Type 0 where

@@ -1,12 +1,12 @@
 // What an item comes to, and what is written for it.
-ghost use Rattle.std.specs.Prelude.{◌≡◌, IfOk, OnOk, OnErr, IsErrOf};
+ghost use Rattle.std.specs.Prelude.{◌≡◌, IfOk, OnOk, OnErr};
 ghost use Rattle.std.specs.String.{string_bytes};
+ghost use Rattle.card_desk.specs.Applied.{IsCounted};
 ghost use Rattle.card_desk.specs.Kept.{Fits};
 ghost use Rattle.card_desk.specs.Views.{seen};
 ghost use Rattle.card_desk.specs.declared.view.Ask.TheVariants as ask;
 ghost use Rattle.card_keeper.specs.Rows.{AddsRows, KeepsRows};
 ghost use Rattle.card_model.specs.Machine.{State};
-ghost use Rattle.card_ports.specs.Counts.{Rose};
 ghost use Rattle.billctl.specs.Answers.{answer_text, is_refused, item_rows, next, reply_in};
 ghost use Rattle.billctl.specs.Answers as spec;
 ghost use Rattle.card_import.specs.Items.{IsDatedItem};
@@ -34,9 +34,7 @@ pub fn carry_out<K: Keeper>(
     ensures kept { OnOk result (AddsRows (K.rows keeper.old) (K.rows keeper.new) (item_rows desk.old.state item.now)) }
     ensures fits { OnOk result (Fits (K.rows keeper.new) desk.new.state) }
     ensures rows_stay { OnErr result (KeepsRows (K.rows keeper.old) (K.rows keeper.new)) }
-    ensures unfailed { OnOk result (K.faults keeper.new ≡ K.faults keeper.old) }
-    ensures cause { IsErrOf result Fault.Keeper → Rose (K.faults keeper.old) (K.faults keeper.new) }
-    ensures memory { IsErrOf result Fault.Memory → K.faults keeper.new ≡ K.faults keeper.old }
+    ensures counts { IsCounted Fault.Keeper Fault.Memory (K.faults keeper.old) (K.faults keeper.new) result }
 {
     match item {
         Item::Request(request) => match desk.apply(alloc, keeper, request) {

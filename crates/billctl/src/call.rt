@@ -3,7 +3,7 @@ ghost use Rattle.std.specs.Prelude.{◌≡◌, Some, map, OnOk, OnErr};
 ghost use Rattle.std.specs.String.{string_bytes};
 ghost use Rattle.billctl.specs.Commands.{IsOneOf, statuses_of};
 ghost use Rattle.billctl.specs.Commands as spec;
-ghost use Rattle.billctl.specs.Outside.{outside, Outcome};
+ghost use Rattle.billctl.specs.Outside.{Answered, outside, Outcome};
 ghost use Rattle.billctl.specs.Words.{usage_line, TookLine};
 ghost use Rattle.billctl.specs.Written.{sink_side, TookPart};
 
@@ -43,7 +43,7 @@ pub fn billctl<I: Source, O: Sink, K: Keeper>(
 ) -> u8
     // What is read, written and kept, whatever the end is; and what failed, where the end names it.
     ensures outcome { let at = outside I.left I.faults O.taken O.faults K.rows K.faults in
-        (e : Ended) × (result ≡ spec.status_of e) × Outcome (at input.old output.old keeper.old) (at input.new output.new keeper.new) (spec.command_of (map string_bytes words.now)) e }
+        Answered (at input.old output.old keeper.old) (at input.new output.new keeper.new) words.now result }
 
     // No other status comes.
     ensures statuses { IsOneOf result (statuses_of (spec.command_of (map string_bytes words.now))) }

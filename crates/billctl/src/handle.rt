@@ -30,10 +30,9 @@ impl Model for Run {
 impl Run {
     ghost use Rattle.std.specs.Prelude.{◌≡◌, false, OnOk, IfErr};
     ghost use Rattle.card_desk.specs.Kept.{Fits};
-    ghost use Rattle.billctl.specs.Answers.{answer_text, item_rows};
     ghost use Rattle.card_import.specs.Items.{IsDatedItem};
-    ghost use Rattle.billctl.specs.Ran.{Handled};
-    ghost use Rattle.billctl.specs.Written.{sides, sink_side, FellIn, TookAll, TookPart};
+    ghost use Rattle.billctl.specs.Ran.{FellOn, Handled};
+    ghost use Rattle.billctl.specs.Written.{sides, sink_side, TookAll, TookPart};
 
     /// The start of a run.
     pub fn new(desk: Desk) -> Run
@@ -83,7 +82,7 @@ impl Run {
         ensures ok { let at = sides O.taken O.faults K.rows K.faults in
             OnOk result (Handled (at output.old keeper.old) (at output.new keeper.new) self.old item.now self.new) }
         ensures err { let at = sides O.taken O.faults K.rows K.faults in
-            IfErr result (FellIn (at output.old keeper.old) (at output.new keeper.new) (answer_text self.old.ledger item.now) (item_rows self.old.ledger item.now)) }
+            IfErr result (FellOn (at output.old keeper.old) (at output.new keeper.new) self.old item.now) }
     {
         let reply = match carry_out(alloc, &mut self.desk, keeper, item) {
             Ok(reply) => reply,

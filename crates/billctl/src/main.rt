@@ -15,6 +15,8 @@ mod progress;
 mod run;
 mod stored;
 mod tell;
+#[cfg(test)]
+mod tests;
 mod write;
 
 pub use call::billctl;

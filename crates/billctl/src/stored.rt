@@ -1,14 +1,8 @@
 // The top call over rows in a SQLite database in memory.
-ghost use Rattle.std.specs.Prelude.{◌≡◌, map, true};
-ghost use Rattle.std.specs.String.{string_bytes};
-ghost use Rattle.sqlite.specs.Held.{state};
-ghost use Rattle.sqlite.specs.Steps.{over_memory};
-ghost use Rattle.card_sqlite.specs.Told.{told};
-ghost use Rattle.billctl.specs.Commands as spec;
-ghost use Rattle.billctl.specs.Outside.{outside, Outcome};
+ghost use Rattle.card_sqlite.specs.Told.{told_in_memory};
+ghost use Rattle.billctl.specs.Outside.{Answered, outside};
 
 use crate::call::billctl;
-use crate::ended::Ended;
 use card_ports::{Sink, Source};
 use card_sqlite::StoreKeeper;
 use sqlite::MemStore;
@@ -22,8 +16,8 @@ pub fn billctl_over_store<I: Source, O: Sink>(
     output: &mut O,
     keeper: &mut StoreKeeper<MemStore>,
 ) -> u8
-    ensures { let at = outside I.left I.faults O.taken O.faults (λ k. told true (state over_memory k.conn)) (λ k. k.faults) in
-        (e : Ended) × (result ≡ spec.status_of e) × Outcome (at input.old output.old keeper.old) (at input.new output.new keeper.new) (spec.command_of (map string_bytes words.now)) e }
+    ensures { let at = outside I.left I.faults O.taken O.faults (λ k. told_in_memory k.conn) (λ k. k.faults) in
+        Answered (at input.old output.old keeper.old) (at input.new output.new keeper.new) words.now result }
 {
     billctl(alloc, words, input, output, keeper)
 }

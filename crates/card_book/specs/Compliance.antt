@@ -72,7 +72,7 @@ NoticesKeepEarlierRates =
     → Contains (corrected (anchor_of history) shared.holidays history) p → p.post ≡ post.Notice given c rate effective
     → KeepsEarlierRates history issued shared p.segment given
 
--- ---- disputed amounts (12 CFR 1026.13(d))
+-- ---- disputed amounts: not collected (12 CFR 1026.13(d)(1)), and no payment goes to them (commentary to 12 CFR 1026.53)
 -- an entry on Held only sets an amount aside or brings it back: no payment, no credit, no fee and no interest is on it
 abbrev pub LeavesHeldAlone : Entry → Type 0
 LeavesHeldAlone e = e.segment ≡ 1 → is_kind kind.Hold e.kind ≡ true

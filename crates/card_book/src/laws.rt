@@ -65,8 +65,9 @@ pub fn notices_keep_earlier_rates()
     ensures { NoticesKeepEarlierRates }
 {}
 
-/// In the book of every day, for every history: what is on Held was only set aside by a dispute or brought back. No payment
-/// or credit is allocated to a disputed amount, and it bears no interest and no fee (12 CFR 1026.13(d)).
+/// In the book of every day, for every history: what is on Held was only set aside by a dispute or brought back. It bears no
+/// interest and no fee, so nothing of a disputed amount is collected (12 CFR 1026.13(d)(1)); and no payment or credit is
+/// allocated to it, as the commentary to 12 CFR 1026.53 has it.
 pub fn disputed_amounts_are_left_alone()
     ensures { DisputedAmountsAreLeftAlone }
 {}

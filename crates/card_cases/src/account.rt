@@ -4,8 +4,10 @@ ghost use Rattle.card_cases.specs.Account.{IsOfAccount, asked, bill, cash, dispu
 ghost use Rattle.card_effects.specs.Standing.{AreRated};
 ghost use Rattle.card_holds.specs.Accounts.{AreOf};
 ghost use Rattle.card_posts.specs.Posted.{IsReceived, StandsFor, last_accepted, target_of};
+ghost use Rattle.card_model.specs.Limits.{balance_limit};
 ghost use Rattle.card_segments.specs.Balances.{AreWithin};
 
+use crate::posts::target_of;
 use crate::values::{day, name, num};
 use card_days::Calendar;
 use card_events::{Category, Place, PlanKind, Post, Terms};
@@ -13,6 +15,7 @@ use card_posts::Posts;
 use card_rates::RateBook;
 use card_segments::{Entry, Segments};
 use card_slots::segments_of;
+use card_units::Cents;
 use std::alloc::Global;
 use std::process::Abort;
 use std::test::Fail;
@@ -111,18 +114,6 @@ fn push(
     Ok(())
 }
 
-fn target_of(post: &Post) -> u64
-    ensures { result ≡ target_of post.now }
-{
-    match post {
-        Post::Return { target, .. }
-        | Post::Dispute { target, .. }
-        | Post::Resolve { target, .. }
-        | Post::Amend { target, .. } => target.get(),
-        _ => 0,
-    }
-}
-
 // A charge of purchases and one of cash, and two plans.
 fn with_plans(rt: &impl Abort, alloc: Global, calendar: &Calendar) -> Result<Posts, Fail>
     ensures stands { IfOk result (λ posts. StandsFor calendar.now posts) }
@@ -182,13 +173,16 @@ pub fn start(rt: &impl Abort, alloc: Global) -> Result<Account, Fail>
     })
 }
 
-// Whether each balance is at most 10^13 dollars in size.
+/// The most that a balance or an amount has in size, in cents: 10^13 dollars.
+pub const BALANCE_LIMIT: Cents = 1_000_000_000_000_000;
+
+// Whether each balance is at most so large.
 pub fn are_small(segments: &Segments) -> bool
-    ensures { result ≡ true → AreWithin 1_000_000_000_000_000 segments.now.balances }
+    ensures { result ≡ true → AreWithin balance_limit segments.now.balances }
 {
     for id in 0..segments.len() {
         let balance = segments.balance(id);
-        if balance < -1_000_000_000_000_000 || balance > 1_000_000_000_000_000 {
+        if balance < -BALANCE_LIMIT || balance > BALANCE_LIMIT {
             return false;
         }
     }

@@ -2,7 +2,7 @@
 ghost use Rattle.std.specs.Prelude.{◌≡◌, [], ◌∷◌, true, OnOk};
 ghost use Rattle.card_segments.specs.Balances.{AreWithin};
 
-use crate::account::are_small;
+use crate::account::{BALANCE_LIMIT, are_small};
 use crate::values::day;
 use card_alloc::{Parts, Rank, allocate, place_credit, put_back, take};
 use card_segments::{Entry, EntryKind, Note, Segment, Segments, Sort};
@@ -29,7 +29,7 @@ fn owe(
 ) -> Result<(), Fail> {
     assert!(rt; are_small(segments));
     assert!(rt; 2 <= id && id < segments.len());
-    assert!(rt; 0 <= cents && cents <= 1_000_000_000_000_000);
+    assert!(rt; 0 <= cents && cents <= BALANCE_LIMIT);
     segments.debit(id, cents, &note(rt, EntryKind::Charge), out)?;
     Ok(())
 }

@@ -47,7 +47,8 @@ fn post_of(alloc: Global, line: &str) -> Result<(Name, Post), Fail> {
     }
 }
 
-fn target_of(post: &Post) -> u64
+// The number of the post that a post is about, or 0.
+pub fn target_of(post: &Post) -> u64
     ensures { result ≡ target_of post.now }
 {
     match post {

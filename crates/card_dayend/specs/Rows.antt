@@ -1,5 +1,5 @@
--- The rows of a day: one of each segment, and what a deferred balance accrues (12 CFR 1026.14(b), .7(b)(14)). Days are day
--- numbers, balances cents, rates basis points.
+-- The rows of a day: one of each segment, and what a deferred balance accrues (12 CFR 1026.14(b), .55(b)(1), comment
+-- 55(b)(1)-3). Days are day numbers, balances cents, rates basis points.
 use Rattle.std.specs.Prelude.{ℕ, ◌≤◌, List, [], ◌∷◌, Option, Some, None, ℤ, pos, slice_index_or}
 use Rattle.card_grace.specs.Accruals.{Accrued, with_accrual}
 use Rattle.card_grace.specs.BookRows.{rate_of}

@@ -119,7 +119,8 @@ fn accrue_all(accruals: &mut Vec<Accrual>, segments: &Segments, rates: &RateBook
 
 /// The rows of a day, up to 2099-12-31, once its posts are folded: of each segment but Credit and Held what is owed at the
 /// end of the day, in cents, with its rate in basis points (12 CFR 1026.14(b)), which is kept as 0 where nothing is owed.
-/// A deferred plan in its period accrues the day (12 CFR 1026.7(b)(14)). After want of memory the rows are of no use.
+/// A deferred plan in its period accrues the day (12 CFR 1026.55(b)(1), comment 55(b)(1)-3). After want of memory the rows are
+/// of no use.
 pub fn row_day(day: Day, state: &mut State) -> Result<(), NoMemory>
     requires last { day ≤ last_request_day }
     requires amid { AwaitsRows day state.old }

@@ -122,10 +122,7 @@ answered rows faults s r a steps = record {
   err = tt;
   rows_stay = tt;
   told = refl;
-  count = omega arith;
-  unfailed = refl;
-  cause = λ e. absurd (cc);
-  memory = λ e. absurd (cc);
+  counts = record { count = omega arith; unfailed = refl; cause = λ e. absurd (cc); wanted = λ e. absurd (cc) };
 }
 
 -- its row was kept
@@ -135,8 +132,5 @@ kept old new faults later s t r a told same steps = record {
   err = tt;
   rows_stay = tt;
   told = told;
-  count = omega (arith, same);
-  unfailed = same;
-  cause = λ e. absurd (cc);
-  memory = λ e. absurd (cc);
+  counts = record { count = omega (arith, same); unfailed = same; cause = λ e. absurd (cc); wanted = λ e. absurd (cc) };
 }

@@ -28,14 +28,18 @@ pub record IsAsked (rows : Option (List Row)) (s : State) (r : Request) : Type 0
   pub dated : is_dated r ≡ true
   pub fits : Fits rows s
 
--- What a request leaves, whatever comes of it: one step of the machine, or after a fault the state and the rows as they were.
--- The keeper's count rises where the keeper fails, and stays after want of memory
+-- How often a keeper failed, before and after a call with this result: the count rises where the call says that the keeper
+-- failed, and stays where it says that memory was wanted, and after success
+pub record IsCounted {T F : Type 0} (failed memory : F) (old new : ℕ) (result : Result T F) : Type 0 where
+  pub count : old ≤ new
+  pub unfailed : OnOk result (new ≡ old)
+  pub cause : IsErrOf result failed → Rose old new
+  pub wanted : IsErrOf result memory → new ≡ old
+
+-- What a request leaves, whatever comes of it: one step of the machine, or after a fault the state and the rows as they were
 pub record Carried (rows_old rows_new : Option (List Row)) (faults_old faults_new : ℕ) (s : State) (r : Request) (new : State) (result : Result Reply Fault) : Type 0 where
   pub ok : IfOk result (Steps rows_old rows_new s r new)
   pub err : OnErr result (new ≡ s)
   pub rows_stay : OnErr result (KeepsRows rows_old rows_new)
   pub told : SameRowsTold rows_old rows_new
-  pub count : faults_old ≤ faults_new
-  pub unfailed : OnOk result (faults_new ≡ faults_old)
-  pub cause : IsErrOf result fault.Keeper → Rose faults_old faults_new
-  pub memory : IsErrOf result fault.Memory → faults_new ≡ faults_old
+  pub counts : IsCounted fault.Keeper fault.Memory faults_old faults_new result

@@ -54,10 +54,9 @@ impl Desk {
     ghost use Rattle.card_model.specs.Machine.{NamedAccount, start, lists_of, outcome_in, Accepts, accepted, shared_reason, has_accounts};
     ghost use Rattle.card_model.specs.Refusals.{reason_against, reason_to_open};
     ghost use Rattle.card_model.specs.Work.{work};
-    ghost use Rattle.card_ports.specs.Counts.{Rose};
     ghost use Rattle.card_posts.specs.Posted.{opens};
     ghost use Rattle.card_desk.specs.Apart.{IsApart};
-    ghost use Rattle.card_desk.specs.Applied.{Carried, IsAsked, Steps};
+    ghost use Rattle.card_desk.specs.Applied.{Carried, IsAsked, IsCounted, Steps};
     ghost use Rattle.card_desk.specs.Kept.{Fits, accepted_count};
     ghost use Rattle.card_desk.specs.Places.{IsPlace, place_from};
     ghost use Rattle.card_desk.specs.Views.{issued, restated, seen, shown};
@@ -297,10 +296,7 @@ impl Desk {
         ensures err { OnErr result (self.new.state ≡ self.old.state) }
         ensures rows_stay { OnErr result (KeepsRows (K.rows keeper.old) (K.rows keeper.new)) }
         ensures told { SameRowsTold (K.rows keeper.old) (K.rows keeper.new) }
-        ensures count { K.faults keeper.old ≤ K.faults keeper.new }
-        ensures unfailed { OnOk result (K.faults keeper.new ≡ K.faults keeper.old) }
-        ensures cause { IsErrOf result Fault.Keeper → Rose (K.faults keeper.old) (K.faults keeper.new) }
-        ensures memory { IsErrOf result Fault.Memory → K.faults keeper.new ≡ K.faults keeper.old }
+        ensures counts { IsCounted Fault.Keeper Fault.Memory (K.faults keeper.old) (K.faults keeper.new) result }
     {
         match request {
             Request::Shared(shared) => self.share(alloc, keeper, request, shared),

@@ -1,7 +1,7 @@
 // Keeping one row.
-ghost use Rattle.std.specs.Prelude.{◌≡◌, ◌≤◌, [], ◌∷◌, OnOk, OnErr, IsErrOf};
+ghost use Rattle.std.specs.Prelude.{[], ◌∷◌, OnOk, OnErr};
 ghost use Rattle.card_keeper.specs.Rows.{GoOn, KeepsRows, AddsRows, SameRowsTold};
-ghost use Rattle.card_ports.specs.Counts.{Rose};
+ghost use Rattle.card_desk.specs.Applied.{IsCounted};
 
 use crate::Fault;
 use card_keeper::{Keeper, KeeperFault, Row};
@@ -13,10 +13,7 @@ pub fn keep_row<K: Keeper>(alloc: Global, keeper: &mut K, row: Row) -> Result<()
     ensures ok { OnOk result (AddsRows (K.rows keeper.old) (K.rows keeper.new) (row ∷ [])) }
     ensures err { OnErr result (KeepsRows (K.rows keeper.old) (K.rows keeper.new)) }
     ensures told { SameRowsTold (K.rows keeper.old) (K.rows keeper.new) }
-    ensures count { K.faults keeper.old ≤ K.faults keeper.new }
-    ensures unfailed { OnOk result (K.faults keeper.new ≡ K.faults keeper.old) }
-    ensures cause { IsErrOf result Fault.Keeper → Rose (K.faults keeper.old) (K.faults keeper.new) }
-    ensures memory { IsErrOf result Fault.Memory → K.faults keeper.new ≡ K.faults keeper.old }
+    ensures counts { IsCounted Fault.Keeper Fault.Memory (K.faults keeper.old) (K.faults keeper.new) result }
 {
     match keeper.append(alloc, &[row]) {
         Ok(()) => Ok(()),

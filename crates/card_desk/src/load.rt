@@ -4,7 +4,7 @@ ghost use Rattle.card_events.specs.Dated.{is_dated};
 ghost use Rattle.card_events.specs.declared.request.Request.{Request};
 ghost use Rattle.card_keeper.specs.Rows.{GivesRows, KeepsRows, SameRowsTold};
 ghost use Rattle.card_model.specs.Machine.{is_new, step};
-ghost use Rattle.card_ports.specs.Counts.{Rose};
+ghost use Rattle.card_desk.specs.Applied.{IsCounted};
 ghost use Rattle.card_desk.specs.Kept.{AreDamaged, IsNewRow, IsRunOf, accepted_count};
 ghost use Rattle.card_desk.specs.Loads.{GoesOn};
 
@@ -39,7 +39,7 @@ impl Keeper for Untold {
 impl Desk {
     ghost use Rattle.std.specs.Prelude.{◌≡◌, ◌≤◌, ℕ, Err, IfOk, OnOk, IsErrOf};
     ghost use Rattle.card_keeper.specs.Rows.{KeepsRows, SameRowsTold};
-    ghost use Rattle.card_ports.specs.Counts.{Rose};
+    ghost use Rattle.card_desk.specs.Applied.{IsCounted};
     ghost use Rattle.card_desk.specs.Kept.{AreDamagedAt, IsLoadedOf, Fits};
 
     /// The desk that the kept rows give: that of a run of their requests. The rows stay, whatever is answered.
@@ -53,10 +53,7 @@ impl Desk {
         ensures damaged { (n : ℕ) → result ≡ Err (LoadFault.Damaged n) → AreDamagedAt (K.rows keeper.old) n }
         ensures rows_stay { KeepsRows (K.rows keeper.old) (K.rows keeper.new) }
         ensures told { SameRowsTold (K.rows keeper.old) (K.rows keeper.new) }
-        ensures count { K.faults keeper.old ≤ K.faults keeper.new }
-        ensures unfailed { OnOk result (K.faults keeper.new ≡ K.faults keeper.old) }
-        ensures cause { IsErrOf result LoadFault.Keeper → Rose (K.faults keeper.old) (K.faults keeper.new) }
-        ensures memory { IsErrOf result LoadFault.Memory → K.faults keeper.new ≡ K.faults keeper.old }
+        ensures counts { IsCounted LoadFault.Keeper LoadFault.Memory (K.faults keeper.old) (K.faults keeper.new) result }
         ensures damaged_count { (n : ℕ) → result ≡ Err (LoadFault.Damaged n) → K.faults keeper.new ≡ K.faults keeper.old }
     {
         let rows = kept_rows(alloc, keeper)?;
@@ -70,10 +67,7 @@ fn kept_rows<K: Keeper>(alloc: Global, keeper: &mut K) -> Result<Vec<Row>, LoadF
     ensures damaged { (n : ℕ) → IsErrOf result (LoadFault.Damaged n) → ⊥ }
     ensures rows_stay { KeepsRows (K.rows keeper.old) (K.rows keeper.new) }
     ensures told { SameRowsTold (K.rows keeper.old) (K.rows keeper.new) }
-    ensures count { K.faults keeper.old ≤ K.faults keeper.new }
-    ensures unfailed { OnOk result (K.faults keeper.new ≡ K.faults keeper.old) }
-    ensures cause { IsErrOf result LoadFault.Keeper → Rose (K.faults keeper.old) (K.faults keeper.new) }
-    ensures memory { IsErrOf result LoadFault.Memory → K.faults keeper.new ≡ K.faults keeper.old }
+    ensures counts { IsCounted LoadFault.Keeper LoadFault.Memory (K.faults keeper.old) (K.faults keeper.new) result }
 {
     match keeper.load(alloc) {
         Ok(rows) => Ok(rows),

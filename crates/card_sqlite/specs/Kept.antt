@@ -13,7 +13,7 @@ use Rattle.sqlite_schema.specs.declared.schema.Schema.{Schema}
 use Rattle.sqlite_schema.specs.declared.schema.Kind.TheVariants as kind
 use Rattle.sqlite.specs.Effect.{Database}
 use Rattle.sqlite.specs.Values.{IsInt}
-use Rattle.sqlite.specs.State.{State}
+use Rattle.sqlite.specs.State.{HasCleanDisk, State}
 use Rattle.card_keeper.specs.declared.row.Row.{Row}
 use Rattle.card_keeper.specs.Rows.{next_seq, are_from}
 
@@ -129,6 +129,10 @@ pub record IsAdded (old : Trees) (row : Row) (new : Trees) : Type 0 where
 abbrev pub Grows : Trees → List Row → Trees → Type 0
 Grows old more new = (rows : List Row) → AreKept old rows → are_from (next_seq rows) more ≡ true → AreKept new (rows ++ more)
 
+-- the table stays, and its rows grow so
+abbrev pub GrowsTable : List Row → Database → Database → Type 0
+GrowsTable more old new = (new.schema ≡ kept_schema) × Grows old.trees more new.trees
+
 -- no transaction is under way
 abbrev pub IsSettled : State → Type 0
 IsSettled s = (s.in_transaction ≡ false) × (IsTrue s.is_open → s.now ≡ s.committed)
@@ -140,6 +144,10 @@ Stays old new = IsTrue new.is_open → new.now ≡ old.now
 -- so do the rows that are kept, though the table may be new
 abbrev pub StaysKept : State → State → Type 0
 StaysKept old new = IsTrue new.is_open → IsFor new.now.schema × ((rows : List Row) → Keeps old.now rows → Keeps new.now rows)
+
+-- P is so where a transaction was under way, and the disk gives back what was written
+abbrev pub InTransaction : State → State → (State → State → Type 0) → Type 0
+InTransaction old new P = HasCleanDisk new → IsTrue old.in_transaction → P old new
 
 -- in a transaction, one row is added, and then some in turn
 abbrev pub AddsRow : Row → State → State → Type 0

@@ -9,7 +9,9 @@ use Rattle.sqlite_trees.specs.Objects.{catalog_tree, IsListed}
 use Rattle.sqlite_schema.specs.declared.schema.Schema.{Schema}
 use Rattle.sqlite_schema.specs.contracts.schema.Schema.{the_row}
 use Rattle.sqlite.specs.Effect.{Database}
+use Rattle.sqlite.specs.Held.{Held, state}
 use Rattle.sqlite.specs.State.{State}
+use Rattle.sqlite.specs.Steps.{over_memory}
 use Rattle.card_keeper.specs.declared.row.Row.{Row}
 use Rattle.card_sqlite.specs.Kept.{no_schema, kept_schema, shown, row_in}
 
@@ -53,3 +55,7 @@ rows_in db = if same_schema db.schema no_schema then [] else map row_in (map sho
 -- what a keeper tells: its rows, where the store tells what it holds, no transaction is under way, and the table is the ledger's or missing
 abbrev pub told : Bool → State → Option (List Row)
 told tells s = if tells && not s.in_transaction && is_for s.now.schema then Some (rows_in s.now) else None
+
+-- what one over a database in memory tells
+abbrev pub told_in_memory : Held MemStore → Option (List Row)
+told_in_memory held = told true (state over_memory held)

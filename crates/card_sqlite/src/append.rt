@@ -3,7 +3,7 @@ ghost use Rattle.std.specs.Int.{w64};
 ghost use Rattle.sqlite.specs.State.{HasCleanDisk, KeepsCommit, Survives, ExecutesInside};
 ghost use Rattle.sqlite.specs.Held.{state};
 ghost use Rattle.sqlite.specs.declared.types.Value.TheVariants.{Int, Blob};
-ghost use Rattle.card_sqlite.specs.Kept.{insert_text, kept_schema, AddsRow, AddsAll, Grows, IsSettled, Stays};
+ghost use Rattle.card_sqlite.specs.Kept.{insert_text, kept_schema, AddsRow, AddsAll, Grows, GrowsTable, InTransaction, IsSettled, Stays};
 
 use card_keeper::Row;
 use sqlite::{Alter, Connection, Error, ErrorCode, Transaction, params};
@@ -18,8 +18,8 @@ fn rowid_of(seq: u64) -> Option<i64>
 
 fn put<S: Alter>(tx: &mut Transaction<'_, S>, seq: i64, body: &[u8]) -> Result<usize, Error>
     ensures same_reference { tx.new.conn.ghost_name ≡ tx.old.conn.ghost_name }
-    ensures runs { HasCleanDisk (state S.Store tx.new.conn.now) → IsTrue (state S.Store tx.old.conn.now).in_transaction
-        → ExecutesInside 0 insert_text (Int seq ∷ Blob body.now ∷ []) (state S.Store tx.old.conn.now) (state S.Store tx.new.conn.now) result }
+    ensures runs { InTransaction (state S.Store tx.old.conn.now) (state S.Store tx.new.conn.now)
+        (λ old new. ExecutesInside 0 insert_text (Int seq ∷ Blob body.now ∷ []) old new result) }
     ensures survives { Survives (state S.Store tx.old.conn.now) (state S.Store tx.new.conn.now) (λ _. ⊥) }
 {
     tx.execute(
@@ -30,10 +30,9 @@ fn put<S: Alter>(tx: &mut Transaction<'_, S>, seq: i64, body: &[u8]) -> Result<u
 
 fn insert<S: Alter>(tx: &mut Transaction<'_, S>, row: &Row) -> Result<usize, Error>
     ensures same_reference { tx.new.conn.ghost_name ≡ tx.old.conn.ghost_name }
-    ensures added { HasCleanDisk (state S.Store tx.new.conn.now) → IsTrue (state S.Store tx.old.conn.now).in_transaction → (state S.Store tx.old.conn.now).now.schema ≡ kept_schema
-        → OnOk result (AddsRow row.now (state S.Store tx.old.conn.now) (state S.Store tx.new.conn.now)) }
-    ensures inside { HasCleanDisk (state S.Store tx.new.conn.now) → IsTrue (state S.Store tx.old.conn.now).in_transaction → OnOk result (IsTrue (state S.Store tx.new.conn.now).in_transaction) }
-    ensures kept { HasCleanDisk (state S.Store tx.new.conn.now) → IsTrue (state S.Store tx.old.conn.now).in_transaction → KeepsCommit (state S.Store tx.old.conn.now) (state S.Store tx.new.conn.now) }
+    ensures added { InTransaction (state S.Store tx.old.conn.now) (state S.Store tx.new.conn.now) (λ old new. old.now.schema ≡ kept_schema → OnOk result (AddsRow row.now old new)) }
+    ensures inside { InTransaction (state S.Store tx.old.conn.now) (state S.Store tx.new.conn.now) (λ old new. OnOk result (IsTrue new.in_transaction)) }
+    ensures kept { InTransaction (state S.Store tx.old.conn.now) (state S.Store tx.new.conn.now) KeepsCommit }
     ensures survives { Survives (state S.Store tx.old.conn.now) (state S.Store tx.new.conn.now) (λ _. ⊥) }
 {
     let Some(seq) = rowid_of(row.seq) else {
@@ -44,10 +43,9 @@ fn insert<S: Alter>(tx: &mut Transaction<'_, S>, row: &Row) -> Result<usize, Err
 
 fn insert_all<S: Alter>(tx: &mut Transaction<'_, S>, rows: &[Row]) -> Result<(), Error>
     ensures same_reference { tx.new.conn.ghost_name ≡ tx.old.conn.ghost_name }
-    ensures added { HasCleanDisk (state S.Store tx.new.conn.now) → IsTrue (state S.Store tx.old.conn.now).in_transaction → (state S.Store tx.old.conn.now).now.schema ≡ kept_schema
-        → OnOk result (AddsAll rows.now (state S.Store tx.old.conn.now) (state S.Store tx.new.conn.now)) }
-    ensures inside { HasCleanDisk (state S.Store tx.new.conn.now) → IsTrue (state S.Store tx.old.conn.now).in_transaction → OnOk result (IsTrue (state S.Store tx.new.conn.now).in_transaction) }
-    ensures kept { HasCleanDisk (state S.Store tx.new.conn.now) → IsTrue (state S.Store tx.old.conn.now).in_transaction → KeepsCommit (state S.Store tx.old.conn.now) (state S.Store tx.new.conn.now) }
+    ensures added { InTransaction (state S.Store tx.old.conn.now) (state S.Store tx.new.conn.now) (λ old new. old.now.schema ≡ kept_schema → OnOk result (AddsAll rows.now old new)) }
+    ensures inside { InTransaction (state S.Store tx.old.conn.now) (state S.Store tx.new.conn.now) (λ old new. OnOk result (IsTrue new.in_transaction)) }
+    ensures kept { InTransaction (state S.Store tx.old.conn.now) (state S.Store tx.new.conn.now) KeepsCommit }
     ensures survives { Survives (state S.Store tx.old.conn.now) (state S.Store tx.new.conn.now) (λ _. ⊥) }
 {
     for row in rows {
@@ -59,7 +57,7 @@ fn insert_all<S: Alter>(tx: &mut Transaction<'_, S>, rows: &[Row]) -> Result<(),
 /// Adds the rows in one transaction. A connection that is in one already is refused.
 pub(crate) fn append<S: Alter>(conn: &mut Connection<S>, rows: &[Row]) -> Result<(), Error>
     ensures added { HasCleanDisk (state S.Store conn.new) → (state S.Store conn.old).now.schema ≡ kept_schema
-        → OnOk result (((state S.Store conn.new).now.schema ≡ kept_schema) × Grows (state S.Store conn.old).now.trees rows.now (state S.Store conn.new).now.trees) }
+        → OnOk result (GrowsTable rows.now (state S.Store conn.old).now (state S.Store conn.new).now) }
     ensures err { HasCleanDisk (state S.Store conn.new) → IsSettled (state S.Store conn.old) → OnErr result (Stays (state S.Store conn.old) (state S.Store conn.new)) }
     ensures mode { conn.old.in_transaction ≡ false → conn.new.in_transaction ≡ false }
     ensures crash { Survives (state S.Store conn.old) (state S.Store conn.new) (λ trees. (state S.Store conn.old).now.schema ≡ kept_schema → Grows (state S.Store conn.old).now.trees rows.now trees) }

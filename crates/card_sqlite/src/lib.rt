@@ -14,6 +14,3 @@ mod told;
 pub use file::SqliteKeeper;
 pub use store::StoreKeeper;
 pub use told::Told;
-
-#[cfg(test)]
-mod tests;

@@ -70,7 +70,7 @@ returns-in-Ok g c =
     let state = opened_state s t name l made.named today (ap (λ (x : State). x.shared) (state_by _ _ c.self.view_is)) accounts made_is c.requires.absent in
     let one : length made.named.lists.posts ≡ 1 = ap (λ (a : NamedAccount). length a.lists.posts) made_is in
     let outcome = open_accepted s name key p (no_place name 0 s.accounts c.requires.absent).0 c.requires.open c.requires.no_reason in
-    kept (g.K.Keeper.rows c.args.keeper.now) (g.K.Keeper.rows c.keep_row.new.keeper) (g.K.Keeper.faults c.args.keeper.now) (g.K.Keeper.faults c.keep_row.new.keeper) s t c.args.request.now (reply.Accepted 1) c.keep_row.ensures.told c.in-Ok.ensures.unfailed
+    kept (g.K.Keeper.rows c.args.keeper.now) (g.K.Keeper.rows c.keep_row.new.keeper) (g.K.Keeper.faults c.args.keeper.now) (g.K.Keeper.faults c.keep_row.new.keeper) s t c.args.request.now (reply.Accepted 1) c.keep_row.ensures.told c.in-Ok.ensures.counts.unfailed
     (subst (λ (x : Request). Steps rows grown s x t (reply.Accepted 1)) (sym c.requires.request)
     (post_accepted rows grown s t name key p l 1 c.in_ok-row.row c.keep_row.ensures.told c.in-Ok.ensures.ok (c.in_ok-row.ensures.value ∙ ap (λ (x : Request). row_of (accepted_count s + 1) x) c.requires.request)
     outcome state refl (count_opened s t made.named (ap (λ (x : State). x.shared) (state_by _ _ c.self.view_is)) accounts one)))

@@ -131,7 +131,7 @@ returns g c =
     let grew : length a.named.lists.posts ≡ length b.named.lists.posts + 1 = ap (λ (l : Lists). length l.posts) lists ∙ longer (present_of d.today d.common b.named.lists) key p in
     let more : length a.named.lists.posts ≡ length (get_or s.accounts at b.named).lists.posts + 1 = grew ∙ ap (λ (x : NamedAccount). length x.lists.posts + 1) read in
     let number : c.commit-number.result ≡ length a.named.lists.posts = c.commit-number.ensures.number ∙ ap (λ (x : OpenAccount). length x.named.lists.posts + 1) ready ∙ sym grew in
-    kept (g.K.Keeper.rows c.args.keeper.now) (g.K.Keeper.rows c.keep_row.new.keeper) (g.K.Keeper.faults c.args.keeper.now) (g.K.Keeper.faults c.keep_row.new.keeper) s t c.args.request.now (reply.Accepted c.commit-number.result) c.keep_row.ensures.told c.in_ok-keep_row.ensures.unfailed
+    kept (g.K.Keeper.rows c.args.keeper.now) (g.K.Keeper.rows c.keep_row.new.keeper) (g.K.Keeper.faults c.args.keeper.now) (g.K.Keeper.faults c.keep_row.new.keeper) s t c.args.request.now (reply.Accepted c.commit-number.result) c.keep_row.ensures.told c.in_ok-keep_row.ensures.counts.unfailed
     (subst (λ (x : Request). Steps rows grown s x t (reply.Accepted c.commit-number.result)) (sym c.requires.request)
     (post_accepted rows grown s t name key p a.named.lists c.commit-number.result c.in_ok-row.row c.keep_row.ensures.told c.in_ok-keep_row.ensures.ok
     (c.in_ok-row.ensures.value ∙ ap (λ (x : Request). row_of (accepted_count s + 1) x) c.requires.request)

@@ -48,7 +48,7 @@ returns g c =
     let today : c.rolled-self-inside.result ≡ rolled s.today r = c.rolled-self-inside.ensures ∙ ap (λ (x : State). rolled x.today r) (state_by _ _ c.self.view_is) in
     let state : t ≡ record { today = rolled s.today r; shared = s.shared ++ r ∷ []; accounts = s.accounts } =
     own ∙ ap (λ n. record { today = n; shared = s.shared ++ r ∷ []; accounts = s.accounts }) today in
-    kept (g.K.Keeper.rows c.args.keeper.now) (g.K.Keeper.rows c.keep_row.new.keeper) (g.K.Keeper.faults c.args.keeper.now) (g.K.Keeper.faults c.keep_row.new.keeper) s t c.args.request.now reply.Done c.keep_row.ensures.told c.in_ok-keep_row.ensures.unfailed
+    kept (g.K.Keeper.rows c.args.keeper.now) (g.K.Keeper.rows c.keep_row.new.keeper) (g.K.Keeper.faults c.args.keeper.now) (g.K.Keeper.faults c.keep_row.new.keeper) s t c.args.request.now reply.Done c.keep_row.ensures.told c.in_ok-keep_row.ensures.counts.unfailed
     (subst (λ (x : Request). Steps (g.K.Keeper.rows c.args.keeper.now) (g.K.Keeper.rows c.keep_row.new.keeper) s x t reply.Done) (sym c.requires.request)
     (shared_accepted _ _ s t r c.in_ok-row.row c.keep_row.ensures.told c.in_ok-keep_row.ensures.ok
     (c.in_ok-row.ensures.value ∙ ap (λ (x : Request). row_of (accepted_count s + 1) x) c.requires.request) c.requires.no_reason state (count_shared s t r own)))

@@ -1,5 +1,5 @@
-use crate::{SqliteKeeper, StoreKeeper};
 use card_keeper::{Body, Keeper, KeeperFault, Row};
+use card_sqlite::{SqliteKeeper, StoreKeeper};
 use sqlite::{Alter, Connection, Files, Options};
 use sqlite_disk::{Crash, Fuse, Memory};
 use std::alloc::Global;

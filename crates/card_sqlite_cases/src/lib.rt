@@ -1,0 +1,6 @@
+//! The calls of rows in a database with ample memory: rows that are kept are loaded again, and an append that is stopped
+//! leaves all of its rows or none.
+#![tactic(auto)]
+
+#[cfg(test)]
+mod stores;
