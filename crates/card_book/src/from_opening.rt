@@ -65,9 +65,7 @@ fn fold_counted<L: Ledger>(
     to: Day,
     blank: Blank,
 ) -> Result<Folded, NoMemory>
-    requires name { blank.name ≡ L.name }
-    requires parts { blank.parts ≡ L.parts }
-    requires some { 0 < blank.parts }
+    requires own { IsBlankOf L.name L.parts blank.name blank.parts }
     requires opened { opened_in inputs.now ≤ to }
     requires last { to ≤ last_request_day }
     ensures book { IfOk result (λ f. f.book ≡ book_on inputs.now to) }

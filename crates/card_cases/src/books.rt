@@ -141,9 +141,7 @@ fn advance_alone<L: Ledger>(
     track: &mut Track,
     blank: Blank,
 ) -> Result<Book, NoMemory>
-    requires name { blank.name ≡ L.name }
-    requires parts { blank.parts ≡ L.parts }
-    requires some { 0 < blank.parts }
+    requires own { IsBlankOf L.name L.parts blank.name blank.parts }
     requires opened { opened_in inputs.now ≡ 19_728 }
     requires blank { IsBlank track.old }
     ensures stands { IfOk result (λ b. kept.StandsFor inputs.now b track.new) }

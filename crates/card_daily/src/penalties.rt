@@ -120,7 +120,7 @@ fn end_if_cured(
 )
     requires due { AreDueOn inputs.now day cycles.now }
     requires which { which < length rates.old.penalties }
-    ensures { (i : Interval) → rates.new ≡ with_penalties (slice_set rates.old.penalties which (cured_with (seen_in inputs.now day) cycles.now due (slice_index_or rates.old.penalties which i))) rates.old }
+    ensures { (i : Interval) → rates.new ≡ with_penalties (cured_at (seen_in inputs.now day) cycles.now due which i rates.old.penalties) rates.old }
 {
     if is_cured(inputs, day, cycles, &rates.penalties()[which]) {
         rates.end_penalty(which, due);

@@ -1,6 +1,0 @@
-pub mod Charged
-pub mod Counting
-pub mod Due
-pub mod Laws
-pub mod Rows
-pub mod Table
