@@ -14,6 +14,7 @@ pub record Turn : Type 0 where
   pub amounts : Amounts
   pub entries : List Entry
 
+-- the two together
 abbrev pub turn_of : Amounts → List Entry → Turn
 turn_of charges all = record { amounts = charges; entries = all }
 
