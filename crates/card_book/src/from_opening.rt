@@ -7,6 +7,7 @@ ghost use Rattle.card_model.specs.Payments.{sixty_days_late};
 ghost use Rattle.card_model.specs.Entries.{at_least_zero};
 ghost use Rattle.card_model.specs.Folds.{cycle_at};
 ghost use Rattle.card_segments.specs.Balances.{AreWithin};
+ghost use Rattle.card_steps.specs.Blanks.{IsBlankOf};
 ghost use Rattle.card_model.specs.Refusals.{book_today, seen_today};
 
 use crate::Book;

@@ -6,6 +6,7 @@ ghost use Rattle.card_daily.specs.Given.{opened_in};
 ghost use Rattle.card_daily.specs.Stands.{AreBefore, IsBlank};
 ghost use Rattle.card_posts.specs.Posted.{StandsFor, last_accepted};
 ghost use Rattle.card_book.specs.Stands as kept;
+ghost use Rattle.card_steps.specs.Blanks.{IsBlankOf};
 
 use crate::account::posts;
 use crate::values::day;

@@ -3,7 +3,7 @@ ghost use Rattle.std.specs.Prelude.{◌≡◌, ℕ, ◌+◌, ◌-◌, ◌*◌, �
 ghost use Rattle.std.specs.List.{sum_by};
 ghost use Rattle.card_units.specs.Money.{daily};
 ghost use Rattle.card_model.specs.Interest.{half_up};
-ghost use Rattle.card_grace.specs.Rows.{DayRow, bearing, repaid_later};
+ghost use Rattle.card_grace.specs.Rows.{DayRow, bearing, equal_days, repaid_later};
 ghost use Rattle.card_grace.specs.Runs.{AreRuns, days_behind, ends_with, run_days, spread};
 
 use crate::rows::Repayment;
