@@ -1,3 +1,4 @@
 pub mod Holdings
+pub mod Laws
 pub mod Parts
 pub mod Rules

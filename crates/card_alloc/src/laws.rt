@@ -1,21 +1,15 @@
 //! Laws on allocation. Their functions do nothing; their clauses are what holds.
 
-ghost use Rattle.std.specs.Prelude.{◌≡◌, ℕ, ◌<◌, ◌++◌, List, length, ℤ};
-ghost use Rattle.card_model.specs.Effects.{parts_entries, put_back};
-ghost use Rattle.card_model.specs.Entries.{AreBalances, posted};
-ghost use Rattle.card_model.specs.declared.entry.Entry.{Entry};
-ghost use Rattle.card_model.specs.declared.entry.Note.{Note};
-ghost use Rattle.card_segments.specs.Balances.{AreOn, HaveSigns};
-ghost use Rattle.card_alloc.specs.Parts.{AreParts, AreSettled, back_entries, parts_in};
+ghost use Rattle.card_alloc.specs.Laws.{PutBackIsOfEntries, PutBackUndoesTake};
 
 /// Where no segment but Held is above 0 while Credit isn't 0, parts that are put back right after they were taken leave
 /// the balances from before.
 pub fn put_back_undoes_take()
-    ensures { (note returned : Note) (newest cents : ℕ) (balances : List ℤ) (parts : List (ℕ × ℕ)) → HaveSigns balances → AreSettled balances → newest < length balances → AreParts balances cents parts → posted (back_entries returned newest parts (posted (parts_entries note parts) balances)) (posted (parts_entries note parts) balances) ≡ balances }
+    ensures { PutBackUndoesTake }
 {}
 
 /// Where each balance is the sum of its segment's entries, the parts that a payment's entries tell are put back as the
 /// ledger puts those entries back.
 pub fn put_back_is_of_entries()
-    ensures { (note : Note) (newest : ℕ) (paid entries : List Entry) (balances : List ℤ) → AreBalances entries balances → newest < length balances → AreOn (length balances) paid → put_back note newest paid entries ≡ entries ++ back_entries note newest (parts_in paid) balances }
+    ensures { PutBackIsOfEntries }
 {}

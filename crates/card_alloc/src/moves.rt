@@ -2,7 +2,7 @@ ghost use Rattle.std.specs.Prelude.{◌≡◌, ℕ, ◌+◌, ◌<◌, ◌≤◌,
 ghost use Rattle.card_model.specs.Limits.{balance_limit};
 ghost use Rattle.card_model.specs.Effects.{parts_entries};
 ghost use Rattle.card_model.specs.Entries.{credit_in, debit, lowers};
-ghost use Rattle.card_segments.specs.Balances.{AreWithin, after_entries};
+ghost use Rattle.card_segments.specs.Balances.{AreWithin, after_entries, movable_balance};
 ghost use Rattle.card_alloc.specs.Parts.{AreCovered, AreOnSegments, back_entries, parts_sum, segment_back};
 
 use crate::Parts;
@@ -15,7 +15,7 @@ fn take_part(s: &mut Segments, segment: u8, cents: u64, note: &Note, out: &mut V
     requires known { segment < length s.old.balances }
     requires covered { 1 ≤ segment → pos cents ≤ℤ slice_index_or s.old.balances segment (pos 0) }
     requires limit { cents ≤ balance_limit }
-    requires small { AreWithin 10_000_000_000_000_000 s.old.balances }
+    requires small { AreWithin movable_balance s.old.balances }
     ensures ok { s.new ≡ after_entries (lowers note.now segment cents) s.old }
     ensures entries { out.new.items ≡ out.old.items ++ lowers note.now segment cents }
     ensures len { vec_len out.new ≤ vec_len out.old + 1 }
@@ -33,7 +33,7 @@ fn return_part(s: &mut Segments, segment: u8, cents: u64, note: &Note, out: &mut
     requires segment { 2 ≤ segment }
     requires known { segment < length s.old.balances }
     requires limit { cents ≤ balance_limit }
-    requires small { AreWithin 10_000_000_000_000_000 s.old.balances }
+    requires small { AreWithin movable_balance s.old.balances }
     ensures ok { s.new ≡ after_entries (debit note.now segment cents (credit_in s.old.balances)) s.old }
     ensures entries { out.new.items ≡ out.old.items ++ debit note.now segment cents (credit_in s.old.balances) }
     ensures len { vec_len out.new ≤ vec_len out.old + 2 }

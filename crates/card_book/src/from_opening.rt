@@ -7,6 +7,7 @@ ghost use Rattle.card_model.specs.Payments.{sixty_days_late};
 ghost use Rattle.card_model.specs.Entries.{at_least_zero};
 ghost use Rattle.card_model.specs.Folds.{cycle_at};
 ghost use Rattle.card_segments.specs.Balances.{AreWithin};
+ghost use Rattle.card_steps.specs.Blanks.{IsBlankOf};
 ghost use Rattle.card_model.specs.Refusals.{book_today, seen_today};
 
 use crate::Book;
@@ -65,9 +66,7 @@ fn fold_counted<L: Ledger>(
     to: Day,
     blank: Blank,
 ) -> Result<Folded, NoMemory>
-    requires name { blank.name ≡ L.name }
-    requires parts { blank.parts ≡ L.parts }
-    requires some { 0 < blank.parts }
+    requires own { IsBlankOf L.name L.parts blank.name blank.parts }
     requires opened { opened_in inputs.now ≤ to }
     requires last { to ≤ last_request_day }
     ensures book { IfOk result (λ f. f.book ≡ book_on inputs.now to) }

@@ -6,6 +6,7 @@ ghost use Rattle.card_daily.specs.Given.{opened_in};
 ghost use Rattle.card_daily.specs.Stands.{AreBefore, IsBlank};
 ghost use Rattle.card_posts.specs.Posted.{StandsFor, last_accepted};
 ghost use Rattle.card_book.specs.Stands as kept;
+ghost use Rattle.card_steps.specs.Blanks.{IsBlankOf};
 
 use crate::account::posts;
 use crate::values::day;
@@ -141,9 +142,7 @@ fn advance_alone<L: Ledger>(
     track: &mut Track,
     blank: Blank,
 ) -> Result<Book, NoMemory>
-    requires name { blank.name ≡ L.name }
-    requires parts { blank.parts ≡ L.parts }
-    requires some { 0 < blank.parts }
+    requires own { IsBlankOf L.name L.parts blank.name blank.parts }
     requires opened { opened_in inputs.now ≡ 19_728 }
     requires blank { IsBlank track.old }
     ensures stands { IfOk result (λ b. kept.StandsFor inputs.now b track.new) }

@@ -73,6 +73,7 @@ fn tasks_of_an_account(rt: HostRuntime) -> Result<(), Fail> {
 }
 
 // The last days to dispute the purchase and to review the rate, as day numbers; 0 for none.
+#[tactic(auto, using(crate::proofs::Sound::dated))]
 fn last_days(rt: &impl Abort, posts: &Posts, today: u16) -> (i32, i32)
     requires account { IsOfAccount posts.now.history }
     requires accepted { last_accepted posts.now.history ≤ 20_163 }

@@ -4,7 +4,7 @@ use Rattle.card_days.specs.Billing.{due_after}
 use Rattle.card_grace.specs.Accruals.{Accrued}
 use Rattle.card_grace.specs.Rows.{Rows}
 use Rattle.card_model.specs.Books.{Account, Book, present_cycle}
-use Rattle.card_model.specs.Closing.{first_day_of, previous_of, purchase_case_in}
+use Rattle.card_model.specs.Closing.{close, first_day_of, previous_of, purchase_case_in}
 use Rattle.card_model.specs.Cycles.{Cycle, IssuedRow, Seen, last_cycle}
 use Rattle.card_model.specs.Effects.{closing_from}
 use Rattle.card_model.specs.Fees.{fees_in}
@@ -38,3 +38,9 @@ pub record IsGivenFor (c : Closing) (issued : Option Cycle) (segments : Balances
   pub same_entries : entries ≡ b.entries
   pub same_fees : fees_in (present_cycle b) fees ≡ fees_in (present_cycle b) b.fees
   pub stand : StandFor all sees a seen b (drop 2 segments.segments) rows accruals
+
+-- whatever book a closing is given of, this holds of the book and of it closed
+abbrev pub ClosesAs : Closing → Option Cycle → Balances → List Rows → List Accrued → List Fee → List Entry → (Book → Book → Type 0) → Type 0
+ClosesAs c issued segments rows accruals fees entries P =
+    (row : Option IssuedRow) (all : List SegmentTerms) (sees : SegmentTerms → Bool) (a : Account) (seen : Seen) (b : Book)
+    → IsGivenFor c issued segments rows accruals fees entries row all sees a seen b → P b (close row a seen b)

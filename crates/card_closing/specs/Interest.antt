@@ -1,6 +1,6 @@
 -- The interest of all segments at a closing, and accruals whose period ends (12 CFR 1026.14(b), .54, .55(b)(1)), from what the
 -- ledger keeps: segments, rows and accruals. Days are day numbers, amounts cents.
-use Rattle.std.specs.Prelude.{ℕ, ◌≡◌, ◌+◌, ◌-◌, ◌==◌, ◌&&◌, true, false, Bool, if◌then◌else◌, map, length, List, [], ◌∷◌, Option, Some, None, slice_index_or}
+use Rattle.std.specs.Prelude.{ℕ, ◌≡◌, ◌+◌, ◌-◌, ◌==◌, ◌&&◌, true, false, Bool, if◌then◌else◌, nat_lt, drop, map, length, List, [], ◌∷◌, Option, Some, None, slice_index_or}
 use Rattle.std.specs.List.{All, Contains, filter}
 use Rattle.card_units.specs.Money.{interest}
 use Rattle.card_grace.specs.Accruals.{Accrued, nothing_accrued}
@@ -10,14 +10,17 @@ use Rattle.card_grace.specs.Rows.{Rows, interest_on}
 use Rattle.card_model.specs.Books.{Account, Book, all_segments}
 use Rattle.card_model.specs.Closing.{Posting, closing_interest, first_day_of, purchase_case_in}
 use Rattle.card_model.specs.Cycles.{Cycle, IssuedRow, Seen, amount_at, amounts_sum}
+use Rattle.card_model.specs.Entries.{owing}
 use Rattle.card_model.specs.Interest.{accrual, ends_today}
 use Rattle.card_model.specs.Segments.{SegmentTerms, is_deferred_on, is_over, kept_segment}
+use Rattle.card_model.specs.declared.entry.Entry.{Entry}
 use Rattle.card_model.specs.declared.entry.EntryKind.TheVariants as kind
 use Rattle.card_model.specs.declared.entry.Note.{Note}
 use Rattle.card_model.specs.declared.grace.GraceCase.{GraceCase}
 use Rattle.card_model.specs.declared.segment.Segment.{Segment}
 use Rattle.card_rates.specs.RateBooks.{AreByNumber}
 use Rattle.card_closing.specs.Turns.{Turn, asked_of, asked_where_owed, in_turn}
+use Rattle.card_closing.specs.declared.closing.Closing.{Closing}
 
 -- ---- what is asked of a segment
 -- the interest of its rows
@@ -31,6 +34,10 @@ ends_in day g = is_deferred_in day g && is_over g.ends (day + 1)
 -- what was accrued, where the period ends on the day
 unfoldable pub accrual_charge : ℕ → Segment → Accrued → ℕ
 accrual_charge day g accrued = if ends_in day g then interest accrued.sum else 0
+
+-- that of a segment with its number, where something is owed on it
+abbrev pub charge_where_owed : ℕ → ℕ → Segment → Accrued → List Entry → ℕ
+charge_where_owed day id g accrued entries = if nat_lt 0 (owing id entries) then accrual_charge day g accrued else 0
 
 -- amounts of segments, each with what is kept of it
 unfoldable pub amounts_of : {A : Type 0} → (Segment → A → ℕ) → List Segment → List A → List ℕ
@@ -50,6 +57,13 @@ interest_turn issued day purchase gs rows t = in_turn issued (note_on day) (aske
 -- then that of each Deferred whose period ends on the day, where something is owed on it
 unfoldable pub accruals_turn : Option Cycle → ℕ → List Segment → List Accrued → Turn → Turn
 accruals_turn issued day gs accruals t = in_turn issued (note_on day) (asked_where_owed (amounts_of (accrual_charge day) gs accruals)) (length gs) t
+
+-- so it is of the closing, with the segments but Credit and Held
+abbrev pub interest_of_all : Option Cycle → Closing → List Segment → List Rows → Turn → Turn
+interest_of_all issued c segments rows t = interest_turn issued c.closing c.purchase (drop 2 segments) rows t
+
+abbrev pub accruals_of_all : Option Cycle → Closing → List Segment → List Accrued → Turn → Turn
+accruals_of_all issued c segments accruals t = accruals_turn issued c.closing (drop 2 segments) accruals t
 
 -- ---- by the book
 -- no entry of the book is on the segment, and it isn't in a plan's period

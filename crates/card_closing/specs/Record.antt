@@ -1,5 +1,5 @@
 -- The record of a closed cycle, from what the ledger keeps (12 CFR 1026.7(b), .54(a)(1)). Days are day numbers, amounts cents.
-use Rattle.std.specs.Prelude.{ℕ, ◌+◌, ◌-◌, ◌==◌, ◌&&◌, if◌then◌else◌, drop, length, List, Option, Some, None, ℤ, pos, ◌-ℤ◌, slice_index_or, unsigned_abs}
+use Rattle.std.specs.Prelude.{ℕ, ◌+◌, ◌-◌, ◌==◌, ◌≤◌, ◌&&◌, if◌then◌else◌, drop, length, List, Option, Some, None, ℤ, pos, ◌-ℤ◌, ◌≤ℤ◌, slice_index_or, unsigned_abs}
 use Rattle.std.specs.List.{filter_map, range_with_len, sum_by}
 use Rattle.card_grace.specs.Cases.{case_in}
 use Rattle.card_grace.specs.Rows.{Rows, average_of}
@@ -31,7 +31,26 @@ by_number amount n = filter_map (nonzero_of amount) (range_with_len 2 n)
 unfoldable pub cycle_average : GraceCase → ℕ → Segment → Rows → ℕ
 cycle_average purchase day g rows = average_of (case_in purchase day g) rows
 
+-- those of all segments
+abbrev pub averages_of : Closing → Balances → List Rows → Amounts
+averages_of c b rows = by_number (of_segment (amounts_of (cycle_average c.purchase c.closing) (drop 2 b.segments) rows)) (length b.balances - 2)
+
+-- no segment was charged more than 10^16 cents
+abbrev pub AreSmall : Amounts → Type 0
+AreSmall amounts = (s : ℕ) → amount_at s amounts ≤ 10_000_000_000_000_000
+
 -- ---- what the minimum payment and the grace amount are taken of
+-- the most cents that a number holds
+abbrev pub largest_cents : ℕ
+largest_cents = 9_223_372_036_854_775_807
+
+-- the account's terms and what is past due are in their ranges: no amount is below 0, and the part of the balance is at most
+-- 10,000 basis points
+pub record HasTermsInRange (c : Closing) : Type 0 where
+  pub least : pos 0 ≤ℤ c.floor
+  pub part : c.pct ≤ 10_000
+  pub left : pos 0 ≤ℤ c.past_due
+
 -- what is owed, less what is held
 abbrev pub net_of : Balances → ℤ
 net_of b = total b.balances -ℤ slice_index_or b.balances 1 (pos 0)
@@ -66,7 +85,7 @@ recorded c issued done rows fees b count =
       new_balance = total b.balances;
       held = at_least_zero (slice_index_or b.balances 1 (pos 0));
       interest = by_number (λ s. amount_at s done) (length b.balances - 2);
-      average = by_number (of_segment (amounts_of (cycle_average c.purchase c.closing) (drop 2 b.segments) rows)) (length b.balances - 2);
+      average = averages_of c b rows;
       fees = fees_in c.number fees;
       minimum = minimum_by c issued done (fees_in c.number fees) b;
       grace_amount = grace_by c issued b;

@@ -14,6 +14,10 @@ pub record Turn : Type 0 where
   pub amounts : Amounts
   pub entries : List Entry
 
+-- the two together
+abbrev pub turn_of : Amounts → List Entry → Turn
+turn_of charges all = record { amounts = charges; entries = all }
+
 -- the issued row of a statement. Caps read nothing of it but the statement
 abbrev pub row_of : Option Cycle → Option IssuedRow
 row_of None = None
@@ -34,6 +38,10 @@ charge_for issued t s asked = left_by issued t.amounts s (within_limit (owing s 
 -- entries with a debit more, whatever of it a credit balance bears
 unfoldable pub debited : Note → ℕ → ℕ → List Entry → List Entry
 debited note s cents entries = entries ++ debit note s cents (credit_balance entries)
+
+-- interest raises no balance above it, in cents
+abbrev pub interest_limit : ℕ
+interest_limit = 10_000_000_000_000
 
 -- cents charged to a segment
 unfoldable pub with_charge : Note → ℕ → ℕ → Turn → Turn
@@ -68,6 +76,12 @@ asked_where_owed amounts entries s = if nat_lt 0 (owing s entries) then of_segme
 pub record AreInStep (balances : Balances) (entries : List Entry) : Type 0 where
   pub sums : AreBalances entries balances.balances
   pub small : AreWithin balance_limit balances.balances
+
+-- so they are after more entries, with the same segments
+pub record StayInStep (old new : Balances) (entries : List Entry) : Type 0 where
+  pub step : AreInStep new entries
+  pub segments : new.segments ≡ old.segments
+  pub balances : length new.balances ≡ length old.balances
 
 -- a list that begins with another
 abbrev pub BeginsWith : List Entry → List Entry → Type 0

@@ -1,13 +1,9 @@
-ghost use Rattle.std.specs.Prelude.{◌≡◌, ℕ, Bool, ◌+◌, ◌≤◌, ◌++◌, [], ◌∷◌, length, List, Option, IfOk, OnOk, pos, ◌≤ℤ◌, option_copied};
+ghost use Rattle.std.specs.Prelude.{◌≡◌, ◌+◌, ◌++◌, [], ◌∷◌, length, IfOk, OnOk, option_copied};
 ghost use Rattle.card_model.specs.Limits.{balance_limit};
-ghost use Rattle.card_closing.specs.Closes.{IsGivenFor};
-ghost use Rattle.card_closing.specs.Record.{recorded};
+ghost use Rattle.card_closing.specs.Closes.{ClosesAs};
+ghost use Rattle.card_closing.specs.Record.{AreSmall, HasTermsInRange, recorded};
 ghost use Rattle.card_segments.specs.Balances.{AreWithin};
 ghost use Rattle.card_closing.specs.Turns.{AreInStep, BeginsWith};
-ghost use Rattle.card_model.specs.Books.{Account, Book};
-ghost use Rattle.card_model.specs.Closing.{close};
-ghost use Rattle.card_model.specs.Cycles.{IssuedRow, Seen, amount_at};
-ghost use Rattle.card_model.specs.Segments.{SegmentTerms};
 
 use crate::interest::{charge_accruals, charge_interest};
 use crate::record::{averages, charged_amounts, grace_of, held, minimum_of};
@@ -53,10 +49,8 @@ fn record(
 ) -> Result<Cycle, NoMemory>
     requires rows { length rows.now + 2 ≡ length segments.now.balances }
     requires small { AreWithin balance_limit segments.now.balances }
-    requires few { (s : ℕ) → amount_at s done.now ≤ 10_000_000_000_000_000 }
-    requires floor { pos 0 ≤ℤ closing.now.floor }
-    requires part { closing.now.pct ≤ 10_000 }
-    requires past_due { pos 0 ≤ℤ closing.now.past_due }
+    requires few { AreSmall done.now }
+    requires terms { HasTermsInRange closing.now }
     ensures { IfOk result (λ c. c ≡ recorded closing.now (option_copied issued.entry) done.now rows.now fees.now segments.now count) }
 {
     let interest = charged_amounts(alloc, segments, done)?;
@@ -100,11 +94,9 @@ pub fn close(
     requires step { AreInStep segments.old out.old.items }
     requires rows { length rows.now + 2 ≡ length segments.old.balances }
     requires accruals { length accruals.now + 2 ≡ length segments.old.balances }
-    requires floor { pos 0 ≤ℤ closing.now.floor }
-    requires part { closing.now.pct ≤ 10_000 }
-    requires past_due { pos 0 ≤ℤ closing.now.past_due }
-    ensures entries { OnOk result ((row : Option IssuedRow) (all : List SegmentTerms) (sees : SegmentTerms → Bool) (a : Account) (seen : Seen) (b : Book) → IsGivenFor closing.now (option_copied issued.entry) segments.old rows.now accruals.now fees.now out.old.items row all sees a seen b → out.new.items ≡ (close row a seen b).entries) }
-    ensures cycle { IfOk result (λ c. (row : Option IssuedRow) (all : List SegmentTerms) (sees : SegmentTerms → Bool) (a : Account) (seen : Seen) (b : Book) → IsGivenFor closing.now (option_copied issued.entry) segments.old rows.now accruals.now fees.now out.old.items row all sees a seen b → b.cycles ++ c ∷ [] ≡ (close row a seen b).cycles) }
+    requires terms { HasTermsInRange closing.now }
+    ensures entries { OnOk result (ClosesAs closing.now (option_copied issued.entry) segments.old rows.now accruals.now fees.now out.old.items (λ b closed. out.new.items ≡ closed.entries)) }
+    ensures cycle { IfOk result (λ c. ClosesAs closing.now (option_copied issued.entry) segments.old rows.now accruals.now fees.now out.old.items (λ b closed. b.cycles ++ c ∷ [] ≡ closed.cycles)) }
     ensures step { OnOk result (AreInStep segments.new out.new.items) }
     ensures segments { OnOk result (segments.new.segments ≡ segments.old.segments) }
     ensures begins { BeginsWith out.old.items out.new.items }

@@ -1,10 +1,10 @@
 // The interest of all segments, and the accruals whose period ends.
-ghost use Rattle.std.specs.Prelude.{◌≡◌, ◌+◌, ◌<◌, ◌≤◌, nat_lt, if◌then◌else◌, drop, length, List, OnOk, slice_index_or, option_copied};
+ghost use Rattle.std.specs.Prelude.{◌≡◌, ◌+◌, ◌<◌, nat_lt, length, List, OnOk, slice_index_or, option_copied};
 ghost use Rattle.card_model.specs.Entries.{owing};
 ghost use Rattle.card_model.specs.declared.entry.Entry.{Entry};
 ghost use Rattle.card_model.specs.declared.segment.Segment.{Segment};
-ghost use Rattle.card_closing.specs.Interest.{accrual_charge, accruals_turn, cycle_charge, ends_in, interest_turn, note_on};
-ghost use Rattle.card_closing.specs.Turns.{AreInStep, BeginsWith, Turn};
+ghost use Rattle.card_closing.specs.Interest.{accrual_charge, accruals_of_all, charge_where_owed, cycle_charge, ends_in, interest_of_all, note_on};
+ghost use Rattle.card_closing.specs.Turns.{AreInStep, BeginsWith, StayInStep, turn_of};
 
 use crate::fees::at_least_zero;
 use crate::turn::charge;
@@ -66,10 +66,8 @@ pub fn charge_interest(
 ) -> Result<(), NoMemory>
     requires rows { length rows.now + 2 ≡ length segments.old.balances }
     requires step { AreInStep segments.old out.old.items }
-    ensures turn { OnOk result (record { amounts = done.new; entries = out.new.items } ≡ interest_turn (option_copied issued.entry) closing.now.closing closing.now.purchase (drop 2 segments.old.segments) rows.now (record { amounts = done.old; entries = out.old.items })) }
-    ensures step { OnOk result (AreInStep segments.new out.new.items) }
-    ensures segments { OnOk result (segments.new.segments ≡ segments.old.segments) }
-    ensures balances { OnOk result (length segments.new.balances ≡ length segments.old.balances) }
+    ensures turn { OnOk result (turn_of done.new out.new.items ≡ interest_of_all (option_copied issued.entry) closing.now segments.old.segments rows.now (turn_of done.old out.old.items)) }
+    ensures kept { OnOk result (StayInStep segments.old segments.new out.new.items) }
     ensures begins { BeginsWith out.old.items out.new.items }
 {
     let note = note_on(closing.closing);
@@ -92,7 +90,7 @@ fn is_owed(segments: &Segments, id: u8) -> bool
 // What a segment is asked of its accrual: nothing where nothing is owed on it.
 fn accrued_where_owed(segments: &Segments, accrual: &Accrual, day: Day, id: u8) -> u64
     requires known { id < length segments.now.balances }
-    ensures { (entries : List Entry) → AreInStep segments.now entries → (d : Segment) → result ≡ (if nat_lt 0 (owing id entries) then accrual_charge day (slice_index_or segments.now.segments id d) accrual.now else 0) }
+    ensures { (entries : List Entry) → AreInStep segments.now entries → (d : Segment) → result ≡ charge_where_owed day id (slice_index_or segments.now.segments id d) accrual.now entries }
 {
     let _count = segments.len();
     if is_owed(segments, id) {
@@ -113,10 +111,8 @@ pub fn charge_accruals(
 ) -> Result<(), NoMemory>
     requires accruals { length accruals.now + 2 ≡ length segments.old.balances }
     requires step { AreInStep segments.old out.old.items }
-    ensures turn { OnOk result (record { amounts = done.new; entries = out.new.items } ≡ accruals_turn (option_copied issued.entry) closing.now.closing (drop 2 segments.old.segments) accruals.now (record { amounts = done.old; entries = out.old.items })) }
-    ensures step { OnOk result (AreInStep segments.new out.new.items) }
-    ensures segments { OnOk result (segments.new.segments ≡ segments.old.segments) }
-    ensures balances { OnOk result (length segments.new.balances ≡ length segments.old.balances) }
+    ensures turn { OnOk result (turn_of done.new out.new.items ≡ accruals_of_all (option_copied issued.entry) closing.now segments.old.segments accruals.now (turn_of done.old out.old.items)) }
+    ensures kept { OnOk result (StayInStep segments.old segments.new out.new.items) }
     ensures begins { BeginsWith out.old.items out.new.items }
 {
     let note = note_on(closing.closing);

@@ -1,5 +1,5 @@
 // The record of a closed cycle.
-ghost use Rattle.std.specs.Prelude.{◌≡◌, ℕ, ◌+◌, ◌-◌, ◌<◌, ◌≤◌, ◌&&◌, drop, length, min, IfOk, pos, ◌≤ℤ◌, ◌-ℤ◌, slice_index_or, unsigned_abs, option_copied};
+ghost use Rattle.std.specs.Prelude.{◌≡◌, ◌+◌, ◌-◌, ◌<◌, ◌≤◌, ◌&&◌, length, min, IfOk, pos, ◌≤ℤ◌, ◌-ℤ◌, slice_index_or, unsigned_abs, option_copied};
 ghost use Rattle.card_model.specs.Limits.{balance_limit};
 ghost use Rattle.card_model.specs.Closing.{ends_after, minimum_of};
 ghost use Rattle.card_model.specs.Segments.{is_sort};
@@ -9,9 +9,8 @@ ghost use Rattle.card_model.specs.Entries.{at_least_zero};
 ghost use Rattle.card_model.specs.Fees.{fees_sum};
 ghost use Rattle.card_model.specs.declared.segment.Segment.{Segment};
 ghost use Rattle.card_segments.specs.Balances.{AreWithin, IsWithin};
-ghost use Rattle.card_closing.specs.Interest.{amounts_of};
-ghost use Rattle.card_closing.specs.Record.{balance_later, by_number, cycle_average, deferred_after, grace_by, minimum_by, net_of};
-ghost use Rattle.card_closing.specs.Turns.{of_segment};
+ghost use Rattle.card_fees.specs.Limits.{statement_limit};
+ghost use Rattle.card_closing.specs.Record.{AreSmall, HasTermsInRange, averages_of, balance_later, by_number, cycle_average, deferred_after, grace_by, largest_cents, minimum_by, net_of};
 
 use crate::fees::at_least_zero;
 use crate::turn::add;
@@ -25,7 +24,7 @@ use std::alloc::Global;
 
 // The amount of a segment, where no amount is above 10^16 cents.
 fn cents_of(done: &Amounts, segment: u8) -> u64
-    requires { (s : ℕ) → amount_at s done.now ≤ 10_000_000_000_000_000 }
+    requires { AreSmall done.now }
     ensures { result ≡ amount_at segment done.now }
 {
     done.at(segment) as u64
@@ -37,7 +36,7 @@ pub fn charged_amounts(
     segments: &Segments,
     done: &Amounts,
 ) -> Result<Amounts, NoMemory>
-    requires { (s : ℕ) → amount_at s done.now ≤ 10_000_000_000_000_000 }
+    requires { AreSmall done.now }
     ensures { IfOk result (λ v. v ≡ by_number (λ s. amount_at s done.now) (length segments.now.balances - 2)) }
 {
     let mut amounts = Amounts::none(alloc);
@@ -63,7 +62,7 @@ pub fn averages(
     rows: &[CycleRows],
 ) -> Result<Amounts, NoMemory>
     requires { length rows.now + 2 ≡ length segments.now.balances }
-    ensures { IfOk result (λ v. v ≡ by_number (of_segment (amounts_of (cycle_average closing.now.purchase closing.now.closing) (drop 2 segments.now.segments) rows.now)) (length segments.now.balances - 2)) }
+    ensures { IfOk result (λ v. v ≡ averages_of closing.now segments.now rows.now) }
 {
     let mut amounts = Amounts::none(alloc);
     for id in 2..segments.len() {
@@ -94,6 +93,7 @@ fn balance_later(segments: &Segments, id: u8, day: Day) -> u64
     ensures value { (d : Segment) → result ≡ balance_later day (slice_index_or segments.now.segments id d) (slice_index_or segments.now.balances id (pos 0)) }
     ensures bound { result ≤ balance_limit }
 {
+    // what the length says is needed as a fact: a balance for each segment, five of them at least, and at most 64
     let _count = segments.len();
     if ends_later(segments.get(id), day) {
         at_least_zero(segments.balance(id))
@@ -128,7 +128,7 @@ pub fn held(segments: &Segments) -> Cents
 fn net(segments: &Segments) -> Cents
     requires small { AreWithin balance_limit segments.now.balances }
     ensures value { result ≡ net_of segments.now }
-    ensures size { IsWithin 100_000_000_000_000_000 result }
+    ensures size { IsWithin statement_limit result }
 {
     let _count = segments.len();
     segments.owed() - held(segments)
@@ -136,14 +136,14 @@ fn net(segments: &Segments) -> Cents
 
 // An amount, at most 10^17.
 fn limited(amount: u128) -> u64
-    ensures { result ≡ min amount 100_000_000_000_000_000 }
+    ensures { result ≡ min amount statement_limit }
 {
     amount.min(100_000_000_000_000_000) as u64
 }
 
 // The interest and the fees of a cycle, at most 10^17.
 fn charges(done: &Amounts, fees: &Fees) -> u64
-    ensures { result ≡ min (amounts_sum done.now + fees_sum fees.now) 100_000_000_000_000_000 }
+    ensures { result ≡ min (amounts_sum done.now + fees_sum fees.now) statement_limit }
 {
     limited(limited(done.sum()) as u128 + limited(fees.sum()) as u128)
 }
@@ -151,11 +151,9 @@ fn charges(done: &Amounts, fees: &Fees) -> u64
 // The minimum payment by the account's terms.
 fn minimum_by_terms(closing: &Closing, done: &Amounts, fees: &Fees, segments: &Segments) -> u64
     requires small { AreWithin balance_limit segments.now.balances }
-    requires floor { pos 0 ≤ℤ closing.now.floor }
-    requires part { closing.now.pct ≤ 10_000 }
-    requires past_due { pos 0 ≤ℤ closing.now.past_due }
+    requires terms { HasTermsInRange closing.now }
     ensures value { result ≡ minimum_of (net_of segments.now) (unsigned_abs closing.now.floor) closing.now.pct (amounts_sum done.now + fees_sum fees.now) (unsigned_abs closing.now.past_due) }
-    ensures bound { result ≤ 9_223_372_036_854_775_807 }
+    ensures bound { result ≤ largest_cents }
 {
     let floor = limited(closing.floor as u64 as u128);
     let past_due = limited(closing.past_due as u64 as u128);
@@ -172,7 +170,7 @@ fn minimum_by_terms(closing: &Closing, done: &Amounts, fees: &Fees, segments: &S
 // What a balance has beyond an amount.
 fn beyond(balance: Cents, cents: u64) -> u64
     ensures value { result ≡ at_least_zero (balance -ℤ pos cents) }
-    ensures bound { result ≤ 9_223_372_036_854_775_807 }
+    ensures bound { result ≤ largest_cents }
 {
     if balance < 0 {
         return 0;
@@ -184,7 +182,7 @@ fn beyond(balance: Cents, cents: u64) -> u64
 fn grace_by_balances(closing: &Closing, segments: &Segments) -> u64
     requires small { AreWithin balance_limit segments.now.balances }
     ensures value { result ≡ at_least_zero (net_of segments.now -ℤ pos (deferred_after closing.now.next_closing segments.now)) }
-    ensures bound { result ≤ 9_223_372_036_854_775_807 }
+    ensures bound { result ≤ largest_cents }
 {
     beyond(
         net(segments),
@@ -194,7 +192,7 @@ fn grace_by_balances(closing: &Closing, segments: &Segments) -> u64
 
 // An amount that a statement says.
 fn cents(amount: u64) -> Cents
-    requires { amount ≤ 9_223_372_036_854_775_807 }
+    requires { amount ≤ largest_cents }
     ensures { result ≡ pos amount }
 {
     amount as i64
@@ -202,7 +200,7 @@ fn cents(amount: u64) -> Cents
 
 // The lesser of an amount and of one that was issued.
 fn lesser(amount: u64, issued: Cents) -> Cents
-    requires { amount ≤ 9_223_372_036_854_775_807 }
+    requires { amount ≤ largest_cents }
     ensures { result ≡ pos (min amount (at_least_zero issued)) }
 {
     cents(amount.min(at_least_zero(issued)))
@@ -218,9 +216,7 @@ pub fn minimum_of(
     segments: &Segments,
 ) -> Cents
     requires small { AreWithin balance_limit segments.now.balances }
-    requires floor { pos 0 ≤ℤ closing.now.floor }
-    requires part { closing.now.pct ≤ 10_000 }
-    requires past_due { pos 0 ≤ℤ closing.now.past_due }
+    requires terms { HasTermsInRange closing.now }
     ensures { result ≡ pos (minimum_by closing.now (option_copied issued.entry) done.now fees.now segments.now) }
 {
     let asked = minimum_by_terms(closing, done, fees, segments);

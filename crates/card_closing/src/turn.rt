@@ -3,7 +3,7 @@ ghost use Rattle.std.specs.Prelude.{◌≡◌, ◌+◌, ◌-◌, ◌<◌, ◌≤
 ghost use Rattle.card_model.specs.Closing.{within_limit};
 ghost use Rattle.card_model.specs.Entries.{at_least_zero};
 ghost use Rattle.card_model.specs.declared.entry.Entry.{Entry};
-ghost use Rattle.card_closing.specs.Turns.{AreInStep, BeginsWith, Turn, charge_for, charged, debited, left_by, with_amount};
+ghost use Rattle.card_closing.specs.Turns.{AreInStep, BeginsWith, StayInStep, charge_for, charged, debited, interest_limit, left_by, turn_of, with_amount};
 
 use crate::fees::at_least_zero;
 use crate::{Amounts, Cycle};
@@ -13,7 +13,7 @@ use card_units::{Cents, NoMemory};
 // Of an amount, what keeps a balance within 10^13 cents.
 fn within_limit(balance: Cents, cents: u64) -> u64
     ensures value { result ≡ within_limit (at_least_zero balance) cents }
-    ensures high { result ≤ 10_000_000_000_000 - at_least_zero balance }
+    ensures high { result ≤ interest_limit - at_least_zero balance }
 {
     let room = 10_000_000_000_000u64.saturating_sub(at_least_zero(balance));
     room.min(cents)
@@ -48,8 +48,8 @@ pub fn add(done: &mut Amounts, segment: u8, cents: u64) -> Result<(), NoMemory>
 #[tactic(auto, unfolding(crate::specs::Turns::charge_for))]
 fn charge_of(issued: Option<&Cycle>, done: &Amounts, segments: &Segments, id: u8, asked: u64) -> u64
     requires known { id < length segments.now.balances }
-    ensures value { (entries : List Entry) → AreInStep segments.now entries → result ≡ charge_for (option_copied issued.entry) (record { amounts = done.now; entries = entries }) id asked }
-    ensures high { result ≤ 10_000_000_000_000 - at_least_zero (slice_index_or segments.now.balances id (pos 0)) }
+    ensures value { (entries : List Entry) → AreInStep segments.now entries → result ≡ charge_for (option_copied issued.entry) (turn_of done.now entries) id asked }
+    ensures high { result ≤ interest_limit - at_least_zero (slice_index_or segments.now.balances id (pos 0)) }
 {
     let kept = within_limit(segments.balance(id), asked);
     capped(issued, done, id, kept)
@@ -66,11 +66,9 @@ pub fn debit(
     requires segment { 2 ≤ id }
     requires known { id < length segments.old.balances }
     requires step { AreInStep segments.old out.old.items }
-    requires high { cents ≤ 10_000_000_000_000 - at_least_zero (slice_index_or segments.old.balances id (pos 0)) }
+    requires high { cents ≤ interest_limit - at_least_zero (slice_index_or segments.old.balances id (pos 0)) }
     ensures entries { OnOk result (out.new.items ≡ debited note.now id cents out.old.items) }
-    ensures step { OnOk result (AreInStep segments.new out.new.items) }
-    ensures segments { OnOk result (segments.new.segments ≡ segments.old.segments) }
-    ensures balances { OnOk result (length segments.new.balances ≡ length segments.old.balances) }
+    ensures kept { OnOk result (StayInStep segments.old segments.new out.new.items) }
     ensures begins { BeginsWith out.old.items out.new.items }
 {
     segments.debit(id, cents as i64, note, out)?;
@@ -90,10 +88,8 @@ pub fn charge(
     requires segment { 2 ≤ id }
     requires known { id < length segments.old.balances }
     requires step { AreInStep segments.old out.old.items }
-    ensures turn { OnOk result (record { amounts = done.new; entries = out.new.items } ≡ charged (option_copied issued.entry) note.now id asked (record { amounts = done.old; entries = out.old.items })) }
-    ensures step { OnOk result (AreInStep segments.new out.new.items) }
-    ensures segments { OnOk result (segments.new.segments ≡ segments.old.segments) }
-    ensures balances { OnOk result (length segments.new.balances ≡ length segments.old.balances) }
+    ensures turn { OnOk result (turn_of done.new out.new.items ≡ charged (option_copied issued.entry) note.now id asked (turn_of done.old out.old.items)) }
+    ensures kept { OnOk result (StayInStep segments.old segments.new out.new.items) }
     ensures begins { BeginsWith out.old.items out.new.items }
 {
     let cents = charge_of(issued, done, segments, id, asked);

@@ -1,7 +1,6 @@
-ghost use Rattle.std.specs.Prelude.{◌≡◌, ◌≤◌, option_copied};
-ghost use Rattle.card_days.specs.Range.{first_calendar_day};
+ghost use Rattle.std.specs.Prelude.{◌≡◌, option_copied};
 ghost use Rattle.card_days.specs.Billing.{IsCloseDay};
-ghost use Rattle.card_events.specs.History.{anchor_of, opening_in, terms_in, terms_of};
+ghost use Rattle.card_events.specs.History.{anchor_of, terms_in, terms_of};
 ghost use Rattle.card_model.specs.Caps.{row_for};
 ghost use Rattle.card_model.specs.CycleDays.{IsOpening};
 
@@ -12,32 +11,6 @@ use card_fees::FeeTable;
 use card_posts::Posts;
 use card_shared::SharedRows;
 use std::marker::Model;
-
-// The opening day of an Open, and the day of the month on which its cycles close.
-fn opening(post: &Post) -> Anchor
-    requires first { first_calendar_day ≤ opening_in post.now }
-    requires close_day { IsCloseDay (terms_in post.now).close }
-    ensures { result ≡ record { opened = opening_in post.now; close_day = (terms_in post.now).close } }
-{
-    match post {
-        Post::Open { day, terms } => Anchor {
-            opened: *day,
-            close_day: terms.close.get() as u8,
-        },
-        _ => unreachable!(),
-    }
-}
-
-// Those of the first post.
-fn anchor_in(posts: &Posts) -> Anchor
-    requires { IsOpening (anchor_of posts.now.history) }
-    ensures { result ≡ anchor_of posts.now.history }
-{
-    match posts.get(1) {
-        Some(kept) => opening(&kept.post),
-        None => unreachable!(),
-    }
-}
 
 // The terms of an Open.
 fn terms(post: &Post) -> Terms
@@ -50,7 +23,7 @@ fn terms(post: &Post) -> Terms
     }
 }
 
-// Those of the first post.
+// Those of the post that opened the account.
 fn terms_of_first(posts: &Posts) -> Terms
     requires { IsOpening (anchor_of posts.now.history) }
     ensures { result ≡ terms_of posts.now.history }
@@ -117,7 +90,7 @@ impl<'a> Inputs<'a> {
         ensures value { result ≡ anchor_of self.now.history }
         ensures sound { IsSound self.now }
     {
-        anchor_in(self.posts)
+        self.posts.anchor()
     }
 
     /// The terms of the account.

@@ -1,5 +1,5 @@
 // How penalty rates begin and end.
-ghost use Rattle.std.specs.Prelude.{◌≡◌, ◌+◌, ◌≤◌, ◌<◌, ◌&&◌, ◌++◌, ℕ, length, map, nat_lt, not, slice_index_or, slice_set, Some, None, OnOk};
+ghost use Rattle.std.specs.Prelude.{◌≡◌, ◌+◌, ◌≤◌, ◌<◌, ◌&&◌, ◌++◌, ℕ, length, map, nat_lt, not, Some, None, OnOk};
 ghost use Rattle.card_days.specs.Range.{last_request_day};
 ghost use Rattle.std.specs.List.{All, list_all};
 ghost use Rattle.card_events.specs.History.{anchor_of};
@@ -11,7 +11,7 @@ ghost use Rattle.card_model.specs.declared.segment.Interval.{Interval};
 ghost use Rattle.card_penalties.specs.Ending.{awaits_end, cured_with};
 ghost use Rattle.card_rates.specs.RateBooks.{with_penalties};
 ghost use Rattle.card_daily.specs.Given.{seen_in};
-ghost use Rattle.card_daily.specs.Penalties.{IsClosed, begun_on, cured_on};
+ghost use Rattle.card_daily.specs.Penalties.{IsClosed, begun_on, cured_at, cured_on};
 ghost use Rattle.card_daily.specs.Returns.{AreDueOn, IsDueBy};
 ghost use Rattle.card_daily.specs.Stands.{AreClosedBefore};
 
@@ -120,7 +120,7 @@ fn end_if_cured(
 )
     requires due { AreDueOn inputs.now day cycles.now }
     requires which { which < length rates.old.penalties }
-    ensures { (i : Interval) → rates.new ≡ with_penalties (slice_set rates.old.penalties which (cured_with (seen_in inputs.now day) cycles.now due (slice_index_or rates.old.penalties which i))) rates.old }
+    ensures { (i : Interval) → rates.new ≡ with_penalties (cured_at (seen_in inputs.now day) cycles.now due which i rates.old.penalties) rates.old }
 {
     if is_cured(inputs, day, cycles, &rates.penalties()[which]) {
         rates.end_penalty(which, due);

@@ -232,6 +232,7 @@ fn enter(
     ensures begins { Begins track.old track.new }
 {
     let _anchor = inputs.anchor();
+    // what the length says is needed as a fact: a balance for each segment, five of them at least, and at most 64
     let _count = state.segments.len();
     match folded_at(inputs.posts(), place) {
         Some(post) => match &post.post {

@@ -1,4 +1,5 @@
 pub mod Dues
 pub mod Ends
+pub mod Histories
 pub mod Increases
 pub mod Notices

@@ -3,14 +3,13 @@ ghost use Rattle.std.specs.Prelude.{◌≡◌, ℕ, ◌+◌, ◌≤◌, drop, Li
 ghost use Rattle.card_days.specs.Range.{last_request_day};
 ghost use Rattle.std.specs.List.{find};
 ghost use Rattle.std.specs.Option.{option_map};
-ghost use Rattle.card_days.specs.Billing.{IsCloseDay};
+ghost use Rattle.card_disputes.specs.Histories.{AreInCalendar};
 ghost use Rattle.card_disputes.specs.Notices.{amend_at, amended_at, charge_day, charge_own, notice_end_at};
-ghost use Rattle.card_events.specs.History.{amended_day, anchor_of, at_number, last_amend};
+ghost use Rattle.card_events.specs.History.{amended_day, at_number, last_amend};
 ghost use Rattle.card_events.specs.Dated.{is_dated_post};
 ghost use Rattle.card_model.specs.Deadlines as spec;
 ghost use Rattle.card_model.specs.Refusals.{holds_of};
 ghost use Rattle.card_posts.specs.Posted.{StandsFor, last_accepted};
-ghost use Rattle.card_slots.specs.Segments.{ArePostsDated};
 
 use crate::deadline::cycle_on;
 use card_days::{Anchor, Day};
@@ -133,12 +132,10 @@ fn notice_end(posts: &Posts, charge: u32, cycle: u32) -> Option<Day>
 /// (12 CFR 1026.13(b)(1)). None comes where no statement reflects it yet, and where no charge has the number. The posts were
 /// accepted on days of requests. The corrected list is that of the posts under some calendar. It takes no memory.
 pub fn last_notice_day(posts: &Posts, anchor: &Anchor, charge: Num) -> Option<Day>
-    requires anchor { anchor.now ≡ anchor_of posts.now.history }
-    requires close_day { IsCloseDay anchor.now.close_day }
-    requires dated { ArePostsDated posts.now.history }
-    requires accepted { last_accepted posts.now.history ≤ last_request_day }
+    requires posts { AreInCalendar anchor.now posts.now.history }
     ensures { (holidays : List ℕ) → StandsFor holidays posts.now → result ≡ spec.last_notice_day anchor.now posts.now.corrected charge }
 {
+    // what the length says is needed as a fact: at most 10,000 posts are there, so the number of one is a small one
     let _count = posts.len();
     match charge_day(posts, charge) {
         Some(day) => notice_end(posts, charge.get() as u32, cycle_on(anchor, day)),

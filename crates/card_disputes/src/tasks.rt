@@ -3,8 +3,9 @@ ghost use Rattle.std.specs.Prelude.{◌≡◌, ◌≤◌, ◌≤ℤ◌, ◌++◌
 ghost use Rattle.card_days.specs.Range.{last_request_day};
 ghost use Rattle.std.specs.Option.{option_map, option_to_list};
 ghost use Rattle.card_days.specs.Billing.{IsCloseDay};
-ghost use Rattle.card_disputes.specs.Dues as dues;
+ghost use Rattle.card_disputes.specs.Dues.{AddsTasks};
 ghost use Rattle.card_events.specs.History.{anchor_of};
+ghost use Rattle.card_model.specs.Deadlines.{open_tasks};
 ghost use Rattle.card_model.specs.Deadlines as spec;
 ghost use Rattle.card_posts.specs.Posted.{StandsFor};
 ghost use Rattle.card_slots.specs.Segments.{ArePostsDated};
@@ -74,7 +75,7 @@ fn push_tasks(
     requires close_day { IsCloseDay basis.now.anchor.now.close_day }
     requires opened { basis.now.anchor.now.opened ≤ last_request_day }
     requires dated { ArePostsDated basis.now.posts.now.history }
-    ensures { (holidays : List ℕ) → StandsFor holidays basis.now.posts.now → OnOk result (tasks.new.items ≡ tasks.old.items ++ spec.tasks_of basis.now.name.now kind (dues.due_by basis.now.anchor.now basis.now.calendar.now basis.now.credit basis.now.posts.now.corrected kind) basis.now.posts.now.corrected) }
+    ensures { OnOk result (AddsTasks basis.now.name.now basis.now.anchor.now basis.now.calendar.now basis.now.credit basis.now.posts.now kind tasks.old.items tasks.new.items) }
 {
     let posts = basis.posts;
     for i in 0..posts.len() {
@@ -112,7 +113,7 @@ pub fn work_of(
     requires low { pos 0 ≤ℤ credit }
     requires since { IfSome since (λ d. d ≤ last_request_day) }
     requires today { today ≤ last_request_day }
-    ensures { (holidays : List ℕ) → StandsFor holidays posts.now → IfOk result (λ tasks. tasks.items ≡ spec.open_tasks name.now anchor.now calendar.now posts.now.corrected (unsigned_abs credit) since today) }
+    ensures { (holidays : List ℕ) → StandsFor holidays posts.now → IfOk result (λ tasks. tasks.items ≡ open_tasks name.now anchor.now calendar.now posts.now.corrected (unsigned_abs credit) since today) }
 {
     let credit = cents_in(credit);
     let basis = Basis {

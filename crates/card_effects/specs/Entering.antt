@@ -3,6 +3,7 @@ use Rattle.std.specs.Prelude.{ℕ, ◌≡◌, List, Option, Result, OnErr, ℤ, 
 use Rattle.card_days.specs.declared.anchor.Channel.{Channel}
 use Rattle.card_events.specs.History.{CorrectedPost}
 use Rattle.card_events.specs.declared.kept.Slot.{Slot}
+use Rattle.card_events.specs.declared.post.Place.{Place}
 use Rattle.card_events.specs.declared.post.Post.{Post}
 use Rattle.card_events.specs.declared.post.Post.TheVariants as post
 use Rattle.card_model.specs.Books.{Account, Book, with_fee}
@@ -76,6 +77,11 @@ pub record IsReturnOf (payment : ℕ) (charged : Option Fee) (rated : Rates) (is
 abbrev pub EntersPayment : ℕ → ℤ → Slot → Rates → Balances → List Entry → Balances → List Entry → Type 0
 EntersPayment following minimum_part slot rated old entries new after =
     (day minute cents : ℕ) (by : Channel) → EntersWhere (IsSplit following minimum_part) (post.Payment day minute by cents) slot rated old entries new after
+
+-- so is a merchant's credit on a place
+abbrev pub EntersCredit : ℕ → Place → Slot → Rates → Balances → List Entry → Balances → List Entry → Type 0
+EntersCredit following place slot rated old entries new after =
+    (day cents : ℕ) → EntersWhere (ClosesNext following) (post.Credit day place cents) slot rated old entries new after
 
 -- ---- what is left
 -- the segments stay, and after want of memory balances and entries are as they were

@@ -2,7 +2,7 @@
 ghost use Rattle.std.specs.Prelude.{◌≡◌, ℕ, ◌++◌, Option, IfOk, OnOk, OnErr, min, pos, ◌≤ℤ◌};
 ghost use Rattle.card_model.specs.Limits.{balance_limit};
 ghost use Rattle.card_alloc.specs.Parts.{AreParts};
-ghost use Rattle.card_effects.specs.Entering.{ClosesNext, EntersPayment, EntersWhere, Leaves, MayMove};
+ghost use Rattle.card_effects.specs.Entering.{EntersCredit, EntersPayment, Leaves, MayMove};
 ghost use Rattle.card_days.specs.declared.anchor.Channel.{Channel};
 ghost use Rattle.card_events.specs.History.{CorrectedPost};
 ghost use Rattle.card_events.specs.declared.post.Post.TheVariants as post;
@@ -67,7 +67,7 @@ pub fn credit(
     out: &mut Vec<Entry>,
 ) -> Result<Parts, NoMemory>
     requires asked { MayMove segments.old rates.now slot.now.cents }
-    ensures stands { OnOk result ((day cents : ℕ) → EntersWhere (ClosesNext following_closing) (post.Credit day place.now cents) slot.now rates.now segments.old out.old.items segments.new out.new.items) }
+    ensures stands { OnOk result (EntersCredit following_closing place.now slot.now rates.now segments.old out.old.items segments.new out.new.items) }
     ensures entries { IfOk result (λ parts. out.new.items ≡ out.old.items ++ parts_entries (record { day = slot.now.day; kind = kind.Credit; post = slot.now.number }) parts) }
     ensures whole { IfOk result (λ parts. AreParts segments.old.balances (at_least_zero slot.now.cents) parts) }
     ensures left { Leaves result segments.old segments.new out.old.items out.new.items }

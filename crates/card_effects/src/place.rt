@@ -45,6 +45,7 @@ pub fn newest(segments: &Segments, rates: &RateBook, category: Category, day: Da
     ensures value { result ≡ newest (sort_of_category category) day (filter (is_added day) rates.now.segments) }
     ensures billed { IsBilled result segments.now.balances }
 {
+    // what the length says is needed as a fact: a balance for each segment, five of them at least, and at most 64
     let _count = segments.len();
     rates.vintage(category, day)
 }

@@ -13,7 +13,7 @@ ghost use Rattle.card_model.specs.Effects.{effect, meant_for, payment_at};
 ghost use Rattle.card_model.specs.Effects as model;
 ghost use Rattle.card_model.specs.declared.entry.Entry.{Entry};
 ghost use Rattle.card_model.specs.declared.entry.EntryKind.TheVariants as kind;
-ghost use Rattle.card_segments.specs.Balances.{AreWithin};
+ghost use Rattle.card_segments.specs.Balances.{AreWithin, movable_balance};
 
 use crate::debits::note_of;
 use crate::place::newest;
@@ -39,7 +39,7 @@ fn put_parts_back(
     requires small { AreWithin balance_limit segments.old.balances }
     ensures stands { OnOk result (PutsBack payment slot.now rates.now segments.old out.old.items segments.new out.new.items) }
     ensures segments { segments.new.segments ≡ segments.old.segments }
-    ensures small { OnOk result (AreWithin 10_000_000_000_000_000 segments.new.balances) }
+    ensures small { OnOk result (AreWithin movable_balance segments.new.balances) }
     ensures begins { take (length out.old.items) out.new.items ≡ out.old.items }
 {
     let parts = Parts::of_payment(alloc, out, payment)?;
@@ -59,7 +59,7 @@ fn charge_fee(
     requires rated { AreRated segments.old.segments rates.now }
     requires amount { pos 0 ≤ℤ fee.now.cents }
     requires limit { fee.now.cents ≤ℤ pos balance_limit }
-    requires small { AreWithin 10_000_000_000_000_000 segments.old.balances }
+    requires small { AreWithin movable_balance segments.old.balances }
     ensures stands { OnOk result (ChargesFee slot.now.day slot.now.number (Some fee.now) rates.now segments.old out.old.items segments.new out.new.items) }
     ensures segments { segments.new.segments ≡ segments.old.segments }
     ensures err_entries { OnErr result (out.new.items ≡ out.old.items) }
@@ -80,7 +80,7 @@ fn charge_if_any(
 ) -> Result<(), NoMemory>
     requires rated { AreRated segments.old.segments rates.now }
     requires charged { IsChargeable charged.now }
-    requires small { AreWithin 10_000_000_000_000_000 segments.old.balances }
+    requires small { AreWithin movable_balance segments.old.balances }
     ensures stands { OnOk result (ChargesFee slot.now.day slot.now.number charged.now rates.now segments.old out.old.items segments.new out.new.items) }
     ensures segments { segments.new.segments ≡ segments.old.segments }
     ensures err_entries { OnErr result (out.new.items ≡ out.old.items) }

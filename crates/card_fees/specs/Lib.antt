@@ -2,5 +2,6 @@ pub mod Charged
 pub mod Counting
 pub mod Due
 pub mod Laws
+pub mod Limits
 pub mod Rows
 pub mod Table

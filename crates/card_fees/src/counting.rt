@@ -3,6 +3,7 @@ ghost use Rattle.std.specs.Prelude.{◌≡◌, ◌≤◌, ◌≤ℤ◌, ℕ, Lis
 ghost use Rattle.std.specs.List.{sum_by};
 ghost use Rattle.card_events.specs.History.{at_number};
 ghost use Rattle.card_fees.specs.Counting.{counts, credits, earlier_posts, in_front, is_before, is_credit_at, is_payment_at, is_returned_among, returns_at, since, slots_sum, up_to};
+ghost use Rattle.card_fees.specs.Limits.{payments_limit};
 ghost use Rattle.card_model.specs.Payments as payments;
 ghost use Rattle.card_posts.specs.Order.{IsAscending};
 ghost use Rattle.card_posts.specs.Posted.{AreBounded, StandsFor, folding_order};
@@ -154,7 +155,7 @@ fn counts(posts: &Posts, among: &[Slot], slot: &Slot) -> u64
 fn sum(posts: &Posts, slots: &[Slot]) -> u64
     requires bounded { AreBounded slots.now }
     ensures value { result ≡ slots_sum posts.now.history slots.now slots.now }
-    ensures bound { result ≤ 9_999_999_999_990_000 }
+    ensures bound { result ≤ payments_limit }
 {
     let returns = from_returns(posts, slots);
     let mut total = 0;
@@ -166,7 +167,7 @@ fn sum(posts: &Posts, slots: &[Slot]) -> u64
 
 // The payments with effective days from one day to another, less those returned by its end.
 pub fn counted_between(posts: &Posts, from: Day, to: Day) -> u64
-    ensures bound { result ≤ 9_999_999_999_990_000 }
+    ensures bound { result ≤ payments_limit }
     ensures value { (holidays : List ℕ) → StandsFor holidays posts.now → result ≡ payments.counted posts.now.corrected from to }
 {
     sum(posts, slots_of(posts, from, to))
@@ -176,7 +177,7 @@ pub fn counted_between(posts: &Posts, from: Day, to: Day) -> u64
 /// 1026.10, .55(b)(4)). The corrected list is that of the posts under some calendar. It takes no memory.
 pub fn counted(posts: &Posts, from: Day, to: Day) -> Cents
     ensures low { pos 0 ≤ℤ result }
-    ensures high { result ≤ℤ pos 9_999_999_999_990_000 }
+    ensures high { result ≤ℤ pos payments_limit }
     ensures value { (holidays : List ℕ) → StandsFor holidays posts.now → result ≡ pos (payments.counted posts.now.corrected from to) }
 {
     counted_between(posts, from, to) as i64
@@ -184,7 +185,7 @@ pub fn counted(posts: &Posts, from: Day, to: Day) -> Cents
 
 // the payments that are folded before a post, less those returned before it
 fn counted_in_front(posts: &Posts, from: Day, day: Day, number: u32) -> u64
-    ensures bound { result ≤ 9_999_999_999_990_000 }
+    ensures bound { result ≤ payments_limit }
     ensures value { (holidays : List ℕ) → StandsFor holidays posts.now → result ≡ payments.counted (earlier_posts day number posts.now.corrected) from day }
 {
     sum(posts, slots_before(posts, from, day, number))
@@ -224,7 +225,7 @@ fn credits(posts: &Posts, slot: &Slot) -> u64
 fn credits_sum(posts: &Posts, slots: &[Slot]) -> u64
     requires bounded { AreBounded slots.now }
     ensures value { result ≡ sum_by (credits posts.now.history) slots.now }
-    ensures bound { result ≤ 9_999_999_999_990_000 }
+    ensures bound { result ≤ payments_limit }
 {
     let mut total = 0;
     for slot in slots {
@@ -235,7 +236,7 @@ fn credits_sum(posts: &Posts, slots: &[Slot]) -> u64
 
 // the credits with effective days from one day to another
 fn credited_between(posts: &Posts, from: Day, to: Day) -> u64
-    ensures bound { result ≤ 9_999_999_999_990_000 }
+    ensures bound { result ≤ payments_limit }
     ensures value { (holidays : List ℕ) → StandsFor holidays posts.now → result ≡ payments.credited posts.now.corrected from to }
 {
     credits_sum(posts, slots_of(posts, from, to))
@@ -245,7 +246,7 @@ fn credited_between(posts: &Posts, from: Day, to: Day) -> u64
 /// corrected list is that of the posts under some calendar. It takes no memory.
 pub fn credited(posts: &Posts, from: Day, to: Day) -> Cents
     ensures low { pos 0 ≤ℤ result }
-    ensures high { result ≤ℤ pos 9_999_999_999_990_000 }
+    ensures high { result ≤ℤ pos payments_limit }
     ensures value { (holidays : List ℕ) → StandsFor holidays posts.now → result ≡ pos (payments.credited posts.now.corrected from to) }
 {
     credited_between(posts, from, to) as i64

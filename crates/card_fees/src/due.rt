@@ -3,6 +3,7 @@ ghost use Rattle.std.specs.Prelude.{◌≡◌, ℕ, ◌+◌, ◌-◌, ◌<◌, �
 ghost use Rattle.card_days.specs.Range.{last_calendar_day};
 ghost use Rattle.card_days.specs.Billing.{IsCloseDay, closing, due};
 ghost use Rattle.card_fees.specs.Due.{is_late_from, is_met, is_sixty_days_late, owes_sixty_days, past_due_at};
+ghost use Rattle.card_fees.specs.Limits.{payments_limit};
 ghost use Rattle.card_model.specs.Payments as payments;
 ghost use Rattle.card_posts.specs.Posted.{StandsFor};
 
@@ -16,7 +17,7 @@ fn since_closing(posts: &Posts, a: &Anchor, k: u32, to: Day) -> u64
     requires close_day { IsCloseDay a.now.close_day }
     requires cycle { 1 ≤ k }
     requires closed { closing a.now k < to }
-    ensures bound { result ≤ 9_999_999_999_990_000 }
+    ensures bound { result ≤ payments_limit }
     ensures value { (holidays : List ℕ) → StandsFor holidays posts.now → result ≡ payments.counted posts.now.corrected (closing a.now k + 1) to }
 {
     let _last = to.number();
@@ -65,8 +66,8 @@ pub fn past_due(posts: &Posts, a: Anchor, k: u32, minimum_before: Cents) -> Cent
     left_of(minimum_before, since_closing(posts, &a, k - 1, end))
 }
 
-/// Whether a due date lies more than 60 days back (12 CFR 1026.55(b)(4)).
-pub fn is_long_past(due: Day, day: Day) -> bool
+// whether a due date lies more than 60 days back (12 CFR 1026.55(b)(4))
+fn is_long_past(due: Day, day: Day) -> bool
     ensures { result ≡ nat_lt (due + 60) day }
 {
     due.number() + 60 < day.number()
@@ -85,8 +86,11 @@ fn is_cycle_long_past(a: &Anchor, k: u32, day: Day) -> bool
     }
 }
 
-// whether the payments since a closing are below the minimum payment, more than 60 days after the due date
-fn owes(posts: &Posts, a: &Anchor, k: u32, minimum: Cents, day: Day) -> bool
+/// Whether a cycle owes its minimum payment for sixty days on a day (12 CFR 1026.55(b)(4)): its due date lies more than 60 days
+/// back, and the payments with effective days after its closing and up to the day, without those returned by then, are below
+/// the minimum payment, in cents. The cycle is at least 1. The corrected list is that of the posts under some calendar. It
+/// takes no memory.
+pub fn owes_sixty_days(posts: &Posts, a: &Anchor, k: u32, minimum: Cents, day: Day) -> bool
     requires close_day { IsCloseDay a.now.close_day }
     requires cycle { 1 ≤ k }
     ensures { (holidays : List ℕ) → StandsFor holidays posts.now → result ≡ owes_sixty_days a.now posts.now.corrected day k minimum }
@@ -126,5 +130,5 @@ fn owes_at(posts: &Posts, a: &Anchor, i: usize, minimum: &Cents, day: Day) -> bo
     if i >= u32::MAX as usize {
         return false;
     }
-    owes(posts, a, i as u32 + 1, *minimum, day)
+    owes_sixty_days(posts, a, i as u32 + 1, *minimum, day)
 }

@@ -11,6 +11,6 @@ mod table;
 pub use card_model::{Fee, FeeKind};
 pub use charge::{late_fee, returned_fee};
 pub use counting::{counted, counted_before, credited};
-pub use due::{is_long_past, met, past_due, sixty_days_late};
+pub use due::{met, owes_sixty_days, past_due, sixty_days_late};
 pub use required::minimum;
 pub use table::FeeTable;

@@ -13,6 +13,10 @@ unfoldable pub spread : ℕ → List Run → List DayRow
 spread from [] = []
 spread from (r ∷ rs) = equal_days from r.days r.balance r.rate ++ spread (from + r.days) rs
 
+-- the days of one more run, behind those of runs from one on
+abbrev pub days_behind : ℕ → List Run → Run → List DayRow
+days_behind from runs r = equal_days (from + run_days runs) r.days r.balance r.rate
+
 -- the last run has this balance and rate
 unfoldable pub ends_with : ℕ → ℕ → List Run → Bool
 ends_with balance rate [] = false

@@ -4,7 +4,7 @@ ghost use Rattle.std.specs.List.{sum_by};
 ghost use Rattle.card_units.specs.Money.{daily};
 ghost use Rattle.card_model.specs.Interest.{half_up};
 ghost use Rattle.card_grace.specs.Rows.{DayRow, bearing, equal_days, repaid_later};
-ghost use Rattle.card_grace.specs.Runs.{AreRuns, ends_with, run_days, spread};
+ghost use Rattle.card_grace.specs.Runs.{AreRuns, days_behind, ends_with, run_days, spread};
 
 use crate::rows::Repayment;
 use card_days::Day;
@@ -25,7 +25,7 @@ pub fn lengthen(runs: &mut Vec<Run>, more: &Run) -> bool
     requires few { run_days runs.old.items + more.now.days ≤ 31 }
     ensures joins { result ≡ ends_with more.now.balance more.now.rate runs.old.items }
     ensures runs { AreRuns runs.new.items }
-    ensures lengthened { result ≡ true → (first : ℕ) → spread first runs.new.items ≡ spread first runs.old.items ++ equal_days (first + run_days runs.old.items) more.now.days more.now.balance more.now.rate }
+    ensures lengthened { result ≡ true → (first : ℕ) → spread first runs.new.items ≡ spread first runs.old.items ++ days_behind first runs.old.items more.now }
     ensures other { result ≡ false → runs.new.items ≡ runs.old.items }
 {
     let count = runs.len();

@@ -20,6 +20,12 @@ use Rattle.card_penalties.specs.Late.{owes_by}
 by-own : (a : Anchor) (k : ℕ) (c : Cycle) → HasItsDays a k c → HasItsDays a c.number c
 by-own a k c h = subst (λ n. HasItsDays a n c) (sym h.number) h
 
+-- the middle test first
+first-has : (late has below : Bool) → (late && has && below) ≡ (has && (late && below))
+first-has true has below = refl
+first-has false true below = refl
+first-has false false below = refl
+
 pub owes-fold : (a : Anchor) (posts : List CorrectedPost) (seen : Seen) (k : ℕ) (c : Cycle) → SeesPosts seen posts → HasItsDays a k c → owes_sixty_days seen c ≡ owes_by a posts (due_cycle_of seen c) seen.day
 owes-fold a posts seen k c sees h =
     let own = by-own a k c h in
@@ -27,6 +33,7 @@ owes-fold a posts seen k c sees h =
     ap (λ d. nat_lt (d + 60) seen.day && has && nat_lt (counted seen.posts (c.closing + 1) seen.day) c.minimum) own.due
     ∙ ap (λ n. nat_lt (due a c.number + 60) seen.day && has && nat_lt n c.minimum)
     (ap (λ x. counted seen.posts (x + 1) seen.day) own.closing ∙ counted-seen seen posts (closing a c.number + 1) seen.day sees (omega arith))
+    ∙ first-has (nat_lt (due a c.number + 60) seen.day) has (nat_lt (counted posts (closing a c.number + 1) seen.day) c.minimum)
 
 pub met-own : (a : Anchor) (posts : List CorrectedPost) (seen : Seen) (k : ℕ) (c : Cycle) → SeesPosts seen posts → HasItsDays a k c → c.due ≤ seen.day → met seen c ≡ met_by a posts (due_cycle_of seen c)
 met-own a posts seen k c sees h l =

@@ -1,5 +1,5 @@
 -- What is kept of later posts for each post, by number: the last Amend, and the sum that was confirmed as an error.
-use Rattle.std.specs.Prelude.{ℕ, suc, ◌-◌, ◌^◌, min, Bool, true, false, List, [], ◌∷◌, Option, Some, None}
+use Rattle.std.specs.Prelude.{ℕ, suc, ◌+◌, ◌-◌, ◌^◌, min, Bool, true, false, List, [], ◌∷◌, slice_index_or, slice_set, Option, Some, None}
 use Rattle.card_events.specs.History.{confirmed, last_amend}
 use Rattle.card_events.specs.declared.kept.Kept.{Kept}
 use Rattle.card_events.specs.declared.post.Post.{Post}
@@ -17,6 +17,19 @@ corrections_from history n (k ∷ ks) = correction_of history n ∷ corrections_
 
 abbrev pub corrections : List Kept → List Correction
 corrections history = corrections_from history 1 history
+
+-- the corrections, where an Amend gave post n a day and cents; d stands for a post that isn't there
+abbrev pub with_amend : ℕ → ℕ → ℕ → Correction → List Correction → List Correction
+with_amend n day cents d cs = slice_set cs (n - 1) (record { amend = Some (day, cents); confirmed = (slice_index_or cs (n - 1) d).confirmed })
+
+-- a sum with more cents, kept up to the greatest number of its field
+abbrev pub saturated : ℕ → ℕ → ℕ
+saturated sum cents = min (sum + cents) (2 ^ 64 - 1)
+
+-- the corrections, where so many cents more were confirmed as an error in post n
+abbrev pub with_confirmed : ℕ → ℕ → Correction → List Correction → List Correction
+with_confirmed n cents d cs =
+    slice_set cs (n - 1) (record { amend = (slice_index_or cs (n - 1) d).amend; confirmed = saturated (slice_index_or cs (n - 1) d).confirmed cents })
 
 -- the charge that a Dispute names, and 0 for what is none
 abbrev pub charge_in : Post → ℕ

@@ -1,14 +1,14 @@
 -- The effective day and corrected cents that are kept for each post, by number.
-use Rattle.std.specs.Prelude.{ℕ, suc, ◌≤◌, Bool, true, false, if◌then◌else◌, List, [], ◌∷◌, Option, Some, None, pos}
+use Rattle.std.specs.Prelude.{◌≡◌, ℕ, suc, ◌≤◌, Bool, true, false, if◌then◌else◌, List, [], ◌∷◌, take, length, Option, Some, None, pos}
 use Rattle.std.specs.List.{All}
 use Rattle.card_days.specs.Range.{last_request_day}
 use Rattle.card_days.specs.declared.anchor.Anchor.{Anchor}
-use Rattle.card_events.specs.History.{CorrectedPost, effective_day, cents_of, next_segment}
+use Rattle.card_events.specs.History.{CorrectedPost, at_number, effective_day, cents_of, next_segment}
 use Rattle.card_events.specs.declared.kept.Kept.{Kept}
 use Rattle.card_events.specs.declared.kept.Slot.{Slot}
 use Rattle.card_events.specs.declared.post.Post.{Post}
 use Rattle.card_events.specs.declared.post.Post.TheVariants as post
-use Rattle.card_posts.specs.Posted.{target_of}
+use Rattle.card_posts.specs.Posted.{cents_limit, target_of}
 use Rattle.card_posts.specs.declared.effect.Effect.{Effect}
 
 -- a post's own day, and that of acceptance where it has none
@@ -43,6 +43,10 @@ abbrev pub awaited_day : Anchor → List ℕ → List Kept → Post → Option K
 awaited_day a holidays history p None = 0
 awaited_day a holidays history p (Some k) = if awaits p k.post then effective_day a holidays history (target_of p) k.accepted k.post else 0
 
+-- the effective day of the post that a post waits for, and 0 where it waits for none
+abbrev pub day_awaited : Anchor → List ℕ → List Kept → Post → ℕ
+day_awaited a holidays history p = awaited_day a holidays history p (at_number (target_of p) history)
+
 -- the day that an Amend gives, if there is one, is none before the opening, and a day of requests
 abbrev pub IsAmendDated : ℕ → Option (ℕ × ℕ) → Type 0
 IsAmendDated opened None = Unit {0}
@@ -60,9 +64,13 @@ effects_from a holidays history n (k ∷ ks) = effect_of a holidays history n k 
 abbrev pub effects : Anchor → List ℕ → List Kept → List Effect
 effects a holidays history = effects_from a holidays history 1 history
 
+-- these are the first of what the history says
+abbrev pub AreFront : Anchor → List ℕ → List Kept → List Effect → Type 0
+AreFront a holidays history now = now ≡ take (length now) (effects a holidays history)
+
 -- no post has more cents than requests have
 abbrev pub AreSmall : List Effect → Type 0
-AreSmall es = All (λ e. e.cents ≤ 999_999_999_999) es
+AreSmall es = All (λ e. e.cents ≤ cents_limit) es
 
 -- the slot of post n
 abbrev pub slot_by : ℕ → Effect → Slot

@@ -27,11 +27,15 @@ folding_order posts = in_order (map slot_of posts)
 abbrev pub slot_with : ℕ → List CorrectedPost → Option Slot
 slot_with number posts = option_map slot_of (find (λ p. p.number == number) posts)
 
+-- no post has more cents
+abbrev pub cents_limit : ℕ
+cents_limit = 999_999_999_999
+
 -- there are at most 10,000 of them, each of 0 to 999,999,999,999 cents
 pub record AreBounded (slots : List Slot) : Type 0 where
   pub count : length slots ≤ post_limit
   pub low : All (λ s. pos 0 ≤ℤ s.cents) slots
-  pub high : All (λ s. s.cents ≤ℤ pos 999_999_999_999) slots
+  pub high : All (λ s. s.cents ≤ℤ pos cents_limit) slots
 
 -- the post opens an account
 abbrev pub opens : Post → Bool

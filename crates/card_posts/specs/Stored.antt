@@ -1,5 +1,5 @@
 -- What is stored beside the accepted posts of an account.
-use Rattle.std.specs.Prelude.{◌≡◌, ℕ, suc, ◌<◌, ◌≤◌, List, [], ◌∷◌, length, vec_len, vec_capacity}
+use Rattle.std.specs.Prelude.{◌≡◌, ℕ, suc, ◌<◌, ◌≤◌, Bool, true, List, [], ◌∷◌, length, vec_len, vec_capacity}
 use Rattle.std.specs.Global.{Vec}
 use Rattle.card_days.specs.Billing.{IsCloseDay}
 use Rattle.card_days.specs.Range.{last_request_day}
@@ -10,6 +10,7 @@ use Rattle.card_events.specs.declared.kept.Kept.{Kept}
 use Rattle.card_events.specs.declared.kept.Slot.{Slot}
 use Rattle.card_posts.specs.Corrections.{corrections}
 use Rattle.card_posts.specs.Effect.{AreSmall, slots_from}
+use Rattle.card_posts.specs.Index.{IsIndex}
 use Rattle.card_posts.specs.Order.{in_order}
 use Rattle.card_posts.specs.Posted.{AreNumbered, IsReceived, target_of}
 use Rattle.card_posts.specs.declared.correction.Correction.{Correction}
@@ -39,6 +40,11 @@ pub record IsKept (a : Anchor) (history : List Kept) : Type 0 where
   pub names : NameEarlier 1 history
   pub timely : AreTimely a.opened history
 
+-- the slots of what counts now, as they are folded, none with more cents than requests have
+pub record AreOrdered (slots : List Slot) (now : List Effect) : Type 0 where
+  pub order : slots ≡ in_order (slots_from 1 now)
+  pub small : AreSmall now
+
 -- what is kept beside it
 pub record AreBeside (history : List Kept) (later : List Correction) (now : List Effect) (slots : List Slot) : Type 0 where
   pub corrections : later ≡ corrections history
@@ -53,3 +59,9 @@ pub record HaveRoom (history : Vec Kept) (index : Vec ℕ) (later : Vec Correcti
   pub correction_room : vec_len later < vec_capacity later
   pub effect_room : vec_len now < vec_capacity now
   pub slot_room : vec_len slots < vec_capacity slots
+
+-- what always holds of it: an account may have the history, the rest is kept beside it, and where there is said to be room,
+-- there is
+abbrev pub AreStored : Anchor → Vec Kept → Vec ℕ → Vec Correction → Vec Effect → Vec Slot → Bool → Type 0
+AreStored a history index later now slots has_room =
+    IsKept a history.items × IsIndex history.items index.items × AreBeside history.items later.items now.items slots.items × (has_room ≡ true → HaveRoom history index later now slots)

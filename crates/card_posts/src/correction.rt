@@ -1,8 +1,8 @@
 // What later posts say of each post, by number.
-ghost use Rattle.std.specs.Prelude.{◌≡◌, ◌+◌, ◌-◌, ◌^◌, ◌<◌, ◌≤◌, ◌++◌, [], ◌∷◌, Some, min, length, slice_index_or, slice_set, option_copied};
+ghost use Rattle.std.specs.Prelude.{◌≡◌, ◌<◌, ◌≤◌, ◌++◌, [], ◌∷◌, length, option_copied};
 ghost use Rattle.card_events.specs.History.{at_number};
 ghost use Rattle.card_events.specs.declared.kept.Kept.{Kept};
-ghost use Rattle.card_posts.specs.Corrections.{charge_in, charge_named, corrections_from};
+ghost use Rattle.card_posts.specs.Corrections.{charge_in, charge_named, corrections_from, with_amend, with_confirmed};
 ghost use Rattle.card_posts.specs.Posted.{target_of};
 ghost use Rattle.card_posts.specs.Stored.{NameEarlier};
 
@@ -49,7 +49,7 @@ fn disputed(history: &[Kept], number: u64) -> u64
 // Sets the day and cents that stand for a post.
 fn set_amend(corrections: &mut [Correction], target: u64, day: Day, cents: Num)
     requires { target ≤ length corrections.old }
-    ensures set { (d : Correction) → 0 < target → corrections.new ≡ slice_set corrections.old (target - 1) (record { amend = Some (day, cents); confirmed = (slice_index_or corrections.old (target - 1) d).confirmed }) }
+    ensures set { (d : Correction) → 0 < target → corrections.new ≡ with_amend target day cents d corrections.old }
     ensures none { target ≡ 0 → corrections.new ≡ corrections.old }
 {
     if target > 0 {
@@ -65,7 +65,7 @@ fn set_amend(corrections: &mut [Correction], target: u64, day: Day, cents: Num)
 // Adds to what was confirmed of an error in a charge.
 fn add_confirmed(corrections: &mut [Correction], target: u64, cents: u64)
     requires { target ≤ length corrections.old }
-    ensures set { (d : Correction) → 0 < target → corrections.new ≡ slice_set corrections.old (target - 1) (record { amend = (slice_index_or corrections.old (target - 1) d).amend; confirmed = min ((slice_index_or corrections.old (target - 1) d).confirmed + cents) (2 ^ 64 - 1) }) }
+    ensures set { (d : Correction) → 0 < target → corrections.new ≡ with_confirmed target cents d corrections.old }
     ensures none { target ≡ 0 → corrections.new ≡ corrections.old }
 {
     if target > 0 {

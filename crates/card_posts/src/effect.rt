@@ -6,9 +6,9 @@ ghost use Rattle.card_days.specs.Business.{credit_day, is_mail};
 ghost use Rattle.card_events.specs.History.{amended_cents, amended_day, at_number, cents_of, effective_day};
 ghost use Rattle.card_events.specs.declared.kept.Kept.{Kept};
 ghost use Rattle.card_posts.specs.Corrections.{correction_of, corrections_from};
-ghost use Rattle.card_posts.specs.Effect.{IsAmendDated, awaited_day, awaits, own_day};
+ghost use Rattle.card_posts.specs.Effect.{IsAmendDated, awaits, day_awaited, own_day};
 ghost use Rattle.card_posts.specs.Effect as spec;
-ghost use Rattle.card_posts.specs.Posted.{target_of};
+ghost use Rattle.card_posts.specs.Posted.{cents_limit, target_of};
 ghost use Rattle.card_posts.specs.Stored.{IsKept, IsTimely};
 ghost use Rattle.card_posts.specs.declared.effect.Effect.{Effect};
 ghost use Rattle.card_days.specs.declared.anchor.Anchor.{Anchor};
@@ -47,7 +47,7 @@ fn amended_cents(correction: &Correction, own: Num) -> Num
 // the cents less a sum, and not below 0
 fn less(cents: Num, sum: u64) -> Num
     ensures value { result ≡ cents - sum }
-    ensures bound { cents ≤ 999_999_999_999 }
+    ensures bound { cents ≤ cents_limit }
 {
     Num::new(cents.get().saturating_sub(sum)).unwrap()
 }
@@ -132,7 +132,7 @@ fn awaited_day(history: &[Kept], effects: &[Effect], post: &Post, i: usize) -> O
     requires earlier { target_of post.now ≤ i }
     requires known { i ≤ length history.now }
     requires length { i ≤ length effects.now }
-    ensures { (a : Anchor) (holidays : List ℕ) → take i effects.now ≡ take i (spec.effects a holidays history.now) → unwrap_or result 0 ≡ awaited_day a holidays history.now post.now (at_number (target_of post.now) history.now) }
+    ensures { (a : Anchor) (holidays : List ℕ) → take i effects.now ≡ take i (spec.effects a holidays history.now) → unwrap_or result 0 ≡ day_awaited a holidays history.now post.now }
 {
     let target = target_of(post);
     match numbered(history, target) {

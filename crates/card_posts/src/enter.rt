@@ -4,7 +4,7 @@ ghost use Rattle.card_events.specs.Limits.{post_limit};
 ghost use Rattle.card_events.specs.declared.kept.Kept.{Kept};
 ghost use Rattle.card_posts.specs.Change.{IsFirstChange};
 ghost use Rattle.card_posts.specs.Corrections.{corrections_from, corrects};
-ghost use Rattle.card_posts.specs.Effect.{AreSmall, corrected_with, slots_from};
+ghost use Rattle.card_posts.specs.Effect.{AreFront, AreSmall, corrected_with, slots_from};
 ghost use Rattle.card_posts.specs.Effect as spec;
 ghost use Rattle.card_posts.specs.Order.{in_order};
 ghost use Rattle.card_posts.specs.Posted.{target_of};
@@ -55,7 +55,7 @@ fn follow(
     requires order { order.old.items ≡ in_order (slots_from 1 effects.old.items) }
     requires room_effects { vec_len effects.old < vec_capacity effects.old }
     requires room_order { vec_len order.old < vec_capacity order.old }
-    requires plain { (k : Kept) → corrects (slice_index_or history.now (length effects.old.items) k).post ≡ false → effects.old.items ≡ take (length effects.old.items) (spec.effects anchor.now calendar.now history.now) }
+    requires plain { (k : Kept) → corrects (slice_index_or history.now (length effects.old.items) k).post ≡ false → AreFront anchor.now calendar.now history.now effects.old.items }
     ensures effects { effects.new.items ≡ spec.effects anchor.now calendar.now history.now }
     ensures small { AreSmall effects.new.items }
     ensures order { order.new.items ≡ in_order (slots_from 1 effects.new.items) }

@@ -12,3 +12,7 @@ mod posts;
 mod refresh;
 
 pub use posts::{Posts, Pushed};
+
+/// Transactions that lie so many days after a Notice, or more, are owed on its vintage, which bears the increased rate; those
+/// of the 14 days before stay on the one before (12 CFR 1026.55(b)(3)).
+pub const VINTAGE_DAYS: u32 = 15;

@@ -4,7 +4,7 @@ ghost use Rattle.card_events.specs.Limits.{post_limit};
 ghost use Rattle.card_events.specs.declared.kept.Kept.{Kept};
 ghost use Rattle.card_posts.specs.Effect.{corrected_with, slot_by, slots_from};
 ghost use Rattle.card_posts.specs.Order.{before, placed, in_order, IsAscending, IsPlace, without};
-ghost use Rattle.card_posts.specs.Posted.{slot_with};
+ghost use Rattle.card_posts.specs.Posted.{cents_limit, slot_with};
 
 use crate::effect::Effect;
 use card_events::Slot;
@@ -12,7 +12,7 @@ use card_events::Slot;
 // The slot of a post.
 pub fn slot(number: u32, effect: &Effect) -> Slot
     ensures value { result ≡ slot_by number effect.now }
-    ensures small { effect.now.cents ≤ 999_999_999_999 }
+    ensures small { effect.now.cents ≤ cents_limit }
 {
     Slot {
         day: effect.day,
@@ -82,7 +82,7 @@ pub fn change(order: &mut Vec<Slot>, effects: &[Effect], i: usize, now: &Effect)
     requires known { i < length effects.now }
     requires room { vec_len order.old ≤ vec_capacity order.old }
     ensures order { order.new.items ≡ in_order (slots_from 1 (slice_set effects.now i now.now)) }
-    ensures small { now.now.cents ≤ 999_999_999_999 }
+    ensures small { now.now.cents ≤ cents_limit }
     ensures len { vec_len order.new ≡ vec_len order.old }
     ensures capacity { vec_capacity order.old ≤ vec_capacity order.new }
 {

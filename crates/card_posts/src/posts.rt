@@ -24,17 +24,15 @@ pub struct Posts {
 }
 
 impl Model for Posts {
-    ghost use Rattle.std.specs.Prelude.{◌≡◌, ◌<◌, true, vec_len, vec_capacity};
     ghost use Rattle.card_posts.specs.Effect.{corrected_with};
-    ghost use Rattle.card_posts.specs.Index.{IsIndex};
     ghost use Rattle.card_posts.specs.Posted.{Posted};
-    ghost use Rattle.card_posts.specs.Stored.{AreBeside, HaveRoom, IsKept};
+    ghost use Rattle.card_posts.specs.Stored.{AreStored};
 
     ghost Value = { Posted };
 
     ghost view = { λ p. record { history = p.history.items; corrected = corrected_with 1 5 p.history.items p.effects.items; has_room = p.has_room } };
 
-    ghost invariant = { λ p. IsKept p.anchor p.history.items × IsIndex p.history.items p.index.items × AreBeside p.history.items p.corrections.items p.effects.items p.order.items × (p.has_room ≡ true → HaveRoom p.history p.index p.corrections p.effects p.order) };
+    ghost invariant = { λ p. AreStored p.anchor p.history p.index p.corrections p.effects p.order p.has_room };
 }
 
 /// What became of a post: its number, and the earliest day on which the corrected list differs from what it was.
@@ -229,6 +227,14 @@ impl Posts {
             anchor: self.anchor,
             has_room: false,
         })
+    }
+
+    /// What fixes the cycles of the account: its opening day, and the day of the month on which they close, 1 to 28.
+    pub fn anchor(&self) -> Anchor
+        ensures value { result ≡ anchor_of self.now.history }
+        ensures close_day { IsCloseDay result.close_day }
+    {
+        self.anchor
     }
 
     // The opening day, with what every history keeps.

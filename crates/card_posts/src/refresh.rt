@@ -4,10 +4,10 @@ ghost use Rattle.card_events.specs.Limits.{post_limit};
 ghost use Rattle.card_days.specs.Range.{last_calendar_day};
 ghost use Rattle.card_posts.specs.Change.{after_one, first_change, stands};
 ghost use Rattle.card_posts.specs.Corrections.{corrections_from, corrects};
-ghost use Rattle.card_posts.specs.Effect.{AreSmall, slots_from};
+ghost use Rattle.card_posts.specs.Effect.{AreFront, AreSmall, slots_from};
 ghost use Rattle.card_posts.specs.Effect as spec;
 ghost use Rattle.card_posts.specs.Order.{in_order};
-ghost use Rattle.card_posts.specs.Stored.{IsKept};
+ghost use Rattle.card_posts.specs.Stored.{AreOrdered, IsKept};
 ghost use Rattle.card_posts.specs.declared.effect.Effect.{Effect};
 
 use crate::correction::Correction;
@@ -48,8 +48,7 @@ fn refresh_one(
 ) -> Day
     requires few { length effects.old ≤ post_limit }
     requires known { i < length effects.old }
-    requires order { order.old.items ≡ in_order (slots_from 1 effects.old) }
-    requires small { AreSmall effects.old }
+    requires ordered { AreOrdered order.old.items effects.old }
     requires room { vec_len order.old ≤ vec_capacity order.old }
     ensures effects { effects.new ≡ slice_set effects.old i now.now }
     ensures small { AreSmall effects.new }
@@ -79,8 +78,7 @@ fn refresh(
     requires kept { IsKept anchor.now history.now }
     requires corrections { corrections.now ≡ corrections_from history.now 1 history.now }
     requires length { length effects.old ≤ length history.now }
-    requires order { order.old.items ≡ in_order (slots_from 1 effects.old) }
-    requires small { AreSmall effects.old }
+    requires ordered { AreOrdered order.old.items effects.old }
     requires room { vec_len order.old ≤ vec_capacity order.old }
     ensures effects { effects.new ≡ take (length effects.old) (spec.effects anchor.now calendar.now history.now) }
     ensures small { AreSmall effects.new }
@@ -110,10 +108,9 @@ pub fn update(
     requires kept { IsKept anchor.now history.now }
     requires corrections { corrections.now ≡ corrections_from history.now 1 history.now }
     requires length { length effects.old ≤ length history.now }
-    requires order { order.old.items ≡ in_order (slots_from 1 effects.old) }
-    requires small { AreSmall effects.old }
+    requires ordered { AreOrdered order.old.items effects.old }
     requires room { vec_len order.old ≤ vec_capacity order.old }
-    requires plain { corrects post.now ≡ false → effects.old ≡ take (length effects.old) (spec.effects anchor.now calendar.now history.now) }
+    requires plain { corrects post.now ≡ false → AreFront anchor.now calendar.now history.now effects.old }
     ensures effects { effects.new ≡ take (length effects.old) (spec.effects anchor.now calendar.now history.now) }
     ensures small { AreSmall effects.new }
     ensures order { order.new.items ≡ in_order (slots_from 1 effects.new) }

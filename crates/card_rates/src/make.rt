@@ -12,7 +12,7 @@ use crate::segment::{RateCap, RatedSegment, number_of, plan_sort, sort_of};
 use card_days::Day;
 use card_events::{Kept, Num, Post};
 use card_model::Sort;
-use card_posts::Posts;
+use card_posts::{Posts, VINTAGE_DAYS};
 use card_units::{Bp, NoMemory};
 use std::alloc::Global;
 
@@ -54,7 +54,7 @@ fn segment_in(id: u8, number: u32, post: &Post) -> Option<RatedSegment>
             id,
             sort: sort_of(*category),
             post: number,
-            begins: number_of(*day) + 15,
+            begins: number_of(*day) + VINTAGE_DAYS,
             ends: None,
             rate: rate_of(*rate),
             effective: *effective,

@@ -1,9 +1,10 @@
 -- Why a post isn't accepted, in parts.
-use Rattle.std.specs.Prelude.{ℕ, Bool, true, false, nat_lt, nat_le, ◌==◌, ◌||◌, List, [], ◌∷◌, length, Option}
+use Rattle.std.specs.Prelude.{◌≡◌, ◌≤◌, ℕ, Bool, true, false, not, nat_lt, nat_le, ◌==◌, ◌||◌, List, [], ◌∷◌, length, Option}
 use Rattle.std.specs.Option.{option_map, option_or}
-use Rattle.card_days.specs.Billing.{closing}
+use Rattle.card_days.specs.Billing.{IsCloseDay, closing}
 use Rattle.card_days.specs.Range.{last_request_day}
 use Rattle.card_days.specs.declared.anchor.Anchor.{Anchor}
+use Rattle.card_events.specs.History.{anchor_of}
 use Rattle.card_events.specs.Limits.{post_limit}
 use Rattle.card_events.specs.declared.kept.Kept.{Kept}
 use Rattle.card_events.specs.SharedRows.{SharedRows}
@@ -12,11 +13,23 @@ use Rattle.card_events.specs.declared.post.Post.TheVariants as post
 use Rattle.card_events.specs.declared.reply.Refusal.{Refusal}
 use Rattle.card_events.specs.declared.reply.Refusal.TheVariants as refusal
 use Rattle.card_model.specs.Cycles.{IssuedRow}
-use Rattle.card_model.specs.Refusals.{Present, already_returned, bills, dispute_known, dispute_late, first_reason, first_year, no_open_dispute, notice_pending, notice_too_short, number_from, outside_plan, plan_end_not_closing, plan_too_short, segments_full, unknown_plan, where_true, wrong_entry}
+use Rattle.card_model.specs.Refusals.{Present, already_returned, bills, dispute_known, dispute_late, first_reason, first_year, no_open_dispute, reason_against, notice_pending, notice_too_short, number_from, outside_plan, plan_end_not_closing, plan_too_short, segments_full, unknown_plan, where_true, wrong_entry}
+use Rattle.card_posts.specs.Posted.{Posted, StandsFor}
 
 -- what is judged today of an account with these posts
 abbrev pub judged_of : ℕ → SharedRows → List IssuedRow → List Kept → Present
 judged_of today shared issued posts = record { today = today; shared = shared; lists = record { posts = posts; issued = issued } }
+
+-- under the holidays of the corrected list, whatever was issued, this is the reason against a post today
+abbrev pub IsReason : ℕ → Posted → Post → Option Refusal → Type 0
+IsReason today posts p reason =
+    (shared : SharedRows) (issued : List IssuedRow) → StandsFor shared.holidays posts → reason ≡ reason_against (judged_of today shared issued posts.history) p
+
+-- the cycles of the account with these posts, which was opened on a day of requests
+pub record HasCycles (a : Anchor) (history : List Kept) : Type 0 where
+  pub anchor : a ≡ anchor_of history
+  pub close_day : IsCloseDay a.close_day
+  pub opened : a.opened ≤ last_request_day
 
 -- ---- posts with a day of their own
 -- an amount, a rate or a minute is out of its range, or the day doesn't lie from the opening day to today
@@ -39,6 +52,14 @@ place_reason now p = first_reason (unknown_plan now p ∷ outside_plan now p ∷
 unfoldable pub end_reason : Present → Post → Option Refusal
 end_reason now p = first_reason (plan_end_not_closing now p ∷ plan_too_short p ∷ segments_full now p ∷ [])
 
+-- that of a Plan up to a day, by the closing from then on, the least last day, and whether all segments are there
+abbrev pub ended_reason : ℕ → ℕ → ℕ → Bool → Option Refusal
+ended_reason next end least full =
+    first_reason (
+    where_true (not (next == end)) (refusal.PlanEndNotClosing next)
+    ∷ where_true (nat_lt end least) refusal.PlanTooShort
+    ∷ where_true full refusal.SegmentsFull ∷ [])
+
 -- of an Amend, its target
 unfoldable pub target_reason : Present → Post → Option Refusal
 target_reason now p = first_reason (outside_plan now p ∷ wrong_entry now p ∷ [])
@@ -50,6 +71,14 @@ returned_reason now p = first_reason (wrong_entry now p ∷ already_returned now
 -- of a Notice, its effective day and the account's segments
 unfoldable pub notice_reason : Present → Post → Option Refusal
 notice_reason now p = first_reason (segments_full now p ∷ notice_too_short p ∷ first_year now p ∷ notice_pending now p ∷ [])
+
+-- before a Notice that is pending: whether all segments are there, the least effective day, and the first one after a year
+abbrev pub effective_reason : Bool → ℕ → ℕ → ℕ → Option Refusal
+effective_reason full effective least first =
+    first_reason (
+    where_true full refusal.SegmentsFull
+    ∷ where_true (nat_lt effective least) (refusal.NoticeTooShort least)
+    ∷ where_true (nat_lt effective first) (refusal.FirstYear first) ∷ [])
 
 -- of a Dispute, the charge that it names
 unfoldable pub claim_reason : Present → Post → Option Refusal

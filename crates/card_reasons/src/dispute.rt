@@ -1,13 +1,11 @@
 // The charge that a Dispute names, and the Dispute that an Ack or a Resolve names (12 CFR 1026.13).
 ghost use Rattle.std.specs.Prelude.{◌≡◌, ◌≤◌, ℕ, nat_lt, not};
-ghost use Rattle.card_days.specs.Range.{last_request_day};
-ghost use Rattle.card_days.specs.Billing.{IsCloseDay};
-ghost use Rattle.card_events.specs.History.{anchor_of, at_number};
+ghost use Rattle.card_events.specs.History.{at_number};
 ghost use Rattle.card_events.specs.declared.post.Post.TheVariants as post;
 ghost use Rattle.card_model.specs.Refusals.{Present, fits_target, holds_of, where_true};
 ghost use Rattle.card_model.specs.Refusals as spec;
-ghost use Rattle.card_posts.specs.Posted.{StandsFor, last_accepted};
-ghost use Rattle.card_slots.specs.Segments.{ArePostsDated};
+ghost use Rattle.card_posts.specs.Posted.{StandsFor};
+ghost use Rattle.card_disputes.specs.Histories.{AreInCalendar};
 ghost use Rattle.card_reasons.specs.Reasons.{claim_reason, open_dispute_reason};
 
 use crate::day::first_of;
@@ -80,10 +78,7 @@ fn reason_after(last: Day, day: Day) -> Option<Refusal>
 
 // Why a Dispute of a day comes too late for a charge (12 CFR 1026.13(b)(1)).
 fn late_reason(posts: &Posts, anchor: &Anchor, day: Day, charge: Num) -> Option<Refusal>
-    requires anchor { anchor.now ≡ anchor_of posts.now.history }
-    requires close_day { IsCloseDay anchor.now.close_day }
-    requires dated { ArePostsDated posts.now.history }
-    requires accepted { last_accepted posts.now.history ≤ last_request_day }
+    requires posts { AreInCalendar anchor.now posts.now.history }
     ensures { (now : Present) (cents : ℕ) → now.lists.posts ≡ posts.now.history → StandsFor now.shared.holidays posts.now → result ≡ spec.dispute_late now (post.Dispute day charge cents) }
 {
     match last_notice_day(posts, anchor, charge) {
@@ -104,10 +99,7 @@ fn known_reason(posts: &Posts, charge: Num) -> Option<Refusal>
 
 /// Why a Dispute of a day isn't accepted with its charge.
 pub fn disputed_charge(posts: &Posts, anchor: &Anchor, day: Day, charge: Num) -> Option<Refusal>
-    requires anchor { anchor.now ≡ anchor_of posts.now.history }
-    requires close_day { IsCloseDay anchor.now.close_day }
-    requires dated { ArePostsDated posts.now.history }
-    requires accepted { last_accepted posts.now.history ≤ last_request_day }
+    requires posts { AreInCalendar anchor.now posts.now.history }
     ensures { (now : Present) (cents : ℕ) → now.lists.posts ≡ posts.now.history → StandsFor now.shared.holidays posts.now → result ≡ claim_reason now (post.Dispute day charge cents) }
 {
     let wrong = wrong_target(is_charge_named(posts, charge), charge);

@@ -1,14 +1,14 @@
 // The effective day of a Notice.
-ghost use Rattle.std.specs.Prelude.{◌≡◌, ◌≤◌, ◌+◌, ℕ, nat_lt, [], ◌∷◌};
+ghost use Rattle.std.specs.Prelude.{◌≡◌, ◌≤◌, ◌+◌, ℕ};
 ghost use Rattle.card_days.specs.Range.{last_request_day};
 ghost use Rattle.card_events.specs.Same.{is_same_category};
 ghost use Rattle.card_days.specs.Later.{year_after};
 ghost use Rattle.card_events.specs.History.{anchor_of, at_number};
 ghost use Rattle.card_events.specs.declared.post.Post.TheVariants as post;
-ghost use Rattle.card_model.specs.Refusals.{Present, first_reason, where_true};
+ghost use Rattle.card_model.specs.Refusals.{Present};
 ghost use Rattle.card_model.specs.Refusals as spec;
 ghost use Rattle.card_reasons.specs.Notices.{effective_at, later_of};
-ghost use Rattle.card_reasons.specs.Reasons.{notice_reason};
+ghost use Rattle.card_reasons.specs.Reasons.{effective_reason, notice_reason};
 
 use crate::day::first_of;
 use crate::plan::has_all_segments;
@@ -87,7 +87,7 @@ fn pending_reason(posts: &Posts, category: Category, day: Day) -> Option<Refusal
 }
 
 fn reason_for(full: bool, effective: Day, least: Day, first: Day) -> Option<Refusal>
-    ensures { result ≡ first_reason (where_true full Refusal.SegmentsFull ∷ where_true (nat_lt effective least) (Refusal.NoticeTooShort least) ∷ where_true (nat_lt effective first) (Refusal.FirstYear first) ∷ []) }
+    ensures { result ≡ effective_reason full effective least first }
 {
     if full {
         Some(Refusal::SegmentsFull)

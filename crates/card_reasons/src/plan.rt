@@ -1,14 +1,14 @@
 // The end of a Plan, and the segments that an account has.
-ghost use Rattle.std.specs.Prelude.{◌≡◌, ℕ, ◌+◌, ◌≤◌, not, ◌==◌, nat_le, nat_lt, max, [], ◌∷◌};
+ghost use Rattle.std.specs.Prelude.{◌≡◌, ℕ, ◌+◌, ◌≤◌, nat_le, max};
 ghost use Rattle.card_events.specs.Limits.{post_limit};
 ghost use Rattle.card_days.specs.Range.{last_request_day};
 ghost use Rattle.std.specs.List.{count_by};
-ghost use Rattle.card_reasons.specs.Reasons.{end_reason};
+ghost use Rattle.card_reasons.specs.Reasons.{HasCycles, end_reason, ended_reason};
 ghost use Rattle.card_days.specs.Billing.{IsCloseDay, next_on};
-ghost use Rattle.card_events.specs.History.{adds_segment, anchor_of, at_number};
+ghost use Rattle.card_events.specs.History.{adds_segment, at_number};
 ghost use Rattle.card_events.specs.declared.post.PlanKind.{PlanKind};
 ghost use Rattle.card_events.specs.declared.post.Post.TheVariants as post;
-ghost use Rattle.card_model.specs.Refusals.{Present, first_reason, holds_of, where_true};
+ghost use Rattle.card_model.specs.Refusals.{Present, holds_of};
 
 use card_days::{Anchor, Day, closing, cycle_of, six_months_after};
 use card_events::{Post, Refusal};
@@ -76,7 +76,7 @@ pub fn has_all_segments(posts: &Posts) -> bool
 }
 
 fn reason_for(end: Day, closing: Day, least: Day, full: bool) -> Option<Refusal>
-    ensures { result ≡ first_reason (where_true (not (closing == end)) (Refusal.PlanEndNotClosing closing) ∷ where_true (nat_lt end least) Refusal.PlanTooShort ∷ where_true full Refusal.SegmentsFull ∷ []) }
+    ensures { result ≡ ended_reason closing end least full }
 {
     if closing != end {
         Some(Refusal::PlanEndNotClosing(closing))
@@ -91,9 +91,7 @@ fn reason_for(end: Day, closing: Day, least: Day, full: bool) -> Option<Refusal>
 
 /// Why a Plan from a day on isn't accepted with its end, or as one more segment.
 pub fn plan_end(posts: &Posts, anchor: &Anchor, day: Day, end: Day) -> Option<Refusal>
-    requires anchor { anchor.now ≡ anchor_of posts.now.history }
-    requires close_day { IsCloseDay anchor.now.close_day }
-    requires opened { anchor.now.opened ≤ last_request_day }
+    requires cycles { HasCycles anchor.now posts.now.history }
     requires dated { day ≤ last_request_day }
     requires ends { end ≤ last_request_day }
     ensures { (now : Present) (kind : PlanKind) (rate after : ℕ) → now.lists.posts ≡ posts.now.history → result ≡ end_reason now (post.Plan day kind rate end after) }

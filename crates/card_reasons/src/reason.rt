@@ -1,8 +1,8 @@
 // Why posts aren't accepted: the first reason in order.
 ghost use Rattle.std.specs.Prelude.{◌≡◌, ◌≤◌, true, false, List, nat_lt, ◌||◌};
 ghost use Rattle.card_days.specs.Range.{last_request_day};
-ghost use Rattle.card_days.specs.Billing.{IsCloseDay};
 ghost use Rattle.card_days.specs.declared.anchor.Channel.{Channel};
+ghost use Rattle.card_disputes.specs.Histories.{AreInCalendar};
 ghost use Rattle.card_events.specs.Dated.{is_dated_post};
 ghost use Rattle.card_events.specs.History.{anchor_of};
 ghost use Rattle.card_events.specs.SharedRows.{SharedRows};
@@ -14,9 +14,7 @@ ghost use Rattle.card_model.specs.Cycles.{IssuedRow};
 ghost use Rattle.card_model.specs.Machine.{is_open};
 ghost use Rattle.card_model.specs.Refusals.{Present, holds_of, reason_against};
 ghost use Rattle.card_model.specs.Refusals as spec;
-ghost use Rattle.card_posts.specs.Posted.{StandsFor, last_accepted};
-ghost use Rattle.card_slots.specs.Segments.{ArePostsDated};
-ghost use Rattle.card_reasons.specs.Reasons.{is_entry, is_of_claims, is_of_rates, judged_of, reads_book};
+ghost use Rattle.card_reasons.specs.Reasons.{HasCycles, IsReason, is_entry, is_of_claims, is_of_rates, judged_of, reads_book};
 
 use crate::amend::amended_target;
 use crate::bill::bill_reason;
@@ -142,9 +140,7 @@ fn plan_reason(
     end: Day,
     after: Num,
 ) -> Option<Refusal>
-    requires anchor { anchor.now ≡ anchor_of posts.now.history }
-    requires close_day { IsCloseDay anchor.now.close_day }
-    requires opened { anchor.now.opened ≤ last_request_day }
+    requires cycles { HasCycles anchor.now posts.now.history }
     requires dated { day ≤ last_request_day }
     requires ends { end ≤ last_request_day }
     ensures { (shared : SharedRows) (issued : List IssuedRow) (kind : PlanKind) → result ≡ reason_against (judged_of today shared issued posts.now.history) (post.Plan day kind rate end after) }
@@ -186,7 +182,7 @@ fn lower_reason(posts: &Posts, opened: Day, today: Day, day: Day, rate: Num) -> 
 // Why a Review isn't accepted today.
 fn review_reason(posts: &Posts, opened: Day, today: Day, day: Day) -> Option<Refusal>
     requires { opened ≡ (anchor_of posts.now.history).opened }
-    ensures { (shared : SharedRows) (issued : List IssuedRow) (found : Finding) → StandsFor shared.holidays posts.now → result ≡ reason_against (judged_of today shared issued posts.now.history) (post.Review day found) }
+    ensures { (found : Finding) → IsReason today posts.now (post.Review day found) result }
 {
     let added = review_day(posts, day);
     in_order(posts, false, today, opened, day, added)
@@ -201,11 +197,8 @@ fn dispute_reason(
     charge: Num,
     cents: Num,
 ) -> Option<Refusal>
-    requires anchor { anchor.now ≡ anchor_of posts.now.history }
-    requires close_day { IsCloseDay anchor.now.close_day }
-    requires posted { ArePostsDated posts.now.history }
-    requires accepted { last_accepted posts.now.history ≤ last_request_day }
-    ensures { (shared : SharedRows) (issued : List IssuedRow) → StandsFor shared.holidays posts.now → result ≡ reason_against (judged_of today shared issued posts.now.history) (post.Dispute day charge cents) }
+    requires posts { AreInCalendar anchor.now posts.now.history }
+    ensures { IsReason today posts.now (post.Dispute day charge cents) result }
 {
     let out = is_no_amount(cents);
     let added = disputed_charge(posts, anchor, day, charge);
@@ -283,10 +276,8 @@ fn entry_reason(posts: &Posts, anchor: &Anchor, today: Day, post: &Post) -> Opti
 fn rate_reason(posts: &Posts, anchor: &Anchor, today: Day, post: &Post) -> Option<Refusal>
     requires kind { is_of_rates post.now ≡ true }
     requires dated { is_dated_post post.now ≡ true }
-    requires anchor { anchor.now ≡ anchor_of posts.now.history }
-    requires close_day { IsCloseDay anchor.now.close_day }
-    requires opened { anchor.now.opened ≤ last_request_day }
-    ensures { (shared : SharedRows) (issued : List IssuedRow) → StandsFor shared.holidays posts.now → result ≡ reason_against (judged_of today shared issued posts.now.history) post.now }
+    requires cycles { HasCycles anchor.now posts.now.history }
+    ensures { IsReason today posts.now post.now result }
 {
     match post {
         Post::Plan {
@@ -310,11 +301,8 @@ fn rate_reason(posts: &Posts, anchor: &Anchor, today: Day, post: &Post) -> Optio
 
 fn claim_reason(posts: &Posts, anchor: &Anchor, today: Day, post: &Post) -> Option<Refusal>
     requires kind { is_of_claims post.now ≡ true }
-    requires anchor { anchor.now ≡ anchor_of posts.now.history }
-    requires close_day { IsCloseDay anchor.now.close_day }
-    requires posted { ArePostsDated posts.now.history }
-    requires accepted { last_accepted posts.now.history ≤ last_request_day }
-    ensures { (shared : SharedRows) (issued : List IssuedRow) → StandsFor shared.holidays posts.now → result ≡ reason_against (judged_of today shared issued posts.now.history) post.now }
+    requires posts { AreInCalendar anchor.now posts.now.history }
+    ensures { IsReason today posts.now post.now result }
 {
     match post {
         Post::Dispute { day, target, cents } => {
@@ -336,12 +324,9 @@ pub fn post_reason(posts: &Posts, anchor: &Anchor, today: Day, post: &Post) -> O
     requires not_open { is_open post.now ≡ false }
     requires reads { reads_book post.now ≡ false }
     requires dated { is_dated_post post.now ≡ true }
-    requires anchor { anchor.now ≡ anchor_of posts.now.history }
-    requires close_day { IsCloseDay anchor.now.close_day }
-    requires posted { ArePostsDated posts.now.history }
-    requires accepted { last_accepted posts.now.history ≤ last_request_day }
+    requires posts { AreInCalendar anchor.now posts.now.history }
     requires opened { anchor.now.opened ≤ last_request_day }
-    ensures { (shared : SharedRows) (issued : List IssuedRow) → StandsFor shared.holidays posts.now → result ≡ reason_against (record { today = today; shared = shared; lists = record { posts = posts.now.history; issued = issued } }) post.now }
+    ensures { IsReason today posts.now post.now result }
 {
     match post {
         Post::Charge { .. } | Post::Credit { .. } | Post::Payment { .. } => {

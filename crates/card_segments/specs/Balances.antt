@@ -2,6 +2,7 @@
 use Rattle.std.specs.Prelude.{◌≡◌, ℕ, ◌<◌, ◌≤◌, List, [], ◌∷◌, length, None, ℤ, pos, ◌+ℤ◌, ◌≤ℤ◌, neg_ℤ, slice_index_or}
 use Rattle.std.specs.List.{All}
 use Rattle.card_model.specs.Entries.{posted}
+use Rattle.card_model.specs.Limits.{balance_limit}
 use Rattle.card_model.specs.Segments.{unbilled}
 use Rattle.card_model.specs.declared.entry.Entry.{Entry}
 use Rattle.card_model.specs.declared.segment.Segment.{Segment}
@@ -48,10 +49,24 @@ pub record HaveSigns (balances : List ℤ) : Type 0 where
   pub credit : slice_index_or balances 0 (pos 0) ≤ℤ pos 0
   pub owing : (s : ℕ) → 1 ≤ s → pos 0 ≤ℤ slice_index_or balances s (pos 0)
 
+-- no balance is ever above it in size, in cents: eleven times what an account can owe
+abbrev pub largest_balance : ℕ
+largest_balance = 11_000_000_000_000_000
+
+-- balances up to it in size, in cents, stay in their range after a call: ten times what an account can owe
+abbrev pub movable_balance : ℕ
+movable_balance = 10_000_000_000_000_000
+
+-- what a call may move: 0 to 10^15 cents, with balances of at most n cents in size
+pub record MayMoveWithin (n : ℕ) (cents : ℤ) (balances : List ℤ) : Type 0 where
+  pub amount : pos 0 ≤ℤ cents
+  pub limit : cents ≤ℤ pos balance_limit
+  pub small : AreWithin n balances
+
 -- what always holds: each segment has its balance, 5 to 64 there are, and no balance is out of its range
 pub record AreKept (segments : List Segment) (balances : List ℤ) : Type 0 where
   pub equal : length segments ≡ length balances
   pub five : 5 ≤ length balances
   pub few : length balances ≤ 64
-  pub small : AreWithin 11_000_000_000_000_000 balances
+  pub small : AreWithin largest_balance balances
   pub signs : HaveSigns balances

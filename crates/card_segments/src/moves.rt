@@ -2,7 +2,7 @@
 ghost use Rattle.std.specs.Prelude.{◌≡◌, ℕ, ◌+◌, ◌-◌, ◌<◌, ◌≤◌, ◌++◌, length, min, pos, ◌≤ℤ◌, slice_index_or, vec_len, vec_capacity};
 ghost use Rattle.card_model.specs.Limits.{balance_limit};
 ghost use Rattle.card_model.specs.Entries.{at_least_zero, credit_in, debit, entry_of, holds, lowers, negated, posted, releases};
-ghost use Rattle.card_segments.specs.Balances.{AreWithin, IsWithin, total};
+ghost use Rattle.card_segments.specs.Balances.{AreWithin, IsWithin, MayMoveWithin, largest_balance, movable_balance, total};
 
 use crate::{Entry, Note};
 use card_units::Cents;
@@ -11,7 +11,7 @@ use card_units::Cents;
 fn post(balances: &mut Vec<Cents>, out: &mut Vec<Entry>, note: &Note, id: u8, cents: Cents)
     requires room { vec_len out.old < vec_capacity out.old }
     requires known { id < length balances.old.items }
-    requires small { IsWithin 11_000_000_000_000_000 (slice_index_or balances.old.items id (pos 0)) }
+    requires small { IsWithin largest_balance (slice_index_or balances.old.items id (pos 0)) }
     requires amount { IsWithin balance_limit cents }
     ensures balances { balances.new.items ≡ posted (entry_of note.now id cents) balances.old.items }
     ensures entries { out.new.items ≡ out.old.items ++ entry_of note.now id cents }
@@ -35,7 +35,7 @@ fn post(balances: &mut Vec<Cents>, out: &mut Vec<Entry>, note: &Note, id: u8, ce
 // What Credit holds.
 fn credit_of(balances: &[Cents]) -> Cents
     requires some { 0 < length balances.now }
-    requires small { IsWithin 11_000_000_000_000_000 (slice_index_or balances.now 0 (pos 0)) }
+    requires small { IsWithin largest_balance (slice_index_or balances.now 0 (pos 0)) }
     ensures { result ≡ pos (credit_in balances.now) }
 {
     let credit = balances[0];
@@ -74,9 +74,7 @@ pub fn raise(balances: &mut Vec<Cents>, out: &mut Vec<Entry>, note: &Note, id: u
     requires room { vec_len out.old + 2 ≤ vec_capacity out.old }
     requires segment { 2 ≤ id }
     requires known { id < length balances.old.items }
-    requires small { AreWithin 11_000_000_000_000_000 balances.old.items }
-    requires amount { pos 0 ≤ℤ cents }
-    requires limit { cents ≤ℤ pos balance_limit }
+    requires asked { MayMoveWithin largest_balance cents balances.old.items }
     ensures balances { balances.new.items ≡ posted (debit note.now id (at_least_zero cents) (credit_in balances.old.items)) balances.old.items }
     ensures entries { out.new.items ≡ out.old.items ++ debit note.now id (at_least_zero cents) (credit_in balances.old.items) }
     ensures len { vec_len out.new ≤ vec_len out.old + 2 }
@@ -91,9 +89,7 @@ pub fn raise(balances: &mut Vec<Cents>, out: &mut Vec<Entry>, note: &Note, id: u
 pub fn lower(balances: &mut Vec<Cents>, out: &mut Vec<Entry>, note: &Note, id: u8, cents: Cents)
     requires room { vec_len out.old < vec_capacity out.old }
     requires known { id < length balances.old.items }
-    requires small { AreWithin 11_000_000_000_000_000 balances.old.items }
-    requires amount { pos 0 ≤ℤ cents }
-    requires limit { cents ≤ℤ pos balance_limit }
+    requires asked { MayMoveWithin largest_balance cents balances.old.items }
     ensures balances { balances.new.items ≡ posted (lowers note.now id (at_least_zero cents)) balances.old.items }
     ensures entries { out.new.items ≡ out.old.items ++ lowers note.now id (at_least_zero cents) }
     ensures len { vec_len out.new ≤ vec_len out.old + 1 }
@@ -108,9 +104,7 @@ pub fn hold(balances: &mut Vec<Cents>, out: &mut Vec<Entry>, note: &Note, id: u8
     requires room { vec_len out.old + 2 ≤ vec_capacity out.old }
     requires segment { 2 ≤ id }
     requires known { id < length balances.old.items }
-    requires small { AreWithin 11_000_000_000_000_000 balances.old.items }
-    requires amount { pos 0 ≤ℤ cents }
-    requires limit { cents ≤ℤ pos balance_limit }
+    requires asked { MayMoveWithin largest_balance cents balances.old.items }
     ensures balances { balances.new.items ≡ posted (holds note.now id (at_least_zero cents)) balances.old.items }
     ensures entries { out.new.items ≡ out.old.items ++ holds note.now id (at_least_zero cents) }
     ensures len { vec_len out.new ≤ vec_len out.old + 2 }
@@ -126,9 +120,7 @@ pub fn release(balances: &mut Vec<Cents>, out: &mut Vec<Entry>, note: &Note, id:
     requires room { vec_len out.old + 3 ≤ vec_capacity out.old }
     requires segment { 2 ≤ id }
     requires known { id < length balances.old.items }
-    requires small { AreWithin 10_000_000_000_000_000 balances.old.items }
-    requires amount { pos 0 ≤ℤ cents }
-    requires limit { cents ≤ℤ pos balance_limit }
+    requires asked { MayMoveWithin movable_balance cents balances.old.items }
     ensures balances { balances.new.items ≡ posted (releases note.now id (at_least_zero cents) (credit_in balances.old.items)) balances.old.items }
     ensures entries { out.new.items ≡ out.old.items ++ releases note.now id (at_least_zero cents) (credit_in balances.old.items) }
     ensures len { vec_len out.new ≤ vec_len out.old + 3 }
@@ -141,7 +133,7 @@ pub fn release(balances: &mut Vec<Cents>, out: &mut Vec<Entry>, note: &Note, id:
 // The sum of the balances.
 pub fn sum(balances: &[Cents]) -> Cents
     requires few { length balances.now ≤ 64 }
-    requires small { AreWithin 11_000_000_000_000_000 balances.now }
+    requires small { AreWithin largest_balance balances.now }
     ensures { result ≡ total balances.now }
 {
     let mut sum = 0;

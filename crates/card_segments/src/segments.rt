@@ -1,9 +1,8 @@
 ghost use Rattle.std.specs.Prelude.{◌≡◌, ℕ, ◌+◌, ◌<◌, ◌≤◌, ◌++◌, [], ◌∷◌, length, replicate, IsOk, IfOk, OnOk, OnErr, pos, ◌≤ℤ◌, slice_index_or, vec_len, vec_capacity};
-ghost use Rattle.card_model.specs.Limits.{balance_limit};
 ghost use Rattle.card_model.specs.Entries.{at_least_zero, credit_in, debit, holds, lowers, releases};
 ghost use Rattle.card_model.specs.Segments.{unbilled};
 ghost use Rattle.card_model.specs.declared.segment.Segment.{Segment};
-ghost use Rattle.card_segments.specs.Balances.{AreWithin, HaveSigns, after_entries, opening_segments, opening_vintage, total};
+ghost use Rattle.card_segments.specs.Balances.{HaveSigns, MayMoveWithin, after_entries, movable_balance, opening_segments, opening_vintage, total};
 
 use crate::moves::{hold, lower, raise, release, sum};
 use crate::{Entry, Note, Segment, Sort};
@@ -135,9 +134,7 @@ impl Segments {
     ) -> Result<(), NoMemory>
         requires segment { 2 ≤ id }
         requires known { id < length self.old.balances }
-        requires amount { pos 0 ≤ℤ cents }
-        requires limit { cents ≤ℤ pos balance_limit }
-        requires small { AreWithin 10_000_000_000_000_000 self.old.balances }
+        requires asked { MayMoveWithin movable_balance cents self.old.balances }
         ensures ok { OnOk result (self.new ≡ after_entries (debit note.now id (at_least_zero cents) (credit_in self.old.balances)) self.old) }
         ensures entries { OnOk result (out.new.items ≡ out.old.items ++ debit note.now id (at_least_zero cents) (credit_in self.old.balances)) }
         ensures err { OnErr result (self.new ≡ self.old) }
@@ -163,9 +160,7 @@ impl Segments {
     ) -> Result<(), NoMemory>
         requires known { id < length self.old.balances }
         requires enough { 1 ≤ id → cents ≤ℤ slice_index_or self.old.balances id (pos 0) }
-        requires amount { pos 0 ≤ℤ cents }
-        requires limit { cents ≤ℤ pos balance_limit }
-        requires small { AreWithin 10_000_000_000_000_000 self.old.balances }
+        requires asked { MayMoveWithin movable_balance cents self.old.balances }
         ensures ok { OnOk result (self.new ≡ after_entries (lowers note.now id (at_least_zero cents)) self.old) }
         ensures entries { OnOk result (out.new.items ≡ out.old.items ++ lowers note.now id (at_least_zero cents)) }
         ensures err { OnErr result (self.new ≡ self.old) }
@@ -192,9 +187,7 @@ impl Segments {
         requires segment { 2 ≤ id }
         requires known { id < length self.old.balances }
         requires enough { cents ≤ℤ slice_index_or self.old.balances id (pos 0) }
-        requires amount { pos 0 ≤ℤ cents }
-        requires limit { cents ≤ℤ pos balance_limit }
-        requires small { AreWithin 10_000_000_000_000_000 self.old.balances }
+        requires asked { MayMoveWithin movable_balance cents self.old.balances }
         ensures ok { OnOk result (self.new ≡ after_entries (holds note.now id (at_least_zero cents)) self.old) }
         ensures entries { OnOk result (out.new.items ≡ out.old.items ++ holds note.now id (at_least_zero cents)) }
         ensures err { OnErr result (self.new ≡ self.old) }
@@ -221,9 +214,7 @@ impl Segments {
         requires segment { 2 ≤ id }
         requires known { id < length self.old.balances }
         requires enough { cents ≤ℤ slice_index_or self.old.balances 1 (pos 0) }
-        requires amount { pos 0 ≤ℤ cents }
-        requires limit { cents ≤ℤ pos balance_limit }
-        requires small { AreWithin 10_000_000_000_000_000 self.old.balances }
+        requires asked { MayMoveWithin movable_balance cents self.old.balances }
         ensures ok { OnOk result (self.new ≡ after_entries (releases note.now id (at_least_zero cents) (credit_in self.old.balances)) self.old) }
         ensures entries { OnOk result (out.new.items ≡ out.old.items ++ releases note.now id (at_least_zero cents) (credit_in self.old.balances)) }
         ensures err { OnErr result (self.new ≡ self.old) }

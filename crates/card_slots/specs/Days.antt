@@ -1,10 +1,12 @@
 -- The posts of a day, in the order in which they are folded.
-use Rattle.std.specs.Prelude.{ℕ, nat_le, nat_lt, if◌then◌else◌, List, Option, Some, None, pos}
+use Rattle.std.specs.Prelude.{◌≡◌, ℕ, ◌+◌, ◌<◌, nat_le, nat_lt, if◌then◌else◌, List, length, slice_index_or, Option, Some, None, pos}
 use Rattle.std.specs.List.{count_by}
 use Rattle.std.specs.Prelude.{option_map}
 use Rattle.card_events.specs.History.{CorrectedPost, at_number, is_folded}
 use Rattle.card_events.specs.declared.kept.Kept.{Kept}
 use Rattle.card_events.specs.declared.kept.Slot.{Slot}
+use Rattle.card_posts.specs.Change.{on}
+use Rattle.card_posts.specs.Posted.{Posted, StandsFor}
 use Rattle.card_slots.specs.declared.day.DayPost.{DayPost}
 
 -- the place of a day among all posts: how many are of earlier days
@@ -30,6 +32,13 @@ only_folded (Some d) = if is_folded d.post then Some d else None
 
 abbrev pub folded_post : CorrectedPost → Option DayPost
 folded_post p = only_folded (Some (day_post p))
+
+-- under the holidays of the corrected list, where the i-th post of a day stands at the place, the fold of the day reads this
+-- of it
+abbrev pub IsFoldedAt : ℕ → Posted → Option DayPost → Type 0
+IsFoldedAt place posts found =
+    (holidays : List ℕ) (day i : ℕ) (p : CorrectedPost) → StandsFor holidays posts → place ≡ place_of day posts.corrected + i → i < length (on day posts.corrected)
+    → found ≡ folded_post (slice_index_or (on day posts.corrected) i p)
 
 -- the post of a slot
 abbrev pub slot_post : Slot → Kept → DayPost

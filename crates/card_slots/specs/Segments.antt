@@ -3,11 +3,15 @@ use Rattle.std.specs.Prelude.{ℕ, suc, ◌≡◌, true, Bool, ◌&&◌, ◌||�
 use Rattle.std.specs.List.{All, cons_option}
 use Rattle.card_events.specs.Dated.{is_dated_post}
 use Rattle.card_events.specs.History.{anchor_of, corrected, terms_of}
+use Rattle.card_events.specs.SharedRows.{SharedRows}
 use Rattle.card_events.specs.declared.kept.Kept.{Kept}
 use Rattle.card_events.specs.declared.post.Post.{Post}
-use Rattle.card_model.specs.Segments.{is_sort, kept_segment, kept_segments, segment_of}
+use Rattle.card_model.specs.Cycles.{IssuedRow}
+use Rattle.card_model.specs.Segments.{SegmentTerms, is_sort, kept_segment, kept_segments, segment_of}
 use Rattle.card_model.specs.declared.segment.Segment.{Segment}
 use Rattle.card_model.specs.declared.segment.Sort.TheVariants as sort
+use Rattle.card_rates.specs.Laws.{segments_on}
+use Rattle.card_rates.specs.RateBooks.{Rates, rates_of}
 use Rattle.card_segments.specs.Balances.{Balances}
 
 -- all segments that the posts of an account add, by number. The holidays count for none of them
@@ -39,3 +43,15 @@ is_plan_of post today s = (s.post == post) && (is_sort sort.Promo s.sort || is_s
 unfoldable pub plan_from : ℕ → ℕ → ℕ → List Segment → ℕ
 plan_from post today n [] = 2
 plan_from post today n (s ∷ ss) = let later = plan_from post today (suc n) ss in if is_plan_of post today s then n else later
+
+-- ---- for every account
+-- it holds of the segments that a day sees of each account whose segments are these
+abbrev pub OfSeenSegments : ℕ → List Segment → (List SegmentTerms → Type 0) → Type 0
+OfSeenSegments today kept P =
+    (history : List Kept) (issued : List IssuedRow) (shared : SharedRows) → kept ≡ account_segments shared.holidays history → P (segments_on history issued shared today)
+
+-- so it does of each account whose segments are also rated so
+abbrev pub OfRatedSegments : ℕ → Rates → List Segment → (List SegmentTerms → Type 0) → Type 0
+OfRatedSegments today rated kept P =
+    (history : List Kept) (issued : List IssuedRow) (shared : SharedRows) → rated.segments ≡ (rates_of shared.holidays history []).segments → kept ≡ account_segments shared.holidays history
+    → P (segments_on history issued shared today)

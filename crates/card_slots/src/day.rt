@@ -1,11 +1,9 @@
 // The posts of a day, in turn.
-ghost use Rattle.std.specs.Prelude.{◌≡◌, ◌+◌, ◌<◌, ℕ, List, length, nat_le, nat_lt, slice_get, slice_index_or};
-ghost use Rattle.card_events.specs.History.{CorrectedPost};
+ghost use Rattle.std.specs.Prelude.{◌≡◌, ◌+◌, ℕ, List, nat_le, nat_lt, slice_get};
 ghost use Rattle.card_events.specs.History as history;
-ghost use Rattle.card_posts.specs.Change.{on};
 ghost use Rattle.card_posts.specs.Order.{IsAscending};
 ghost use Rattle.card_posts.specs.Posted.{StandsFor, folding_order};
-ghost use Rattle.card_slots.specs.Days.{folded_post, found_for, only_folded, place_of, slots_before, slots_through};
+ghost use Rattle.card_slots.specs.Days.{IsFoldedAt, found_for, only_folded, place_of, slots_before, slots_through};
 
 use card_days::Day;
 use card_events::{Post, Slot};
@@ -113,7 +111,7 @@ fn only_folded(found: Option<DayPost>) -> Option<DayPost>
 /// The post at a place, where the fold of its day reads its kind, and None otherwise. From the place of a day on stand the
 /// posts of that day, by number. It takes no memory.
 pub fn folded_at(posts: &Posts, place: usize) -> Option<DayPost>
-    ensures { (holidays : List ℕ) (day i : ℕ) (p : CorrectedPost) → StandsFor holidays posts.now → place ≡ place_of day posts.now.corrected + i → i < length (on day posts.now.corrected) → result ≡ folded_post (slice_index_or (on day posts.now.corrected) i p) }
+    ensures { IsFoldedAt place posts.now result }
 {
     only_folded(found(posts, place))
 }

@@ -1,12 +1,7 @@
 // The segment that a transaction goes to.
-ghost use Rattle.std.specs.Prelude.{◌≡◌, ◌≤◌, ℕ, List, []};
-ghost use Rattle.card_events.specs.SharedRows.{SharedRows};
-ghost use Rattle.card_events.specs.declared.kept.Kept.{Kept};
-ghost use Rattle.card_model.specs.Cycles.{IssuedRow};
+ghost use Rattle.std.specs.Prelude.{◌≡◌, ◌≤◌};
 ghost use Rattle.card_model.specs.Segments as model;
-ghost use Rattle.card_rates.specs.Laws.{segments_on};
-ghost use Rattle.card_rates.specs.RateBooks.{rates_of};
-ghost use Rattle.card_slots.specs.Segments.{account_segments, is_plan_of, plan_from};
+ghost use Rattle.card_slots.specs.Segments.{OfRatedSegments, OfSeenSegments, is_plan_of, plan_from};
 
 use card_days::Day;
 use card_events::{Category, Num, Place};
@@ -36,7 +31,7 @@ fn first_plan(segments: &Segments, post: Num, today: Day) -> u8
 /// The number of the segment of the plan that the post of this number began, as the fold of a day sees it; where no post up
 /// to that day began a plan under this number, that of the opening Purchase vintage. It takes no memory.
 pub fn plan_segment(segments: &Segments, post: Num, today: Day) -> u8
-    ensures { (history : List Kept) (issued : List IssuedRow) (shared : SharedRows) → segments.now.segments ≡ account_segments shared.holidays history → result ≡ model.plan_segment post (segments_on history issued shared today) }
+    ensures { OfSeenSegments today segments.now.segments (λ all. result ≡ model.plan_segment post all) }
 {
     first_plan(segments, post, today)
 }
@@ -44,7 +39,7 @@ pub fn plan_segment(segments: &Segments, post: Num, today: Day) -> u8
 /// The number of the segment that a charge of a day goes to on a place, as the fold of this or a later day sees it. It takes
 /// no memory.
 pub fn segment_at(rates: &RateBook, segments: &Segments, place: &Place, day: Day, today: Day) -> u8
-    ensures { (history : List Kept) (issued : List IssuedRow) (shared : SharedRows) → rates.now.segments ≡ (rates_of shared.holidays history []).segments → segments.now.segments ≡ account_segments shared.holidays history → day ≤ today → result ≡ model.segment_at place.now day (segments_on history issued shared today) }
+    ensures { OfRatedSegments today rates.now segments.now.segments (λ all. day ≤ today → result ≡ model.segment_at place.now day all) }
 {
     match place {
         Place::Purchase => rates.vintage(Category::Purchase, day),

@@ -11,7 +11,7 @@ ghost use Rattle.card_slots.specs.Segments.{ArePostsDated, AreUnused, account_se
 use card_days::Day;
 use card_events::{Category, Kept, PlanKind, Post};
 use card_model::{Segment, Sort};
-use card_posts::Posts;
+use card_posts::{Posts, VINTAGE_DAYS};
 use card_rates::{plan_sort, sort_of};
 use card_segments::Segments;
 use card_units::NoMemory;
@@ -22,7 +22,7 @@ fn vintage_day(notice: Day) -> Day
     requires { notice ≤ last_request_day }
     ensures { result ≡ notice + 15 }
 {
-    notice.plus(15)
+    notice.plus(VINTAGE_DAYS)
 }
 
 // the segment that a post adds

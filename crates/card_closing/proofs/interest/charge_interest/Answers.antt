@@ -32,9 +32,9 @@ loop-id-preserved c =
       turn =
           turn-next (option_copied c.args.issued) (note_on c.args.closing.now.closing) (asked_of (amounts_of charge (drop 2 segments) rows)) id x _ u _ from c.loop-id.invariant.turn same
           (c.in_ok-charge.ensures.turn ∙ ap (λ n. charged (option_copied c.args.issued) n id x u) c.note_on-note.ensures);
-      step = c.in_ok-charge.ensures.step;
-      segments = c.in_ok-charge.ensures.segments ∙ c.loop-id.invariant.segments;
-      balances = c.in_ok-charge.ensures.balances ∙ c.loop-id.invariant.balances;
+      step = c.in_ok-charge.ensures.kept.step;
+      segments = c.in_ok-charge.ensures.kept.segments ∙ c.loop-id.invariant.segments;
+      balances = c.in_ok-charge.ensures.kept.balances ∙ c.loop-id.invariant.balances;
       begins = begins-trans c.args.out.now.items c.loop-id.out.items c.charge.new.out.items c.loop-id.invariant.begins c.in_ok-charge.ensures.begins;
     }
 

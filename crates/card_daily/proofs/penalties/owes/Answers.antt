@@ -1,7 +1,4 @@
 use Rattle.std.proofs.Common.{◌≤◌, sym, ap, ◌∙◌, subst}
-use Rattle.card_days.specs.Billing.{due}
-use Rattle.card_days.specs.Range.{last_calendar_day}
-use Rattle.card_days.specs.declared.anchor.Anchor.{Anchor}
 use Rattle.card_due.specs.declared.due_cycle.DueCycle.{DueCycle}
 use Rattle.card_events.specs.History.{anchor_of, corrected}
 use Rattle.card_daily.proofs.Penalized.{owes-is}
@@ -9,12 +6,6 @@ use Rattle.card_daily.proofs.penalties.owes.Goals as goal
 
 pub owes_sixty_days-requires-clause-cycle : goal.owes_sixty_days-requires-clause-cycle
 owes_sixty_days-requires-clause-cycle c = subst (λ (x : DueCycle). 1 ≤ x.cycle) (sym c.due_cycle-due.ensures) c.requires.closed.first
-
-pub owes_sixty_days-requires-clause-in_calendar : goal.owes_sixty_days-requires-clause-in_calendar
-owes_sixty_days-requires-clause-in_calendar c =
-    let h = c.requires.closed in
-    subst (λ (x : DueCycle). due c.anchor-anchor.result x.cycle ≤ last_calendar_day) (sym c.due_cycle-due.ensures)
-    (subst (λ (a : Anchor). due a c.args.cycle.now.number ≤ last_calendar_day) (sym c.anchor-anchor.ensures.value) (subst (λ n. n ≤ last_calendar_day) h.days.due h.due))
 
 pub returns : goal.returns
 returns c =

@@ -14,12 +14,12 @@ overflow_cast-get c =
 
 pub cycle_on-requires-clause-opened : goal.cycle_on-requires-clause-opened
 cycle_on-requires-clause-opened c =
-    let opened = subst (λ (a : Anchor). a.opened ≤ last_request_day) (sym c.requires.anchor) (opening-dated c.args.posts.now.history c.requires.dated) in
+    let opened = subst (λ (a : Anchor). a.opened ≤ last_request_day) (sym c.requires.posts.anchor) (opening-dated c.args.posts.now.history c.requires.posts.dated) in
     omega (arith, opened)
 
 pub cycle_on-requires-clause-dated : goal.cycle_on-requires-clause-dated
 cycle_on-requires-clause-dated c =
-    let dated = charge-dated c.args.charge c.in-Some.day c.args.posts.now.history c.requires.dated (sym c.charge_day.ensures ∙ c.in-Some.is) in
+    let dated = charge-dated c.args.charge c.in-Some.day c.args.posts.now.history c.requires.posts.dated (sym c.charge_day.ensures ∙ c.in-Some.is) in
     omega (arith, dated)
 
 pub returns-in-Some : goal.returns-in-Some

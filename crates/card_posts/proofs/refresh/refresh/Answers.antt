@@ -11,8 +11,8 @@ pub loop-i-init : goal.loop-i-init
 unfolding first_change
 loop-i-init c = record {
   renewed = refl;
-  small = c.requires.small;
-  order = c.requires.order;
+  small = c.requires.ordered.small;
+  order = c.requires.ordered.order;
   first = c.last-first.ensures;
   len = refl;
   capacity = omega arith;

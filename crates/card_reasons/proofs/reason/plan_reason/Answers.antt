@@ -9,4 +9,4 @@ pub returns : goal.returns
 returns c shared issued kind =
     let now = judged_of c.args.today shared issued c.args.posts.now.history in
     by_parts now (post.Plan c.args.day kind c.args.rate c.args.end c.args.after) c.args.day _ c.are_no_rates-out.result _ c.plan_end-added.result c.args.anchor.now.opened c.in_order.result (plan_reasons now c.args.day c.args.rate c.args.end c.args.after kind) c.are_no_rates-out.ensures
-    (ap (λ (a : Anchor). a.opened) c.requires.anchor) (c.plan_end-added.ensures now kind c.args.rate c.args.after refl) c.in_order.ensures
+    (ap (λ (a : Anchor). a.opened) c.requires.cycles.anchor) (c.plan_end-added.ensures now kind c.args.rate c.args.after refl) c.in_order.ensures

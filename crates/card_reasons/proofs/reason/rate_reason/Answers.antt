@@ -23,4 +23,4 @@ pub returns-in-Lower : goal.returns-in-Lower
 returns-in-Lower c shared issued stands = c.lower_reason.ensures shared issued c.in-Lower.category ∙ ap (reason_against (judged_of c.args.today shared issued c.args.posts.now.history)) (sym c.in-Lower.is)
 
 pub returns-in-Review : goal.returns-in-Review
-returns-in-Review c shared issued stands = c.review_reason.ensures shared issued c.in-Review.finding stands ∙ ap (reason_against (judged_of c.args.today shared issued c.args.posts.now.history)) (sym c.in-Review.is)
+returns-in-Review c shared issued stands = c.review_reason.ensures c.in-Review.finding shared issued stands ∙ ap (reason_against (judged_of c.args.today shared issued c.args.posts.now.history)) (sym c.in-Review.is)

@@ -1,7 +1,7 @@
 use Rattle.std.proofs.Common.{arith}
 use Rattle.std.proofs.lemmas.Bool.Decides.{nat_tests}
 use Rattle.card_fees.proofs.Days.{due-later}
-use Rattle.card_fees.proofs.due.owes.Goals as goal
+use Rattle.card_fees.proofs.due.owes_sixty_days.Goals as goal
 
 pub since_closing-requires-clause-closed : goal.since_closing-requires-clause-closed
 since_closing-requires-clause-closed c =
