@@ -14,6 +14,7 @@ use Rattle.card_model.specs.Closing.{within_limit}
 use Rattle.card_model.specs.Cycles.{Cycle}
 use Rattle.card_model.specs.Machine.{State, lists_of, run}
 use Rattle.card_model.specs.Refusals.{Lists}
+use Rattle.card_model.specs.Spans.{steps_among}
 use Rattle.card_model.specs.declared.fee.FeeKind.TheVariants.{Late}
 use Rattle.card_examples.specs.Accounts.{book_of, charge_jan10, cycle_after, fee_row, fees_after, interest_after, name, open_a, pay_online, roll, to_a}
 use Rattle.card_examples.specs.Fees.{fee_of}
@@ -67,7 +68,19 @@ breaks_with s (Some l) b =
 abbrev pub breaks_after : List Request → List ℕ
 breaks_after requests = breaks_with (run requests) (lists_of name (run requests).accounts) (book_of requests)
 
--- statements that ask for a payment or for none, their numbers, and break days
+-- the steps of a fold of an account's lists to the end of today, by today's book
+abbrev pub steps_with : State → Option Lists → Book → ℕ
+steps_with s None b = 0
+steps_with s (Some l) b =
+    let a = account_of l.posts in
+    let posts = corrected a.anchor (shared_rows s.shared).holidays l.posts in
+    steps_among (is_break a posts l.issued b.penalties) a.anchor.opened s.today
+
+-- those of the account
+abbrev pub steps_after : List Request → ℕ
+steps_after requests = steps_with (run requests) (lists_of name (run requests).accounts) (book_of requests)
+
+-- statements that ask for a payment or for none, their numbers, break days, and steps
 pub record StatementsAreWorked : Type 0 where
   -- issued 21 days before the due date, a statement asks for its minimum payment: a late fee, and interest
   pub in_time : fees_after (issued_on 9) ≡ fee_of Late 1 false (day_at 2024 3 2) 2500 ∷ []
@@ -83,3 +96,5 @@ pub record StatementsAreWorked : Type 0 where
   pub above_limit : within_limit 10000000000001 1 ≡ 0
   -- the opening day, two closings and the day after a due date; on all other days nothing happens
   pub breaks : breaks_after without_charge ≡ day_at 2024 1 6 ∷ day_at 2024 2 5 ∷ day_at 2024 3 2 ∷ day_at 2024 3 5 ∷ []
+  -- each of them is a step of the fold to 2024-03-10, and so is that day
+  pub steps : steps_after without_charge ≡ 5

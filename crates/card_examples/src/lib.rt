@@ -76,7 +76,7 @@ pub fn machine()
     ensures { MachineIsWorked }
 {}
 
-/// Statements, the limit of interest, and break days (12 CFR 1026.5(b)(2)(ii), .7(b)).
+/// Statements, the limit of interest, break days and steps (12 CFR 1026.5(b)(2)(ii), .7(b)).
 pub fn statements()
     ensures { StatementsAreWorked }
 {}

@@ -2,6 +2,7 @@ pub mod Added
 pub mod ByNumber
 pub mod DayLaws
 pub mod LaterPosts
+pub mod Nearest
 pub mod OneMore
 pub mod Penalties
 pub mod Runs

@@ -1,3 +1,4 @@
 pub mod Added
 pub mod Laws
+pub mod Next
 pub mod RateBooks

@@ -1,3 +1,4 @@
+use crate::change::{penalties_change, segments_change};
 use crate::make::{add_all, first_segments, penalty_rate_in, post_of};
 use crate::rate::{
     BegunRate, capped_as, is_running, is_to_come, least_of, newest_of, no_rate, raised,
@@ -40,6 +41,7 @@ impl RateBook {
     ghost use Rattle.card_model.specs.Rates.{accrual_rate, bears_as, capped, own, starts, with_penalty};
     ghost use Rattle.card_model.specs.Segments.{SegmentTerms, newest, sort_of_category};
     ghost use Rattle.card_model.specs.declared.segment.Interval.{Interval};
+    ghost use Rattle.card_rates.specs.Next.{IsNext, changes};
     ghost use Rattle.card_rates.specs.RateBooks.{rate_of, rates_of, with_penalties};
 
     /// The rates of an account's posts, where no penalty has begun. The terms are in their ranges, no rate of a post is above
@@ -130,6 +132,17 @@ impl RateBook {
         ensures { result ≡ newest (sort_of_category category) day self.now.segments }
     {
         newest_of(&self.segments, sort_of(category), day)
+    }
+
+    /// The first day from one on, and before an end, on which a plan ends, a vintage, its rate or a penalty begins, or that
+    /// comes after a penalty's last (12 CFR 1026.55(b)); the end where there is none. Over the days before it no rate changes
+    /// but on the day after a plan's end. It takes no memory.
+    pub fn next_change(&self, first: Day, end: Day) -> Day
+        requires { first ≤ end }
+        ensures { IsNext (changes self.now) first end result }
+    {
+        let next = segments_change(&self.segments, first, end);
+        penalties_change(&self.penalties, first, next)
     }
 
     // the segment with a number, other than Credit and Held

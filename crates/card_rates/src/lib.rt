@@ -2,6 +2,7 @@
 #![tactic(auto)]
 
 mod book;
+mod change;
 pub mod laws;
 mod make;
 mod rate;

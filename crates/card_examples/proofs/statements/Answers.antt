@@ -15,4 +15,5 @@ returns c =
       at_limit = refl;
       above_limit = refl;
       breaks = refl;
+      steps = refl;
     }
