@@ -16,7 +16,7 @@ pub fn read_number(text: &[u8]) -> Option<Num>
     if !is_decimal_text(text) {
         return None;
     }
-    Num::new(value_of(text))
+    Num::new(digits_value(text))
 }
 
 #[tactic(auto, unfolding(crate::specs::Forms::is_decimal))]
@@ -31,14 +31,15 @@ fn is_decimal_text(text: &[u8]) -> bool
     }
 }
 
-fn are_digits(text: &[u8]) -> bool
+/// Each byte is a decimal digit.
+pub fn are_digits(text: &[u8]) -> bool
     ensures { result ≡ list_all is_ascii_digit text.now }
 {
     text.iter().all(|b| b.is_ascii_digit())
 }
 
-// The number of at most twelve digits.
-fn value_of(text: &[u8]) -> u64
+/// The number of at most twelve digits, leading zeros among them.
+pub fn digits_value(text: &[u8]) -> u64
     requires digits { list_all is_ascii_digit text.now ≡ true }
     requires length { length text.now ≤ 12 }
     ensures value { result ≡ value_after 0 text.now }
@@ -60,9 +61,9 @@ pub fn read_day(text: &[u8]) -> Option<Day>
         return None;
     }
     request_day(
-        value_of(&text[..4]),
-        value_of(&text[5..7]),
-        value_of(&text[8..]),
+        digits_value(&text[..4]),
+        digits_value(&text[5..7]),
+        digits_value(&text[8..]),
     )
 }
 

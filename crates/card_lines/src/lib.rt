@@ -11,7 +11,8 @@ mod reply;
 mod word;
 
 pub use forms::{
-    read_category, read_channel, read_day, read_finding, read_number, read_place, read_plan_kind,
+    are_digits, digits_value, read_category, read_channel, read_day, read_finding, read_number,
+    read_place, read_plan_kind,
 };
 pub use line::{BadField, Line, LineFault};
 pub use line_reading::read_line;

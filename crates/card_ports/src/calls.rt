@@ -30,7 +30,7 @@ impl Model for Calls {
 impl Calls {
     ghost use Rattle.std.specs.Prelude.{◌≡◌, ◌≤◌, IsTrue};
     ghost use Rattle.card_ports.specs.Counts.{Rose};
-    ghost use Rattle.card_ports.specs.Forms.{no_calls, fails_next, after_call};
+    ghost use Rattle.card_ports.specs.Forms.{no_calls, fails_next, after_call, after_fault};
 
     /// No call was made, and the listed ones fail.
     pub fn new(fails: Vec<u64>) -> Calls
@@ -63,5 +63,15 @@ impl Calls {
             self.faults = count_on(self.faults);
         }
         fails
+    }
+
+    /// Counts a fault that isn't of a listed call.
+    pub fn count_fault(&mut self)
+        ensures calls { self.new ≡ after_fault self.old }
+        ensures count { self.old.faults ≤ self.new.faults }
+        ensures rose { Rose self.old.faults self.new.faults }
+    {
+        let faults = count_on(self.faults);
+        self.faults = faults;
     }
 }

@@ -7,7 +7,7 @@ use std::alloc::Global;
 use std::marker::Model;
 
 // Copies as much of the bytes as the buffer has room for.
-fn copy_front(bytes: &[u8], buf: &mut [u8]) -> usize
+pub(crate) fn copy_front(bytes: &[u8], buf: &mut [u8]) -> usize
     ensures within { result ≤ length buf.new }
     ensures some { result ≤ length bytes.now }
     ensures front { take result buf.new ≡ take result bytes.now }

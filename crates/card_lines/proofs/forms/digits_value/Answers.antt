@@ -1,6 +1,6 @@
 use Rattle.std.proofs.Common.{drop, arith, sym, ◌∙◌}
 use Rattle.card_lines.proofs.NumberLemmas.{value_small, value_grows, value_step, digit_at}
-use Rattle.card_lines.proofs.forms.value_of.Goals as goal
+use Rattle.card_lines.proofs.forms.digits_value.Goals as goal
 
 pub overflow_mul-value : goal.overflow_mul-value
 overflow_mul-value c =
