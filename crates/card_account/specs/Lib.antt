@@ -1,5 +1,6 @@
 pub mod Accounts
 pub mod Closed
+pub mod Entries
 pub mod Verdicts
 pub mod Works
 pub mod Runs

@@ -5,6 +5,7 @@ ghost use Rattle.card_events.specs.Dated.{is_dated_post};
 ghost use Rattle.card_model.specs.Machine.{at_key, is_open};
 ghost use Rattle.card_reasons.specs.Reasons.{reads_book};
 
+use crate::entry_list::{EntryList, entries_today};
 use crate::issue::{issued_by, push_issued};
 use crate::judge::reason_today;
 use crate::owing::Owing;
@@ -45,6 +46,7 @@ impl Account {
     ghost use Rattle.std.specs.Prelude.{◌≡◌, ◌≤◌, ◌+◌, [], ◌∷◌, true, false, length, IfOk, OnErr, OnOk, None, List, ℕ, if◌then◌else◌};
     ghost use Rattle.card_days.specs.Range.{last_request_day};
     ghost use Rattle.card_account.specs.Accounts.{IsCorrected, MayBeFolded, issued_as, issued_statement, owing_in, present_of, restated_statement};
+    ghost use Rattle.card_account.specs.Entries.{entries_today};
     ghost use Rattle.card_account.specs.Verdicts.{verdict_of};
     ghost use Rattle.card_days.specs.Billing.{IsCloseDay};
     ghost use Rattle.card_events.specs.Dated.{is_dated_post};
@@ -189,6 +191,19 @@ impl Account {
             credit: folded.credit(),
             held: folded.held(),
         })
+    }
+
+    /// Its entries up to the end of today, in the order of the fold, with its segments.
+    pub fn entries(
+        &self,
+        alloc: Global,
+        today: Day,
+        shared: &SharedRows,
+    ) -> Result<EntryList, NoMemory>
+        requires { MayBeFolded today shared.now self.now }
+        ensures { IfOk result (λ list. list ≡ entries_today (present_of today shared.now self.now.named.lists)) }
+    {
+        entries_today(alloc, &self.present(today, shared))
     }
 
     /// The statement of a cycle as it was issued, none where no Bill has issued it.

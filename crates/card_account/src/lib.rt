@@ -3,6 +3,7 @@
 
 mod account;
 mod cycles;
+mod entry_list;
 mod issue;
 mod judge;
 pub mod laws;
@@ -16,6 +17,7 @@ pub use account::Account;
 pub use card_daily::{Issued, Statement};
 pub use card_disputes::{Task, TaskKind};
 pub use card_reasons::open_reason;
+pub use entry_list::EntryList;
 pub use owing::Owing;
 pub use tasks::{Tasks, work_today};
 pub use verdict::Verdict;

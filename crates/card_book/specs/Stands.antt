@@ -4,6 +4,7 @@ use Rattle.card_model.specs.Books.{Book, empty_book}
 use Rattle.card_model.specs.Deadlines.{credit_since}
 use Rattle.card_model.specs.Entries.{AreBalances}
 use Rattle.card_model.specs.declared.segment.Interval.{Interval}
+use Rattle.card_model.specs.declared.segment.Segment.{Segment}
 use Rattle.card_slots.specs.Segments.{account_segments}
 use Rattle.card_daily.specs.Given.{Given, book_on, opened_in}
 use Rattle.card_daily.specs.Stands.{AreBefore}
@@ -21,10 +22,11 @@ pub record Summary : Type 0 where
 abbrev pub recorded : Track → List Interval → Book
 recorded t penalties = record { entries = t.entries.items; cycles = t.cycles.items; fees = t.fees.items; penalties = penalties }
 
--- the book at the end of a day, and since when there is a credit balance (12 CFR 1026.11(a)(3))
+-- the book at the end of a day, since when there is a credit balance (12 CFR 1026.11(a)(3)), and the account's segments
 pub record FoldedBook : Type 0 where
   pub book : Book
   pub since : Option ℕ
+  pub segments : List Segment
 
 -- the first day that isn't folded
 abbrev pub day_to_fold : Given → Option ℕ → ℕ

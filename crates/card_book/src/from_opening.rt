@@ -9,20 +9,21 @@ ghost use Rattle.card_model.specs.Folds.{cycle_at};
 ghost use Rattle.card_segments.specs.Balances.{AreWithin};
 ghost use Rattle.card_steps.specs.Blanks.{IsBlankOf};
 ghost use Rattle.card_model.specs.Refusals.{book_today, seen_today};
+ghost use Rattle.card_slots.specs.Segments.{account_segments};
 
 use crate::Book;
-use card_daily::{Cycle, Inputs, Present, Track, is_sixty_days_late};
+use card_daily::{Cycle, Entry, Inputs, Present, Track, is_sixty_days_late};
 use card_dayend::opening_day;
 use card_days::Day;
-use card_segments::Segments;
+use card_segments::{Segment, Segments};
 use card_steps::Steps;
 use card_units::{Cents, NoMemory};
 use std::alloc::Global;
 use std::marker::{Brand, Model};
 use std::sync::ledger::{Blank, Ledger};
 
-/// The book of an account at the end of a day, with its entries and its closed cycles, and since when there is a credit
-/// balance.
+/// The book of an account at the end of a day, with its entries, its closed cycles and its segments, and since when there is
+/// a credit balance.
 #[derive(Drop)]
 pub struct Folded {
     book: Book,
@@ -37,7 +38,7 @@ impl Model for Folded {
 
     ghost Value = { FoldedBook };
 
-    ghost view = { λ f. record { book = recorded f.track f.book.state.rates.penalties; since = f.book.credit_since } };
+    ghost view = { λ f. record { book = recorded f.track f.book.state.rates.penalties; since = f.book.credit_since; segments = f.book.state.segments.segments } };
 
     ghost invariant = { λ f. AreBalances f.track.entries.items f.book.state.segments.balances × AreWithin balance_limit f.book.state.segments.balances };
 }
@@ -59,6 +60,17 @@ fn held_in(segments: &Segments) -> Cents
     segments.balance(1)
 }
 
+// All segments, in memory of their own.
+fn copy_segments(segments: &Segments, alloc: Global) -> Result<Vec<Segment>, NoMemory>
+    ensures { IfOk result (λ copy. copy.items ≡ segments.now.segments) }
+{
+    let mut copy = Vec::new(alloc);
+    for id in 0..segments.len() {
+        copy.extend_from_slice(&[*segments.get(id)])?;
+    }
+    Ok(copy)
+}
+
 // Folds with a counter of its own.
 fn fold_counted<L: Ledger>(
     alloc: Global,
@@ -71,6 +83,7 @@ fn fold_counted<L: Ledger>(
     requires last { to ≤ last_request_day }
     ensures book { IfOk result (λ f. f.book ≡ book_on inputs.now to) }
     ensures since { IfOk result (λ f. f.since ≡ credit_since (book_on inputs.now to).entries (opened_in inputs.now) to) }
+    ensures segments { IfOk result (λ f. f.segments ≡ account_segments inputs.now.shared.holidays inputs.now.history) }
 {
     let _opened = opening_day(inputs);
     let mut book = Book::start(alloc, inputs)?;
@@ -89,12 +102,14 @@ fn fold_counted<L: Ledger>(
 pub fn fold(alloc: Global, now: &Present) -> Result<Folded, NoMemory>
     ensures book { IfOk result (λ f. f.book ≡ book_today now.now) }
     ensures since { IfOk result (λ f. f.since ≡ credit_since (book_today now.now).entries (opened_in (given_today now.now)) now.now.today) }
+    ensures segments { IfOk result (λ f. f.segments ≡ account_segments now.now.shared.holidays now.now.lists.posts) }
 {
     fold_counted::<Brand>(alloc, now.inputs(), now.today(), Blank::new(1))
 }
 
 impl Folded {
-    ghost use Rattle.std.specs.Prelude.{◌≡◌, pos, option_copied};
+    ghost use Rattle.std.specs.Prelude.{◌≡◌, ◌<◌, IfOk, length, pos, option_copied};
+    ghost use Rattle.std.specs.List.{All};
     ghost use Rattle.card_model.specs.Entries.{credit_balance, owed, owing};
     ghost use Rattle.card_model.specs.Folds.{cycle_at};
 
@@ -136,6 +151,24 @@ impl Folded {
     {
         let _anchor = now.anchor();
         is_sixty_days_late(now.inputs(), now.today(), &self.track.cycles)
+    }
+
+    /// The account's segments by number, in memory of their own. Each entry is on one of them.
+    pub fn segments(&self, alloc: Global) -> Result<Vec<Segment>, NoMemory>
+        ensures segments { IfOk result (λ s. s.items ≡ self.now.segments) }
+        ensures entries { All (λ e. e.segment < length self.now.segments) self.now.book.entries }
+    {
+        let segments = self.book.segments();
+        let _count = segments.len();
+        copy_segments(segments, alloc)
+    }
+
+    /// All entries, in their order.
+    pub fn into_entries(self) -> Vec<Entry>
+        ensures { result.items ≡ self.book.entries }
+    {
+        let track = self.track;
+        track.entries
     }
 
     /// The closed cycle with a number, from 1; None where it isn't closed.

@@ -7,6 +7,7 @@ use Rattle.std.specs.List.{All, filter, list_all}
 use Rattle.std.specs.Prelude.{nat_le, nat_lt, ◌&&◌, ◌++◌, ◌+◌, ◌-◌, if◌then◌else◌, None}
 use Rattle.std.specs.Option.{option_map}
 use Rattle.card_account.specs.Accounts.{IsCorrected, MayBeFolded, OpenAccount, is_closed, present_of, restated_as, restated_statement}
+use Rattle.card_account.specs.Entries.{AccountEntries, entries_today}
 use Rattle.card_account.specs.Verdicts.{verdict_of}
 use Rattle.card_account.specs.declared.verdict.Verdict.{Verdict}
 use Rattle.card_account.specs.Runs.{AreRunning, IsTaken}
@@ -18,7 +19,7 @@ use Rattle.card_desk.proofs.DeskLemmas.{read_at, verdict_at}
 use Rattle.card_reasons.proofs.SameReasons.{AreAlike, same_reason}
 use Rattle.card_desk.specs.Desks.{AreCorrected, IsDesk, IsRun, named_all, now_at, now_of, state_of}
 use Rattle.card_events.specs.Dated.{is_dated, is_dated_post, is_dated_shared, is_request_day}
-use Rattle.card_events.specs.History.{CorrectedPost, anchor_of, at_number, corrected, is_folded, opening_in}
+use Rattle.card_events.specs.History.{CorrectedPost, anchor_of, at_number, corrected, is_folded, opening_in, terms_of}
 use Rattle.card_events.specs.Keys.{with_key}
 use Rattle.card_events.specs.Names.{is_name}
 use Rattle.card_events.specs.declared.reply.Refusal.{Refusal}
@@ -36,9 +37,13 @@ use Rattle.card_model.specs.Caps.{row_for}
 use Rattle.card_model.specs.Folds.{book, book_after, cycle_at, rows_issued}
 use Rattle.card_model.specs.Machine.{Accepts, NamedAccount, Refuses, Repeats, State, accepted, at_key, is_open, is_repeat_of, issues, judged, kept_as, outcome_in}
 use Rattle.card_model.specs.Refusals.{Lists, Present, book_today, reason_against}
+use Rattle.card_model.specs.Segments.{kept_segments}
+use Rattle.card_model.specs.declared.entry.Entry.{Entry}
+use Rattle.card_model.specs.declared.segment.Segment.{Segment}
 use Rattle.card_posts.specs.Posted.{last_accepted, opens}
 use Rattle.card_posts.proofs.Holidays.{same-corrected}
 use Rattle.card_rows.specs.Held.{are_terms, is_day, is_number, is_place, is_post, is_request, is_shared}
+use Rattle.card_slots.specs.Segments.{account_segments}
 
 -- ---- requests that are taken
 day_parts : (day : ℕ) → is_day day ≡ true → (first_calendar_day ≤ day) × (is_request_day day ≡ true)
@@ -256,6 +261,23 @@ pub same_restated : (today : ℕ) (lists : Lists) (a b : SharedRows) (cycle : �
 unfolding restated_statement
 same_restated today lists a b cycle same =
     ap (λ (x : Book). if is_closed today lists cycle then option_map (restated_as (row_for cycle lists.issued)) (cycle_at cycle x.cycles) else None) same
+
+-- and its entries with its segments
+abbrev listing : List Entry → List Segment → AccountEntries
+listing entries segments = record { entries = entries; segments = segments }
+
+same_entries : (today : ℕ) (lists : Lists) (a b : SharedRows) → AreAlike today lists a b → entries_today (present_of today a lists) ≡ entries_today (present_of today b lists)
+same_entries today lists a b alike =
+    let posts = lists.posts in
+    ap (λ (x : Book). listing x.entries (account_segments a.holidays posts)) alike.books
+    ∙ ap (λ (ps : List CorrectedPost). listing (book_today (present_of today b lists)).entries (kept_segments (anchor_of posts) (terms_of posts) ps)) alike.posts
+
+pub entries_at : (places : List (List ℕ × ℕ)) (common : SharedRows) (count today : ℕ) (rows : List Shared) (accounts : List OpenAccount) (i : ℕ) (a : OpenAccount)
+    → IsDesk places common count today rows accounts → i < length accounts → a ≡ get_or accounts i a
+    → entries_today (present_of today common a.named.lists) ≡ entries_today (now_of (state_of today rows accounts) a.named.lists)
+entries_at places common count today rows accounts i a desk low is =
+    subst (λ (x : OpenAccount). entries_today (present_of today common x.named.lists) ≡ entries_today (now_of (state_of today rows accounts) x.named.lists)) (sym is)
+    (same_entries today (get_or accounts i a).named.lists common (shared_rows rows) (alike_at places common count today rows accounts i a desk low))
 
 -- ---- a later holiday
 pub corrected_on : (s : State) (day : ℕ) (calendar : List ℕ) (accounts : List OpenAccount) → s.today < day → All (λ (x : NamedAccount). AreRunning s x.lists) (named_all accounts)

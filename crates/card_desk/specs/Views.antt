@@ -1,6 +1,7 @@
 -- What can be asked of a ledger.
 use Rattle.std.specs.Prelude.{ℕ, pos, Option, Some, None}
 use Rattle.card_account.specs.Accounts.{issued_statement, restated_statement}
+use Rattle.card_account.specs.Entries.{entries_today}
 use Rattle.card_daily.specs.declared.track.Statement.{Statement}
 use Rattle.card_desk.specs.Desks.{now_of}
 use Rattle.card_desk.specs.declared.view.Ask.{Ask}
@@ -37,9 +38,15 @@ abbrev pub restated : State → ℕ → Option Lists → View
 restated s cycle None = view.NoAccount
 restated s cycle (Some lists) = stated (restated_statement (now_of s lists) cycle)
 
+-- the entries of an account by its book of today, with its segments, where it is there
+abbrev pub listed : State → Option Lists → View
+listed s None = view.NoAccount
+listed s (Some lists) = view.Entries (entries_today (now_of s lists))
+
 -- the answer to what is asked
 unfoldable pub seen : State → Ask → View
 seen s (ask.Show account) = shown s (lists_of account s.accounts)
 seen s (ask.Issued account cycle) = issued cycle (lists_of account s.accounts)
 seen s (ask.Restated account cycle) = restated s cycle (lists_of account s.accounts)
+seen s (ask.Entries account) = listed s (lists_of account s.accounts)
 seen s ask.Work = view.Work (work s)

@@ -59,7 +59,7 @@ impl Desk {
     ghost use Rattle.card_desk.specs.Applied.{Carried, IsAsked, IsCounted, Steps};
     ghost use Rattle.card_desk.specs.Kept.{Fits, accepted_count};
     ghost use Rattle.card_desk.specs.Places.{IsPlace, place_from};
-    ghost use Rattle.card_desk.specs.Views.{issued, restated, seen, shown};
+    ghost use Rattle.card_desk.specs.Views.{issued, listed, restated, seen, shown};
 
     /// 2011-01-01 for today, and nothing else.
     pub fn new(alloc: Global) -> Desk
@@ -348,6 +348,20 @@ impl Desk {
         }
     }
 
+    // The entries of an account up to the end of today.
+    fn entries(&self, alloc: Global, account: &Name) -> Result<View, NoMemory>
+        ensures { IfOk result (λ view. view ≡ listed self.now.state (lists_of account.now self.now.state.accounts)) }
+    {
+        match self.index.find(account.bytes()) {
+            None => Ok(View::NoAccount),
+            Some(at) => {
+                let found = &self.accounts[at as usize];
+                let entries = found.entries(alloc, self.today, &self.common)?;
+                Ok(View::Entries(entries))
+            }
+        }
+    }
+
     // The open tasks of all accounts.
     fn work(&self, alloc: Global) -> Result<View, NoMemory>
         ensures { IfOk result (λ view. view ≡ View.Work (work self.now.state)) }
@@ -365,6 +379,7 @@ impl Desk {
             Ask::Show(account) => self.show(alloc, account),
             Ask::Issued(account, cycle) => self.issued(alloc, account, *cycle),
             Ask::Restated(account, cycle) => self.restated(alloc, account, *cycle),
+            Ask::Entries(account) => self.entries(alloc, account),
             Ask::Work => self.work(alloc),
         }
     }

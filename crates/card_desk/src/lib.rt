@@ -10,7 +10,7 @@ mod row;
 mod share;
 mod view;
 
-pub use card_account::{Statement, Task, TaskKind, Tasks};
+pub use card_account::{EntryList, Statement, Task, TaskKind, Tasks};
 pub use desk::Desk;
 pub use fault::{Fault, LoadFault};
 pub use view::{Ask, View};

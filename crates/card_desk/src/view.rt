@@ -1,4 +1,4 @@
-use card_account::{Statement, Tasks};
+use card_account::{EntryList, Statement, Tasks};
 use card_days::Day;
 use card_events::{Name, Num};
 use card_units::Cents;
@@ -12,6 +12,8 @@ pub enum Ask {
     Issued(Name, Num),
     /// The statement of the account's cycle of this number, as the book of today has it.
     Restated(Name, Num),
+    /// The entries of the account up to the end of today.
+    Entries(Name),
     /// The open tasks of all accounts.
     Work,
 }
@@ -32,6 +34,8 @@ pub enum View {
     },
     /// The statement of the cycle.
     Statement(Statement),
+    /// The entries of the account in the order of the fold, with its segments.
+    Entries(EntryList),
     /// The open tasks, by day, account, kind and post.
     Work(Tasks),
 }

@@ -3,6 +3,7 @@ use Rattle.card_model.specs.Books.{Book}
 use Rattle.card_model.specs.Entries.{AreBalances}
 use Rattle.card_model.specs.declared.entry.Entry.{Entry}
 use Rattle.card_book.specs.Stands.{since_through}
+use Rattle.card_book.proofs.Days.{book_is_the_fold}
 use Rattle.card_book.proofs.Told.{small-on, sums-on, whole-is}
 use Rattle.card_book.proofs.from_opening.fold_counted.Goals as goal
 
@@ -28,3 +29,6 @@ returns-clause-book g c = whole-is c.args.inputs.now c.advance.new.self c.advanc
 
 pub returns-clause-since : goal.returns-clause-since
 returns-clause-since g c = c.in_ok-advance.ensures.stands.since ∙ ap (since_through c.args.inputs.now) c.in_ok-advance.ensures.day
+
+pub returns-clause-segments : goal.returns-clause-segments
+returns-clause-segments g c = (book_is_the_fold c.args.inputs.now c.advance.new.self c.advance.new.track c.in_ok-advance.ensures.stands).segments

@@ -1,0 +1,14 @@
+-- The entries of an account, and its segments by number.
+use Rattle.std.specs.Prelude.{List}
+use Rattle.card_model.specs.Refusals.{Present, book_today}
+use Rattle.card_model.specs.declared.entry.Entry.{Entry}
+use Rattle.card_model.specs.declared.segment.Segment.{Segment}
+use Rattle.card_slots.specs.Segments.{account_segments}
+
+pub record AccountEntries : Type 0 where
+  pub entries : List Entry
+  pub segments : List Segment
+
+-- those of the book of today, in their order, and the segments that the posts add
+abbrev pub entries_today : Present → AccountEntries
+entries_today now = record { entries = (book_today now).entries; segments = account_segments now.shared.holidays now.lists.posts }

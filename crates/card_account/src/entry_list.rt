@@ -1,0 +1,60 @@
+// The entries of an account.
+ghost use Rattle.std.specs.Prelude.{◌≡◌, IfOk};
+ghost use Rattle.card_account.specs.Entries.{entries_today};
+
+use card_book::{Entry, Present, fold};
+use card_model::Segment;
+use card_units::NoMemory;
+use std::alloc::Global;
+use std::marker::Model;
+
+/// The entries of an account in the order of the fold, and the segments on which they are.
+#[derive(Debug, Drop)]
+pub struct EntryList {
+    entries: Vec<Entry>,
+    segments: Vec<Segment>,
+}
+
+impl Model for EntryList {
+    ghost use Rattle.std.specs.Prelude.{◌<◌, length};
+    ghost use Rattle.std.specs.List.{All};
+    ghost use Rattle.card_account.specs.Entries.{AccountEntries};
+
+    ghost Value = { AccountEntries };
+
+    ghost view = { λ l. record { entries = l.entries.items; segments = l.segments.items } };
+
+    ghost invariant = { λ l. All (λ e. e.segment < length l.segments.items) l.entries.items };
+}
+
+impl EntryList {
+    ghost use Rattle.std.specs.Prelude.{◌≡◌, ◌<◌, length};
+    ghost use Rattle.std.specs.List.{All};
+
+    /// The entries, one after the other.
+    pub fn entries(&self) -> &[Entry]
+        ensures { result.now ≡ self.now.entries }
+    {
+        &self.entries
+    }
+
+    /// The segments by number. Each entry is on one of them.
+    pub fn segments(&self) -> &[Segment]
+        ensures segments { result.now ≡ self.now.segments }
+        ensures entries { All (λ e. e.segment < length self.now.segments) self.now.entries }
+    {
+        &self.segments
+    }
+}
+
+/// The entries of an account up to the end of today.
+pub fn entries_today(alloc: Global, now: &Present) -> Result<EntryList, NoMemory>
+    ensures { IfOk result (λ list. list ≡ entries_today now.now) }
+{
+    let folded = fold(alloc, now)?;
+    let segments = folded.segments(alloc)?;
+    Ok(EntryList {
+        entries: folded.into_entries(),
+        segments,
+    })
+}
