@@ -1,0 +1,3 @@
+pub mod AddsUp
+pub mod Chains
+pub mod MoveSums
