@@ -12,4 +12,5 @@ pub mod PenaltyFees
 pub mod QuietSpans
 pub mod RatesGoOn
 pub mod Rewound
+pub mod Steps
 pub mod Told

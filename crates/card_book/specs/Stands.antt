@@ -1,8 +1,10 @@
 -- What a Book keeps of an account, and how it stands beside a track for the book of a day. Days are day numbers.
 use Rattle.std.specs.Prelude.{ℕ, ◌+◌, ◌-◌, ◌==◌, ◌≡◌, ◌≤◌, Bool, if◌then◌else◌, unwrap_or, List, Option, Some, None}
 use Rattle.card_model.specs.Books.{Book, empty_book}
+use Rattle.card_model.specs.Cuts.{is_break_by}
 use Rattle.card_model.specs.Deadlines.{credit_since}
 use Rattle.card_model.specs.Entries.{AreBalances}
+use Rattle.card_model.specs.Spans.{steps_among}
 use Rattle.card_model.specs.declared.segment.Interval.{Interval}
 use Rattle.card_model.specs.declared.segment.Segment.{Segment}
 use Rattle.card_slots.specs.Segments.{account_segments}
@@ -65,6 +67,15 @@ pub record IsTheFold (g : Given) (b : Summary) (t : Track) : Type 0 where
 -- of every Book and track that stand for one
 abbrev pub BookIsTheFold : Type 0
 BookIsTheFold = (g : Given) (b : Summary) (t : Track) → StandsFor g b t → IsTheFold g b t
+
+-- ---- steps
+-- whether a day is a break day, by the penalties in the book of another
+abbrev pub breaks_of : Given → ℕ → ℕ → Bool
+breaks_of g to day = is_break_by g.history g.issued g.shared to day
+
+-- the steps of a fold from a first day to a last: one for each break day, and one for the last day where it is none
+abbrev pub steps_over : Given → ℕ → ℕ → ℕ
+steps_over g to first = steps_among (breaks_of g to) first to
 
 -- ---- a day more
 -- since when there is a credit balance after a day that ends with so much

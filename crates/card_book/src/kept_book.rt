@@ -1,4 +1,4 @@
-ghost use Rattle.std.specs.Prelude.{◌≡◌, ◌+◌, ◌-◌, ◌<◌, ◌≤◌, ◌==◌, ℕ, length, not, pos, slice_index_or};
+ghost use Rattle.std.specs.Prelude.{◌≡◌, ◌-◌, ◌≤◌, ◌==◌, ℕ, length, not, pos, slice_index_or};
 ghost use Rattle.card_days.specs.Range.{last_calendar_day};
 ghost use Rattle.card_model.specs.Cycles.{Cycle};
 ghost use Rattle.card_model.specs.Entries.{credit_in};
@@ -6,7 +6,7 @@ ghost use Rattle.card_book.specs.Stands.{since_after};
 
 use crate::copies::copy_state;
 use card_daily::{Cycle, Inputs, State, Statement, Track, is_sixty_days_late};
-use card_dayend::{next_day, opening_day, start};
+use card_dayend::{next_span, opening_day, span_end, start};
 use card_days::Day;
 use card_segments::Segments;
 use card_steps::Steps;
@@ -54,14 +54,6 @@ fn cycle_in(track: &Track, number: u32) -> &Cycle
     &track.cycles[number as usize - 1]
 }
 
-// How many days there are from one up to another.
-fn days_between(from: Day, to: Day) -> u32
-    requires { from ≤ to + 1 }
-    ensures { result ≡ to + 1 - from }
-{
-    (to.number() + 1 - from.number()) as u32
-}
-
 /// The book of an account at the end of a day: balances, rates and the rows of the open cycle, with the day since
 /// which there is a credit balance. Its entries, closed cycles and fees lie in a track beside it. Only `advance` moves
 /// it. Clauses see it as a summary, which with a track stands for the account's book.
@@ -82,15 +74,16 @@ impl Model for Book {
 }
 
 impl Book {
-    ghost use Rattle.std.specs.Prelude.{◌≡◌, ◌+◌, ◌≤◌, ◌<◌, ℕ, [], true, false, length, IfOk, OnOk, OnErr, Some, None};
+    ghost use Rattle.std.specs.Prelude.{◌≡◌, ◌+◌, ◌-◌, ◌≤◌, ◌<◌, ℕ, [], true, false, length, IfOk, OnOk, OnErr, Some, None};
     ghost use Rattle.card_days.specs.Range.{last_request_day, last_calendar_day};
-    ghost use Rattle.card_book.specs.Stands.{StandsFor, book_through, day_to_fold, days_through, since_after};
+    ghost use Rattle.card_book.specs.Stands.{StandsFor, book_through, day_to_fold, days_through, since_after, steps_over};
     ghost use Rattle.card_daily.specs.Given.{Given, book_on, opened_in, seen_in};
     ghost use Rattle.card_daily.specs.Stands.{AreBefore, Begins, IsBlank};
     ghost use Rattle.card_daily.specs.declared.track.Track.{Track};
     ghost use Rattle.card_model.specs.Entries.{AreBalances, balance, credit_in, owed};
     ghost use Rattle.card_model.specs.Folds.{cycle_at};
     ghost use Rattle.card_model.specs.Payments.{sixty_days_late};
+    ghost use Rattle.card_rates.specs.Laws.{AreQuiet};
     ghost use Rattle.card_slots.specs.Segments.{account_segments};
 
     /// The book before the opening day. It stands beside a track without entries, cycles and fees.
@@ -107,7 +100,8 @@ impl Book {
         })
     }
 
-    /// Folds to the end of a day, one step a day. The Book is whole, and with the track it stands for the book of these
+    /// Folds to the end of a day, one step a break day and one more where the last day is none: the days before a break day are
+    /// folded with it, as one row a segment. The Book is whole, and with the track it stands for the book of these
     /// inputs; the day isn't before the last one folded or the opening day, and at most 2099-12-31. After want of memory the
     /// Book isn't whole and is only dropped, and the track begins with what it held.
     pub fn advance<L: Ledger>(
@@ -127,14 +121,19 @@ impl Book {
         ensures day { OnOk result (self.new.day ≡ Some to) }
         ensures whole { OnOk result (self.new.whole ≡ true) }
         ensures broken_off { OnErr result (self.new.whole ≡ false) }
-        ensures steps { OnOk result (steps.new ≡ steps.old + days_through inputs.now self.old.day to) }
+        ensures steps { OnOk result (steps.new ≡ steps.old + steps_over inputs.now to (day_to_fold inputs.now self.old.day)) }
+        ensures most_spans { steps.new ≤ steps.old + steps_over inputs.now to (day_to_fold inputs.now self.old.day) }
         ensures most_steps { steps.new ≤ steps.old + days_through inputs.now self.old.day to }
         ensures begins { Begins track.old track.new }
     {
+        let _opening = opening_day(inputs);
         self.whole = false;
-        for _ in 0..days_between(self.day_to_fold(inputs), to) {
+        let mut first = self.day_to_fold(inputs);
+        while first <= to {
+            let end = span_end(inputs, &self.state.rates, first, to);
             steps.tick();
-            self.fold_next(alloc, inputs, track)?;
+            self.fold_span(alloc, inputs, track, first, end)?;
+            first = end.next();
         }
         self.whole = true;
         Ok(())
@@ -249,24 +248,29 @@ impl Book {
         }
     }
 
-    // Folds one day more.
-    fn fold_next(
+    // Folds quiet days, from the first that isn't folded, and the day behind them.
+    fn fold_span(
         &mut self,
         alloc: Global,
         inputs: &Inputs,
         track: &mut Track,
+        first: Day,
+        end: Day,
     ) -> Result<(), NoMemory>
         requires stands { StandsFor inputs.now self.old track.old }
-        requires last { day_to_fold inputs.now self.old.day ≤ last_request_day }
+        requires first { first ≡ day_to_fold inputs.now self.old.day }
+        requires order { first ≤ end }
+        requires last { end ≤ last_request_day }
+        requires quiet { AreQuiet inputs.now.history inputs.now.issued inputs.now.shared self.old.state.rates.penalties first (end - first) }
         ensures stands { OnOk result (StandsFor inputs.now self.new track.new) }
-        ensures day { OnOk result (self.new.day ≡ Some (day_to_fold inputs.now self.old.day)) }
+        ensures day { OnOk result (self.new.day ≡ Some end) }
         ensures whole { self.new.whole ≡ self.old.whole }
         ensures begins { Begins track.old track.new }
     {
-        let day = self.day_to_fold(inputs);
-        next_day(alloc, inputs, day, &mut self.state, track)?;
-        self.credit_since = since_after(has_credit(&self.state.segments), day, self.credit_since);
-        self.day = Some(day);
+        let _opening = opening_day(inputs);
+        next_span(alloc, inputs, first, end, &mut self.state, track)?;
+        self.credit_since = since_after(has_credit(&self.state.segments), end, self.credit_since);
+        self.day = Some(end);
         Ok(())
     }
 }

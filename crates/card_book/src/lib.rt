@@ -1,4 +1,4 @@
-//! The book of an account, folded day by day from its opening day.
+//! The book of an account, folded from its opening day on, from one break day to the next.
 #![tactic(auto)]
 
 mod copies;

@@ -117,7 +117,7 @@ fn a_cycle_day_by_day(rt: HostRuntime) -> Result<(), Fail> {
     Ok(())
 }
 
-// Folds a Book to the closing, a step a day.
+// Folds a Book to the closing, a step a break day.
 fn advance<L: Ledger>(
     rt: &impl Abort,
     alloc: Global,

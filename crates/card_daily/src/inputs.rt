@@ -122,6 +122,13 @@ impl<'a> Inputs<'a> {
         self.shared.fees()
     }
 
+    /// The issued statements.
+    pub fn issued(&self) -> &[Issued]
+        ensures { result.now ≡ self.now.issued }
+    {
+        self.issued
+    }
+
     /// The issued statement of a cycle.
     pub fn issued_for(&self, cycle: u64) -> Option<&Issued>
         ensures { option_copied result ≡ row_for cycle self.now.issued }

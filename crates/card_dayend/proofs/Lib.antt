@@ -1,7 +1,9 @@
 pub mod AtClosing
+pub mod BreakDays
 pub mod Closed
 pub mod Each
 pub mod NextDay
 pub mod Opened
 pub mod Planned
+pub mod QuietDays
 pub mod RowsOfADay

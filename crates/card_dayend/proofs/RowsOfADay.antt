@@ -95,7 +95,7 @@ row-today g day s o =
     subst (λ (b : Book). row b.entries s day ≡ owing s b.entries) (sym (posted-folded g day o)) (row-front s day es es counts (added-none (TooLate day) es))
 
 -- ---- rates
-abbrev rates_by : Given → List Interval → Rates
+abbrev pub rates_by : Given → List Interval → Rates
 rates_by g penalties = rates_of g.shared.holidays g.history penalties
 
 -- the rate of an earlier day is what it was
@@ -123,7 +123,7 @@ today g day t o =
     ∙ ap (λ r. day_row_of day (owing t.id (posted g day).entries) r) (sym (rates_of_a_day.any g.history g.issued g.shared (posted g day) day day t (omega arith)))
 
 pub row-more : (g : Given) (day : ℕ) (t : SegmentTerms) → IsSound g → opened_in g ≤ day → day ≤ last_request_day
-    → rows_through g (first_in g day) day (posted g day) t ≡ with_row (rates_by g (posted g day).penalties) day t (owing t.id (posted g day).entries) (rows_amid g day (posts_of g day) (posted g day) t)
+    → rows_through g (first_in g day) day (posted g day) t ≡ with_row 1 (rates_by g (posted g day).penalties) day t (owing t.id (posted g day).entries) (rows_amid g day (posts_of g day) (posted g day) t)
 row-more g day t s o l =
     let owed = owing t.id (posted g day).entries in
     let rate = rate_of owed (rate_in_force (rates_by g (posted g day).penalties) day t) in
@@ -141,7 +141,7 @@ row-more g day t s o l =
     (same-brought t.id (first_in g day) (λ n. is_returned (seen_in g day).posts day n) (returned_by g day (posts_of g day)) (λ n. returned-all g day n (omega (arith, low))) (posted g day).entries)
 
 -- rows amid a day have room for one more
-pub rows-room : (g : Given) (day : ℕ) (done : List CorrectedPost) (b : Book) (t : SegmentTerms) → IsSound g → opened_in g ≤ day → day ≤ last_request_day → length (rows_amid g day done b t).days < 31
+pub rows-room : (g : Given) (day : ℕ) (done : List CorrectedPost) (b : Book) (t : SegmentTerms) → IsSound g → opened_in g ≤ day → day ≤ last_request_day → length (rows_amid g day done b t).days + 1 ≤ 31
 unfolding rows_of
 rows-room g day done b t s o l =
     let long = length-map-range_with_len (day_row (account_in g) (seen_in g (day - 1)) (before g day) t) (first_in g day) (day - 1 + 1 - first_in g day) in
@@ -150,16 +150,16 @@ rows-room g day done b t s o l =
     omega (arith, long, within)
 
 -- ---- accruals
-over-later : (ends : Option ℕ) (day : ℕ) → is_over ends day ≡ false → is_over ends (day - 1) ≡ false
+pub over-later : (ends : Option ℕ) (day : ℕ) → is_over ends day ≡ false → is_over ends (day - 1) ≡ false
 over-later None day e = e
 over-later (Some end) day e = grind (arith, nat_tests)
 
-deferred-by : (t : SegmentTerms) (day : ℕ) (b : Bool) → is_sort sort.Deferred t.sort ≡ true → is_over t.ends day ≡ false → leb t.begins day ≡ b → is_deferred_on day t ≡ b
+pub deferred-by : (t : SegmentTerms) (day : ℕ) (b : Bool) → is_sort sort.Deferred t.sort ≡ true → is_over t.ends day ≡ false → leb t.begins day ≡ b → is_deferred_on day t ≡ b
 deferred-by t day true e f q = rw (e, f, q) refl
 deferred-by t day false e f q = rw (e, f, q) refl
 
 pub accrual-more : (g : Given) (day : ℕ) (t : SegmentTerms) → IsSound g → opened_in g ≤ day → is_sort sort.Deferred t.sort ≡ true → is_over t.ends day ≡ false
-    → with_accrual_at (accrual_rate day t) (owing t.id (posted g day).entries) (accrued_in (seen_in g (day - 1)) (before g day) t) ≡ accrued_in (seen_in g day) (posted g day) t
+    → with_accrual_at 1 (accrual_rate day t) (owing t.id (posted g day).entries) (accrued_in (seen_in g (day - 1)) (before g day) t) ≡ accrued_in (seen_in g day) (posted g day) t
 accrual-more g day t s o e f = by (cases_lt day t.begins)
   where
     old : Accrued
@@ -168,10 +168,10 @@ accrual-more g day t s o e f = by (cases_lt day t.begins)
     owed : ℕ
     owed = owing t.id (posted g day).entries
 
-    rated : (b : Bool) → leb t.begins day ≡ b → with_accrual_at (accrual_rate day t) owed old ≡ with_accrual_at (cond b (Some t.rate) None) owed old
-    rated b q = ap (λ d. with_accrual_at (cond d (Some t.rate) None) owed old) (deferred-by t day b e f q)
+    rated : (b : Bool) → leb t.begins day ≡ b → with_accrual_at 1 (accrual_rate day t) owed old ≡ with_accrual_at 1 (cond b (Some t.rate) None) owed old
+    rated b q = ap (λ d. with_accrual_at 1 (cond d (Some t.rate) None) owed old) (deferred-by t day b e f q)
 
-    by : (day < t.begins) ⊎ (t.begins ≤ day) → with_accrual_at (accrual_rate day t) owed old ≡ accrued_in (seen_in g day) (posted g day) t
+    by : (day < t.begins) ⊎ (t.begins ≤ day) → with_accrual_at 1 (accrual_rate day t) owed old ≡ accrued_in (seen_in g day) (posted g day) t
     by (inl l) =
         let low = s.opening.first in
         let q : leb t.begins day ≡ false = grind (arith, nat_tests) in
@@ -215,7 +215,7 @@ amid-rated g rows_by b s t h = record {
 }
 
 abbrev HasRoom : Rows → Type 0
-HasRoom r = length r.days < 31
+HasRoom r = length r.days + 1 ≤ 31
 
 pub amid-room : (g : Given) (day : ℕ) (done : List CorrectedPost) (b : Book) (s : State) (t : Track) → IsSound g → opened_in g ≤ day → day ≤ last_request_day → StandFor g (rows_amid g day done b) b s t → All HasRoom s.rows.items
 amid-room g day done b s t sound o l h =
@@ -234,65 +234,65 @@ deferred-parts t day e = by (is_sort sort.Deferred t.sort) (leb t.begins day) (i
     by false b c e = cc
 
 -- no accrual counts as many days as the calendar has
-pub amid-few : (g : Given) (day : ℕ) (s : State) (k : Track) → IsSound g → opened_in g ≤ day → day ≤ last_request_day → AreAmid g day (posts_of g day) s k → All (λ (a : Accrued). a.days < 40000) s.accruals.items
+pub amid-few : (g : Given) (day : ℕ) (s : State) (k : Track) → IsSound g → opened_in g ≤ day → day ≤ last_request_day → AreAmid g day (posts_of g day) s k → All (λ (a : Accrued). a.days + 1 ≤ 40000) s.accruals.items
 amid-few g day s k sound o l h =
-    All-weaker (λ (a : Accrued). a.days ≤ day - 1 + 1 - opened_in g) (λ (a : Accrued). a.days < 40000) (λ a d. let low = sound.opening.first in omega arith) s.accruals.items h.accrued.days
+    All-weaker (λ (a : Accrued). a.days ≤ day - 1 + 1 - opened_in g) (λ (a : Accrued). a.days + 1 ≤ 40000) (λ a d. let low = sound.opening.first in omega arith) s.accruals.items h.accrued.days
 
 -- ---- and after it
--- a state with the row of a day more
-pub record HasRow (day : ℕ) (s new : State) : Type 0 where
+-- a state with the rows of so many days more, at the rates of one day
+pub record HasRow (days day : ℕ) (s new : State) : Type 0 where
   pub segments : new.segments ≡ s.segments
   pub rates : new.rates ≡ s.rates
   pub balances : length s.segments.balances ≡ length s.rates.segments + 2
-  pub rows : new.rows.items ≡ with_rows s.rates s.segments.balances day s.rows.items
-  pub accruals : new.accruals.items ≡ with_accruals s.rates s.segments.balances day s.accruals.items
+  pub rows : new.rows.items ≡ with_rows days s.rates s.segments.balances day s.rows.items
+  pub accruals : new.accruals.items ≡ with_accruals days s.rates s.segments.balances day s.accruals.items
 
-owed-is : (entries : List Entry) (balances : List ℤ) (t : SegmentTerms) → AreBalances entries balances → t.id < length balances → owed_on balances t ≡ owing t.id entries
+pub owed-is : (entries : List Entry) (balances : List ℤ) (t : SegmentTerms) → AreBalances entries balances → t.id < length balances → owed_on balances t ≡ owing t.id entries
 owed-is entries balances t h l = ap at_least_zero (h.each t.id l)
 
-id-known : (s : State) (t : SegmentTerms) → AreByNumber 2 s.rates.segments → length s.segments.balances ≡ length s.rates.segments + 2 → Contains s.rates.segments t → t.id < length s.segments.balances
+pub id-known : (s : State) (t : SegmentTerms) → AreByNumber 2 s.rates.segments → length s.segments.balances ≡ length s.rates.segments + 2 → Contains s.rates.segments t → t.id < length s.segments.balances
 id-known s t n e c = let below = number-below 2 s.rates.segments t n c in omega (arith, below, e)
 
 rows-after : (g : Given) (day : ℕ) (s : State) (k : Track) → IsSound g → opened_in g ≤ day → day ≤ last_request_day → length s.segments.balances ≡ length s.rates.segments + 2 → AreAmid g day (posts_of g day) s k
-    → with_rows s.rates s.segments.balances day s.rows.items ≡ map (rows_through g (first_in g day) day (posted g day)) s.rates.segments
+    → with_rows 1 s.rates s.segments.balances day s.rows.items ≡ map (rows_through g (first_in g day) day (posted g day)) s.rates.segments
 rows-after g day s k sound o l e h =
     let ts = s.rates.segments in
     let balances = s.segments.balances in
     let numbers = (amid-rated g (rows_amid g day (posts_of g day) (posted g day)) (posted g day) s k h.stand).numbers in
-    let change : SegmentTerms → Rows → Rows = λ t r. with_row s.rates day t (owed_on balances t) r in
+    let change : SegmentTerms → Rows → Rows = λ t r. with_row 1 s.rates day t (owed_on balances t) r in
     let each : (t : SegmentTerms) → Contains ts t → change t (rows_amid g day (posts_of g day) (posted g day) t) ≡ rows_through g (first_in g day) day (posted g day) t =
-    λ t c. ap (λ (r : Rates). with_row r day t (owed_on balances t) (rows_amid g day (posts_of g day) (posted g day) t)) h.stand.rates
-    ∙ (ap (λ n. with_row (rates_by g (posted g day).penalties) day t n (rows_amid g day (posts_of g day) (posted g day) t)) (owed-is (posted g day).entries balances t h.stand.sums (id-known s t numbers e c))
+    λ t c. ap (λ (r : Rates). with_row 1 r day t (owed_on balances t) (rows_amid g day (posts_of g day) (posted g day) t)) h.stand.rates
+    ∙ (ap (λ n. with_row 1 (rates_by g (posted g day).penalties) day t n (rows_amid g day (posts_of g day) (posted g day) t)) (owed-is (posted g day).entries balances t h.stand.sums (id-known s t numbers e c))
     ∙ sym (row-more g day t sound o l)) in
     ap (each_with change ts) h.stand.rows
     ∙ (each-map change (rows_amid g day (posts_of g day) (posted g day)) ts
     ∙ same-map (λ t. change t (rows_amid g day (posts_of g day) (posted g day) t)) (rows_through g (first_in g day) day (posted g day)) ts each)
 
 -- an accrual's sum after a day depends on the sum before it alone
-sum-after : (r : Option ℕ) (n : ℕ) (x y : Accrued) → x.sum ≡ y.sum → (with_accrual_at r n x).sum ≡ (with_accrual_at r n y).sum
-sum-after None n x y e = e
-sum-after (Some rate) n x y e = ap (λ m. m + 1 * n * daily rate) e
+pub sum-after : (days : ℕ) (r : Option ℕ) (n : ℕ) (x y : Accrued) → x.sum ≡ y.sum → (with_accrual_at days r n x).sum ≡ (with_accrual_at days r n y).sum
+sum-after days None n x y e = e
+sum-after days (Some rate) n x y e = ap (λ m. m + days * n * daily rate) e
 
-days-after : (r : Option ℕ) (n most : ℕ) (x : Accrued) → x.days ≤ most → (with_accrual_at r n x).days ≤ most + 1
-days-after None n most x l = omega arith
-days-after (Some rate) n most x l = omega arith
+pub days-after : (days : ℕ) (r : Option ℕ) (n most : ℕ) (x : Accrued) → x.days ≤ most → (with_accrual_at days r n x).days ≤ most + days
+days-after days None n most x l = omega arith
+days-after days (Some rate) n most x l = omega arith
 
-each-few : (change : SegmentTerms → Accrued → Accrued) (most : ℕ) → ((t : SegmentTerms) (x : Accrued) → x.days ≤ most → (change t x).days ≤ most + 1)
-    → (ts : List SegmentTerms) (xs : List Accrued) → All (λ (a : Accrued). a.days ≤ most) xs → All (λ (a : Accrued). a.days ≤ most + 1) (each_with change ts xs)
+pub each-few : (change : SegmentTerms → Accrued → Accrued) (days most : ℕ) → ((t : SegmentTerms) (x : Accrued) → x.days ≤ most → (change t x).days ≤ most + days)
+    → (ts : List SegmentTerms) (xs : List Accrued) → All (λ (a : Accrued). a.days ≤ most) xs → All (λ (a : Accrued). a.days ≤ most + days) (each_with change ts xs)
 unfolding each_with
-each-few change most h [] xs a = All-weaker (λ (a : Accrued). a.days ≤ most) (λ (a : Accrued). a.days ≤ most + 1) (λ a l. omega arith) xs a
-each-few change most h (t ∷ ts) [] a = All-nil (λ (a : Accrued). a.days ≤ most + 1)
-each-few change most h (t ∷ ts) (x ∷ xs) a =
-    All-cons (λ (a : Accrued). a.days ≤ most + 1) (change t x) (each_with change ts xs) (h t x (All-head (λ (a : Accrued). a.days ≤ most) x xs a)) (each-few change most h ts xs (All-tail (λ (a : Accrued). a.days ≤ most) x xs a))
+each-few change days most h [] xs a = All-weaker (λ (a : Accrued). a.days ≤ most) (λ (a : Accrued). a.days ≤ most + days) (λ a l. omega arith) xs a
+each-few change days most h (t ∷ ts) [] a = All-nil (λ (a : Accrued). a.days ≤ most + days)
+each-few change days most h (t ∷ ts) (x ∷ xs) a =
+    All-cons (λ (a : Accrued). a.days ≤ most + days) (change t x) (each_with change ts xs) (h t x (All-head (λ (a : Accrued). a.days ≤ most) x xs a)) (each-few change days most h ts xs (All-tail (λ (a : Accrued). a.days ≤ most) x xs a))
 
 accruals-after : (g : Given) (day : ℕ) (s : State) (k : Track) → IsSound g → opened_in g ≤ day → length s.segments.balances ≡ length s.rates.segments + 2 → AreAmid g day (posts_of g day) s k
-    → HaveAccrued g day (posted g day) s.rates.segments (with_accruals s.rates s.segments.balances day s.accruals.items)
+    → HaveAccrued g day (posted g day) s.rates.segments (with_accruals 1 s.rates s.segments.balances day s.accruals.items)
 accruals-after g day s k sound o e h =
     let ts = s.rates.segments in
     let balances = s.segments.balances in
     let old = s.accruals.items in
     let numbers = (amid-rated g (rows_amid g day (posts_of g day) (posted g day)) (posted g day) s k h.stand).numbers in
-    let change : SegmentTerms → Accrued → Accrued = λ t x. with_accrual_at (accrual_rate day t) (owed_on balances t) x in
+    let change : SegmentTerms → Accrued → Accrued = λ t x. with_accrual_at 1 (accrual_rate day t) (owed_on balances t) x in
     record {
       sums = λ t c sorted open'.
           let above = number-above 2 ts t numbers c in
@@ -302,20 +302,20 @@ accruals-after g day s k sound o e h =
           let kept = h.accrued.sums t c sorted (over-later t.ends day open') ∙ sym (accrual_of_a_book.sum (seen_in g (day - 1)) (before g day) t) in
           ap (λ (x : Accrued). x.sum) (each-at change ts old (t.id - 2) no_segment nothing_accrued within here
           ∙ ap (λ u. change u (get_or old (t.id - 2) nothing_accrued)) (at-place 2 ts t no_segment numbers c))
-          ∙ (sum-after (accrual_rate day t) (owed_on balances t) (get_or old (t.id - 2) nothing_accrued) (accrued_in (seen_in g (day - 1)) (before g day) t) kept
-          ∙ (ap (λ (x : Accrued). x.sum) (ap (λ n. with_accrual_at (accrual_rate day t) n (accrued_in (seen_in g (day - 1)) (before g day) t)) (owed-is (posted g day).entries balances t h.stand.sums (id-known s t numbers e c))
+          ∙ (sum-after 1 (accrual_rate day t) (owed_on balances t) (get_or old (t.id - 2) nothing_accrued) (accrued_in (seen_in g (day - 1)) (before g day) t) kept
+          ∙ (ap (λ (x : Accrued). x.sum) (ap (λ n. with_accrual_at 1 (accrual_rate day t) n (accrued_in (seen_in g (day - 1)) (before g day) t)) (owed-is (posted g day).entries balances t h.stand.sums (id-known s t numbers e c))
           ∙ accrual-more g day t sound o sorted open')
           ∙ accrual_of_a_book.sum (seen_in g day) (posted g day) t));
       days =
           let low = sound.opening.first in
           let next : day - 1 + 1 - opened_in g + 1 ≡ day + 1 - opened_in g = omega arith in
-          subst (λ n. All (λ (a : Accrued). a.days ≤ n) (with_accruals s.rates s.segments.balances day s.accruals.items)) next
-          (each-few change (day - 1 + 1 - opened_in g) (λ t x l. days-after (accrual_rate day t) (owed_on balances t) (day - 1 + 1 - opened_in g) x l) ts old h.accrued.days);
+          subst (λ n. All (λ (a : Accrued). a.days ≤ n) (with_accruals 1 s.rates s.segments.balances day s.accruals.items)) next
+          (each-few change 1 (day - 1 + 1 - opened_in g) (λ t x l. days-after 1 (accrual_rate day t) (owed_on balances t) (day - 1 + 1 - opened_in g) x l) ts old h.accrued.days);
     }
 
-pub posted-of : (g : Given) (day : ℕ) (s new : State) (k : Track) → IsSound g → opened_in g ≤ day → day ≤ last_request_day → HasRow day s new → AreAmid g day (posts_of g day) s k → ArePosted g day new k
+pub posted-of : (g : Given) (day : ℕ) (s new : State) (k : Track) → IsSound g → opened_in g ≤ day → day ≤ last_request_day → HasRow 1 day s new → AreAmid g day (posts_of g day) s k → ArePosted g day new k
 posted-of g day s new k sound o l n h =
-    let long = each-length (λ t x. with_accrual_at (accrual_rate day t) (owed_on s.segments.balances t) x) s.rates.segments s.accruals.items in
+    let long = each-length (λ t x. with_accrual_at 1 (accrual_rate day t) (owed_on s.segments.balances t) x) s.rates.segments s.accruals.items in
     let same = ap length n.accruals in
     let segments = ap (λ (r : Rates). length r.segments) n.rates in
     record {

@@ -1,4 +1,4 @@
--- The rows of a day: one of each segment, and what a deferred balance accrues (12 CFR 1026.14(b), .55(b)(1), comment
+-- The rows of days: those of each segment, and what a deferred balance accrues (12 CFR 1026.14(b), .55(b)(1), comment
 -- 55(b)(1)-3). Days are day numbers, balances cents, rates basis points.
 use Rattle.std.specs.Prelude.{ℕ, ◌≤◌, List, [], ◌∷◌, Option, Some, None, ℤ, pos, slice_index_or}
 use Rattle.card_grace.specs.Accruals.{Accrued, with_accrual}
@@ -15,14 +15,14 @@ use Rattle.card_daily.specs.declared.state.State.{State}
 use Rattle.card_daily.specs.declared.track.Track.{Track}
 
 -- ---- a segment
--- its rows with that of a day on which this is owed, at the rate of the day where that isn't 0
-abbrev pub with_row : Rates → ℕ → SegmentTerms → ℕ → Rows → Rows
-with_row rates day t owed rows = with_days 1 owed (rate_of owed (rate_in_force rates day t)) rows
+-- its rows with those of so many days on which this is owed, at the rate of one day where that isn't 0
+abbrev pub with_row : ℕ → Rates → ℕ → SegmentTerms → ℕ → Rows → Rows
+with_row days rates day t owed rows = with_days days owed (rate_of owed (rate_in_force rates day t)) rows
 
--- its accrual with a day on which this is owed, where it accrues at a rate
-abbrev pub with_accrual_at : Option ℕ → ℕ → Accrued → Accrued
-with_accrual_at None owed accrued = accrued
-with_accrual_at (Some rate) owed accrued = with_accrual 1 owed rate accrued
+-- its accrual with so many days on which this is owed, where it accrues at a rate
+abbrev pub with_accrual_at : ℕ → Option ℕ → ℕ → Accrued → Accrued
+with_accrual_at days None owed accrued = accrued
+with_accrual_at days (Some rate) owed accrued = with_accrual days owed rate accrued
 
 -- ---- each segment
 -- what is owed on it, by the balances
@@ -35,13 +35,13 @@ each_with change [] xs = xs
 each_with change (t ∷ ts) [] = []
 each_with change (t ∷ ts) (x ∷ xs) = change t x ∷ each_with change ts xs
 
--- the rows of each with those of a day
-abbrev pub with_rows : Rates → List ℤ → ℕ → List Rows → List Rows
-with_rows rates balances day rows = each_with (λ t r. with_row rates day t (owed_on balances t) r) rates.segments rows
+-- the rows of each with those of so many days, at the rates of one day
+abbrev pub with_rows : ℕ → Rates → List ℤ → ℕ → List Rows → List Rows
+with_rows days rates balances day rows = each_with (λ t r. with_row days rates day t (owed_on balances t) r) rates.segments rows
 
--- the accruals of each with a day
-abbrev pub with_accruals : Rates → List ℤ → ℕ → List Accrued → List Accrued
-with_accruals rates balances day accruals = each_with (λ t x. with_accrual_at (accrual_rate day t) (owed_on balances t) x) rates.segments accruals
+-- the accruals of each with so many days, at the rates of one day
+abbrev pub with_accruals : ℕ → Rates → List ℤ → ℕ → List Accrued → List Accrued
+with_accruals days rates balances day accruals = each_with (λ t x. with_accrual_at days (accrual_rate day t) (owed_on balances t) x) rates.segments accruals
 
 -- ---- an account
 -- the posts of a day are folded, and its rows are still to come

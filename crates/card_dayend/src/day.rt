@@ -1,9 +1,10 @@
-// A day of an account.
-ghost use Rattle.std.specs.Prelude.{◌+◌, OnOk};
-ghost use Rattle.card_daily.specs.Given.{IsDayOf};
+// A day of an account, and a span of days.
+ghost use Rattle.std.specs.Prelude.{◌≡◌, ◌+◌, ◌-◌, ◌≤◌, OnOk};
+ghost use Rattle.card_rates.specs.Laws.{AreQuiet};
+ghost use Rattle.card_daily.specs.Given.{IsDayOf, opened_in};
 ghost use Rattle.card_daily.specs.Stands.{AreBefore, Begins};
 
-use crate::{close_day, opening_day, row_day};
+use crate::{close_day, opening_day, pass_quiet, row_day};
 use card_daily::{Inputs, State, Track, due_day, post_day};
 use card_days::Day;
 use card_units::NoMemory;
@@ -30,4 +31,37 @@ pub fn next_day(
     row_day(day, state)?;
     close_day(alloc, inputs, day, state, track)?;
     Ok(())
+}
+
+// How many days there are from one to another.
+fn days_to(first: Day, end: Day) -> u32
+    requires { first ≤ end }
+    ensures { result ≡ end - first }
+{
+    (end.number() - first.number()) as u32
+}
+
+/// Folds a span: days on which nothing happens, from a first one on, each with its row on each segment, and the day that ends
+/// them. That day isn't before the first one and at most 2099-12-31, the first isn't before the opening day, the days between
+/// are no break days by the penalties begun so far, and the days before the first are folded. After want of memory state and
+/// track are of no use, but that the track begins with what it held.
+pub fn next_span(
+    alloc: Global,
+    inputs: &Inputs,
+    first: Day,
+    end: Day,
+    state: &mut State,
+    track: &mut Track,
+) -> Result<(), NoMemory>
+    requires opened { opened_in inputs.now ≤ first }
+    requires order { first ≤ end }
+    requires dated { IsDayOf inputs.now end }
+    requires quiet { AreQuiet inputs.now.history inputs.now.issued inputs.now.shared state.old.rates.penalties first (end - first) }
+    requires before { AreBefore inputs.now first state.old track.old }
+    ensures folded { OnOk result (AreBefore inputs.now (end + 1) state.new track.new) }
+    ensures begins { Begins track.old track.new }
+{
+    let _opening = opening_day(inputs);
+    pass_quiet(first, days_to(first, end), state)?;
+    next_day(alloc, inputs, end, state, track)
 }

@@ -1,12 +1,15 @@
-//! The end of a day of an account, its row on each segment and its closing, and with it the whole day.
+//! The end of a day of an account, its row on each segment and its closing, and with it the whole day; and spans of days,
+//! which go on to the next day on which something may happen.
 #![tactic(auto)]
 
 mod begin;
+mod break_day;
 mod closing;
 mod day;
 mod rows;
 
 pub use begin::{opening_day, start};
+pub use break_day::span_end;
 pub use closing::close_day;
-pub use day::next_day;
-pub use rows::row_day;
+pub use day::{next_day, next_span};
+pub use rows::{pass_quiet, row_day};

@@ -12,7 +12,8 @@ ghost use Rattle.card_rates.specs.RateBooks.{rate_of as rate_in_force};
 ghost use Rattle.card_segments.specs.Balances.{AreWithin};
 ghost use Rattle.card_daily.specs.Given.{Given, IsSound, opened_in};
 ghost use Rattle.card_dayend.specs.Rows.{AwaitsRows, with_accrual_at, with_accruals, with_row, with_rows};
-ghost use Rattle.card_daily.specs.Stands.{AreAmid, ArePosted, posts_of};
+ghost use Rattle.card_dayend.specs.Spans.{AwaitsBreak, IsQuietFrom};
+ghost use Rattle.card_daily.specs.Stands.{AreAmid, AreBefore, ArePosted, posts_of};
 ghost use Rattle.card_daily.specs.declared.track.Track.{Track};
 
 use card_daily::State;
@@ -52,68 +53,76 @@ fn row_rate(rates: &RateBook, id: u8, day: Day, owed: u64) -> Bp
     }
 }
 
-// The row of a segment on a day.
+// The rows of a segment on so many days, at the rate of one of them.
 fn add_row(
     rows: &mut CycleRows,
     rates: &RateBook,
     id: u8,
     day: Day,
+    days: u32,
     owed: u64,
 ) -> Result<(), NoMemory>
     requires there { id < length rates.now.segments + 2 }
     requires small { owed ≤ 10 ^ 15 }
-    requires few { length rows.old.days < 31 }
-    ensures { OnOk result ((t : SegmentTerms) → Contains rates.now.segments t → t.id ≡ id → rows.new ≡ with_row rates.now day t owed rows.old) }
+    requires few { length rows.old.days + days ≤ 31 }
+    ensures { OnOk result ((t : SegmentTerms) → Contains rates.now.segments t → t.id ≡ id → rows.new ≡ with_row days rates.now day t owed rows.old) }
 {
-    rows.row(1, owed as Cents, row_rate(rates, id, day, owed))
+    rows.row(days, owed as Cents, row_rate(rates, id, day, owed))
 }
 
-// The rows of all segments on a day.
+// The rows of all segments on so many days, at the rates of one of them.
 fn add_rows(
     rows: &mut Vec<CycleRows>,
     segments: &Segments,
     rates: &RateBook,
     day: Day,
+    days: u32,
 ) -> Result<(), NoMemory>
     requires rated { AreRated segments.now.segments rates.now }
     requires equal { length rows.old.items ≡ length rates.now.segments }
     requires small { AreWithin balance_limit segments.now.balances }
-    requires few { All (λ (r : Rows). length r.days < 31) rows.old.items }
-    ensures { OnOk result (rows.new.items ≡ with_rows rates.now segments.now.balances day rows.old.items) }
+    requires few { All (λ (r : Rows). length r.days + days ≤ 31) rows.old.items }
+    ensures { OnOk result (rows.new.items ≡ with_rows days rates.now segments.now.balances day rows.old.items) }
 {
     for id in 2..segments.len() {
         let place = id as usize - 2;
         let owed = owed_on(segments, id);
-        add_row(&mut rows[place], rates, id, day, owed)?;
+        add_row(&mut rows[place], rates, id, day, days, owed)?;
     }
     Ok(())
 }
 
-// What a segment accrues on a day, where it does so at a rate.
-fn accrue(accrual: &mut Accrual, owed: u64, rate: Option<Bp>)
+// What a segment accrues on so many days, where it does so at a rate.
+fn accrue(accrual: &mut Accrual, days: u32, owed: u64, rate: Option<Bp>)
     requires small { owed ≤ 10 ^ 15 }
-    requires few { accrual.old.days < 40_000 }
-    ensures { accrual.new ≡ with_accrual_at rate owed accrual.old }
+    requires few { accrual.old.days + days ≤ 40_000 }
+    ensures { accrual.new ≡ with_accrual_at days rate owed accrual.old }
 {
     if let Some(rate) = rate {
-        accrual.accrue(1, owed as Cents, rate);
+        accrual.accrue(days, owed as Cents, rate);
     }
 }
 
-// What all segments accrue on a day.
-fn accrue_all(accruals: &mut Vec<Accrual>, segments: &Segments, rates: &RateBook, day: Day)
+// What all segments accrue on so many days, at the rates of one of them.
+fn accrue_all(
+    accruals: &mut Vec<Accrual>,
+    segments: &Segments,
+    rates: &RateBook,
+    day: Day,
+    days: u32,
+)
     requires rated { AreRated segments.now.segments rates.now }
     requires equal { length accruals.old.items ≡ length rates.now.segments }
     requires small { AreWithin balance_limit segments.now.balances }
-    requires few { All (λ (a : Accrued). a.days < 40_000) accruals.old.items }
-    ensures accruals { accruals.new.items ≡ with_accruals rates.now segments.now.balances day accruals.old.items }
+    requires few { All (λ (a : Accrued). a.days + days ≤ 40_000) accruals.old.items }
+    ensures accruals { accruals.new.items ≡ with_accruals days rates.now segments.now.balances day accruals.old.items }
     ensures balances { length segments.now.balances ≡ length rates.now.segments + 2 }
 {
     for id in 2..segments.len() {
         let place = id as usize - 2;
         let owed = owed_on(segments, id);
         let rate = rates.accrual_on(id, day);
-        accrue(&mut accruals[place], owed, rate);
+        accrue(&mut accruals[place], days, owed, rate);
     }
 }
 
@@ -126,7 +135,29 @@ pub fn row_day(day: Day, state: &mut State) -> Result<(), NoMemory>
     requires amid { AwaitsRows day state.old }
     ensures posted { OnOk result ((g : Given) (t : Track) → IsSound g → opened_in g ≤ day → AreAmid g day (posts_of g day) state.old t → ArePosted g day state.new t) }
 {
-    add_rows(&mut state.rows, &state.segments, &state.rates, day)?;
-    accrue_all(&mut state.accruals, &state.segments, &state.rates, day);
+    add_rows(&mut state.rows, &state.segments, &state.rates, day, 1)?;
+    accrue_all(&mut state.accruals, &state.segments, &state.rates, day, 1);
+    Ok(())
+}
+
+/// The rows of so many days that are no break days, from a first one on: of each segment but Credit and Held what is owed, in
+/// cents, with its rate in basis points (12 CFR 1026.14(b)), and what a deferred plan in its period accrues (12 CFR
+/// 1026.55(b)(1), comment 55(b)(1)-3). The rates are those of the first of these days, since the day before may be a plan's
+/// last. The day behind them is at most 2099-12-31. After want of memory the rows are of no use. It takes none for no days.
+pub fn pass_quiet(first: Day, days: u32, state: &mut State) -> Result<(), NoMemory>
+    requires awaits { AwaitsBreak first days state.old }
+    ensures passed { OnOk result ((g : Given) (t : Track) → IsQuietFrom g first days state.old t → AreBefore g (first + days) state.new t) }
+{
+    if days == 0 {
+        return Ok(());
+    }
+    add_rows(&mut state.rows, &state.segments, &state.rates, first, days)?;
+    accrue_all(
+        &mut state.accruals,
+        &state.segments,
+        &state.rates,
+        first,
+        days,
+    );
     Ok(())
 }

@@ -1,13 +1,19 @@
-use Rattle.std.proofs.Common.{◌≡◌, ◌+◌, false}
-use Rattle.card_book.specs.Stands.{StandsFor, day_to_fold}
+use Rattle.std.proofs.Common.{◌≡◌, ◌+◌, ◌-◌, ◌≤◌, false}
+use Rattle.card_book.specs.Stands.{StandsFor, day_to_fold, steps_over}
 use Rattle.card_daily.specs.Stands.{Begins}
 use Rattle.card_book.proofs.kept_book.Book.advance.Given as goal
 
-abbrev pub invariant-loop : goal.invariant-loop
-invariant-loop g l = record {
+abbrev pub invariant-loop-alloc : goal.invariant-loop-alloc
+invariant-loop-alloc g l = record {
   stands : StandsFor l.inputs l.self l.track;
-  reached : day_to_fold l.inputs l.self.day ≡ day_to_fold l.inputs l.fn.self.day + l.counter;
+  first : l.first ≡ day_to_fold l.inputs l.self.day;
+  begun : day_to_fold l.inputs l.fn.self.day ≤ l.first;
+  within : l.first ≤ l.to + 1;
   broken_off : l.self.whole ≡ false;
-  steps : l.steps ≡ l.fn.steps + l.counter;
+  steps : l.steps + steps_over l.inputs l.to l.first ≡ l.fn.steps + steps_over l.inputs l.to (day_to_fold l.inputs l.fn.self.day);
+  most : l.steps ≤ l.fn.steps + (l.first - day_to_fold l.inputs l.fn.self.day);
   begins : Begins l.fn.track l.track;
 }
+
+abbrev pub decreases-loop-alloc : goal.decreases-loop-alloc
+decreases-loop-alloc g l = l.to + 1 - l.first
