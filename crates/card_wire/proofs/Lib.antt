@@ -1,0 +1,4 @@
+pub mod HeadLemmas
+pub mod LinkLemmas
+mod NamedLemmas
+pub mod PathLemmas

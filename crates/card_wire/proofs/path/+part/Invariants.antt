@@ -1,0 +1,4 @@
+use Rattle.card_wire.proofs.path.+part.Given as goal
+
+abbrev pub decreases-part : goal.decreases-part
+decreases-part l = l.place

@@ -1,0 +1,8 @@
+/// Why no further byte came.
+#[derive(Clone, Copy, Debug, PartialEq, Eq)]
+pub enum Stop {
+    /// The input ended.
+    Ended,
+    /// The connection failed, and has counted it.
+    Failed,
+}
