@@ -31,7 +31,7 @@ fn kind_word(kind: EntryKind) -> &'static str
 }
 
 // The name of the segment of a sort with a number.
-fn segment_name(alloc: Global, sort: Sort, number: u8) -> Result<String, NoMemory>
+pub fn segment_name(alloc: Global, sort: Sort, number: u8) -> Result<String, NoMemory>
     ensures { IfOk result (λ text. string_bytes text ≡ spec.segment_name sort number) }
 {
     match sort {

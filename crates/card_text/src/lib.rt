@@ -1,7 +1,9 @@
-//! Texts: lines of requests and replies, open tasks, and the entries of an account as CSV.
+//! Texts: lines of requests and replies, open tasks, statements, and the entries of an account as CSV.
 #![tactic(auto)]
 
+mod columns;
 mod export;
+mod statement;
 mod tasks;
 
 pub use card_lines::{
@@ -10,4 +12,5 @@ pub use card_lines::{
     refusal_value, reply_text, show_text,
 };
 pub use export::export_text;
+pub use statement::statement_text;
 pub use tasks::tasks_text;
