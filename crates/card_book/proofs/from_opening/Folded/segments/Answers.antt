@@ -8,7 +8,7 @@ returns-clause-entries c =
     let inside = c.self.inside in
     let balances = inside.book.state.segments.balances in
     let count : length balances ≡ length inside.book.state.segments.segments =
-        ap (λ (b : Balances). length b.balances) (sym c.segments-segments.ensures.kept)
-        ∙ (sym c.len-count.ensures.balances ∙ (c.len-count.ensures.segments ∙ ap (λ (b : Balances). length b.segments) c.segments-segments.ensures.kept)) in
+    ap (λ (b : Balances). length b.balances) (sym c.segments-segments.ensures.kept)
+    ∙ (sym c.len-count.ensures.balances ∙ (c.len-count.ensures.segments ∙ ap (λ (b : Balances). length b.segments) c.segments-segments.ensures.kept)) in
     subst (λ (f : FoldedBook). AreOn (length f.segments) f.book.entries) c.self.view_is
     (subst (λ (n : ℕ). AreOn n inside.track.entries.items) count c.self.invariant.0.known)
