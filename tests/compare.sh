@@ -1,8 +1,8 @@
 #!/bin/sh
 # Holds the proved program against the independent model of the rules, where that stands beside the repository: 60 inputs of
 # 250 generated lines over four accounts, with rows in memory; then 30 such inputs over a file of rows, in three runs each, and
-# 30 of CSV records that come twice, each with the open tasks afterwards. It fails on the first difference, and says so where
-# the model isn't there.
+# 30 of CSV records that come twice, each with the open tasks and the entries of every account afterwards. It fails on the
+# first difference, and says so where the model isn't there.
 #
 #     tests/compare.sh
 top=$(cd "$(dirname "$0")/.." && pwd) || exit 1
@@ -30,8 +30,13 @@ import sys
 from oracle import compare
 from oracle.stages import Stage
 
-# of the commands that look at accounts, the one that is there
-compare.views = lambda model: [["work"]]
+# of the commands that look at accounts, those that are there; the last of these accounts isn't
+def views(model):
+    names = sorted(compare.load(model.keeper, model.stage).accounts)
+    return [["work"]] + [["export", name] for name in names + ["nobody"]]
+
+
+compare.views = views
 for seed in range(1, 31):
     for way in ("lines", "csv"):
         found = compare.compare(sys.argv[1], seed, 250, 4, Stage(12, True), way)
@@ -39,5 +44,5 @@ for seed in range(1, 31):
             print(f"compare: seed {seed} by {way} over a file differs")
             print(found)
             sys.exit(1)
-print("compare: 30 inputs over a file of rows and 30 of CSV records that come twice, the same replies, statuses and open tasks")
+print("compare: 30 inputs over a file of rows and 30 of CSV records that come twice, the same replies, statuses, open tasks and entries")
 END

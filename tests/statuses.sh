@@ -1,6 +1,6 @@
 #!/bin/sh
 # Runs the proved program where it can't go on, and holds its exit status and what it wrote against what
-# docs/FORMATS.md says: words that are no command, no input, an input that can't be read, an output that takes nothing,
+# docs/FORMATS.md says: words that are no command, an account that isn't there, no input, an input that can't be read, an output that takes nothing,
 # rows that can't be kept, rows that are damaged, and too little memory.
 #
 #     tests/statuses.sh
@@ -19,7 +19,7 @@ expect() {
 }
 
 usage='usage: apply | import | statement ACCOUNT CYCLE | restate ACCOUNT CYCLE | export ACCOUNT | work | demo START ACCOUNTS CYCLES | serve PORT COUNT'
-for words in '' '-' '- apply now' '- Apply' '- --help'; do
+for words in '' '-' '- apply now' '- Apply' '- --help' '- export' '- export -a' '- export a now'; do
     # shellcheck disable=SC2086
     "$program" $words <"$day" >"$written"
     expect "the words '$words'" $? 2
@@ -50,6 +50,12 @@ rows=$(mktemp -d) || exit 1
 trap 'rm -rf "$written" "$rows"' EXIT
 "$program" "$rows/kept" apply <"$day" >"$written"
 expect 'rows in a new file' $? 0
+"$program" "$rows/kept" export nobody </dev/null >"$written"
+expect 'an export of an account that is not there' $? 1
+if [ "$(cat "$written")" != 'none' ]; then
+    echo 'statuses: an export of an account that is not there: no line none'
+    exit 1
+fi
 python3 - "$rows/kept" <<'END'
 import sqlite3, sys
 
@@ -78,4 +84,4 @@ if [ "$(sed '$d' "$written" | sort -u | tr '\n' ' ')" != 'ok ok 1 ' ]; then
     echo 'statuses: 60,000 accounts in 64 MB: a reply is not of its request'
     exit 1
 fi
-echo 'statuses: 0, 2, 3, 4, 5, 6 and 8 come where they should'
+echo 'statuses: 0, 1, 2, 3, 4, 5, 6 and 8 come where they should'

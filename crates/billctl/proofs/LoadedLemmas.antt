@@ -1,19 +1,22 @@
 -- What a command comes to from the ledger that the kept rows gave.
-use Rattle.std.proofs.Common.{◌≡◌, ℕ, ◌⊎◌, inl, inr, List, ◌∙◌, subst, Option, None, Some}
-use Rattle.card_desk.specs.Views.{seen}
+use Rattle.std.proofs.Common.{◌≡◌, ℕ, ◌⊎◌, inl, inr, List, [], refl, sym, ◌∙◌, subst, Option, None, Some}
+use Rattle.std.proofs.KnownBytes.{Appends-nil}
+use Rattle.card_desk.specs.Views.{listed, seen}
 use Rattle.card_desk.specs.declared.view.Ask.TheVariants as ask
 use Rattle.card_keeper.specs.Rows.{KeepsRows}
-use Rattle.card_model.specs.Machine.{State}
+use Rattle.card_model.specs.Machine.{State, lists_of}
+use Rattle.card_model.specs.Refusals.{Lists}
 use Rattle.card_ports.specs.Counts.{Rose}
 use Rattle.billctl.specs.Input.{Cut, lines, records}
-use Rattle.billctl.specs.Outside.{Outside, Outcome, Runs, HasCause, Unfailed, Loads, Views, Ends, sides_of, work_text}
+use Rattle.billctl.specs.Outside.{Outside, Outcome, Runs, HasCause, Unfailed, Loads, Views, Ends, sides_of, lists_text, entries_text, work_text}
 use Rattle.billctl.specs.Views.{GaveLedger, GaveNone, Loaded, NotLoaded, SidesFailed, Tells, Viewed, view_told}
 use Rattle.billctl.specs.Written.{SinkSide, Sides}
 use Rattle.billctl.specs.declared.command.Command.{Command}
 use Rattle.billctl.specs.declared.command.Command.TheVariants as command
 use Rattle.billctl.specs.declared.ended.Ended.{Ended}
 use Rattle.billctl.specs.declared.ended.Ended.TheVariants as ended
-use Rattle.billctl.proofs.RowLemmas.{kept_then}
+use Rattle.billctl.proofs.RowLemmas.{keeps_same, kept_then}
+use Rattle.billctl.proofs.SideLemmas.{counts_refl, front_none}
 
 -- ---- a run from a keeper that was loaded
 
@@ -95,10 +98,21 @@ unloaded_ends : {I K : Type 0} (old new : Outside I K) (c : Command) (e : Ended)
 unfolding Ends
 unloaded_ends old new command.Apply e same none = inl ((same, none.rows), none.ends)
 unloaded_ends old new command.Import e same none = inl ((same, none.rows), none.ends)
+unloaded_ends old new (command.Export name) e same none = ((same, none.rows), inl ((same, none.rows), none.ends))
 unloaded_ends old new command.Work e same none = ((same, none.rows), inl ((same, none.rows), none.ends))
 
 pub unloaded_outcome : {I K : Type 0} (old new : Outside I K) (c : Command) (e : Ended) → new.input ≡ old.input → new.source_faults ≡ old.source_faults → GaveNone (sides_of old) (sides_of new) e → Outcome old new (Some c) e
 unloaded_outcome old new c e same count none = record { ends = unloaded_ends old new c e same none; cause = unloaded_cause old new e count none.ends none.cause }
+
+-- memory was wanted before anything was done
+pub untouched_outcome : {I K : Type 0} (old : Outside I K) (c : Option Command) → Outcome old old c ended.Memory
+unfolding Ends HasCause
+untouched_outcome old None = record {
+  ends = (refl, (refl, keeps_same old.rows), record { bytes = []; taken = Appends-nil old.taken; front = front_none _ });
+  cause = record { source = refl; sides = counts_refl (sides_of old) };
+}
+untouched_outcome old (Some c) =
+    unloaded_outcome old old c ended.Memory refl refl (record { ends = inl (Appends-nil old.taken); rows = keeps_same old.rows; cause = counts_refl (sides_of old) })
 
 -- ---- a text of a ledger
 
@@ -133,3 +147,27 @@ viewed_loads old new text e same keeps (inr some) = ((same, keeps), inr some)
 pub work_outcome : {I K : Type 0} (old new : Outside I K) (e : Ended) → new.input ≡ old.input → new.source_faults ≡ old.source_faults → Viewed (sides_of old) (sides_of new) (λ s. view_told (seen s ask.Work)) e → Outcome old new (Some command.Work) e
 unfolding Ends seen work_text
 work_outcome old new e same count viewed = record { ends = viewed_loads old new work_text e same viewed.rows viewed.ends; cause = viewed_cause old new _ e count viewed }
+
+-- the same text
+viewed_same : (old new : Sides) (f g : State → Option (List ℕ)) (e : Ended) → ((s : State) → f s ≡ g s) → Viewed old new f e → Viewed old new g e
+viewed_same old new f g e same viewed = record { ends = by viewed.ends; rows = viewed.rows; cause = viewed.cause }
+  where
+    by : NotLoaded old new e ⊎ Loaded old.keeper.rows (λ s. Tells old.sink.taken new.sink.taken e (f s)) → NotLoaded old new e ⊎ Loaded old.keeper.rows (λ s. Tells old.sink.taken new.sink.taken e (g s))
+    by (inl none) = inl none
+    by (inr some) = inr (record { ledger = some.ledger; loaded = some.loaded; ran = subst (Tells old.sink.taken new.sink.taken e) (same some.ledger) some.ran })
+
+-- the text of an account's entries
+lists_told : (s : State) (lists : Option Lists) → view_told (listed s lists) ≡ lists_text s lists
+lists_told s None = refl
+lists_told s (Some lists) = refl
+
+entries_told : (name : List ℕ) (s : State) → view_told (seen s (ask.Entries name)) ≡ entries_text name s
+unfolding seen entries_text
+entries_told name s = lists_told s (lists_of name s.accounts)
+
+pub export_outcome : {I K : Type 0} (old new : Outside I K) (name : List ℕ) (e : Ended) → new.input ≡ old.input → new.source_faults ≡ old.source_faults
+    → Viewed (sides_of old) (sides_of new) (λ s. view_told (seen s (ask.Entries name))) e → Outcome old new (Some (command.Export name)) e
+unfolding Ends
+export_outcome old new name e same count told =
+    let viewed = viewed_same (sides_of old) (sides_of new) (λ s. view_told (seen s (ask.Entries name))) (entries_text name) e (entries_told name) told in
+    record { ends = viewed_loads old new (entries_text name) e same viewed.rows viewed.ends; cause = viewed_cause old new (entries_text name) e count viewed }

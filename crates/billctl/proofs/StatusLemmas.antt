@@ -1,9 +1,9 @@
 -- The statuses of each command.
 use Rattle.std.proofs.Common.{◌≡◌, ℕ, inl, inr, List, [], ◌∷◌, refl, sym, subst, Option, None, Some}
 use Rattle.card_model.specs.Machine.{State}
-use Rattle.billctl.specs.Commands.{status_of, statuses_of, run_statuses, IsOneOf}
+use Rattle.billctl.specs.Commands.{status_of, statuses_of, account_statuses, run_statuses, IsOneOf}
 use Rattle.billctl.specs.Input.{Cut, lines, records}
-use Rattle.billctl.specs.Outside.{Outside, Outcome, Runs, NoCommand, Loads, Ends, sides_of, work_text}
+use Rattle.billctl.specs.Outside.{Outside, Outcome, Runs, NoCommand, Loads, Ends, sides_of, entries_text, work_text}
 use Rattle.billctl.specs.Views.{NotLoaded, Tells}
 use Rattle.billctl.specs.Written.{Sides}
 use Rattle.billctl.specs.declared.command.Command.{Command}
@@ -75,11 +75,34 @@ unfolding work_text
 work_status old new e (inl none) = among_view (status_of e) (not_loaded_status (sides_of old) (sides_of new) e none.1)
 work_status old new e (inr run) = tells_status old.taken new.taken e _ run.ran
 
+-- a text that may not be there
+among_account : (n : ℕ) → IsOneOf n (5 ∷ 6 ∷ 8 ∷ []) → IsOneOf n account_statuses
+among_account n is = inr (inr (inr is))
+
+account_status : (old new : Option (List ℕ)) (e : Ended) (text : Option (List ℕ)) → Tells old new e text → IsOneOf (status_of e) account_statuses
+account_status old new ended.Done text told = inl refl
+account_status old new ended.Refused text told = inr (inl refl)
+account_status old new ended.Usage None told = absurd told
+account_status old new ended.Usage (Some t) told = absurd told
+account_status old new ended.Source None told = absurd told
+account_status old new ended.Source (Some t) told = absurd told
+account_status old new ended.Sink text told = inr (inr (inl refl))
+account_status old new ended.Keeper text told = inr (inr (inr (inl refl)))
+account_status old new ended.Memory text told = inr (inr (inr (inr (inl refl))))
+account_status old new ended.Damaged text told = inr (inr (inr (inr (inr (inl refl)))))
+account_status old new ended.Endless None told = absurd told
+account_status old new ended.Endless (Some t) told = absurd told
+
+account_view_status : {I K : Type 0} (old new : Outside I K) (text : State → Option (List ℕ)) (e : Ended) → Loads old new (λ s f. Tells old.taken new.taken f (text s)) e → IsOneOf (status_of e) account_statuses
+account_view_status old new text e (inl none) = among_account (status_of e) (not_loaded_status (sides_of old) (sides_of new) e none.1)
+account_view_status old new text e (inr run) = account_status old.taken new.taken e (text run.ledger) run.ran
+
 ends_status : {I K : Type 0} (old new : Outside I K) (c : Option Command) (e : Ended) → Ends old new c e → IsOneOf (status_of e) (statuses_of c)
 unfolding Ends
 ends_status old new None e ends = no_command_status old new e ends.2
 ends_status old new (Some command.Apply) e ends = loads_status old new lines e ends
 ends_status old new (Some command.Import) e ends = loads_status old new records e ends
+ends_status old new (Some (command.Export name)) e ends = account_view_status old new (entries_text name) e ends.1
 ends_status old new (Some command.Work) e ends = work_status old new e ends.1
 
 -- an end that is in these words has one of the command's statuses

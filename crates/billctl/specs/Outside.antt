@@ -3,11 +3,14 @@ use Rattle.std.specs.Prelude.{◌≡◌, ◌⊎◌, ℕ, ◌-◌, Bool, true, fa
 use Rattle.std.specs.Io.KnownBytes.{Appends, Consumes, IsAtEnd}
 use Rattle.std.specs.String.{string_bytes}
 use Rattle.std_alloc.specs.declared.string.String.{String}
+use Rattle.card_model.specs.Refusals.{Lists, book_today}
+use Rattle.card_model.specs.Work.{present_in, work}
+use Rattle.card_slots.specs.Segments.{account_segments}
+use Rattle.card_text.specs.Export.{export_text}
 use Rattle.card_text.specs.Tasks.{tasks_text}
-use Rattle.card_model.specs.Work.{work}
 use Rattle.card_keeper.specs.Rows.{AddsRows, KeepsRows}
 use Rattle.card_keeper.specs.declared.row.Row.{Row}
-use Rattle.card_model.specs.Machine.{State}
+use Rattle.card_model.specs.Machine.{State, lists_of}
 use Rattle.card_ports.specs.Counts.{Rose}
 use Rattle.billctl.specs.Commands.{command_of, status_of}
 use Rattle.billctl.specs.Input.{Cut, lines, records, all_items}
@@ -55,6 +58,15 @@ AreFirst items all = (others : List Item) × (all ≡ items ++ others)
 
 abbrev pub but_last : List Item → List Item
 but_last items = take (length items - 1) items
+
+-- the entries of an account that has these lists, by its book of today, as CSV
+abbrev pub lists_text : State → Option Lists → Option (List ℕ)
+lists_text s None = None
+lists_text s (Some lists) = Some (export_text (book_today (present_in s lists)).entries (account_segments (present_in s lists).shared.holidays lists.posts))
+
+-- the same of the account with this name
+unfoldable pub entries_text : List ℕ → State → Option (List ℕ)
+entries_text name s = lists_text s (lists_of name s.accounts)
 
 -- the text of the open tasks of all accounts
 unfoldable pub work_text : State → Option (List ℕ)
@@ -117,6 +129,7 @@ module _ {I K : Type 0} (old new : Outside I K) where
   Ends None e = (new.keeper ≡ old.keeper) × Untouched × NoCommand e
   Ends (Some command.Apply) e = Loads (Runs lines) e
   Ends (Some command.Import) e = Loads (Runs records) e
+  Ends (Some (command.Export name)) e = Views (entries_text name) e
   Ends (Some command.Work) e = Views work_text e
 
   -- nothing failed

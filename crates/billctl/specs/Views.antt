@@ -9,6 +9,7 @@ use Rattle.card_keeper.specs.Rows.{KeepsRows}
 use Rattle.card_keeper.specs.declared.row.Row.{Row}
 use Rattle.card_model.specs.Machine.{State}
 use Rattle.card_ports.specs.Counts.{Rose}
+use Rattle.card_text.specs.Export.{export_text}
 use Rattle.card_text.specs.Tasks.{tasks_text}
 use Rattle.billctl.specs.Words.{none_line, DamagedRows, TookLine}
 use Rattle.billctl.specs.Written.{Sides, SinkSide, TookFront, SameCounts}
@@ -59,6 +60,7 @@ pub record GaveNone (old new : Sides) (e : Ended) : Type 0 where
 
 -- the text of what was asked for, where it is there
 abbrev pub view_told : View → Option (List ℕ)
+view_told (view.Entries list) = Some (export_text list.entries list.segments)
 view_told (view.Work tasks) = Some (tasks_text tasks)
 view_told _ = None
 

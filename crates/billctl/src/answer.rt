@@ -94,7 +94,9 @@ fn view_text(alloc: Global, account: &Name, view: &View) -> Result<String, NoMem
             credit,
             held,
         } => show_text(alloc, account, *day, *owed, *credit, *held),
-        View::NoStatement | View::Statement(_) | View::Work(_) => Ok(String::new(alloc)),
+        View::NoStatement | View::Statement(_) | View::Entries(_) | View::Work(_) => {
+            Ok(String::new(alloc))
+        }
     }
 }
 

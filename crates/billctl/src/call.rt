@@ -25,15 +25,16 @@ use std::alloc::Global;
 const USAGE: &str =
     "usage: apply | import | statement ACCOUNT CYCLE | restate ACCOUNT CYCLE | export ACCOUNT | work | demo START ACCOUNTS CYCLES | serve PORT COUNT\n";
 
-/// Does what the words say, and answers the exit status. The one command so far is `apply`: from the ledger that the kept
-/// rows give, it reads request lines from the input and writes one reply for each to the output; each newly accepted
-/// request is kept as one row.
+/// Does what the words say, and answers the exit status. Each command begins with the ledger that the kept rows give. `apply`
+/// reads request lines from the input and writes one reply for each to the output, `import` does so with records of CSV; each
+/// newly accepted request is kept as one row. `export` and `work` write the entries of an account, and the open tasks of all.
 ///
-/// - 0: the input was read to its end, and no reply is `no` or `bad`; 1: at least one is.
+/// - 0: the input was read to its end, and no reply is `no` or `bad`; or the text was written.
+/// - 1: at least one reply is; or the account isn't there, and the line `none` is written.
 /// - 2: the words are no command, and the usage line is written.
 /// - 3: the source failed; 4: the sink failed; 5: the keeper failed; 6: memory was wanted and isn't there.
 /// - 8: the kept rows are damaged, and the line `damaged N` names the first row that is. The rows stay.
-/// - 9: 2^36 bytes were read, and no end came.
+/// - 9: 2^36 bytes were read, or 2^30 by `import`, and no end came.
 pub fn billctl<I: Source, O: Sink, K: Keeper>(
     alloc: Global,
     words: &[String],
@@ -48,33 +49,33 @@ pub fn billctl<I: Source, O: Sink, K: Keeper>(
     // No other status comes.
     ensures statuses { IsOneOf result (statuses_of (spec.command_of (map string_bytes words.now))) }
 {
-    let command = command_of(words);
-    let ended = carry_out(alloc, command, input, output, keeper);
+    let ended = carry_out_words(alloc, words, input, output, keeper);
     status_of(ended)
 }
 
-// Carries out a command, or says which words are one.
+// Carries out the command that the words are, or says which words are one.
 #[tactic(auto, unfolding(crate::specs::Outside::Ends, crate::specs::Outside::HasCause))]
-fn carry_out<I: Source, O: Sink, K: Keeper>(
+fn carry_out_words<I: Source, O: Sink, K: Keeper>(
     alloc: Global,
-    command: Option<Command>,
+    words: &[String],
     input: &mut I,
     output: &mut O,
     keeper: &mut K,
 ) -> Ended
     ensures { let at = outside I.left I.faults O.taken O.faults K.rows K.faults in
-        Outcome (at input.old output.old keeper.old) (at input.new output.new keeper.new) command result }
+        Outcome (at input.old output.old keeper.old) (at input.new output.new keeper.new) (spec.command_of (map string_bytes words.now)) result }
 {
-    match command {
-        None => match usage(output) {
+    match command_of(alloc, words) {
+        Ok(Some(command)) => carry_out(alloc, command, input, output, keeper),
+        Ok(None) => match usage(output) {
             Ok(()) => Ended::Usage,
             Err(NoMemory) => Ended::Memory,
         },
-        Some(command) => carry_out_command(alloc, command, input, output, keeper),
+        Err(NoMemory) => Ended::Memory,
     }
 }
 
-fn carry_out_command<I: Source, O: Sink, K: Keeper>(
+fn carry_out<I: Source, O: Sink, K: Keeper>(
     alloc: Global,
     command: Command,
     input: &mut I,
@@ -87,6 +88,7 @@ fn carry_out_command<I: Source, O: Sink, K: Keeper>(
     match command {
         Command::Apply => apply_lines(alloc, input, output, keeper),
         Command::Import => import_records(alloc, input, output, keeper),
+        Command::Export(name) => tell(alloc, &Ask::Entries(name), output, keeper),
         Command::Work => tell(alloc, &Ask::Work, output, keeper),
     }
 }

@@ -11,7 +11,7 @@ use crate::write::write_all;
 use card_desk::{Ask, Desk, View};
 use card_keeper::Keeper;
 use card_ports::Sink;
-use card_text::tasks_text;
+use card_text::{export_text, tasks_text};
 use card_units::NoMemory;
 use std::alloc::Global;
 
@@ -22,6 +22,7 @@ fn text_of(alloc: Global, desk: &Desk, ask: &Ask) -> Result<Option<String>, NoMe
     ensures { IfOk result (λ text. option_map string_bytes text ≡ view_told (seen desk.now.state ask.now)) }
 {
     match desk.see(alloc, ask)? {
+        View::Entries(list) => Ok(Some(export_text(alloc, list.entries(), list.segments())?)),
         View::Work(tasks) => Ok(Some(tasks_text(alloc, tasks.as_slice())?)),
         _ => Ok(None),
     }
