@@ -1,4 +1,4 @@
-ghost use Rattle.std.specs.Prelude.{◌≡◌, ◌<◌, ◌≤◌, IfOk, neg_ℤ, option_copied, pos, slice_index_or};
+ghost use Rattle.std.specs.Prelude.{◌≡◌, ◌≤◌, IfOk, neg_ℤ, option_copied, pos, slice_index_or};
 ghost use Rattle.card_model.specs.Limits.{balance_limit};
 ghost use Rattle.card_days.specs.Range.{last_request_day};
 ghost use Rattle.card_daily.specs.Given.{book_on, given_today, opened_in};

@@ -1,5 +1,5 @@
 // The book of the account of the cases at the end of its first cycle, folded day by day, at once, and in the parts of a day.
-ghost use Rattle.std.specs.Prelude.{◌≡◌, ◌+◌, ◌<◌, ◌≤◌, [], IfOk, OnOk};
+ghost use Rattle.std.specs.Prelude.{◌≡◌, ◌+◌, ◌≤◌, [], IfOk, OnOk};
 ghost use Rattle.card_days.specs.Range.{last_request_day};
 ghost use Rattle.card_cases.specs.Account.{IsOfAccount};
 ghost use Rattle.card_daily.specs.Given.{opened_in};

@@ -1,11 +1,11 @@
 -- Business days, and the day on which a payment is credited. Holidays are a list of days.
 use Rattle.std.specs.Prelude.{◌≡◌, ℕ, zero, suc, ◌+◌, ◌-◌, ◌%◌, ◌≤◌, Bool, true, false, not, ◌&&◌, ◌||◌, ◌==◌, nat_lt, if◌then◌else◌, List, [], ◌∷◌, Option, Some, None}
-use Rattle.card_days.specs.Range.{last_calendar_day}
+use Rattle.card_days.specs.Range.{last_calendar_day, last_request_day}
 use Rattle.card_days.specs.declared.anchor.Anchor.{Anchor}
 use Rattle.card_days.specs.declared.anchor.Channel.{Channel}
 use Rattle.card_days.specs.declared.anchor.Channel.TheVariants.{Mail, Online}
 use Rattle.card_days.specs.Civil.{day_of_month, first_day}
-use Rattle.card_days.specs.Billing.{closing, due_day_of_month, due}
+use Rattle.card_days.specs.Billing.{IsCloseDay, closing, due_day_of_month, due}
 
 -- the day is one of these
 unfoldable pub is_holiday : List ℕ → ℕ → Bool
@@ -46,6 +46,13 @@ mail_day a holidays receipt =
 -- the last minute of the day at which a payment still counts as received on it: 17:00
 abbrev pub cutoff : ℕ
 cutoff = 1020
+
+-- a day on which an account may receive a payment: none before its opening, and a day of requests. Its closing day is one
+-- that every month has
+pub record MayReceiveOn (a : Anchor) (receipt : ℕ) : Type 0 where
+  pub close_day : IsCloseDay a.close_day
+  pub opened : a.opened ≤ receipt
+  pub last : receipt ≤ last_request_day
 
 -- the day as of which a payment is credited: the next day after the cut-off; the due date that mail still meets; the day of receipt
 unfoldable pub credit_day : Anchor → List ℕ → ℕ → ℕ → Bool → ℕ

@@ -9,6 +9,10 @@ first_calendar_day = 14975
 abbrev pub last_request_day : ℕ
 last_request_day = 47481
 
+-- the last day from which later days are reckoned: 2100-12-31
+abbrev pub last_reckoned_day : ℕ
+last_reckoned_day = 47846
+
 -- the last day of the calendar: 2102-12-31
 abbrev pub last_calendar_day : ℕ
 last_calendar_day = 48576

@@ -1,5 +1,5 @@
 ghost use Rattle.std.specs.Prelude.{◌≡◌, ◌+◌, ◌<◌, ◌≤◌, ◌-◌, SomeIff, Some, OnSome, IfSome};
-ghost use Rattle.card_days.specs.Range.{last_calendar_day, first_calendar_day};
+ghost use Rattle.card_days.specs.Range.{last_calendar_day, last_reckoned_day, first_calendar_day};
 ghost use Rattle.card_days.specs.Civil.{date_of};
 ghost use Rattle.card_days.specs.Billing.{IsCloseDay, closing, due_day_of_month, due, cycle_of};
 ghost use Rattle.card_days.specs.Months.{day_in_month, month_from, due_shift};
@@ -70,7 +70,7 @@ pub fn due_date(a: &Anchor, k: u32) -> Day
 pub fn cycle_of(a: Anchor, day: Day) -> u32
     requires close_day { IsCloseDay a.close_day }
     requires opened { a.opened ≤ day }
-    requires last { day ≤ 47_846 }
+    requires last { day ≤ last_reckoned_day }
     ensures value { result ≡ cycle_of a day }
     ensures from_one { 1 ≤ result }
     ensures after_the_last { closing a (result - 1) < day }

@@ -1,5 +1,5 @@
 ghost use Rattle.std.specs.Prelude.{◌≡◌, ◌+◌, ◌<◌, ◌≤◌, max, ℕ, List, [], ◌∷◌, true, length, IsOk, IfOk, OnOk, OnErr, MatchResult, slice_index};
-ghost use Rattle.card_days.specs.Range.{last_request_day};
+ghost use Rattle.card_days.specs.Range.{last_reckoned_day, last_request_day};
 ghost use Rattle.std.specs.List.{insert};
 ghost use Rattle.card_days.specs.Business.{is_business, is_holiday, is_weekday, with_holiday, next_business};
 ghost use Rattle.card_days.specs.Kept.{AreHolidays, IsPlaceOf, IsGapFor};
@@ -86,7 +86,7 @@ impl Calendar {
 
 /// The first business day after a day, which is at most 2100-12-31.
 pub fn next_business(day: Day, cal: &Calendar) -> Day
-    requires { day ≤ 47_846 }
+    requires { day ≤ last_reckoned_day }
     ensures value { result ≡ next_business cal.now day }
     ensures later { day < result }
     ensures near { result ≤ max 47_482 (day + 3) }

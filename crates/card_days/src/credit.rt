@@ -1,7 +1,7 @@
 ghost use Rattle.std.specs.Prelude.{◌≡◌, ◌+◌, ◌<◌, ◌≤◌, ◌&&◌, ◌==◌, not, IfSome};
 ghost use Rattle.card_days.specs.Range.{last_request_day, first_calendar_day};
 ghost use Rattle.card_days.specs.Billing.{IsCloseDay};
-ghost use Rattle.card_days.specs.Business.{is_business, is_mail, next_business, mail_day, credit_day};
+ghost use Rattle.card_days.specs.Business.{MayReceiveOn, is_business, is_mail, next_business, mail_day, credit_day};
 ghost use Rattle.card_days.specs.Kept.{AreHolidays};
 ghost use Rattle.card_days.specs.Months.{IsLastDue};
 
@@ -15,9 +15,7 @@ use crate::{Anchor, Calendar, Channel, Day};
 /// opening day to 2099-12-31, and the minute is at most 1,439.
 #[tactic(auto, unfolding(crate::specs::Business::credit_day))]
 pub fn credit_day(a: Anchor, receipt: Day, minute: u16, channel: Channel, cal: &Calendar) -> Day
-    requires close_day { IsCloseDay a.close_day }
-    requires opened { a.opened ≤ receipt }
-    requires last { receipt ≤ last_request_day }
+    requires receipt { MayReceiveOn a receipt }
     requires minute { minute ≤ 1_439 }
     ensures value { result ≡ credit_day a cal.now receipt minute (is_mail channel) }
     ensures from_opening { a.opened ≤ result }
@@ -34,9 +32,7 @@ pub fn credit_day(a: Anchor, receipt: Day, minute: u16, channel: Channel, cal: &
 
 // the day as of which mail is credited that comes in time on a day
 fn mail_day(a: Anchor, receipt: Day, cal: &Calendar) -> Day
-    requires close_day { IsCloseDay a.close_day }
-    requires opened { a.opened ≤ receipt }
-    requires last { receipt ≤ last_request_day }
+    requires receipt { MayReceiveOn a receipt }
     ensures value { result ≡ mail_day a cal.now receipt }
     ensures from_opening { a.opened ≤ result }
     ensures up_to_receipt { result ≤ receipt }

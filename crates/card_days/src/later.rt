@@ -1,4 +1,5 @@
 ghost use Rattle.std.specs.Prelude.{◌≡◌, ◌≤◌, Some};
+ghost use Rattle.card_days.specs.Range.{last_reckoned_day};
 ghost use Rattle.card_days.specs.Later.{clipped_day_at, six_months_after, year_after};
 
 use crate::Day;
@@ -6,7 +7,7 @@ use crate::Day;
 /// The same day of the sixth month after a day, or that month's last day where it has no such day. The day is at most
 /// 2100-12-31.
 pub fn six_months_after(day: Day) -> Day
-    requires { day ≤ 47_846 }
+    requires { day ≤ last_reckoned_day }
     ensures { result ≡ six_months_after day }
 {
     let (year, month, d) = day.ymd();
@@ -19,7 +20,7 @@ pub fn six_months_after(day: Day) -> Day
 
 /// The same day a year after a day, and March 1 after February 29. The day is at most 2100-12-31.
 pub fn year_after(day: Day) -> Day
-    requires { day ≤ 47_846 }
+    requires { day ≤ last_reckoned_day }
     ensures { result ≡ year_after day }
 {
     let (year, month, d) = day.ymd();

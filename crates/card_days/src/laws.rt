@@ -1,10 +1,10 @@
 //! Laws on due dates and credit days. Their functions do nothing; their clauses are what holds.
 
 ghost use Rattle.std.specs.Prelude.{◌≡◌, ◌≢◌, ℕ, ◌+◌, ◌-◌, ◌<◌, ◌≤◌, true};
-ghost use Rattle.card_days.specs.Range.{last_request_day, last_calendar_day};
+ghost use Rattle.card_days.specs.Range.{last_calendar_day};
 ghost use Rattle.card_days.specs.Civil.{date_of, day_of_month, next_month, year_of_next_month};
 ghost use Rattle.card_days.specs.Billing.{IsCloseDay, closing, due_day_of_month, due, is_timely};
-ghost use Rattle.card_days.specs.Business.{AgreeUpTo, IsMet, IsGreatestMet, credit_day};
+ghost use Rattle.card_days.specs.Business.{AgreeUpTo, MayReceiveOn, IsMet, IsGreatestMet, credit_day};
 
 use crate::{Anchor, Calendar, Day};
 
@@ -48,9 +48,7 @@ pub fn due_dates(a: Anchor, k: u32, issued: Day)
 /// that is no business day, with the receipt on the first business day after it. Where it meets none, it is credited on
 /// the day of receipt (12 CFR 1026.10(d)).
 pub fn mail(a: Anchor, receipt: Day, minute: u16, cal: &Calendar)
-    requires close_day { IsCloseDay a.close_day }
-    requires opened { a.opened ≤ receipt }
-    requires last { receipt ≤ last_request_day }
+    requires receipt { MayReceiveOn a receipt }
     requires in_time { minute ≤ 1_020 }
     ensures met { (k : ℕ) → 1 ≤ k → IsMet cal.now receipt (due a k) → IsGreatestMet a cal.now receipt (credit_day a cal.now receipt minute true) }
     ensures unmet { ((k : ℕ) → 1 ≤ k → ¬ (IsMet cal.now receipt (due a k))) → credit_day a cal.now receipt minute true ≡ receipt }

@@ -1,6 +1,6 @@
 // The days by which something is to be done.
 ghost use Rattle.std.specs.Prelude.{◌≡◌, ℕ, ◌+◌, ◌≤◌, Some, None, min};
-ghost use Rattle.card_days.specs.Range.{last_request_day};
+ghost use Rattle.card_days.specs.Range.{last_reckoned_day, last_request_day};
 ghost use Rattle.card_days.specs.Billing.{IsCloseDay, closing, cycle_of};
 ghost use Rattle.card_model.specs.Deadlines as spec;
 
@@ -27,8 +27,8 @@ pub fn lower_by(day: Day) -> Day
 // The cycle that holds a day, the first for days before the opening.
 pub fn cycle_on(anchor: &Anchor, day: Day) -> u32
     requires close_day { IsCloseDay anchor.now.close_day }
-    requires opened { anchor.now.opened ≤ 47_846 }
-    requires dated { day ≤ 47_846 }
+    requires opened { anchor.now.opened ≤ last_reckoned_day }
+    requires dated { day ≤ last_reckoned_day }
     ensures value { result ≡ cycle_of anchor.now day }
     ensures bound { result ≤ 47_847 }
 {

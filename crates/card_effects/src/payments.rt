@@ -1,11 +1,10 @@
 // What payments and merchants' credits repay.
-ghost use Rattle.std.specs.Prelude.{◌≡◌, ℕ, ◌++◌, Option, IfOk, OnOk, OnErr, min, pos, ◌≤ℤ◌};
+ghost use Rattle.std.specs.Prelude.{◌≡◌, ◌++◌, Option, IfOk, OnOk, OnErr, min, pos, ◌≤ℤ◌};
 ghost use Rattle.card_model.specs.Limits.{balance_limit};
 ghost use Rattle.card_alloc.specs.Parts.{AreParts};
 ghost use Rattle.card_effects.specs.Entering.{EntersCredit, EntersPayment, Leaves, MayMove};
 ghost use Rattle.card_days.specs.declared.anchor.Channel.{Channel};
 ghost use Rattle.card_events.specs.History.{CorrectedPost};
-ghost use Rattle.card_events.specs.declared.post.Post.TheVariants as post;
 ghost use Rattle.card_model.specs.Books.{Account, Book};
 ghost use Rattle.card_model.specs.Cycles.{IssuedRow, Seen, last_cycle};
 ghost use Rattle.card_model.specs.Effects.{effect, parts_entries, second_closing};

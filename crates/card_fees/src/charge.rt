@@ -1,6 +1,7 @@
 // Penalty fees.
 ghost use Rattle.std.specs.Prelude.{◌≡◌, ◌+◌, ◌<◌, ◌≤◌, ◌≤ℤ◌, min, pos, unsigned_abs, Some};
 ghost use Rattle.card_days.specs.Billing.{IsCloseDay, cycle_of, due};
+ghost use Rattle.card_days.specs.Range.{last_reckoned_day};
 ghost use Rattle.card_fees.specs.Charged as charged;
 ghost use Rattle.card_fees.specs.Table.{row_on};
 ghost use Rattle.card_model.specs.Fees as words;
@@ -119,7 +120,7 @@ fn charge(
 pub fn late_fee(table: &FeeTable, fees: &[Fee], a: Anchor, k: u32, minimum: Cents) -> Option<Fee>
     requires close_day { IsCloseDay a.close_day }
     requires cycle { 1 ≤ k }
-    requires last { due a k < 47_846 }
+    requires last { due a k < last_reckoned_day }
     requires low { pos 0 ≤ℤ minimum }
     ensures { result ≡ charged.fee_by table.now fees.now record { kind = kind.Late; due_cycle = k; cycle = cycle_of a (due a k + 1); day = due a k + 1 } (unsigned_abs minimum) (unsigned_abs minimum) }
 {
@@ -150,7 +151,7 @@ pub fn returned_fee(
 ) -> Option<Fee>
     requires close_day { IsCloseDay a.close_day }
     requires opened { a.opened ≤ day }
-    requires last { day ≤ 47_846 }
+    requires last { day ≤ last_reckoned_day }
     requires low { pos 0 ≤ℤ minimum }
     requires last_low { pos 0 ≤ℤ last_due }
     ensures { result ≡ charged.fee_by table.now fees.now record { kind = kind.Returned; due_cycle = k; cycle = cycle_of a day; day = day } (unsigned_abs minimum) (unsigned_abs last_due) }

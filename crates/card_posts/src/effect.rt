@@ -3,7 +3,7 @@ ghost use Rattle.std.specs.Prelude.{◌≡◌, ℕ, ◌+◌, ◌-◌, ◌<◌, �
 ghost use Rattle.card_days.specs.Range.{last_request_day};
 ghost use Rattle.card_days.specs.Billing.{IsCloseDay};
 ghost use Rattle.card_days.specs.Business.{credit_day, is_mail};
-ghost use Rattle.card_events.specs.History.{amended_cents, amended_day, at_number, cents_of, effective_day};
+ghost use Rattle.card_events.specs.History.{amended_cents, amended_day, cents_of, effective_day};
 ghost use Rattle.card_events.specs.declared.kept.Kept.{Kept};
 ghost use Rattle.card_posts.specs.Corrections.{correction_of, corrections_from};
 ghost use Rattle.card_posts.specs.Effect.{IsAmendDated, awaits, day_awaited, own_day};

@@ -1,5 +1,5 @@
 // The charge that a Dispute names, and the Dispute that an Ack or a Resolve names (12 CFR 1026.13).
-ghost use Rattle.std.specs.Prelude.{◌≡◌, ◌≤◌, ℕ, nat_lt, not};
+ghost use Rattle.std.specs.Prelude.{◌≡◌, ℕ, nat_lt, not};
 ghost use Rattle.card_events.specs.History.{at_number};
 ghost use Rattle.card_events.specs.declared.post.Post.TheVariants as post;
 ghost use Rattle.card_model.specs.Refusals.{Present, fits_target, holds_of, where_true};
