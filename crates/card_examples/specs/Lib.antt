@@ -11,4 +11,5 @@ pub mod Machine
 pub mod Payments
 pub mod Rates
 pub mod Refusals
+pub mod Sheets
 pub mod Statements

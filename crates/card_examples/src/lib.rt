@@ -14,6 +14,7 @@ ghost use Rattle.card_examples.specs.Machine.{MachineIsWorked};
 ghost use Rattle.card_examples.specs.Payments.{PaymentsAreWorked};
 ghost use Rattle.card_examples.specs.Rates.{RatesAreWorked};
 ghost use Rattle.card_examples.specs.Refusals.{RefusalsAreWorked};
+ghost use Rattle.card_examples.specs.Sheets.{SheetsAreWorked};
 ghost use Rattle.card_examples.specs.Statements.{StatementsAreWorked};
 
 /// Daily rates and interest (12 CFR 1026.14(b)).
@@ -79,4 +80,9 @@ pub fn machine()
 /// Statements, the limit of interest, break days and steps (12 CFR 1026.5(b)(2)(ii), .7(b)).
 pub fn statements()
     ensures { StatementsAreWorked }
+{}
+
+/// What statements show beside their cycles (12 CFR 1026.7(b)).
+pub fn sheets()
+    ensures { SheetsAreWorked }
 {}

@@ -1,3 +1,5 @@
 pub mod AddsUp
 pub mod Chains
+pub mod Gathering
 pub mod MoveSums
+pub mod Steps

@@ -3,9 +3,9 @@
 
 pub mod laws;
 mod lines;
-// mod moves;
+mod moves;
 mod sheet;
 
 pub use lines::{DeferredLine, Move, RateLine};
-// pub use moves::moves_of;
+pub use moves::moves_of;
 pub use sheet::Sheet;

@@ -1,0 +1,137 @@
+// The transactions that the entries of a cycle make up.
+ghost use Rattle.std.specs.Prelude.{◌≡◌, ◌≤◌, ◌+◌, ◌^◌, ◌++◌, [], ◌∷◌, if◌then◌else◌, IfOk, OnOk, nat_abs};
+ghost use Rattle.std.specs.List.{All, filter};
+ghost use Rattle.card_model.specs.Entries as entries;
+ghost use Rattle.card_statement.specs.Gathering.{raised_by, sizes, with_entry, with_if};
+ghost use Rattle.card_statement.specs.Sheets as spec;
+
+use crate::Move;
+use card_model::{Entry, EntryKind};
+use card_units::NoMemory;
+use std::alloc::Global;
+
+// Whether an entry is of a transaction: interest has a line of its own, and a hold moves nothing that is owed.
+fn moves_owed(entry: &Entry) -> bool
+    ensures { result ≡ spec.moves_owed entry.now }
+{
+    match entry.kind {
+        EntryKind::Interest => false,
+        EntryKind::Hold => false,
+        _ => true,
+    }
+}
+
+// Whether two entries stand for the same reason.
+fn is_kind(a: EntryKind, b: EntryKind) -> bool
+    ensures { result ≡ entries.is_kind a b }
+{
+    match (a, b) {
+        (EntryKind::Charge, EntryKind::Charge) => true,
+        (EntryKind::Credit, EntryKind::Credit) => true,
+        (EntryKind::Payment, EntryKind::Payment) => true,
+        (EntryKind::Return, EntryKind::Return) => true,
+        (EntryKind::Refund, EntryKind::Refund) => true,
+        (EntryKind::Fee, EntryKind::Fee) => true,
+        (EntryKind::Interest, EntryKind::Interest) => true,
+        (EntryKind::Hold, EntryKind::Hold) => true,
+        _ => false,
+    }
+}
+
+// Whether an entry is of a transaction that stands.
+fn is_of_move(entry: &Entry, line: &Move) -> bool
+    ensures { result ≡ spec.is_of_move entry.now line.now }
+{
+    line.day == entry.day && is_kind(line.kind, entry.kind) && line.post == entry.post
+}
+
+// The transaction that an entry begins.
+fn begun(entry: &Entry) -> Move
+    ensures { result ≡ spec.begun_move entry.now [] }
+{
+    Move {
+        day: entry.day,
+        kind: entry.kind,
+        post: entry.post,
+        cents: entry.cents,
+    }
+}
+
+// Adds the cents of an entry to its transaction.
+fn raise(line: &mut Move, entry: &Entry)
+    requires small { nat_abs line.old.cents + nat_abs entry.now.cents ≤ 10 ^ 17 }
+    ensures { line.new ≡ raised_by entry.now line.old }
+{
+    line.cents += entry.cents;
+}
+
+// Adds an entry to its transaction, or begins that.
+fn add(moves: &mut Vec<Move>, entry: &Entry) -> Result<(), NoMemory>
+    requires small { All (λ m. nat_abs m.cents + nat_abs entry.now.cents ≤ 10 ^ 17) moves.old.items }
+    ensures { OnOk result (moves.new.items ≡ with_entry entry.now moves.old.items) }
+{
+    for i in 0..moves.len() {
+        if is_of_move(entry, &moves[i]) {
+            raise(&mut moves[i], entry);
+            return Ok(());
+        }
+    }
+    moves.push(begun(entry))?;
+    Ok(())
+}
+
+// Adds an entry, where it is of a transaction.
+fn add_if(moves: &mut Vec<Move>, entry: &Entry) -> Result<(), NoMemory>
+    requires small { All (λ m. nat_abs m.cents + nat_abs entry.now.cents ≤ 10 ^ 17) moves.old.items }
+    ensures { OnOk result (moves.new.items ≡ with_if entry.now moves.old.items) }
+{
+    if moves_owed(entry) {
+        add(moves, entry)?;
+    }
+    Ok(())
+}
+
+// All transactions of entries, those that came to nothing too.
+fn gather(alloc: Global, entries: &[Entry]) -> Result<Vec<Move>, NoMemory>
+    requires small { sizes entries.now ≤ 10 ^ 17 }
+    ensures { IfOk result (λ moves. moves.items ≡ spec.gathered (filter spec.moves_owed entries.now)) }
+{
+    let mut moves = Vec::new(alloc);
+    for i in 0..entries.len() {
+        add_if(&mut moves, &entries[i])?;
+    }
+    Ok(moves)
+}
+
+// Keeps a transaction that came to something.
+fn keep(kept: &mut Vec<Move>, line: &Move) -> Result<(), NoMemory>
+    ensures { OnOk result (kept.new.items ≡ kept.old.items ++ (if spec.has_cents line.now then line.now ∷ [] else [])) }
+{
+    if line.cents != 0 {
+        kept.push(*line)?;
+    }
+    Ok(())
+}
+
+// Those of them that came to something.
+fn moved_something(alloc: Global, moves: &[Move]) -> Result<Vec<Move>, NoMemory>
+    ensures { IfOk result (λ kept. kept.items ≡ filter spec.has_cents moves.now) }
+{
+    let mut kept = Vec::new(alloc);
+    for line in moves {
+        keep(&mut kept, line)?;
+    }
+    Ok(kept)
+}
+
+/// The transactions that the entries of a cycle make up, each where its first entry stands (12 CFR 1026.7(b)(2), (b)(3),
+/// (b)(6)): one post, or one fee, with the cents of its entries of one kind. Interest and holds are none, nor is what came to
+/// 0. The entries move at most 10^17 cents in all.
+#[tactic(auto, unfolding(crate::specs::Sheets::moves_of))]
+pub fn moves_of(alloc: Global, entries: &[Entry]) -> Result<Vec<Move>, NoMemory>
+    requires small { sizes entries.now ≤ 10 ^ 17 }
+    ensures { IfOk result (λ moves. moves.items ≡ spec.moves_of entries.now) }
+{
+    let moves = gather(alloc, entries)?;
+    moved_something(alloc, &moves)
+}
