@@ -150,9 +150,13 @@ module _ {I K : Type 0} (old new : Outside I K) where
     pub ends : Ends c e
     pub cause : HasCause e
 
+  -- that of words: of the command that they are, or of none
+  abbrev pub OutcomeOf : {Z : Type 0} → List (String Z) → Ended → Type 0
+  OutcomeOf words e = Outcome (command_of (map string_bytes words)) e
+
   -- words came to a status: what was read, written and kept, whatever the end is; and what failed, where the end names it
   abbrev pub Answered : {Z : Type 0} → List (String Z) → ℕ → Type 0
-  Answered words status = (e : Ended) × (status ≡ status_of e) × Outcome (command_of (map string_bytes words)) e
+  Answered words status = (e : Ended) × (status ≡ status_of e) × OutcomeOf words e
 
 -- ---- where the bytes of the input are told
 -- a run that read it to its end handled all of its lines

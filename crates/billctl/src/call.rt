@@ -3,7 +3,7 @@ ghost use Rattle.std.specs.Prelude.{◌≡◌, Some, map, OnOk, OnErr};
 ghost use Rattle.std.specs.String.{string_bytes};
 ghost use Rattle.billctl.specs.Commands.{IsOneOf, statuses_of};
 ghost use Rattle.billctl.specs.Commands as spec;
-ghost use Rattle.billctl.specs.Outside.{Answered, outside, Outcome};
+ghost use Rattle.billctl.specs.Outside.{Answered, outside, Outcome, OutcomeOf};
 ghost use Rattle.billctl.specs.Words.{usage_line, TookLine};
 ghost use Rattle.billctl.specs.Written.{sink_side, TookPart};
 
@@ -63,7 +63,7 @@ fn carry_out_words<I: Source, O: Sink, K: Keeper>(
     keeper: &mut K,
 ) -> Ended
     ensures { let at = outside I.left I.faults O.taken O.faults K.rows K.faults in
-        Outcome (at input.old output.old keeper.old) (at input.new output.new keeper.new) (spec.command_of (map string_bytes words.now)) result }
+        OutcomeOf (at input.old output.old keeper.old) (at input.new output.new keeper.new) words.now result }
 {
     match command_of(alloc, words) {
         Ok(Some(command)) => carry_out(alloc, command, input, output, keeper),

@@ -1,5 +1,5 @@
-ghost use Rattle.std.specs.Prelude.{◌≡◌, ◌<◌, ◌≤◌, ℕ, Option, option_map, IfOk, OnOk, OnErr, IfSome};
-ghost use Rattle.card_ports.specs.Counts.{Rose};
+ghost use Rattle.std.specs.Prelude.{◌≡◌, ◌<◌, ℕ, Option, option_map, IfOk, OnOk, OnErr, IfSome};
+ghost use Rattle.card_ports.specs.Counts.{IsCounted};
 ghost use Rattle.card_ports.specs.Visits.{Visits, wire, Accepts, listening, closing};
 
 use crate::{Failed, Link};
@@ -19,18 +19,14 @@ pub trait Door {
     fn listen(&mut self, port: u16) -> Result<(), Failed>
         ensures ok { OnOk result (visits self.new ≡ option_map (listening port) (visits self.old)) }
         ensures err { OnErr result (visits self.new ≡ visits self.old) }
-        ensures count { faults self.old ≤ faults self.new }
-        ensures unfailed { OnOk result (faults self.new ≡ faults self.old) }
-        ensures cause { OnErr result (Rose (faults self.old) (faults self.new)) };
+        ensures counts { IsCounted (faults self.old) (faults self.new) result };
 
     /// The first connection that is left, which has counted no fault. Where it fails, all is as before.
     fn accept(&mut self) -> Result<Self::Conn, Failed>
         ensures ok { IfOk result (λ c. Accepts (visits self.old) (visits self.new) (wire Self.Conn.Source.left Self.Conn.Sink.taken Self.Conn.Source.faults c)) }
         ensures fresh { IfOk result (λ c. Self.Conn.Source.faults c ≡ 0) }
         ensures err { OnErr result (visits self.new ≡ visits self.old) }
-        ensures count { faults self.old ≤ faults self.new }
-        ensures unfailed { OnOk result (faults self.new ≡ faults self.old) }
-        ensures cause { OnErr result (Rose (faults self.old) (faults self.new)) };
+        ensures counts { IsCounted (faults self.old) (faults self.new) result };
 
     /// Puts the connection behind those that were closed. It takes no memory and can't fail.
     fn close(&mut self, conn: Self::Conn)

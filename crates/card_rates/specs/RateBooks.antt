@@ -1,8 +1,9 @@
 -- What the rates of an account are read from, as clauses see it. Rates are in basis points.
-use Rattle.std.specs.Prelude.{◌≡◌, ℕ, suc, ◌+◌, ◌≤◌, List, [], ◌∷◌}
+use Rattle.std.specs.Prelude.{◌≡◌, ℕ, suc, List, [], ◌∷◌}
+use Rattle.std.specs.List.{fold}
 use Rattle.card_events.specs.History.{anchor_of, corrected, terms_of}
 use Rattle.card_events.specs.declared.kept.Kept.{Kept}
-use Rattle.card_model.specs.Rates.{Lowering, lowerings, rate_on, starts}
+use Rattle.card_model.specs.Rates.{Lowering, bears_as, capped, lowerings, own, rate_on, starts, with_penalty}
 use Rattle.card_model.specs.Segments.{SegmentTerms, segments}
 use Rattle.card_model.specs.declared.segment.Interval.{Interval}
 
@@ -30,6 +31,11 @@ with_penalties penalties r = record { penalty = r.penalty; segments = r.segments
 -- the rate of a segment on a day
 abbrev pub rate_of : Rates → ℕ → SegmentTerms → ℕ
 rate_of r day g = rate_on r.lowerings r.penalty (starts day r.penalties) r.segments day g
+
+-- that of one that is no plan in its period: the own rate, capped by Lowers, or that of a penalty
+abbrev pub lasting_rate : Rates → ℕ → SegmentTerms → ℕ
+lasting_rate r day g =
+    fold (with_penalty r.lowerings r.penalty (bears_as g) day) (capped r.lowerings (bears_as g) day (own r.segments day g)) (starts day r.penalties)
 
 -- each segment bears its place as its number, where the first of the list has number n
 unfoldable pub AreByNumber : ℕ → List SegmentTerms → Type 0

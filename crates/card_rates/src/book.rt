@@ -42,7 +42,7 @@ impl RateBook {
     ghost use Rattle.card_model.specs.Segments.{SegmentTerms, newest, sort_of_category};
     ghost use Rattle.card_model.specs.declared.segment.Interval.{Interval};
     ghost use Rattle.card_rates.specs.Next.{IsNext, changes};
-    ghost use Rattle.card_rates.specs.RateBooks.{rate_of, rates_of, with_penalties};
+    ghost use Rattle.card_rates.specs.RateBooks.{lasting_rate, rate_of, rates_of, with_penalties};
 
     /// The rates of an account's posts, where no penalty has begun. The terms are in their ranges, no rate of a post is above
     /// 9,999 basis points, and there are at most 64 segments.
@@ -174,7 +174,7 @@ impl RateBook {
 
     // the rate of a segment that is no plan in its period
     fn lasting(&self, g: &RatedSegment, day: Day) -> Bp
-        ensures { result ≡ fold (with_penalty self.now.lowerings self.now.penalty (bears_as g.now) day) (capped self.now.lowerings (bears_as g.now) day (own self.now.segments day g.now)) (starts day self.now.penalties) }
+        ensures { result ≡ lasting_rate self.now day g.now }
     {
         let sort = capped_as(g.sort);
         let base = least_of(&self.caps, sort, day, self.own_of(g, day));
