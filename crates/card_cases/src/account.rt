@@ -20,7 +20,8 @@ use std::alloc::Global;
 use std::process::Abort;
 use std::test::Fail;
 
-fn opening(rt: &impl Abort) -> Post
+// Its opening.
+pub fn opening(rt: &impl Abort) -> Post
     ensures { result ≡ opening }
 {
     Post::Open {

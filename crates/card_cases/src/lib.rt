@@ -23,4 +23,6 @@ mod posts;
 #[cfg(test)]
 mod tasks;
 #[cfg(test)]
+mod ticks;
+#[cfg(test)]
 mod values;

@@ -1,0 +1,78 @@
+-- The account of the cases with its opening alone may be folded, and its fold to 2024-03-10 takes five steps.
+use Rattle.std.proofs.Common.{◌≡◌, ℕ, ◌+◌, ◌≤◌, List, [], ◌∷◌, refl, sym, ap, ◌∙◌, subst, arith, true, Option, Some, None}
+use Rattle.std.proofs.lemmas.List.Elements.{All-cons, All-nil}
+use Rattle.std.specs.List.{All, count_by}
+use Rattle.card_events.specs.Dated.{is_dated_post}
+use Rattle.card_events.specs.History.{adds_segment, anchor_of, corrected}
+use Rattle.card_events.specs.declared.kept.Kept.{Kept}
+use Rattle.card_model.specs.Accepted.{HasFewCents, HasFewFees, HasFewRates}
+use Rattle.card_model.specs.Breaks.{is_break}
+use Rattle.card_model.specs.Caps.{row_for}
+use Rattle.card_model.specs.Cycles.{IssuedRow}
+use Rattle.card_model.specs.Deadlines.{resolves}
+use Rattle.card_model.specs.Everything.{everything}
+use Rattle.card_model.specs.Spans.{steps_among}
+use Rattle.card_model.specs.declared.segment.Interval.{Interval}
+use Rattle.card_daily.specs.Given.{EndsWithAClosing, Given, IsSound, NamePayments, account_in, book_on, opened_in}
+use Rattle.card_book.specs.Stands.{steps_over}
+use Rattle.card_cases.specs.Account.{opening}
+use Rattle.card_cases.specs.Alone.{IsAlone, alone, given_alone}
+
+no-days : (days : ℕ × ℕ) (o : Option (ℕ × ℕ)) → o ≡ None → o ≡ Some days → ⊥
+no-days days o e f = cc
+
+abbrev kept : ℕ → List ℕ → ℕ → Kept
+kept n key accepted = record { number = n; key = key; accepted = accepted; post = opening }
+
+dated : (n : ℕ) (key : List ℕ) (accepted : ℕ) → All (λ (k : Kept). is_dated_post k.post ≡ true) (alone n key accepted)
+unfolding is_dated_post
+dated n key accepted = All-cons (λ (k : Kept). is_dated_post k.post ≡ true) (kept n key accepted) [] refl (All-nil (λ (k : Kept). is_dated_post k.post ≡ true))
+
+names-none : (n : ℕ) (key : List ℕ) (accepted : ℕ) → NamePayments (alone n key accepted) 1 (alone n key accepted)
+unfolding NamePayments
+names-none n key accepted = (tt, tt)
+
+sound : (n : ℕ) (key : List ℕ) (accepted : ℕ) → IsSound (given_alone (alone n key accepted))
+sound n key accepted =
+    let k = kept n key accepted in
+    let ks = alone n key accepted in
+    record {
+      accepted = record {
+        count = omega arith;
+        terms = record { first_close_day = omega arith; last_close_day = omega arith; floor = omega arith; pct = omega arith };
+        cents = All-cons HasFewCents k [] (omega arith) (All-nil HasFewCents);
+        rates = All-cons HasFewRates k [] (omega arith) (All-nil HasFewRates);
+        resolved = λ m. let count : count_by (λ (x : Kept). resolves m x.post) ks ≡ 0 = refl in omega (arith, count);
+        single = All-nil (λ (r : IssuedRow). row_for r.cycle [] ≡ Some r);
+      };
+      fees = All-nil HasFewFees;
+      segments = (let count : count_by (λ (x : Kept). adds_segment x.post) ks ≡ 0 = refl in omega (arith, count));
+      dated = dated n key accepted;
+      opening = record { first = omega arith; last = omega arith; close_day = (omega arith, omega arith) };
+      plans = All-cons (EndsWithAClosing (anchor_of ks)) k [] (λ first end e. absurd (no-days (first, end) None refl e)) (All-nil (EndsWithAClosing (anchor_of ks)));
+      returns = names-none n key accepted;
+    }
+
+pub sound-of : (history : List Kept) → IsAlone history → IsSound (given_alone history)
+sound-of history h = subst (λ ks. IsSound (given_alone ks)) (sym h.is) (sound h.number h.key h.accepted)
+
+-- ---- five steps
+no-penalties : (n : ℕ) (key : List ℕ) (accepted : ℕ) → (book_on (given_alone (alone n key accepted)) 19792).penalties ≡ []
+unfolding everything
+no-penalties n key accepted = refl
+
+abbrev steps_with : Given → List Interval → ℕ
+steps_with g penalties = steps_among (is_break (account_in g) (corrected (anchor_of g.history) g.shared.holidays g.history) g.issued penalties) 19728 19792
+
+counted : (n : ℕ) (key : List ℕ) (accepted : ℕ) → steps_with (given_alone (alone n key accepted)) [] ≡ 5
+unfolding everything
+counted n key accepted = refl
+
+five : (n : ℕ) (key : List ℕ) (accepted : ℕ) → steps_over (given_alone (alone n key accepted)) 19792 19728 ≡ 5
+five n key accepted = ap (steps_with (given_alone (alone n key accepted))) (no-penalties n key accepted) ∙ counted n key accepted
+
+pub five-steps : (g : Given) (history : List Kept) → IsAlone history → g ≡ given_alone history → steps_over g 19792 19728 ≡ 5
+five-steps g history h e = ap (λ x. steps_over x 19792 19728) e ∙ subst (λ ks. steps_over (given_alone ks) 19792 19728 ≡ 5) (sym h.is) (five h.number h.key h.accepted)
+
+pub opened-alone : (g : Given) (history : List Kept) → IsAlone history → g ≡ given_alone history → opened_in g ≡ 19728
+opened-alone g history h e = ap opened_in e ∙ ap (λ ks. opened_in (given_alone ks)) h.is

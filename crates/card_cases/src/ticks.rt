@@ -1,0 +1,105 @@
+// The steps of a Book: the account of the cases with its opening alone, folded to 2024-03-10.
+ghost use Rattle.std.specs.Prelude.{◌≡◌, ◌+◌, ◌<◌, [], IfOk, OnOk};
+ghost use Rattle.card_cases.specs.Alone.{IsAlone, given_alone};
+ghost use Rattle.card_daily.specs.Stands.{IsBlank};
+ghost use Rattle.card_posts.specs.Posted.{StandsFor};
+
+use crate::account::opening;
+use crate::values::{day, name};
+use card_book::Book;
+use card_daily::{Inputs, Track};
+use card_posts::Posts;
+use card_shared::SharedRows;
+use card_steps::Steps;
+use card_units::NoMemory;
+use std::alloc::Global;
+use std::marker::Brand;
+use std::process::Abort;
+use std::sync::ledger::{Blank, Ledger};
+use std::test::Fail;
+
+fn opened(rt: &impl Abort, alloc: Global) -> Result<Posts, Fail>
+    ensures alone { IfOk result (λ posts. IsAlone posts.history) }
+    ensures stands { IfOk result (λ posts. StandsFor [] posts) }
+{
+    let key = name(rt, alloc, "o")?;
+    Ok(Posts::start(alloc, &key, day(rt, 19_728), &opening(rt))?)
+}
+
+fn inputs<'a>(posts: &'a Posts, shared: &'a SharedRows) -> Inputs<'a>
+    requires stands { StandsFor [] posts.now }
+    requires alone { IsAlone posts.now.history }
+    requires nothing { shared.now ≡ record { holidays = []; fees = [] } }
+    ensures { result ≡ given_alone posts.now.history }
+{
+    Inputs::new(posts, &[], shared)
+}
+
+// A step for the opening day, 2024-02-05 and 2024-03-05, which close cycles, 2024-03-02, the day after a due date, and the last
+// day.
+fn advance<L: Ledger>(
+    rt: &impl Abort,
+    alloc: Global,
+    posts: &Posts,
+    shared: &SharedRows,
+    track: &mut Track,
+    steps: &mut Steps<L>,
+) -> Result<(), NoMemory>
+    requires stands { StandsFor [] posts.now }
+    requires alone { IsAlone posts.now.history }
+    requires nothing { shared.now ≡ record { holidays = []; fees = [] } }
+    requires blank { IsBlank track.old }
+    ensures five { OnOk result (steps.new ≡ steps.old + 5) }
+{
+    let inputs = inputs(posts, shared);
+    let mut book = Book::start(alloc, &inputs)?;
+    book.advance(alloc, &inputs, track, day(rt, 19_792), steps)
+}
+
+// The same with a counter of its own.
+fn advance_alone<L: Ledger>(
+    rt: &impl Abort,
+    alloc: Global,
+    posts: &Posts,
+    shared: &SharedRows,
+    blank: Blank,
+) -> Result<usize, NoMemory>
+    requires name { blank.name ≡ L.name }
+    requires parts { blank.parts ≡ L.parts }
+    requires some { 0 < blank.parts }
+    requires stands { StandsFor [] posts.now }
+    requires alone { IsAlone posts.now.history }
+    requires nothing { shared.now ≡ record { holidays = []; fees = [] } }
+{
+    let mut track = Track {
+        entries: Vec::new(alloc),
+        cycles: Vec::new(alloc),
+        fees: Vec::new(alloc),
+    };
+    let mut steps = Steps::<L>::new(blank);
+    advance(rt, alloc, posts, shared, &mut track, &mut steps)?;
+    Ok(track.cycles.len())
+}
+
+// With a counter that counts nothing.
+fn cycles(
+    rt: &impl Abort,
+    alloc: Global,
+    posts: &Posts,
+    shared: &SharedRows,
+) -> Result<usize, NoMemory>
+    requires stands { StandsFor [] posts.now }
+    requires alone { IsAlone posts.now.history }
+    requires nothing { shared.now ≡ record { holidays = []; fees = [] } }
+{
+    advance_alone::<Brand>(rt, alloc, posts, shared, Blank::new(1))
+}
+
+#[test]
+fn five_steps_to_march_10(rt: HostRuntime) -> Result<(), Fail> {
+    let alloc = rt.alloc();
+    let shared = SharedRows::new(alloc);
+    let posts = opened(&rt, alloc)?;
+    assert_eq!(rt; cycles(&rt, alloc, &posts, &shared)?, 2);
+    Ok(())
+}
