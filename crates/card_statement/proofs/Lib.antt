@@ -3,3 +3,4 @@ pub mod Chains
 pub mod Gathering
 pub mod MoveSums
 pub mod Steps
+pub mod YearSteps

@@ -5,7 +5,9 @@ pub mod laws;
 mod lines;
 mod moves;
 mod sheet;
+mod years;
 
 pub use lines::{DeferredLine, Move, RateLine};
 pub use moves::moves_of;
 pub use sheet::Sheet;
+pub use years::{fees_year, interest_year};
