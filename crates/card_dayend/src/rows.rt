@@ -1,4 +1,4 @@
-ghost use Rattle.std.specs.Prelude.{◌≡◌, ℕ, ◌+◌, ◌-◌, ◌<◌, ◌≤◌, ◌^◌, length, pos, slice_index_or, OnOk};
+ghost use Rattle.std.specs.Prelude.{◌≡◌, ℕ, ◌+◌, ◌-◌, ◌<◌, ◌≤◌, length, pos, slice_index_or, OnOk};
 ghost use Rattle.card_model.specs.Limits.{balance_limit};
 ghost use Rattle.card_days.specs.Range.{last_request_day};
 ghost use Rattle.std.specs.List.{All, Contains};
@@ -36,7 +36,7 @@ fn owed_on(segments: &Segments, id: u8) -> u64
     requires known { id < length segments.now.balances }
     requires small { AreWithin balance_limit segments.now.balances }
     ensures value { result ≡ at_least_zero (slice_index_or segments.now.balances id (pos 0)) }
-    ensures bound { result ≤ 10 ^ 15 }
+    ensures bound { result ≤ balance_limit }
 {
     segments.balance(id).unsigned_abs()
 }
@@ -63,7 +63,7 @@ fn add_row(
     owed: u64,
 ) -> Result<(), NoMemory>
     requires there { id < length rates.now.segments + 2 }
-    requires small { owed ≤ 10 ^ 15 }
+    requires small { owed ≤ balance_limit }
     requires few { length rows.old.days + days ≤ 31 }
     ensures { OnOk result ((t : SegmentTerms) → Contains rates.now.segments t → t.id ≡ id → rows.new ≡ with_row days rates.now day t owed rows.old) }
 {
@@ -94,7 +94,7 @@ fn add_rows(
 
 // What a segment accrues on so many days, where it does so at a rate.
 fn accrue(accrual: &mut Accrual, days: u32, owed: u64, rate: Option<Bp>)
-    requires small { owed ≤ 10 ^ 15 }
+    requires small { owed ≤ balance_limit }
     requires few { accrual.old.days + days ≤ 40_000 }
     ensures { accrual.new ≡ with_accrual_at days rate owed accrual.old }
 {

@@ -1,10 +1,11 @@
 -- Runs and the days that they stand for.
-use Rattle.std.proofs.Common.{◌≡◌, ℕ, zero, suc, ◌+◌, ◌<◌, ◌≤◌, ◌^◌, false, ◌&&◌, eqb, List, [], ◌∷◌, ◌++◌, length, take, get_or, set, map, refl, sym, ap, ◌∙◌, arith}
+use Rattle.std.proofs.Common.{◌≡◌, ℕ, zero, suc, ◌+◌, ◌<◌, ◌≤◌, false, ◌&&◌, eqb, List, [], ◌∷◌, ◌++◌, length, take, get_or, set, map, refl, sym, ap, ◌∙◌, arith}
 use Rattle.std.specs.List.{range_with_len}
 use Rattle.std.proofs.lemmas.List.{append-nil, append_assoc, take_more, length-append, map-append}
 use Rattle.std.proofs.lemmas.List.Elements.{All-append, All-cons, All-nil}
 use Rattle.std.proofs.lemmas.List.FromFn.{length-map-range_with_len}
 use Rattle.std.proofs.lemmas.List.Sums.{sum_by-cons, sum_by_more, sum_by-take-le, sum_by_push}
+use Rattle.card_model.specs.Limits.{balance_limit}
 use Rattle.card_grace.specs.Laws.{AreDaysFrom}
 use Rattle.card_grace.specs.Rows.{DayRow, equal_days, row_of}
 use Rattle.card_grace.specs.Runs.{AreRuns, ends_with, run_days, spread}
@@ -91,10 +92,10 @@ ends_with-last balance rate zero (x ∷ y ∷ ys) d l = absurd (omega arith)
 ends_with-last balance rate (suc i) (x ∷ y ∷ ys) d l = ends_with-last balance rate i (y ∷ ys) d (omega arith)
 
 -- a run at the end
-pub runs_push : (xs : List Run) (r : Run) → AreRuns xs → r.balance ≤ 10 ^ 15 → run_days xs + r.days ≤ 31 → AreRuns (xs ++ r ∷ [])
+pub runs_push : (xs : List Run) (r : Run) → AreRuns xs → r.balance ≤ balance_limit → run_days xs + r.days ≤ 31 → AreRuns (xs ++ r ∷ [])
 runs_push xs r are low few = record {
   days = omega (arith, few, sum_by_push (λ (r : Run). r.days) xs r);
-  balances = All-append (λ (r : Run). r.balance ≤ 10 ^ 15) xs (r ∷ []) are.balances (All-cons (λ (r : Run). r.balance ≤ 10 ^ 15) r [] low (All-nil (λ (r : Run). r.balance ≤ 10 ^ 15)));
+  balances = All-append (λ (r : Run). r.balance ≤ balance_limit) xs (r ∷ []) are.balances (All-cons (λ (r : Run). r.balance ≤ balance_limit) r [] low (All-nil (λ (r : Run). r.balance ≤ balance_limit)));
 }
 
 -- ---- the days of the rows

@@ -1,6 +1,7 @@
 -- Equal days in a row, kept as one run.
-use Rattle.std.specs.Prelude.{ℕ, ◌+◌, ◌≤◌, ◌^◌, Bool, false, ◌&&◌, ◌==◌, List, [], ◌∷◌, ◌++◌}
+use Rattle.std.specs.Prelude.{ℕ, ◌+◌, ◌≤◌, Bool, false, ◌&&◌, ◌==◌, List, [], ◌∷◌, ◌++◌}
 use Rattle.std.specs.List.{All, sum_by}
+use Rattle.card_model.specs.Limits.{balance_limit}
 use Rattle.card_grace.specs.Rows.{DayRow, equal_days}
 use Rattle.card_grace.specs.declared.runs.Run.{Run}
 
@@ -26,4 +27,4 @@ ends_with balance rate (r ∷ s ∷ rs) = ends_with balance rate (s ∷ rs)
 -- a cycle has at most 31 days, and no balance above 10^15 cents
 pub record AreRuns (runs : List Run) : Type 0 where
   pub days : run_days runs ≤ 31
-  pub balances : All (λ (r : Run). r.balance ≤ 10 ^ 15) runs
+  pub balances : All (λ (r : Run). r.balance ≤ balance_limit) runs

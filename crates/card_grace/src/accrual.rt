@@ -1,4 +1,5 @@
 ghost use Rattle.std.specs.Prelude.{◌≡◌, ◌+◌, ◌≤◌, ◌^◌, pos, ◌≤ℤ◌, unsigned_abs};
+ghost use Rattle.card_model.specs.Limits.{balance_limit};
 ghost use Rattle.card_grace.specs.Accruals.{nothing_accrued, with_accrual};
 
 use card_units::{Bp, Cents, daily};
@@ -14,6 +15,7 @@ pub struct Accrual {
 
 impl Model for Accrual {
     ghost use Rattle.std.specs.Prelude.{◌*◌, ◌≤◌, ◌^◌};
+    ghost use Rattle.card_model.specs.Limits.{balance_limit};
     ghost use Rattle.card_grace.specs.Accruals.{Accrued};
 
     ghost Value = { Accrued };
@@ -22,7 +24,7 @@ impl Model for Accrual {
 
     ghost inverse = { λ v. record { days = v.days; sum = v.sum } };
 
-    ghost invariant = { λ a. (a.days ≤ 40_000) × (a.sum ≤ a.days * 2_739_452 * 10 ^ 15) };
+    ghost invariant = { λ a. (a.days ≤ 40_000) × (a.sum ≤ a.days * 2_739_452 * balance_limit) };
 }
 
 impl Accrual {
@@ -37,7 +39,7 @@ impl Accrual {
     /// 40,000.
     pub fn accrue(&mut self, days: u32, balance: Cents, rate: Bp)
         requires low { pos 0 ≤ℤ balance }
-        requires high { balance ≤ℤ pos (10 ^ 15) }
+        requires high { balance ≤ℤ pos balance_limit }
         requires few { self.old.days + days ≤ 40_000 }
         ensures { self.new ≡ with_accrual days (unsigned_abs balance) rate self.old }
     {

@@ -36,6 +36,7 @@ impl Model for CycleRows {
 impl CycleRows {
     ghost use Rattle.std.specs.Prelude.{◌≡◌, ◌+◌, ◌*◌, ◌≤◌, ◌^◌, pos, ◌≤ℤ◌, unsigned_abs, length, IfOk, OnOk, OnErr};
     ghost use Rattle.std.specs.List.{sum_by};
+    ghost use Rattle.card_model.specs.Limits.{balance_limit};
     ghost use Rattle.card_grace.specs.Laws.{AreDaysFrom};
     ghost use Rattle.card_grace.specs.Rows.{average_of, bearing, interest_on, no_rows, with_days, with_repayment, without_post};
 
@@ -70,7 +71,7 @@ impl CycleRows {
     /// 31. After want of memory the rows are as before.
     pub fn row(&mut self, days: u32, balance: Cents, rate: Bp) -> Result<(), NoMemory>
         requires low { pos 0 ≤ℤ balance }
-        requires high { balance ≤ℤ pos (10 ^ 15) }
+        requires high { balance ≤ℤ pos balance_limit }
         requires few { length self.old.days + days ≤ 31 }
         ensures ok { OnOk result (self.new ≡ with_days days (unsigned_abs balance) rate self.old) }
         ensures err { OnErr result (self.new ≡ self.old) }
@@ -91,7 +92,7 @@ impl CycleRows {
     /// memory the repayments are as before.
     pub fn repaid(&mut self, day: Day, cents: Cents, post: u32) -> Result<(), NoMemory>
         requires low { pos 0 ≤ℤ cents }
-        requires high { cents ≤ℤ pos (10 ^ 15) }
+        requires high { cents ≤ℤ pos balance_limit }
         ensures ok { OnOk result (self.new ≡ with_repayment (record { day = day; cents = unsigned_abs cents; post = post }) self.old) }
         ensures err { OnErr result (self.new ≡ self.old) }
     {
@@ -145,7 +146,7 @@ impl CycleRows {
     // the sum of the balances that bear interest
     fn balances(&self, case: &GraceCase) -> u64
         ensures sum { result ≡ sum_by (bearing case.now self.now.repaid) self.now.days }
-        ensures bound { result ≤ length self.now.days * 10 ^ 15 }
+        ensures bound { result ≤ length self.now.days * balance_limit }
     {
         let first = self.first.number() as u32;
         balances_sum(&self.runs, first, case, &self.repaid)

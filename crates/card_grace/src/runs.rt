@@ -2,6 +2,7 @@
 ghost use Rattle.std.specs.Prelude.{◌≡◌, ℕ, ◌+◌, ◌-◌, ◌*◌, ◌≤◌, ◌^◌, true, false, List, ◌++◌, length};
 ghost use Rattle.std.specs.List.{sum_by};
 ghost use Rattle.card_units.specs.Money.{daily};
+ghost use Rattle.card_model.specs.Limits.{balance_limit};
 ghost use Rattle.card_model.specs.Interest.{half_up};
 ghost use Rattle.card_grace.specs.Rows.{DayRow, bearing, equal_days, repaid_later};
 ghost use Rattle.card_grace.specs.Runs.{AreRuns, days_behind, ends_with, run_days, spread};
@@ -56,10 +57,10 @@ fn lowered(balance: u64, repaid: &[Repayment], day: u32, due: Day) -> u64
 // The lowered balances of a run's days, together.
 fn lowered_days(run: &Run, first: u32, due: Day, repaid: &[Repayment]) -> u64
     requires few { run.now.days ≤ 31 }
-    requires balance { run.now.balance ≤ 10 ^ 15 }
+    requires balance { run.now.balance ≤ balance_limit }
     requires first { first ≤ 50_000 }
     ensures sum { result ≡ sum_by (λ (r : DayRow). r.balance - repaid_later repaid.now r.day due) (equal_days first run.now.days run.now.balance run.now.rate) }
-    ensures bound { result ≤ run.now.days * 10 ^ 15 }
+    ensures bound { result ≤ run.now.days * balance_limit }
 {
     let mut sum = 0;
     for i in 0..run.days {
@@ -71,10 +72,10 @@ fn lowered_days(run: &Run, first: u32, due: Day, repaid: &[Repayment]) -> u64
 // The balances of a run's days that bear interest, together.
 fn bearing(run: &Run, first: u32, case: &GraceCase, repaid: &[Repayment]) -> u64
     requires few { run.now.days ≤ 31 }
-    requires balance { run.now.balance ≤ 10 ^ 15 }
+    requires balance { run.now.balance ≤ balance_limit }
     requires first { first ≤ 50_000 }
     ensures sum { result ≡ sum_by (bearing case.now repaid.now) (equal_days first run.now.days run.now.balance run.now.rate) }
-    ensures bound { result ≤ run.now.days * 10 ^ 15 }
+    ensures bound { result ≤ run.now.days * balance_limit }
 {
     match case {
         GraceCase::None => 0,
@@ -88,7 +89,7 @@ pub fn balances_sum(runs: &[Run], first: u32, case: &GraceCase, repaid: &[Repaym
     requires runs { AreRuns runs.now }
     requires first { first ≤ 49_000 }
     ensures sum { result ≡ sum_by (bearing case.now repaid.now) (spread first runs.now) }
-    ensures bound { result ≤ run_days runs.now * 10 ^ 15 }
+    ensures bound { result ≤ run_days runs.now * balance_limit }
 {
     let mut sum = 0;
     let mut day = first;
@@ -104,7 +105,7 @@ pub fn rate_sum(runs: &[Run], first: u32, case: &GraceCase, repaid: &[Repayment]
     requires runs { AreRuns runs.now }
     requires first { first ≤ 49_000 }
     ensures sum { result ≡ sum_by (λ (r : DayRow). bearing case.now repaid.now r * daily r.rate) (spread first runs.now) }
-    ensures bound { result ≤ run_days runs.now * 2_739_452 * 10 ^ 15 }
+    ensures bound { result ≤ run_days runs.now * 2_739_452 * balance_limit }
 {
     let mut sum = 0;
     let mut day = first;
@@ -131,7 +132,7 @@ pub fn days(runs: &[Run]) -> u32
 // A sum divided by a count of days, half up, and 0 by none.
 pub fn half_up(sum: u64, count: u32) -> u64
     requires count { count ≤ 31 }
-    requires sum { sum ≤ count * 10 ^ 15 }
+    requires sum { sum ≤ count * balance_limit }
     ensures value { result ≡ half_up sum count }
     ensures bound { result ≤ 10 ^ 17 }
 {

@@ -1,5 +1,6 @@
-use Rattle.std.proofs.Common.{ℕ, ◌*◌, ◌≤◌, ◌^◌, refl, sym, ◌∙◌, arith, mul-le-mul}
+use Rattle.std.proofs.Common.{ℕ, ◌*◌, ◌≤◌, refl, sym, ◌∙◌, arith, mul-le-mul}
 use Rattle.std.proofs.lemmas.List.Sums.{sum_by_more}
+use Rattle.card_model.specs.Limits.{balance_limit}
 use Rattle.card_units.specs.Money.{daily}
 use Rattle.card_grace.specs.Rows.{DayRow, bearing}
 use Rattle.card_grace.specs.Runs.{spread}
@@ -12,7 +13,7 @@ unfolding spread
 loop-run-init c = record { at = omega arith; summed = refl; small = omega arith }
 
 -- balances of some days at most, times a rate
-product : (balances days rate : ℕ) → balances ≤ days * 10 ^ 15 → rate ≤ 2739452 → balances * rate ≤ days * 2739452 * 10 ^ 15
+product : (balances days rate : ℕ) → balances ≤ days * balance_limit → rate ≤ 2739452 → balances * rate ≤ days * 2739452 * balance_limit
 product balances days rate h k = let le = mul-le-mul h k in omega (arith, le)
 
 pub loop-run-preserved : goal.loop-run-preserved

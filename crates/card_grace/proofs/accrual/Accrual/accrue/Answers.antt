@@ -1,17 +1,18 @@
-use Rattle.std.proofs.Common.{◌≡◌, ℕ, ◌+◌, ◌*◌, ◌≤◌, ◌^◌, ℤ, pos, ◌≤ℤ◌, ap, ◌∙◌, arith, mul-le-mul}
+use Rattle.std.proofs.Common.{◌≡◌, ℕ, ◌+◌, ◌*◌, ◌≤◌, ℤ, pos, ◌≤ℤ◌, ap, ◌∙◌, arith, mul-le-mul}
 use Rattle.std.proofs.lemmas.Int.{ints, to_z-of_z}
 use Rattle.std.specs.Prelude.{unsigned_abs}
 use mir.Syntax.{w64}
+use Rattle.card_model.specs.Limits.{balance_limit}
 use Rattle.card_grace.specs.Accruals.{Accrued}
 use Rattle.card_grace.proofs.accrual.Accrual.accrue.Goals as goal
 
-size : (z : ℤ) → pos 0 ≤ℤ z → z ≤ℤ pos (10 ^ 15) → unsigned_abs z ≤ 10 ^ 15
+size : (z : ℤ) → pos 0 ≤ℤ z → z ≤ℤ pos balance_limit → unsigned_abs z ≤ balance_limit
 size z low high = omega (arith, ints)
 
-bound : (sum days more balance rate : ℕ) → sum ≤ days * 2739452 * 10 ^ 15 → balance ≤ 10 ^ 15 → rate ≤ 2739452 → sum + more * balance * rate ≤ (days + more) * 2739452 * 10 ^ 15
+bound : (sum days more balance rate : ℕ) → sum ≤ days * 2739452 * balance_limit → balance ≤ balance_limit → rate ≤ 2739452 → sum + more * balance * rate ≤ (days + more) * 2739452 * balance_limit
 bound sum days more balance rate h k l =
-    let product : balance * rate ≤ 10 ^ 15 * 2739452 = mul-le-mul k l in
-    let times : more * (balance * rate) ≤ more * (10 ^ 15 * 2739452) = mul-le-mul (same more) product in
+    let product : balance * rate ≤ balance_limit * 2739452 = mul-le-mul k l in
+    let times : more * (balance * rate) ≤ more * (balance_limit * 2739452) = mul-le-mul (same more) product in
     let grouped : more * balance * rate ≡ more * (balance * rate) = omega arith in
     omega (arith, times, grouped)
   where

@@ -1,7 +1,8 @@
-use Rattle.std.proofs.Common.{◌≤◌, ◌^◌, ℤ, pos, ◌≤ℤ◌, length, refl, ap, ◌∙◌, arith}
+use Rattle.std.proofs.Common.{◌≤◌, ℤ, pos, ◌≤ℤ◌, length, refl, ap, ◌∙◌, arith}
 use Rattle.std.proofs.lemmas.Int.{ints, to_z-of_z}
 use Rattle.std.specs.Prelude.{unsigned_abs}
 use mir.Syntax.{w64}
+use Rattle.card_model.specs.Limits.{balance_limit}
 use Rattle.card_grace.specs.Rows.{Rows}
 use Rattle.card_grace.proofs.Spreads.{length-spread, runs_push, spread_push}
 use Rattle.card_grace.proofs.rows.CycleRows.row.Goals as goal
@@ -11,7 +12,7 @@ lengthen-requires-clause-few c =
     let days = ap (λ (r : Rows). length r.days) c.self.view_is in
     omega (arith, days, c.requires.few, length-spread c.self.inside.first c.self.inside.runs.items)
 
-size : (z : ℤ) → pos 0 ≤ℤ z → z ≤ℤ pos (10 ^ 15) → unsigned_abs z ≤ 10 ^ 15
+size : (z : ℤ) → pos 0 ≤ℤ z → z ≤ℤ pos balance_limit → unsigned_abs z ≤ balance_limit
 size z low high = omega (arith, ints)
 
 pub returns-then-lengthen-clause-ok : goal.returns-then-lengthen-clause-ok
