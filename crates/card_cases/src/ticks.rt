@@ -1,8 +1,9 @@
 // The steps of a Book: the account of the cases with its opening alone, folded to 2024-03-10.
-ghost use Rattle.std.specs.Prelude.{◌≡◌, ◌+◌, ◌<◌, [], IfOk, OnOk};
+ghost use Rattle.std.specs.Prelude.{◌≡◌, ◌+◌, [], IfOk, OnOk};
 ghost use Rattle.card_cases.specs.Alone.{IsAlone, given_alone};
 ghost use Rattle.card_daily.specs.Stands.{IsBlank};
 ghost use Rattle.card_posts.specs.Posted.{StandsFor};
+ghost use Rattle.card_steps.specs.Blanks.{IsBlankOf};
 
 use crate::account::opening;
 use crate::values::{day, name};
@@ -56,50 +57,29 @@ fn advance<L: Ledger>(
     book.advance(alloc, &inputs, track, day(rt, 19_792), steps)
 }
 
-// The same with a counter of its own.
-fn advance_alone<L: Ledger>(
-    rt: &impl Abort,
-    alloc: Global,
-    posts: &Posts,
-    shared: &SharedRows,
-    blank: Blank,
-) -> Result<usize, NoMemory>
-    requires name { blank.name ≡ L.name }
-    requires parts { blank.parts ≡ L.parts }
-    requires some { 0 < blank.parts }
-    requires stands { StandsFor [] posts.now }
-    requires alone { IsAlone posts.now.history }
-    requires nothing { shared.now ≡ record { holidays = []; fees = [] } }
+// The same with a counter of its own: how many cycles are closed.
+fn advance_alone<L: Ledger>(rt: &impl Abort, alloc: Global, blank: Blank) -> Result<usize, Fail>
+    requires own { IsBlankOf L.name L.parts blank.name blank.parts }
 {
+    let shared = SharedRows::new(alloc);
+    let posts = opened(rt, alloc)?;
     let mut track = Track {
         entries: Vec::new(alloc),
         cycles: Vec::new(alloc),
         fees: Vec::new(alloc),
     };
     let mut steps = Steps::<L>::new(blank);
-    advance(rt, alloc, posts, shared, &mut track, &mut steps)?;
+    advance(rt, alloc, &posts, &shared, &mut track, &mut steps)?;
     Ok(track.cycles.len())
 }
 
 // With a counter that counts nothing.
-fn cycles(
-    rt: &impl Abort,
-    alloc: Global,
-    posts: &Posts,
-    shared: &SharedRows,
-) -> Result<usize, NoMemory>
-    requires stands { StandsFor [] posts.now }
-    requires alone { IsAlone posts.now.history }
-    requires nothing { shared.now ≡ record { holidays = []; fees = [] } }
-{
-    advance_alone::<Brand>(rt, alloc, posts, shared, Blank::new(1))
+fn cycles(rt: &impl Abort, alloc: Global) -> Result<usize, Fail> {
+    advance_alone::<Brand>(rt, alloc, Blank::new(1))
 }
 
 #[test]
 fn five_steps_to_march_10(rt: HostRuntime) -> Result<(), Fail> {
-    let alloc = rt.alloc();
-    let shared = SharedRows::new(alloc);
-    let posts = opened(&rt, alloc)?;
-    assert_eq!(rt; cycles(&rt, alloc, &posts, &shared)?, 2);
+    assert_eq!(rt; cycles(&rt, rt.alloc())?, 2);
     Ok(())
 }
