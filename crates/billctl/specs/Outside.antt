@@ -1,8 +1,7 @@
 -- What a call finds outside and leaves there, and what the one has to do with the other.
-use Rattle.std.specs.Prelude.{◌≡◌, ◌⊎◌, ℕ, ◌-◌, Bool, true, false, List, ◌++◌, length, map, take, Option, Some, None, ⊤}
+use Rattle.std.specs.Prelude.{◌≡◌, ◌⊎◌, ℕ, ◌-◌, Bool, true, false, List, ◌++◌, length, map, take, Option, Some, None, String, ⊤}
 use Rattle.std.specs.Io.KnownBytes.{Appends, Consumes, IsAtEnd}
 use Rattle.std.specs.String.{string_bytes}
-use Rattle.std_alloc.specs.declared.string.String.{String}
 use Rattle.card_model.specs.Refusals.{Lists, book_today}
 use Rattle.card_model.specs.Work.{present_in, work}
 use Rattle.card_slots.specs.Segments.{account_segments}
