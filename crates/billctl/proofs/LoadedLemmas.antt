@@ -1,5 +1,5 @@
 -- What a command comes to from the ledger that the kept rows gave.
-use Rattle.std.proofs.Common.{◌≡◌, ℕ, ◌⊎◌, inl, inr, List, [], refl, sym, ◌∙◌, subst, Option, None, Some}
+use Rattle.std.proofs.Common.{◌≡◌, ℕ, ◌⊎◌, inl, inr, List, [], refl, ◌∙◌, subst, Option, None, Some}
 use Rattle.std.proofs.KnownBytes.{Appends-nil}
 use Rattle.card_desk.specs.Views.{listed, seen}
 use Rattle.card_desk.specs.declared.view.Ask.TheVariants as ask
