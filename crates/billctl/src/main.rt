@@ -1,32 +1,13 @@
 //! The ledger of a card issuer: reads request lines, writes a reply to each, and keeps a row of each newly accepted one.
 #![tactic(auto)]
 
-mod answer;
-mod call;
-mod command;
-mod end;
-mod ended;
-mod handle;
-mod import;
-mod item;
-pub mod laws;
-mod load;
-mod progress;
-mod run;
-mod stored;
-mod tell;
-#[cfg(test)]
-mod tests;
-mod write;
-
-pub use call::billctl;
+use card_commands::billctl;
 use card_keeper::{Keeper, MemoryKeeper};
 use card_ports::{StdSink, StdSource};
 use card_sqlite::SqliteKeeper;
 use card_units::NoMemory;
 use std::io;
 use std::process::ExitCode;
-pub use stored::billctl_over_store;
 
 // The first word, which says where the rows are kept, and the words behind it. An empty list and words that aren't text give
 // no words, and no words are no command.

@@ -1,5 +1,0 @@
-use Rattle.billctl.proofs.ImportLemmas.{fell_later}
-use Rattle.billctl.proofs.import.read_all.Goals as goal
-
-pub returns-in-Err-clause-err : goal.returns-in-Err-clause-err
-returns-in-Err-clause-err g c = fell_later _ _ _ c.loop-bytes.bytes.items c.in-Err.end c.loop-bytes.invariant.taken c.in-Err.ensures.err

@@ -1,0 +1,173 @@
+-- What a command comes to from the ledger that the kept rows gave.
+use Rattle.std.proofs.Common.{◌≡◌, ℕ, ◌⊎◌, inl, inr, List, [], refl, ◌∙◌, subst, Option, None, Some}
+use Rattle.std.proofs.KnownBytes.{Appends-nil}
+use Rattle.card_desk.specs.Views.{listed, seen}
+use Rattle.card_desk.specs.declared.view.Ask.TheVariants as ask
+use Rattle.card_keeper.specs.Rows.{KeepsRows}
+use Rattle.card_model.specs.Machine.{State, lists_of}
+use Rattle.card_model.specs.Refusals.{Lists}
+use Rattle.card_ports.specs.Counts.{Rose}
+use Rattle.card_commands.specs.Input.{Cut, lines, records}
+use Rattle.card_commands.specs.Outside.{Outside, Outcome, Runs, HasCause, Unfailed, Loads, Views, Ends, sides_of, lists_text, entries_text, work_text}
+use Rattle.card_commands.specs.Views.{GaveLedger, GaveNone, Loaded, NotLoaded, SidesFailed, Tells, Viewed, view_told}
+use Rattle.card_commands.specs.Written.{SinkSide, Sides}
+use Rattle.card_commands.specs.declared.command.Command.{Command}
+use Rattle.card_commands.specs.declared.command.Command.TheVariants as command
+use Rattle.card_commands.specs.declared.ended.Ended.{Ended}
+use Rattle.card_commands.specs.declared.ended.Ended.TheVariants as ended
+use Rattle.card_commands.proofs.RowLemmas.{keeps_same, kept_then}
+use Rattle.card_commands.proofs.SideLemmas.{counts_refl, front_none}
+
+-- ---- a run from a keeper that was loaded
+
+-- what lies outside after the load
+abbrev pub reloaded : {I K : Type 0} → Outside I K → K → Sides → Outside I K
+reloaded old k at = record old { taken = at.sink.taken; sink_faults = at.sink.faults; keeper = k; rows = at.keeper.rows; keeper_faults = at.keeper.faults }
+
+-- the sink as it was
+abbrev same_sink : {I K : Type 0} → Outside I K → Sides → Sides
+same_sink old at = record { sink = (sides_of old).sink; keeper = at.keeper }
+
+loaded_run : {I K : Type 0} (old new : Outside I K) (k : K) (at : Sides) (cut : Cut) (s : State) (e : Ended) → KeepsRows old.rows at.keeper.rows → Runs (reloaded old k (same_sink old at)) new cut s e → Runs old new cut s e
+loaded_run old new k at cut s ended.Done keeps ran =
+    record { bytes = ran.bytes; read = ran.read; stands = (ran.stands.0, (ran.stands.1.0, kept_then old.rows at.keeper.rows new.rows _ keeps ran.stands.1.1), ran.stands.2) }
+loaded_run old new k at cut s ended.Refused keeps ran =
+    record { bytes = ran.bytes; read = ran.read; stands = (ran.stands.0, (ran.stands.1.0, kept_then old.rows at.keeper.rows new.rows _ keeps ran.stands.1.1), ran.stands.2) }
+loaded_run old new k at cut s ended.Usage keeps ran = absurd ran
+loaded_run old new k at cut s ended.Source keeps ran = record { bytes = ran.bytes; read = ran.read; stands = (ran.stands.0, kept_then old.rows at.keeper.rows new.rows _ keeps ran.stands.1) }
+loaded_run old new k at cut s ended.Sink keeps ran =
+    record { bytes = ran.bytes; read = ran.read; stands = (ran.stands.0, ran.stands.1, (ran.stands.2.0, kept_then old.rows at.keeper.rows new.rows _ keeps ran.stands.2.1)) }
+loaded_run old new k at cut s ended.Keeper keeps ran =
+    record { bytes = ran.bytes; read = ran.read; stands = (ran.stands.0, ran.stands.1, (ran.stands.2.0, kept_then old.rows at.keeper.rows new.rows _ keeps ran.stands.2.1)) }
+loaded_run old new k at cut s ended.Memory keeps ran =
+    record { bytes = ran.bytes; read = ran.read; stands = (ran.stands.0, ran.stands.1, (ran.stands.2.0, kept_then old.rows at.keeper.rows new.rows _ keeps ran.stands.2.1)) }
+loaded_run old new k at cut s ended.Damaged keeps ran = absurd ran
+loaded_run old new k at cut s ended.Endless keeps ran =
+    record { bytes = ran.bytes; read = ran.read; stands = (ran.stands.0, (ran.stands.1.0, kept_then old.rows at.keeper.rows new.rows _ keeps ran.stands.1.1)) }
+
+loaded_unfailed : {I K : Type 0} (old new : Outside I K) (k : K) (at : Sides) → at.keeper.faults ≡ old.keeper_faults → Unfailed (reloaded old k (same_sink old at)) new → Unfailed old new
+loaded_unfailed old new k at same un = record { source = un.source; sides = record { sink = un.sides.sink; keeper = un.sides.keeper ∙ same } }
+
+loaded_cause : {I K : Type 0} (old new : Outside I K) (k : K) (at : Sides) (e : Ended) → at.keeper.faults ≡ old.keeper_faults → HasCause (reloaded old k (same_sink old at)) new e → HasCause old new e
+unfolding HasCause
+loaded_cause old new k at ended.Done same cause = loaded_unfailed old new k at same cause
+loaded_cause old new k at ended.Refused same cause = loaded_unfailed old new k at same cause
+loaded_cause old new k at ended.Usage same cause = tt
+loaded_cause old new k at ended.Source same cause = cause
+loaded_cause old new k at ended.Sink same cause = cause
+loaded_cause old new k at ended.Keeper same cause = subst (λ (n : ℕ). Rose n new.keeper_faults) same cause
+loaded_cause old new k at ended.Memory same cause = loaded_unfailed old new k at same cause
+loaded_cause old new k at ended.Damaged same cause = tt
+loaded_cause old new k at ended.Endless same cause = loaded_unfailed old new k at same cause
+
+-- a run and its cause, from the load on
+pub record RanFrom {I K : Type 0} (old new : Outside I K) (cut : Cut) (s : State) (e : Ended) : Type 0 where
+  pub ran : Runs old new cut s e
+  pub cause : HasCause old new e
+
+loaded : {I K : Type 0} (old new : Outside I K) (k : K) (at : Sides) (cut : Cut) (s : State) (e : Ended) → GaveLedger (sides_of old) at s → RanFrom (reloaded old k at) new cut s e → Loads old new (Runs old new cut) e × HasCause old new e
+loaded old new k at cut s e gave ran =
+    let same : RanFrom (reloaded old k (same_sink old at)) new cut s e = subst (λ (x : SinkSide). RanFrom (reloaded old k (record { sink = x; keeper = at.keeper })) new cut s e) gave.sink ran in (
+      inr (record { ledger = s; loaded = gave.loaded; ran = loaded_run old new k at cut s e gave.rows same.ran }),
+      loaded_cause old new k at e gave.count same.cause,
+    )
+
+pub apply_outcome : {I K : Type 0} (old new : Outside I K) (k : K) (at : Sides) (s : State) (e : Ended) → GaveLedger (sides_of old) at s → RanFrom (reloaded old k at) new lines s e → Outcome old new (Some command.Apply) e
+unfolding Ends
+apply_outcome old new k at s e gave ran = let both = loaded old new k at lines s e gave ran in record { ends = both.0; cause = both.1 }
+
+pub import_outcome : {I K : Type 0} (old new : Outside I K) (k : K) (at : Sides) (s : State) (e : Ended) → GaveLedger (sides_of old) at s → RanFrom (reloaded old k at) new records s e → Outcome old new (Some command.Import) e
+unfolding Ends
+import_outcome old new k at s e gave ran = let both = loaded old new k at records s e gave ran in record { ends = both.0; cause = both.1 }
+
+-- ---- no ledger was loaded
+
+unloaded_cause : {I K : Type 0} (old new : Outside I K) (e : Ended) → new.source_faults ≡ old.source_faults → NotLoaded (sides_of old) (sides_of new) e → SidesFailed (sides_of old) (sides_of new) e → HasCause old new e
+unfolding HasCause
+unloaded_cause old new ended.Done same none cause = absurd none
+unloaded_cause old new ended.Refused same none cause = absurd none
+unloaded_cause old new ended.Usage same none cause = absurd none
+unloaded_cause old new ended.Source same none cause = absurd none
+unloaded_cause old new ended.Sink same none cause = absurd none
+unloaded_cause old new ended.Keeper same none cause = cause
+unloaded_cause old new ended.Memory same none cause = record { source = same; sides = cause }
+unloaded_cause old new ended.Damaged same none cause = tt
+unloaded_cause old new ended.Endless same none cause = absurd none
+
+unloaded_ends : {I K : Type 0} (old new : Outside I K) (c : Command) (e : Ended) → new.input ≡ old.input → GaveNone (sides_of old) (sides_of new) e → Ends old new (Some c) e
+unfolding Ends
+unloaded_ends old new command.Apply e same none = inl ((same, none.rows), none.ends)
+unloaded_ends old new command.Import e same none = inl ((same, none.rows), none.ends)
+unloaded_ends old new (command.Export name) e same none = ((same, none.rows), inl ((same, none.rows), none.ends))
+unloaded_ends old new command.Work e same none = ((same, none.rows), inl ((same, none.rows), none.ends))
+
+pub unloaded_outcome : {I K : Type 0} (old new : Outside I K) (c : Command) (e : Ended) → new.input ≡ old.input → new.source_faults ≡ old.source_faults → GaveNone (sides_of old) (sides_of new) e → Outcome old new (Some c) e
+unloaded_outcome old new c e same count none = record { ends = unloaded_ends old new c e same none; cause = unloaded_cause old new e count none.ends none.cause }
+
+-- memory was wanted before anything was done
+pub untouched_outcome : {I K : Type 0} (old : Outside I K) (c : Option Command) → Outcome old old c ended.Memory
+unfolding Ends HasCause
+untouched_outcome old None = record {
+  ends = (refl, (refl, keeps_same old.rows), record { bytes = []; taken = Appends-nil old.taken; front = front_none _ });
+  cause = record { source = refl; sides = counts_refl (sides_of old) };
+}
+untouched_outcome old (Some c) =
+    unloaded_outcome old old c ended.Memory refl refl (record { ends = inl (Appends-nil old.taken); rows = keeps_same old.rows; cause = counts_refl (sides_of old) })
+
+-- ---- a text of a ledger
+
+told_cause : {I K : Type 0} (old new : Outside I K) (text : Option (List ℕ)) (e : Ended) → new.source_faults ≡ old.source_faults → Tells old.taken new.taken e text → SidesFailed (sides_of old) (sides_of new) e → HasCause old new e
+unfolding HasCause
+told_cause old new text ended.Done same told cause = record { source = same; sides = cause }
+told_cause old new text ended.Refused same told cause = record { source = same; sides = cause }
+told_cause old new text ended.Usage same told cause = tt
+told_cause old new text ended.Source same told cause = no_text text told
+  where
+    no_text : (text : Option (List ℕ)) → Tells old.taken new.taken ended.Source text → Rose old.source_faults new.source_faults
+    no_text None told = absurd told
+    no_text (Some t) told = absurd told
+told_cause old new text ended.Sink same told cause = cause
+told_cause old new text ended.Keeper same told cause = cause
+told_cause old new text ended.Memory same told cause = record { source = same; sides = cause }
+told_cause old new text ended.Damaged same told cause = tt
+told_cause old new text ended.Endless same told cause = record { source = same; sides = cause }
+
+viewed_cause : {I K : Type 0} (old new : Outside I K) (text : State → Option (List ℕ)) (e : Ended) → new.source_faults ≡ old.source_faults → Viewed (sides_of old) (sides_of new) text e → HasCause old new e
+viewed_cause old new text e same viewed = of_end viewed.ends
+  where
+    of_end : NotLoaded (sides_of old) (sides_of new) e ⊎ Loaded old.rows (λ s. Tells old.taken new.taken e (text s)) → HasCause old new e
+    of_end (inl none) = unloaded_cause old new e same none viewed.cause
+    of_end (inr some) = told_cause old new (text some.ledger) e same some.ran viewed.cause
+
+viewed_loads : {I K : Type 0} (old new : Outside I K) (text : State → Option (List ℕ)) (e : Ended) → new.input ≡ old.input → KeepsRows old.rows new.rows → NotLoaded (sides_of old) (sides_of new) e ⊎ Loaded old.rows (λ s. Tells old.taken new.taken e (text s))
+    → Views old new text e
+viewed_loads old new text e same keeps (inl none) = ((same, keeps), inl ((same, keeps), none))
+viewed_loads old new text e same keeps (inr some) = ((same, keeps), inr some)
+
+pub work_outcome : {I K : Type 0} (old new : Outside I K) (e : Ended) → new.input ≡ old.input → new.source_faults ≡ old.source_faults → Viewed (sides_of old) (sides_of new) (λ s. view_told (seen s ask.Work)) e → Outcome old new (Some command.Work) e
+unfolding Ends seen work_text
+work_outcome old new e same count viewed = record { ends = viewed_loads old new work_text e same viewed.rows viewed.ends; cause = viewed_cause old new _ e count viewed }
+
+-- the same text
+viewed_same : (old new : Sides) (f g : State → Option (List ℕ)) (e : Ended) → ((s : State) → f s ≡ g s) → Viewed old new f e → Viewed old new g e
+viewed_same old new f g e same viewed = record { ends = by viewed.ends; rows = viewed.rows; cause = viewed.cause }
+  where
+    by : NotLoaded old new e ⊎ Loaded old.keeper.rows (λ s. Tells old.sink.taken new.sink.taken e (f s)) → NotLoaded old new e ⊎ Loaded old.keeper.rows (λ s. Tells old.sink.taken new.sink.taken e (g s))
+    by (inl none) = inl none
+    by (inr some) = inr (record { ledger = some.ledger; loaded = some.loaded; ran = subst (Tells old.sink.taken new.sink.taken e) (same some.ledger) some.ran })
+
+-- the text of an account's entries
+lists_told : (s : State) (lists : Option Lists) → view_told (listed s lists) ≡ lists_text s lists
+lists_told s None = refl
+lists_told s (Some lists) = refl
+
+entries_told : (name : List ℕ) (s : State) → view_told (seen s (ask.Entries name)) ≡ entries_text name s
+unfolding seen entries_text
+entries_told name s = lists_told s (lists_of name s.accounts)
+
+pub export_outcome : {I K : Type 0} (old new : Outside I K) (name : List ℕ) (e : Ended) → new.input ≡ old.input → new.source_faults ≡ old.source_faults
+    → Viewed (sides_of old) (sides_of new) (λ s. view_told (seen s (ask.Entries name))) e → Outcome old new (Some (command.Export name)) e
+unfolding Ends
+export_outcome old new name e same count told =
+    let viewed = viewed_same (sides_of old) (sides_of new) (λ s. view_told (seen s (ask.Entries name))) (entries_text name) e (entries_told name) told in
+    record { ends = viewed_loads old new (entries_text name) e same viewed.rows viewed.ends; cause = viewed_cause old new (entries_text name) e count viewed }

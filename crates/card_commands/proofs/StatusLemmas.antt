@@ -1,0 +1,114 @@
+-- The statuses of each command.
+use Rattle.std.proofs.Common.{◌≡◌, ℕ, inl, inr, List, [], ◌∷◌, refl, sym, subst, Option, None, Some}
+use Rattle.card_model.specs.Machine.{State}
+use Rattle.card_commands.specs.Commands.{status_of, statuses_of, account_statuses, run_statuses, IsOneOf}
+use Rattle.card_commands.specs.Input.{Cut, lines, records}
+use Rattle.card_commands.specs.Outside.{Outside, Outcome, Runs, NoCommand, Loads, Ends, sides_of, entries_text, work_text}
+use Rattle.card_commands.specs.Views.{NotLoaded, Tells}
+use Rattle.card_commands.specs.Written.{Sides}
+use Rattle.card_commands.specs.declared.command.Command.{Command}
+use Rattle.card_commands.specs.declared.command.Command.TheVariants as command
+use Rattle.card_commands.specs.declared.ended.Ended.{Ended}
+use Rattle.card_commands.specs.declared.ended.Ended.TheVariants as ended
+
+run_status : {I K : Type 0} (old new : Outside I K) (cut : Cut) (s : State) (e : Ended) → Runs old new cut s e → IsOneOf (status_of e) run_statuses
+run_status old new cut s ended.Done ran = inl refl
+run_status old new cut s ended.Refused ran = inr (inl refl)
+run_status old new cut s ended.Usage ran = absurd ran
+run_status old new cut s ended.Source ran = inr (inr (inl refl))
+run_status old new cut s ended.Sink ran = inr (inr (inr (inl refl)))
+run_status old new cut s ended.Keeper ran = inr (inr (inr (inr (inl refl))))
+run_status old new cut s ended.Memory ran = inr (inr (inr (inr (inr (inl refl)))))
+run_status old new cut s ended.Damaged ran = absurd ran
+run_status old new cut s ended.Endless ran = inr (inr (inr (inr (inr (inr (inr (inl refl)))))))
+
+not_loaded_status : (old new : Sides) (e : Ended) → NotLoaded old new e → IsOneOf (status_of e) (5 ∷ 6 ∷ 8 ∷ [])
+not_loaded_status old new ended.Done none = absurd none
+not_loaded_status old new ended.Refused none = absurd none
+not_loaded_status old new ended.Usage none = absurd none
+not_loaded_status old new ended.Source none = absurd none
+not_loaded_status old new ended.Sink none = absurd none
+not_loaded_status old new ended.Keeper none = inl refl
+not_loaded_status old new ended.Memory none = inr (inl refl)
+not_loaded_status old new ended.Damaged none = inr (inr (inl refl))
+not_loaded_status old new ended.Endless none = absurd none
+
+no_command_status : {I K : Type 0} (old new : Outside I K) (e : Ended) → NoCommand old new e → IsOneOf (status_of e) (statuses_of None)
+no_command_status old new ended.Done said = absurd said
+no_command_status old new ended.Refused said = absurd said
+no_command_status old new ended.Usage said = inl refl
+no_command_status old new ended.Source said = absurd said
+no_command_status old new ended.Sink said = absurd said
+no_command_status old new ended.Keeper said = absurd said
+no_command_status old new ended.Memory said = inr (inl refl)
+no_command_status old new ended.Damaged said = absurd said
+no_command_status old new ended.Endless said = absurd said
+
+-- one of the last is one of all
+among_run : (n : ℕ) → IsOneOf n (5 ∷ 6 ∷ 8 ∷ []) → IsOneOf n run_statuses
+among_run n (inl is) = inr (inr (inr (inr (inl is))))
+among_run n (inr (inl is)) = inr (inr (inr (inr (inr (inl is)))))
+among_run n (inr (inr (inl is))) = inr (inr (inr (inr (inr (inr (inl is))))))
+among_run n (inr (inr (inr never))) = absurd never
+
+among_view : (n : ℕ) → IsOneOf n (5 ∷ 6 ∷ 8 ∷ []) → IsOneOf n (statuses_of (Some command.Work))
+among_view n is = inr (inr is)
+
+loads_status : {I K : Type 0} (old new : Outside I K) (cut : Cut) (e : Ended) → Loads old new (Runs old new cut) e → IsOneOf (status_of e) run_statuses
+loads_status old new cut e (inl none) = among_run (status_of e) (not_loaded_status (sides_of old) (sides_of new) e none.1)
+loads_status old new cut e (inr run) = run_status old new cut run.ledger e run.ran
+
+-- a text that is always there
+tells_status : (old new : Option (List ℕ)) (e : Ended) (text : List ℕ) → Tells old new e (Some text) → IsOneOf (status_of e) (statuses_of (Some command.Work))
+tells_status old new ended.Done text told = inl refl
+tells_status old new ended.Refused text told = absurd told
+tells_status old new ended.Usage text told = absurd told
+tells_status old new ended.Source text told = absurd told
+tells_status old new ended.Sink text told = inr (inl refl)
+tells_status old new ended.Keeper text told = absurd told
+tells_status old new ended.Memory text told = inr (inr (inr (inl refl)))
+tells_status old new ended.Damaged text told = absurd told
+tells_status old new ended.Endless text told = absurd told
+
+work_status : {I K : Type 0} (old new : Outside I K) (e : Ended) → Loads old new (λ s f. Tells old.taken new.taken f (work_text s)) e → IsOneOf (status_of e) (statuses_of (Some command.Work))
+unfolding work_text
+work_status old new e (inl none) = among_view (status_of e) (not_loaded_status (sides_of old) (sides_of new) e none.1)
+work_status old new e (inr run) = tells_status old.taken new.taken e _ run.ran
+
+-- a text that may not be there
+among_account : (n : ℕ) → IsOneOf n (5 ∷ 6 ∷ 8 ∷ []) → IsOneOf n account_statuses
+among_account n is = inr (inr (inr is))
+
+account_status : (old new : Option (List ℕ)) (e : Ended) (text : Option (List ℕ)) → Tells old new e text → IsOneOf (status_of e) account_statuses
+account_status old new ended.Done text told = inl refl
+account_status old new ended.Refused text told = inr (inl refl)
+account_status old new ended.Usage None told = absurd told
+account_status old new ended.Usage (Some t) told = absurd told
+account_status old new ended.Source None told = absurd told
+account_status old new ended.Source (Some t) told = absurd told
+account_status old new ended.Sink text told = inr (inr (inl refl))
+account_status old new ended.Keeper text told = inr (inr (inr (inl refl)))
+account_status old new ended.Memory text told = inr (inr (inr (inr (inl refl))))
+account_status old new ended.Damaged text told = inr (inr (inr (inr (inr (inl refl)))))
+account_status old new ended.Endless None told = absurd told
+account_status old new ended.Endless (Some t) told = absurd told
+
+account_view_status : {I K : Type 0} (old new : Outside I K) (text : State → Option (List ℕ)) (e : Ended) → Loads old new (λ s f. Tells old.taken new.taken f (text s)) e → IsOneOf (status_of e) account_statuses
+account_view_status old new text e (inl none) = among_account (status_of e) (not_loaded_status (sides_of old) (sides_of new) e none.1)
+account_view_status old new text e (inr run) = account_status old.taken new.taken e (text run.ledger) run.ran
+
+ends_status : {I K : Type 0} (old new : Outside I K) (c : Option Command) (e : Ended) → Ends old new c e → IsOneOf (status_of e) (statuses_of c)
+unfolding Ends
+ends_status old new None e ends = no_command_status old new e ends.2
+ends_status old new (Some command.Apply) e ends = loads_status old new lines e ends
+ends_status old new (Some command.Import) e ends = loads_status old new records e ends
+ends_status old new (Some (command.Export name)) e ends = account_view_status old new (entries_text name) e ends.1
+ends_status old new (Some command.Work) e ends = work_status old new e ends.1
+
+-- an end that is in these words has one of the command's statuses
+pub status_is : {I K : Type 0} (old new : Outside I K) (c : Option Command) (e : Ended) (n : ℕ) → Outcome old new c e → n ≡ status_of e → IsOneOf n (statuses_of c)
+status_is old new c e n outcome is = subst (λ (m : ℕ). IsOneOf m (statuses_of c)) (sym is) (ends_status old new c e outcome.ends)
+
+-- the same outcome of the same command
+pub outcome_of : {I K : Type 0} (old new : Outside I K) (c d : Option Command) (e : Ended) → c ≡ d → Outcome old new c e → Outcome old new d e
+outcome_of old new c d e same outcome = subst (λ x. Outcome old new x e) same outcome

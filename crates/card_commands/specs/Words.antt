@@ -1,0 +1,29 @@
+-- What is said of words that are no command, and of damaged rows.
+use Rattle.std.specs.Prelude.{◌⊎◌, ℕ, List, [], ◌∷◌, ◌++◌, Option, codes}
+use Rattle.std.specs.Fmt.{decimal}
+use Rattle.std.specs.Io.KnownBytes.{Appends}
+use Rattle.card_desk.specs.Kept.{AreDamagedAt}
+use Rattle.card_keeper.specs.declared.row.Row.{Row}
+use Rattle.card_ports.specs.Counts.{Rose}
+use Rattle.card_commands.specs.Written.{TookFront}
+
+unfoldable pub usage_line : List ℕ
+usage_line = codes "usage: apply | import | statement ACCOUNT CYCLE | restate ACCOUNT CYCLE | export ACCOUNT | work | demo START ACCOUNTS CYCLES | serve PORT COUNT" ++ 10 ∷ []
+
+-- what is said where what is asked for isn't there
+unfoldable pub none_line : List ℕ
+none_line = codes "none" ++ 10 ∷ []
+
+-- what is said where row n is the first that is damaged
+unfoldable pub damaged_line : ℕ → List ℕ
+damaged_line n = codes "damaged " ++ decimal n ++ 10 ∷ []
+
+-- the sink took the line, or a front of it where its faults rose
+abbrev pub TookLine : Option (List ℕ) → Option (List ℕ) → ℕ → ℕ → List ℕ → Type 0
+TookLine old new before now line = Appends old new line ⊎ (TookFront old new line × Rose before now)
+
+-- row n is the first that is damaged, and P is so of what is said of it
+pub record DamagedRows (rows : Option (List Row)) (P : List ℕ → Type 0) : Type 0 where
+  pub number : ℕ
+  pub damaged : AreDamagedAt rows number
+  pub said : P (damaged_line number)

@@ -1,0 +1,80 @@
+// How a call ends.
+ghost use Rattle.std.specs.Prelude.{◌≡◌};
+ghost use Rattle.card_commands.specs.Commands as spec;
+
+use crate::end::End;
+use card_ports::SinkFault;
+
+/// How a call ends.
+#[derive(Clone, Copy, Debug, PartialEq, Eq)]
+pub enum Ended {
+    /// The input was read to its end, and no line was refused.
+    Done,
+    /// The input was read to its end, and at least one line was refused.
+    Refused,
+    /// The words are no command.
+    Usage,
+    /// The source failed.
+    Source,
+    /// The sink failed.
+    Sink,
+    /// The keeper failed.
+    Keeper,
+    /// Memory was wanted and isn't there.
+    Memory,
+    /// The kept rows are damaged.
+    Damaged,
+    /// So many bytes were read, and no end came.
+    Endless,
+}
+
+/// The exit status.
+pub fn status_of(ended: Ended) -> u8
+    ensures { result ≡ spec.status_of ended }
+{
+    match ended {
+        Ended::Done => 0,
+        Ended::Refused => 1,
+        Ended::Usage => 2,
+        Ended::Source => 3,
+        Ended::Sink => 4,
+        Ended::Keeper => 5,
+        Ended::Memory => 6,
+        Ended::Damaged => 8,
+        Ended::Endless => 9,
+    }
+}
+
+/// The end of a run that was ended early.
+pub fn ended_by(end: End) -> Ended
+    ensures { result ≡ spec.ended_by end }
+{
+    match end {
+        End::Source => Ended::Source,
+        End::Sink => Ended::Sink,
+        End::Keeper => Ended::Keeper,
+        End::Memory => Ended::Memory,
+        End::Endless => Ended::Endless,
+    }
+}
+
+/// The end of a call that a sink's fault ended.
+pub fn ended_by_sink(fault: SinkFault) -> Ended
+    ensures { result ≡ spec.ended_by_sink fault }
+{
+    match fault {
+        SinkFault::Failed => Ended::Sink,
+        SinkFault::Memory => Ended::Memory,
+    }
+}
+
+/// The end of a run, where Ok says whether a line was refused.
+pub fn ended_of(run: Result<bool, End>) -> Ended
+    ensures { result ≡ spec.ended_of run }
+{
+    match run {
+        Ok(false) => Ended::Done,
+        Ok(true) => Ended::Refused,
+        Err(end) => ended_by(end),
+    }
+}

@@ -1,0 +1,108 @@
+// A run over items.
+ghost use Rattle.std.specs.Prelude.{◌≡◌, ◌||◌};
+
+use crate::answer::{answer, carry_out};
+use crate::end::End;
+use crate::write::write_all;
+use card_desk::{Desk, Fault};
+use card_import::Item;
+use card_keeper::Keeper;
+use card_ports::{Sink, SinkFault};
+use card_units::NoMemory;
+use std::alloc::Global;
+use std::marker::Model;
+
+/// The desk, and whether an item was refused.
+#[derive(Drop)]
+pub struct Run {
+    desk: Desk,
+    refused: bool,
+}
+
+impl Model for Run {
+    ghost use Rattle.card_commands.specs.Feed as spec;
+
+    ghost Value = { spec.Run };
+
+    ghost view = { λ r. record { ledger = r.desk.state; refused = r.refused } };
+}
+
+impl Run {
+    ghost use Rattle.std.specs.Prelude.{◌≡◌, false, OnOk, IfErr};
+    ghost use Rattle.card_desk.specs.Kept.{Fits};
+    ghost use Rattle.card_import.specs.Items.{IsDatedItem};
+    ghost use Rattle.card_commands.specs.Ran.{FellOn, Handled};
+    ghost use Rattle.card_commands.specs.Written.{sides, sink_side, TookAll, TookPart};
+
+    /// The start of a run.
+    pub fn new(desk: Desk) -> Run
+        ensures { result ≡ record { ledger = desk.state; refused = false } }
+    {
+        Run {
+            desk,
+            refused: false,
+        }
+    }
+
+    /// Whether an item was refused.
+    pub fn is_refused(&self) -> bool
+        ensures { result ≡ self.now.refused }
+    {
+        self.refused
+    }
+
+    // Writes the reply to an item, and notes whether it is a refusal.
+    fn tell<O: Sink>(&mut self, text: &str, refused: bool, output: &mut O) -> Result<(), SinkFault>
+        ensures run { OnOk result (self.new ≡ record { ledger = self.old.ledger; refused = self.old.refused || refused }) }
+        ensures ok { let at = sink_side O.taken O.faults in OnOk result (TookAll (at output.old) (at output.new) text.now) }
+        ensures err { let at = sink_side O.taken O.faults in IfErr result (TookPart (at output.old) (at output.new) text.now) }
+    {
+        match write_all(output, text.as_bytes()) {
+            Ok(()) => {
+                self.refused = is_either(self.refused, refused);
+                Ok(())
+            }
+            Err(fault) => Err(fault),
+        }
+    }
+
+    /// Handles an item: carries out its request, and writes the reply to it.
+    ///
+    /// `Keeper`: the keeper failed, and nothing was done. `Sink`: the sink failed; the row is kept, and a front of the reply
+    /// was written. `Memory`: memory was wanted and isn't there; either is so.
+    pub fn handle<O: Sink, K: Keeper>(
+        &mut self,
+        alloc: Global,
+        item: &Item,
+        output: &mut O,
+        keeper: &mut K,
+    ) -> Result<(), End>
+        requires dated { IsDatedItem item.now }
+        requires fits { Fits (K.rows keeper.old) self.old.ledger }
+        ensures ok { let at = sides O.taken O.faults K.rows K.faults in
+            OnOk result (Handled (at output.old keeper.old) (at output.new keeper.new) self.old item.now self.new) }
+        ensures err { let at = sides O.taken O.faults K.rows K.faults in
+            IfErr result (FellOn (at output.old keeper.old) (at output.new keeper.new) self.old item.now) }
+    {
+        let reply = match carry_out(alloc, &mut self.desk, keeper, item) {
+            Ok(reply) => reply,
+            Err(Fault::Keeper) => return Err(End::Keeper),
+            Err(Fault::Memory) => return Err(End::Memory),
+        };
+        let (text, refused) = match answer(alloc, &self.desk, item, &reply) {
+            Ok(answer) => answer,
+            Err(NoMemory) => return Err(End::Memory),
+        };
+        match self.tell(&text, refused, output) {
+            Ok(()) => Ok(()),
+            Err(SinkFault::Failed) => Err(End::Sink),
+            Err(SinkFault::Memory) => Err(End::Memory),
+        }
+    }
+}
+
+fn is_either(first: bool, second: bool) -> bool
+    ensures { result ≡ (first || second) }
+{
+    first || second
+}

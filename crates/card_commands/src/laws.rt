@@ -1,0 +1,25 @@
+//! Laws of the top call, for all that it may find outside. Their functions do nothing; their clauses are what holds.
+ghost use Rattle.std.specs.Prelude.{[], ◌∷◌, Some};
+ghost use Rattle.card_commands.specs.Commands.{IsOneOf, status_of};
+ghost use Rattle.card_commands.specs.Outside.{Outside, Outcome, HandledAllLines, HandledFirstLines, HandledFirstLinesInPart};
+ghost use Rattle.card_commands.specs.Quiet.{IsQuiet};
+
+use crate::command::Command;
+use crate::ended::Ended;
+use card_desk::laws::load_of_rows;
+
+/// Where nothing outside fails, the kept rows are sound and the input isn't too long, a command ends in 0 or 1, or for want
+/// of memory.
+pub fn completeness<I, K>()
+    ensures { (old new : Outside I K) (c : Command) (e : Ended) → Outcome old new (Some c) e → IsQuiet old new c → IsOneOf (status_of e) (0 ∷ 1 ∷ 6 ∷ []) }
+{
+    load_of_rows();
+}
+
+/// Where the bytes of the input are told, a run that read it to its end handled all of its lines, and one that was ended
+/// early handled its first.
+pub fn told_input<I, K>()
+    ensures all { HandledAllLines I K }
+    ensures first { HandledFirstLines I K }
+    ensures front { HandledFirstLinesInPart I K }
+{}

@@ -1,0 +1,22 @@
+//! The commands of the program and its top call: reads request lines or records, writes a reply to each, and keeps a row of
+//! each newly accepted request; or writes what the ledger holds.
+#![tactic(auto)]
+
+mod answer;
+mod call;
+mod command;
+mod end;
+mod ended;
+mod handle;
+mod import;
+mod item;
+pub mod laws;
+mod load;
+mod progress;
+mod run;
+mod stored;
+mod tell;
+mod write;
+
+pub use call::billctl;
+pub use stored::billctl_over_store;
