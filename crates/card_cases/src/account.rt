@@ -1,21 +1,13 @@
-// The account of the cases: its posts, its segments and its rates.
-ghost use Rattle.std.specs.Prelude.{◌≡◌, ◌≤◌, ℕ, ◌++◌, [], ◌∷◌, map, true, Some, IfOk, OnOk};
+// The account of the cases: its posts.
+ghost use Rattle.std.specs.Prelude.{◌≡◌, ◌≤◌, ℕ, ◌++◌, [], ◌∷◌, map, IfOk, OnOk};
 ghost use Rattle.card_cases.specs.Account.{IsOfAccount, asked, bill, cash, dispute, notice, opening, plan, purchase};
-ghost use Rattle.card_effects.specs.Standing.{AreRated};
-ghost use Rattle.card_holds.specs.Accounts.{AreOf};
 ghost use Rattle.card_posts.specs.Posted.{IsReceived, StandsFor, last_accepted, target_of};
-ghost use Rattle.card_model.specs.Limits.{balance_limit};
-ghost use Rattle.card_segments.specs.Balances.{AreWithin};
 
 use crate::posts::target_of;
 use crate::values::{day, name, num};
 use card_days::Calendar;
 use card_events::{Category, Place, PlanKind, Post, Terms};
 use card_posts::Posts;
-use card_rates::RateBook;
-use card_segments::{Entry, Segments};
-use card_slots::segments_of;
-use card_units::Cents;
 use std::alloc::Global;
 use std::process::Abort;
 use std::test::Fail;
@@ -148,58 +140,4 @@ pub fn posts(rt: &impl Abort, alloc: Global, calendar: &Calendar) -> Result<Post
     push(rt, alloc, &mut posts, calendar, 19_759, &bill)?;
     push(rt, alloc, &mut posts, calendar, 20_163, &notice(rt))?;
     Ok(posts)
-}
-
-#[derive(Drop)]
-pub struct Account {
-    pub posts: Posts,
-    pub segments: Segments,
-    pub rates: RateBook,
-    pub entries: Vec<Entry>,
-}
-
-// Its segments and rates, nothing owed yet.
-pub fn start(rt: &impl Abort, alloc: Global) -> Result<Account, Fail>
-    ensures of { IfOk result (λ a. AreOf a.posts.history a.segments.segments a.rates) }
-    ensures rated { IfOk result (λ a. AreRated a.segments.segments a.rates) }
-{
-    let posts = posts(rt, alloc, &Calendar::new(alloc))?;
-    let rates = RateBook::of(alloc, &posts)?;
-    let segments = segments_of(alloc, &posts)?;
-    Ok(Account {
-        posts,
-        segments,
-        rates,
-        entries: Vec::new(alloc),
-    })
-}
-
-/// The most that a balance or an amount has in size, in cents: 10^13 dollars.
-pub const BALANCE_LIMIT: Cents = 1_000_000_000_000_000;
-
-// Whether each balance is at most so large.
-pub fn are_small(segments: &Segments) -> bool
-    ensures { result ≡ true → AreWithin balance_limit segments.now.balances }
-{
-    for id in 0..segments.len() {
-        let balance = segments.balance(id);
-        if balance < -BALANCE_LIMIT || balance > BALANCE_LIMIT {
-            return false;
-        }
-    }
-    true
-}
-
-// The notice's vintage takes charges from its 15th day on, 2025-03-16. A penalty begins in the rates and not in their copy.
-#[test]
-fn rates_of_the_account(rt: HostRuntime) -> Result<(), Fail> {
-    let mut rates = start(&rt, rt.alloc())?.rates;
-    assert_eq!(rt; rates.vintage(Category::Purchase, day(&rt, 20_162)), 2);
-    assert_eq!(rt; rates.vintage(Category::Purchase, day(&rt, 20_163)), 7);
-    let copy = rates.copy(rt.alloc())?;
-    rates.begin_penalty(day(&rt, 19_889))?;
-    assert_eq!(rt; rates.penalties().len(), 1);
-    assert_eq!(rt; rates.penalties()[0].begins.number(), 19_889);
-    assert_eq!(rt; copy.penalties().len(), 0);
-    Ok(())
 }

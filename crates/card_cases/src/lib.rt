@@ -1,19 +1,11 @@
-//! Each public call that wants memory, of every crate below the program, once with ample memory, beside a value from outside:
-//! no contract rules out want of memory. One account's calls are reached through the desk.
+//! Public calls that want memory, once with ample memory, beside a value from outside: no contract rules out want of memory.
+//! What the program's own input reaches, as what posts do on their day and the fold of an account, isn't called here.
 #![tactic(auto)]
 
 #[cfg(test)]
 mod account;
 #[cfg(test)]
-mod allocation;
-#[cfg(test)]
-mod books;
-#[cfg(test)]
-mod closings;
-#[cfg(test)]
 mod desks;
-#[cfg(test)]
-mod effects;
 #[cfg(test)]
 mod forms;
 #[cfg(test)]

@@ -36,6 +36,23 @@ fn inputs<'a>(posts: &'a Posts, shared: &'a SharedRows) -> Inputs<'a>
     Inputs::new(posts, &[], shared)
 }
 
+// Nothing is owed at the opening, by a copy of the Book.
+fn copied(
+    rt: &impl Abort,
+    alloc: Global,
+    posts: &Posts,
+    shared: &SharedRows,
+) -> Result<(), NoMemory>
+    requires stands { StandsFor [] posts.now }
+    requires alone { IsAlone posts.now.history }
+    requires nothing { shared.now ≡ record { holidays = []; fees = [] } }
+{
+    let inputs = inputs(posts, shared);
+    let book = Book::start(alloc, &inputs)?;
+    assert_eq!(rt; book.copy(alloc)?.owed(), 0);
+    Ok(())
+}
+
 // A step for the opening day, 2024-02-05 and 2024-03-05, which close cycles, 2024-03-02, the day after a due date, and the last
 // day.
 fn advance<L: Ledger>(
@@ -68,6 +85,7 @@ fn advance_alone<L: Ledger>(rt: &impl Abort, alloc: Global, blank: Blank) -> Res
         cycles: Vec::new(alloc),
         fees: Vec::new(alloc),
     };
+    copied(rt, alloc, &posts, &shared)?;
     let mut steps = Steps::<L>::new(blank);
     advance(rt, alloc, &posts, &shared, &mut track, &mut steps)?;
     Ok(track.cycles.len())
