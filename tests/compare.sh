@@ -1,8 +1,9 @@
 #!/bin/sh
 # Holds the proved program against the independent model of the rules, where that stands beside the repository: 60 inputs of
-# 250 generated lines over four accounts, with rows in memory; then 30 such inputs over a file of rows, in three runs each, and
-# 30 of CSV records that come twice, each with the open tasks and the entries of every account afterwards. It fails on the
-# first difference, and says so where the model isn't there.
+# 250 generated lines over four accounts, with rows in memory; then 40 such inputs over a file of rows, in three runs each, and
+# 60 of CSV records that come twice, each with the open tasks, the entries of every account and the statements of every cycle
+# afterwards, and 60 as requests over HTTP; then 10 demonstrations. It fails on the first difference, and says so where the model
+# isn't there.
 #
 #     tests/compare.sh
 top=$(cd "$(dirname "$0")/.." && pwd) || exit 1
@@ -25,24 +26,37 @@ while [ "$seed" -le 60 ]; do
 done
 echo "compare: 60 inputs, the same replies and statuses"
 PYTHONDONTWRITEBYTECODE=1 exec python3 - "$program" <<'END'
+import subprocess
 import sys
 
 from oracle import compare
+from oracle.demo import demo_text
 from oracle.stages import Stage
 
-# of the commands that look at accounts, those that are there; the last of these accounts isn't
+# the open tasks, and of every account the entries and, of every cycle and the one behind the last, both statements; the last
+# account isn't there
+every = compare.views
+
+
 def views(model):
-    names = sorted(compare.load(model.keeper, model.stage).accounts)
-    return [["work"]] + [["export", name] for name in names + ["nobody"]]
+    return every(model) + [["export", "nobody"], ["statement", "nobody", "1"], ["restate", "nobody", "1"]]
 
 
 compare.views = views
-for seed in range(1, 31):
-    for way in ("lines", "csv"):
+for way, count in (("lines", 40), ("csv", 60), ("http", 60)):
+    for seed in range(1, count + 1):
         found = compare.compare(sys.argv[1], seed, 250, 4, Stage(12, True), way)
         if found:
             print(f"compare: seed {seed} by {way} over a file differs")
             print(found)
             sys.exit(1)
-print("compare: 30 inputs over a file of rows and 30 of CSV records that come twice, the same replies, statuses, open tasks and entries")
+print("compare: 40 inputs over a file of rows, 60 of CSV records that come twice and 60 over HTTP, the same replies, statuses, open tasks, entries and statements")
+for seed in range(1, 11):
+    size = (seed * 99_999_999_999, seed, 60 // seed)
+    found = subprocess.run([sys.argv[1], "-", "demo", *map(str, size)], stdin=subprocess.DEVNULL, capture_output=True, text=True)
+    if found.returncode != 0 or found.stdout != demo_text(*size, Stage(12, True)):
+        print(f"compare: the demonstration {size} differs (status {found.returncode})")
+        print(found.stdout)
+        sys.exit(1)
+print("compare: 10 demonstrations, the same six lines")
 END

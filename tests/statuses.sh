@@ -19,7 +19,9 @@ expect() {
 }
 
 usage='usage: apply | import | statement ACCOUNT CYCLE | restate ACCOUNT CYCLE | export ACCOUNT | work | demo START ACCOUNTS CYCLES | serve PORT COUNT'
-for words in '' '-' '- apply now' '- Apply' '- --help' '- export' '- export -a' '- export a now'; do
+for words in '' '-' '- apply now' '- Apply' '- --help' '- export' '- export -a' '- export a now' '- serve' '- serve 8080' '- serve 0 1' '- serve 65536 1' '- serve 08080 1' '- serve 8080 0' '- serve 8080 1000001' '- demo 1 20' '- demo 1 20 6 7' '- demo 1 1001 6' '- demo 1 20 61' '- demo 1 20 0' '- demo 01 20 6' '- demo -1 20 6' '- demo 1000000000000 1 1' \
+    '- statement' '- statement a' '- statement a 0' '- statement a 01' '- statement a 1201' \
+    '- restate -a 1' '- restate a -1' '- restate a 1 now'; do
     # shellcheck disable=SC2086
     "$program" $words <"$day" >"$written"
     expect "the words '$words'" $? 2
@@ -39,6 +41,8 @@ expect 'an input that is a directory' $? 3
 if [ -w /dev/full ]; then
     "$program" - apply <"$day" >/dev/full
     expect 'an output that is full' $? 4
+    "$program" - demo 1 0 1 >/dev/full
+    expect 'a demonstration into an output that is full' $? 4
 fi
 "$program" "$top" apply <"$day" >"$written"
 expect 'rows in a directory' $? 5
@@ -50,12 +54,15 @@ rows=$(mktemp -d) || exit 1
 trap 'rm -rf "$written" "$rows"' EXIT
 "$program" "$rows/kept" apply <"$day" >"$written"
 expect 'rows in a new file' $? 0
-"$program" "$rows/kept" export nobody </dev/null >"$written"
-expect 'an export of an account that is not there' $? 1
-if [ "$(cat "$written")" != 'none' ]; then
-    echo 'statuses: an export of an account that is not there: no line none'
-    exit 1
-fi
+for words in 'export nobody' 'statement nobody 1' 'restate nobody 1'; do
+    # shellcheck disable=SC2086
+    "$program" "$rows/kept" $words </dev/null >"$written"
+    expect "$words, an account that is not there" $? 1
+    if [ "$(cat "$written")" != 'none' ]; then
+        echo "statuses: $words, an account that is not there: no line none"
+        exit 1
+    fi
+done
 python3 - "$rows/kept" <<'END'
 import sqlite3, sys
 
@@ -69,6 +76,14 @@ if [ "$(cat "$written")" != 'damaged 3' ]; then
     echo 'statuses: a third row without its last byte: the row is not named'
     exit 1
 fi
+python3 - "$program" <<'END'
+import socket, subprocess, sys
+
+with socket.create_server(("127.0.0.1", 0)) as taken:
+    done = subprocess.run([sys.argv[1], "-", "serve", str(taken.getsockname()[1]), "1"], capture_output=True)
+sys.exit(done.returncode if not done.stdout else 1)
+END
+expect 'a port that is taken' $? 7
 accounts=$(mktemp) || exit 1
 trap 'rm -rf "$written" "$rows" "$accounts"' EXIT
 {
@@ -84,4 +99,4 @@ if [ "$(sed '$d' "$written" | sort -u | tr '\n' ' ')" != 'ok ok 1 ' ]; then
     echo 'statuses: 60,000 accounts in 64 MB: a reply is not of its request'
     exit 1
 fi
-echo 'statuses: 0, 1, 2, 3, 4, 5, 6 and 8 come where they should'
+echo 'statuses: 0 to 8 come where they should'

@@ -1,9 +1,10 @@
-//! The ledger of a card issuer: reads request lines, writes a reply to each, and keeps a row of each newly accepted one.
+//! The ledger of a card issuer: reads request lines or requests over HTTP, replies to each, and keeps a row of each newly
+//! accepted one.
 #![tactic(auto)]
 
 use card_commands::billctl;
 use card_keeper::{Keeper, MemoryKeeper};
-use card_ports::{StdSink, StdSource};
+use card_ports::{StdSink, StdSource, TcpDoor};
 use card_sqlite::SqliteKeeper;
 use card_units::NoMemory;
 use std::io;
@@ -35,7 +36,15 @@ fn read_words(rt: &HostRuntime) -> Result<Words, NoMemory> {
 fn over<K: Keeper>(rt: &HostRuntime, words: &Vec<String>, keeper: &mut K) -> u8 {
     let mut input = StdSource::new(rt.reader());
     let mut output = StdSink::new(io::writer(rt));
-    billctl(rt.alloc(), words, &mut input, &mut output, keeper)
+    let mut door = TcpDoor::new(rt);
+    billctl(
+        rt.alloc(),
+        words,
+        &mut input,
+        &mut output,
+        keeper,
+        &mut door,
+    )
 }
 
 // Rows in memory, for this run alone.

@@ -35,7 +35,7 @@ earlier a i j l = by (cases_lt i j)
     by (inr more) = let turn = in_turn a j i more in absurd (omega (arith, l, turn))
 
 -- ---- a list of cycles has those with numbers from 1 to their count
-from_one : (k : ℕ) → not (k == 0) ≡ true → 1 ≤ k
+pub from_one : (k : ℕ) → not (k == 0) ≡ true → 1 ≤ k
 from_one zero e = cc
 from_one (suc k) e = omega arith
 
@@ -49,7 +49,7 @@ in_list P zero cs each low high = absurd (omega (arith, low))
 in_list P (suc k) cs each low high = in_place P k cs each (omega (arith, high))
 
 -- ---- the book of today
-in_book : (now : Present) (cycle : ℕ) → IsOpening (anchor_of now.lists.posts) → (anchor_of now.lists.posts).opened ≤ now.today → now.today ≤ last_request_day
+pub in_book : (now : Present) (cycle : ℕ) → IsOpening (anchor_of now.lists.posts) → (anchor_of now.lists.posts).opened ≤ now.today → now.today ≤ last_request_day
     → is_closed now.today now.lists cycle ≡ true → IsSomeAnd (cycle_at cycle (book_today now).cycles) (HasItsDays (anchor_of now.lists.posts) cycle)
 unfolding book_today
 in_book now cycle open' low dated e =
@@ -70,15 +70,15 @@ some_of : (P : Cycle → Type 0) (o : Option Cycle) → IsSomeAnd o P → is_som
 some_of P None there = absurd there
 some_of P (Some c) there = refl
 
-some_where : (issued : Option IssuedRow) (o : Option Cycle) (t : Bool) → (t ≡ true → is_some o ≡ true) → is_some (if t then option_map (restated_as issued) o else None) ≡ t
-some_where issued o false there = refl
-some_where issued None true there = there refl
-some_where issued (Some c) true there = refl
+some_where : (now : Present) (issued : Option IssuedRow) (o : Option Cycle) (t : Bool) → (t ≡ true → is_some o ≡ true) → is_some (if t then option_map (restated_as now issued) o else None) ≡ t
+some_where now issued o false there = refl
+some_where now issued None true there = there refl
+some_where now issued (Some c) true there = refl
 
 restated_there : (now : Present) (cycle : ℕ) → (is_closed now.today now.lists cycle ≡ true → is_some (cycle_at cycle (book_today now).cycles) ≡ true)
     → is_some (restated_statement now cycle) ≡ is_closed now.today now.lists cycle
 unfolding restated_statement
-restated_there now cycle there = some_where (row_for cycle now.lists.issued) (cycle_at cycle (book_today now).cycles) (is_closed now.today now.lists cycle) there
+restated_there now cycle there = some_where now (row_for cycle now.lists.issued) (cycle_at cycle (book_today now).cycles) (is_closed now.today now.lists cycle) there
 
 pub closed_cycles_are_in_the_book : ClosedCyclesAreInTheBook
 closed_cycles_are_in_the_book today shared a may =

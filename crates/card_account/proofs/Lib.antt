@@ -1,5 +1,7 @@
+pub mod AtClosing
 mod CreditLemmas
 pub mod ClosedCycles
+pub mod Few
 pub mod Held
 pub mod NamingLemmas
 pub mod Runs

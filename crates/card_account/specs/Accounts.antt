@@ -1,5 +1,5 @@
 -- An account, as clauses see it, and what is read of it.
-use Rattle.std.specs.Prelude.{◌≡◌, ◌≤◌, ℕ, Bool, ◌&&◌, ◌==◌, not, nat_lt, if◌then◌else◌, pos, List, [], ◌∷◌, Option, Some, None}
+use Rattle.std.specs.Prelude.{◌≡◌, ℕ, Bool, ◌&&◌, ◌==◌, not, nat_lt, if◌then◌else◌, pos, List, [], ◌∷◌, Option, Some, None}
 use Rattle.std.specs.Option.{option_map, option_map_or}
 use Rattle.card_account.specs.declared.owing.Owing.{Owing}
 use Rattle.card_daily.specs.Given.{Given, IsSound, ReachesToday, given_today}
@@ -14,6 +14,7 @@ use Rattle.card_model.specs.Entries.{credit_balance, owed, owing}
 use Rattle.card_model.specs.Folds.{cycle_at}
 use Rattle.card_model.specs.Machine.{NamedAccount}
 use Rattle.card_model.specs.Refusals.{Lists, Present, book_today}
+use Rattle.card_model.specs.Sheets.{sheet_of}
 
 -- the account as the machine has it, with the corrected list that is kept of it, and whether there is room for one more post
 -- with its statement
@@ -52,15 +53,20 @@ owing_in b = record { owed = owed b.entries; credit = pos (credit_balance b.entr
 
 -- an issued row as a statement (12 CFR 1026.5(b)(2), .7(b))
 abbrev pub statement_of : IssuedRow → Statement
-statement_of r = record { cycle = r.statement; issue = r.day }
+statement_of r = record { cycle = r.statement; issue = r.day; sheet = r.sheet }
 
 -- the statement of a cycle as it was issued
 abbrev pub issued_statement : ℕ → List IssuedRow → Option Statement
 issued_statement cycle issued = option_map statement_of (row_for cycle issued)
 
--- a closed cycle as a statement: with the day on which it was issued, else with its due date, so that no payment is due
-abbrev pub restated_as : Option IssuedRow → Cycle → Statement
-restated_as issued c = record { cycle = c; issue = option_map_or (λ r. r.day) issued c.due }
+-- the day on which a cycle was issued, else its due date, so that no payment is due
+abbrev pub issue_of : Option IssuedRow → Cycle → ℕ
+issue_of issued c = option_map_or (λ r. r.day) issued c.due
+
+-- a closed cycle as a statement of that day, with its sheet as it is now
+abbrev pub restated_as : Present → Option IssuedRow → Cycle → Statement
+restated_as now issued c =
+    record { cycle = c; issue = issue_of issued c; sheet = sheet_of now.lists.posts now.lists.issued now.shared (issue_of issued c) c }
 
 -- the cycle is closed before today
 abbrev pub is_closed : ℕ → Lists → ℕ → Bool
@@ -69,5 +75,5 @@ is_closed today lists cycle = not (cycle == 0) && nat_lt (closing (anchor_of lis
 -- the statement of a cycle as the book of today has it, none where it isn't closed before today
 unfoldable pub restated_statement : Present → ℕ → Option Statement
 restated_statement now cycle =
-    let closed = option_map (restated_as (row_for cycle now.lists.issued)) (cycle_at cycle (book_today now).cycles) in
+    let closed = option_map (restated_as now (row_for cycle now.lists.issued)) (cycle_at cycle (book_today now).cycles) in
     if is_closed now.today now.lists cycle then closed else None

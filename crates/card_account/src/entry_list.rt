@@ -16,24 +16,23 @@ pub struct EntryList {
 }
 
 impl Model for EntryList {
-    ghost use Rattle.std.specs.Prelude.{◌<◌, length};
-    ghost use Rattle.std.specs.List.{All};
-    ghost use Rattle.card_account.specs.Entries.{AccountEntries};
+    ghost use Rattle.card_account.specs.Entries.{AccountEntries, AreListed};
 
     ghost Value = { AccountEntries };
 
     ghost view = { λ l. record { entries = l.entries.items; segments = l.segments.items } };
 
-    ghost invariant = { λ l. All (λ e. e.segment < length l.segments.items) l.entries.items };
+    ghost invariant = { λ l. AreListed l.entries.items l.segments.items };
 }
 
 impl EntryList {
-    ghost use Rattle.std.specs.Prelude.{◌≡◌, ◌<◌, length};
+    ghost use Rattle.std.specs.Prelude.{◌≡◌, ◌<◌, ◌^◌, length};
     ghost use Rattle.std.specs.List.{All};
 
-    /// The entries, one after the other.
+    /// The entries, one after the other: fewer than 2^32.
     pub fn entries(&self) -> &[Entry]
-        ensures { result.now ≡ self.now.entries }
+        ensures entries { result.now ≡ self.now.entries }
+        ensures few { length self.now.entries < 2 ^ 32 }
     {
         &self.entries
     }
@@ -51,6 +50,8 @@ impl EntryList {
 pub fn entries_today(alloc: Global, now: &Present) -> Result<EntryList, NoMemory>
     ensures { IfOk result (λ list. list ≡ entries_today now.now) }
 {
+    let _opening = now.anchor();
+    let _last = now.today();
     let folded = fold(alloc, now)?;
     let segments = folded.segments(alloc)?;
     Ok(EntryList {

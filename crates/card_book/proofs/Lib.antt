@@ -12,5 +12,6 @@ pub mod PenaltyFees
 pub mod QuietSpans
 pub mod RatesGoOn
 pub mod Rewound
+pub mod Sheets
 pub mod Steps
 pub mod Told

@@ -1,5 +1,5 @@
 -- What a Book that stands for an account's book tells.
-use Rattle.std.proofs.Common.{◌≡◌, ℕ, zero, suc, ◌-◌, ◌≤◌, Bool, List, length, map, refl, sym, ap, ◌∙◌, subst, arith, Some, None, ℤ, pos, negsuc, get_or}
+use Rattle.std.proofs.Common.{◌+◌, ◌≡◌, ℕ, zero, suc, ◌-◌, ◌≤◌, Bool, List, length, map, refl, sym, ap, ◌∙◌, subst, arith, Some, None, ℤ, pos, negsuc, get_or}
 use Rattle.std.proofs.lemmas.Int.{ints}
 use Rattle.std.proofs.lemmas.Option.{slice_get-get_or}
 use Rattle.std.specs.Prelude.{◌≤ℤ◌, neg_ℤ}
@@ -16,7 +16,7 @@ use Rattle.card_model.specs.Limits.{balance_limit}
 use Rattle.card_model.specs.declared.entry.Entry.{Entry}
 use Rattle.card_model.specs.declared.fee.Fee.{Fee}
 use Rattle.card_model.specs.declared.segment.Interval.{Interval}
-use Rattle.card_rates.specs.RateBooks.{Rates}
+use Rattle.card_rates.specs.RateBooks.{Rates, rates_of}
 use Rattle.card_segments.proofs.Totals.{total-owed}
 use Rattle.card_segments.specs.Balances.{AreWithin, Balances, total}
 use Rattle.card_daily.proofs.Standing.{within}
@@ -26,7 +26,7 @@ use Rattle.card_daily.specs.declared.state.State.{State}
 use Rattle.card_daily.specs.declared.track.Track.{Track}
 use Rattle.card_book.specs.Stands.{StandsFor, Summary, book_through, day_to_fold, recorded}
 use Rattle.card_book.proofs.Balances.{each-any}
-use Rattle.card_book.proofs.Days.{book_is_the_fold}
+use Rattle.card_book.proofs.Days.{book_is_the_fold, through-is}
 
 -- ---- a Book that begins, and a copy
 pub start-stands : (g : Given) (s : State) (t : Track) → AreBefore g (opened_in g) s t → StandsFor g (record { day = None; state = s; credit_since = None; whole = Bool.true }) t
@@ -116,3 +116,17 @@ whole-is g b t day e h =
 
 pub sums-on : (g : Given) (b : Summary) (t : Track) (day : ℕ) → b.day ≡ Some day → StandsFor g b t → AreBalances (book_on g day).entries b.state.segments.balances
 sums-on g b t day e h = subst (λ d. AreBalances (book_through g d).entries b.state.segments.balances) e (book_is_the_fold g b t h).balances
+
+-- ---- rates and accruals
+pub rates-on : (g : Given) (b : Summary) (t : Track) (day : ℕ) → b.day ≡ Some day → StandsFor g b t → b.state.rates ≡ rates_of g.shared.holidays g.history (book_on g day).penalties
+rates-on g b t day e h =
+    let same : before g (day_to_fold g b.day) ≡ book_on g day = through-is g b.day ∙ ap (book_through g) e in
+    h.folded.stand.rates ∙ ap (λ (x : Book). rates_of g.shared.holidays g.history x.penalties) same
+
+pub accruals-on : (g : Given) (b : Summary) (t : Track) (day : ℕ) → b.day ≡ Some day → StandsFor g b t → HaveAccrued g day (book_on g day) b.state.rates.segments b.state.accruals.items
+accruals-on g b t day e h =
+    let next : day_to_fold g b.day ≡ day + 1 = ap (day_to_fold g) e in
+    let back : day_to_fold g b.day - 1 ≡ day = omega (arith, next) in
+    let same : before g (day_to_fold g b.day) ≡ book_on g day = through-is g b.day ∙ ap (book_through g) e in
+    subst (λ d. HaveAccrued g d (book_on g day) b.state.rates.segments b.state.accruals.items) back
+    (subst (λ (x : Book). HaveAccrued g (day_to_fold g b.day - 1) x b.state.rates.segments b.state.accruals.items) same h.folded.accrued)

@@ -5,3 +5,4 @@ pub mod Laws
 pub mod QuietSpans
 pub mod Rewound
 pub mod Stands
+pub mod Statements

@@ -1,5 +1,7 @@
 -- What a Book keeps of an account, and how it stands beside a track for the book of a day. Days are day numbers.
-use Rattle.std.specs.Prelude.{ℕ, ◌+◌, ◌-◌, ◌==◌, ◌≡◌, ◌≤◌, Bool, if◌then◌else◌, unwrap_or, List, Option, Some, None}
+use Rattle.std.specs.Prelude.{ℕ, ◌+◌, ◌-◌, ◌==◌, ◌≡◌, ◌≤◌, Bool, if◌then◌else◌, unwrap_or, List, Option, Some, None, ℤ, ⊤}
+use Rattle.card_days.specs.Range.{last_request_day}
+use Rattle.card_grace.specs.Accruals.{Accrued}
 use Rattle.card_model.specs.Books.{Book, empty_book}
 use Rattle.card_model.specs.Cuts.{is_break_by}
 use Rattle.card_model.specs.Deadlines.{credit_since}
@@ -7,9 +9,10 @@ use Rattle.card_model.specs.Entries.{AreBalances}
 use Rattle.card_model.specs.Spans.{steps_among}
 use Rattle.card_model.specs.declared.segment.Interval.{Interval}
 use Rattle.card_model.specs.declared.segment.Segment.{Segment}
+use Rattle.card_rates.specs.RateBooks.{Rates, rates_of}
 use Rattle.card_slots.specs.Segments.{account_segments}
 use Rattle.card_daily.specs.Given.{Given, book_on, opened_in}
-use Rattle.card_daily.specs.Stands.{AreBefore}
+use Rattle.card_daily.specs.Stands.{AreBefore, HaveAccrued}
 use Rattle.card_daily.specs.declared.state.State.{State}
 use Rattle.card_daily.specs.declared.track.Track.{Track}
 
@@ -20,15 +23,33 @@ pub record Summary : Type 0 where
   pub credit_since : Option ℕ
   pub whole : Bool
 
+-- the last day folded, where there is one, is at most 2099-12-31
+abbrev pub IsRequestDay : Option ℕ → Type 0
+IsRequestDay None = ⊤
+IsRequestDay (Some day) = day ≤ last_request_day
+
 -- the book that a track records, with these penalties
 abbrev pub recorded : Track → List Interval → Book
 recorded t penalties = record { entries = t.entries.items; cycles = t.cycles.items; fees = t.fees.items; penalties = penalties }
 
--- the book at the end of a day, since when there is a credit balance (12 CFR 1026.11(a)(3)), and the account's segments
+-- the book at the end of a day, since when there is a credit balance (12 CFR 1026.11(a)(3)), the account's segments, and, by
+-- their numbers, their balances, rates and accruals
 pub record FoldedBook : Type 0 where
   pub book : Book
   pub since : Option ℕ
   pub segments : List Segment
+  pub balances : List ℤ
+  pub rates : Rates
+  pub accruals : List Accrued
+
+-- it is the book of a day, and what is kept beside it stands for that book
+pub record IsFoldedTo (g : Given) (day : ℕ) (f : FoldedBook) : Type 0 where
+  pub book : f.book ≡ book_on g day
+  pub since : f.since ≡ credit_since (book_on g day).entries (opened_in g) day
+  pub segments : f.segments ≡ account_segments g.shared.holidays g.history
+  pub balances : AreBalances (book_on g day).entries f.balances
+  pub rates : f.rates ≡ rates_of g.shared.holidays g.history (book_on g day).penalties
+  pub accruals : HaveAccrued g day (book_on g day) f.rates.segments f.accruals
 
 -- the first day that isn't folded
 abbrev pub day_to_fold : Given → Option ℕ → ℕ

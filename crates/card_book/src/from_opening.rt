@@ -1,20 +1,25 @@
 ghost use Rattle.std.specs.Prelude.{◌≡◌, ◌≤◌, IfOk, neg_ℤ, option_copied, pos, slice_index_or};
 ghost use Rattle.card_model.specs.Limits.{balance_limit};
 ghost use Rattle.card_days.specs.Range.{last_request_day};
-ghost use Rattle.card_daily.specs.Given.{book_on, given_today, opened_in};
+ghost use Rattle.card_book.specs.Stands.{IsFoldedTo};
+ghost use Rattle.card_daily.specs.Given.{IsDayOf, book_on, given_today, opened_in};
+ghost use Rattle.card_daily.specs.Stands.{HaveAccrued};
 ghost use Rattle.card_model.specs.Deadlines.{credit_since};
 ghost use Rattle.card_model.specs.Payments.{sixty_days_late};
-ghost use Rattle.card_model.specs.Entries.{at_least_zero};
+ghost use Rattle.card_model.specs.Entries.{AreBalances, at_least_zero};
 ghost use Rattle.card_model.specs.Folds.{cycle_at};
 ghost use Rattle.card_segments.specs.Balances.{AreWithin};
 ghost use Rattle.card_steps.specs.Blanks.{IsBlankOf};
 ghost use Rattle.card_model.specs.Refusals.{book_today, seen_today};
+ghost use Rattle.card_rates.specs.RateBooks.{rates_of};
 ghost use Rattle.card_slots.specs.Segments.{account_segments};
 
 use crate::Book;
 use card_daily::{Cycle, Entry, Inputs, Present, Track, is_sixty_days_late};
 use card_dayend::opening_day;
 use card_days::Day;
+use card_grace::Accrual;
+use card_rates::RateBook;
 use card_segments::{Segment, Segments};
 use card_steps::Steps;
 use card_units::{Cents, NoMemory};
@@ -38,7 +43,7 @@ impl Model for Folded {
 
     ghost Value = { FoldedBook };
 
-    ghost view = { λ f. record { book = recorded f.track f.book.state.rates.penalties; since = f.book.credit_since; segments = f.book.state.segments.segments } };
+    ghost view = { λ f. record { book = recorded f.track f.book.state.rates.penalties; since = f.book.credit_since; segments = f.book.state.segments.segments; balances = f.book.state.segments.balances; rates = f.book.state.rates; accruals = f.book.state.accruals.items } };
 
     ghost invariant = { λ f. AreBalances f.track.entries.items f.book.state.segments.balances × AreWithin balance_limit f.book.state.segments.balances };
 }
@@ -84,6 +89,9 @@ fn fold_counted<L: Ledger>(
     ensures book { IfOk result (λ f. f.book ≡ book_on inputs.now to) }
     ensures since { IfOk result (λ f. f.since ≡ credit_since (book_on inputs.now to).entries (opened_in inputs.now) to) }
     ensures segments { IfOk result (λ f. f.segments ≡ account_segments inputs.now.shared.holidays inputs.now.history) }
+    ensures balances { IfOk result (λ f. AreBalances (book_on inputs.now to).entries f.balances) }
+    ensures rates { IfOk result (λ f. f.rates ≡ rates_of inputs.now.shared.holidays inputs.now.history (book_on inputs.now to).penalties) }
+    ensures accruals { IfOk result (λ f. HaveAccrued inputs.now to (book_on inputs.now to) f.rates.segments f.accruals) }
 {
     let _opened = opening_day(inputs);
     let mut book = Book::start(alloc, inputs)?;
@@ -105,6 +113,16 @@ pub fn fold(alloc: Global, now: &Present) -> Result<Folded, NoMemory>
     ensures segments { IfOk result (λ f. f.segments ≡ account_segments now.now.shared.holidays now.now.lists.posts) }
 {
     fold_counted::<Brand>(alloc, now.inputs(), now.today(), Blank::new(1))
+}
+
+/// The book of an account at the end of a day, folded from its opening day on. The day isn't before the opening day and at most
+/// 2099-12-31.
+pub fn fold_to(alloc: Global, inputs: &Inputs, day: Day) -> Result<Folded, NoMemory>
+    requires dated { IsDayOf inputs.now day }
+    ensures { IfOk result (IsFoldedTo inputs.now day) }
+{
+    let folded = fold_counted::<Brand>(alloc, inputs, day, Blank::new(1))?;
+    Ok(folded)
 }
 
 impl Folded {
@@ -161,6 +179,41 @@ impl Folded {
         let segments = self.book.segments();
         let _count = segments.len();
         copy_segments(segments, alloc)
+    }
+
+    // The entries, in their order.
+    pub(crate) fn entries(&self) -> &[Entry]
+        ensures { result.now ≡ self.now.book.entries }
+    {
+        &self.track.entries
+    }
+
+    // The closed cycles, in order.
+    pub(crate) fn cycles(&self) -> &[Cycle]
+        ensures { result.now ≡ self.now.book.cycles }
+    {
+        &self.track.cycles
+    }
+
+    // The segments with their balances.
+    pub(crate) fn balances(&self) -> &Segments
+        ensures { result.now.balances ≡ self.now.balances }
+    {
+        self.book.segments()
+    }
+
+    // Their rates.
+    pub(crate) fn rates(&self) -> &RateBook
+        ensures { result.now ≡ self.now.rates }
+    {
+        self.book.rates()
+    }
+
+    // What those but Credit and Held have accrued.
+    pub(crate) fn accruals(&self) -> &[Accrual]
+        ensures { result.now ≡ self.now.accruals }
+    {
+        self.book.accruals()
     }
 
     /// All entries, in their order.

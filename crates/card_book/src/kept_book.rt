@@ -1,13 +1,14 @@
 ghost use Rattle.std.specs.Prelude.{◌≡◌, ◌-◌, ◌≤◌, ◌==◌, ℕ, length, not, pos, slice_index_or};
 ghost use Rattle.card_days.specs.Range.{last_calendar_day};
-ghost use Rattle.card_model.specs.Cycles.{Cycle};
 ghost use Rattle.card_model.specs.Entries.{credit_in};
 ghost use Rattle.card_book.specs.Stands.{since_after};
 
 use crate::copies::copy_state;
-use card_daily::{Cycle, Inputs, State, Statement, Track, is_sixty_days_late};
+use card_daily::{Inputs, State, Track, is_sixty_days_late};
 use card_dayend::{next_span, opening_day, span_end, start};
 use card_days::Day;
+use card_grace::Accrual;
+use card_rates::RateBook;
 use card_segments::Segments;
 use card_steps::Steps;
 use card_units::{Cents, NoMemory};
@@ -45,15 +46,6 @@ fn since_after(has_credit: bool, day: Day, since: Option<Day>) -> Option<Day>
     }
 }
 
-// The closed cycle with this number.
-fn cycle_in(track: &Track, number: u32) -> &Cycle
-    requires first { 1 ≤ number }
-    requires closed { number ≤ length track.now.cycles.items }
-    ensures { (d : Cycle) → result.now ≡ slice_index_or track.now.cycles.items (number - 1) d }
-{
-    &track.cycles[number as usize - 1]
-}
-
 /// The book of an account at the end of a day: balances, rates and the rows of the open cycle, with the day since
 /// which there is a credit balance. Its entries, closed cycles and fees lie in a track beside it. Only `advance` moves
 /// it. Clauses see it as a summary, which with a track stands for the account's book.
@@ -66,17 +58,19 @@ pub struct Book {
 }
 
 impl Model for Book {
-    ghost use Rattle.card_book.specs.Stands.{Summary};
+    ghost use Rattle.card_book.specs.Stands.{IsRequestDay, Summary};
 
     ghost Value = { Summary };
 
     ghost view = { λ b. record { day = b.day; state = b.state; credit_since = b.credit_since; whole = b.whole } };
+
+    ghost invariant = { λ b. IsRequestDay b.day };
 }
 
 impl Book {
     ghost use Rattle.std.specs.Prelude.{◌≡◌, ◌+◌, ◌-◌, ◌≤◌, ◌<◌, ℕ, [], true, false, length, IfOk, OnOk, OnErr, Some, None};
     ghost use Rattle.card_days.specs.Range.{last_request_day, last_calendar_day};
-    ghost use Rattle.card_book.specs.Stands.{StandsFor, book_through, day_to_fold, days_through, since_after, steps_over};
+    ghost use Rattle.card_book.specs.Stands.{IsRequestDay, StandsFor, book_through, day_to_fold, days_through, since_after, steps_over};
     ghost use Rattle.card_daily.specs.Given.{Given, book_on, opened_in, seen_in};
     ghost use Rattle.card_daily.specs.Stands.{AreBefore, Begins, IsBlank};
     ghost use Rattle.card_daily.specs.declared.track.Track.{Track};
@@ -161,9 +155,10 @@ impl Book {
         self.whole
     }
 
-    /// The last day folded, None where none was.
+    /// The last day folded, at most 2099-12-31; None where none was.
     pub fn day(&self) -> Option<Day>
-        ensures { result ≡ self.now.day }
+        ensures value { result ≡ self.now.day }
+        ensures last { IsRequestDay result }
     {
         self.day
     }
@@ -199,34 +194,25 @@ impl Book {
         &self.state.segments
     }
 
-    /// The statement of a closed cycle, to be issued on a day (12 CFR 1026.5(b)(2), .7(b)). The Book and the track stand for
-    /// the book of these inputs, and the cycle is closed in it.
-    pub fn statement(
-        &self,
-        alloc: Global,
-        _inputs: &Inputs,
-        track: &Track,
-        number: u32,
-        issue: Day,
-    ) -> Result<Statement, NoMemory>
-        requires stands { StandsFor _inputs.now self.now track.now }
-        requires first { 1 ≤ number }
-        requires closed { number ≤ length track.now.cycles.items }
-        ensures cycle { IfOk result (λ s. cycle_at number (book_through _inputs.now self.now.day).cycles ≡ Some s.cycle) }
-        ensures issue { IfOk result (λ s. s.issue ≡ issue) }
+    // The rates of the account's posts, with the penalties begun so far.
+    pub(crate) fn rates(&self) -> &RateBook
+        ensures { result.now ≡ self.now.state.rates }
     {
-        Ok(Statement {
-            cycle: cycle_in(track, number).copy(alloc)?,
-            issue,
-        })
+        &self.state.rates
+    }
+
+    // What each segment but Credit and Held has accrued, in order of number.
+    pub(crate) fn accruals(&self) -> &[Accrual]
+        ensures { result.now ≡ self.now.state.accruals.items }
+    {
+        &self.state.accruals
     }
 
     /// Whether the account is sixty days late at the end of the last day folded (12 CFR 1026.55(b)(4)): some due date lies more
     /// than 60 days back, and the payments since its closing are below its minimum payment. False where no day is folded. The
-    /// Book and the track stand for the book of these inputs, and the day is at most 2099-12-31. It takes no memory.
+    /// Book and the track stand for the book of these inputs. It takes no memory.
     pub fn late_today(&self, inputs: &Inputs, track: &Track) -> bool
         requires stands { StandsFor inputs.now self.now track.now }
-        requires last { (day : ℕ) → self.now.day ≡ Some day → day ≤ last_request_day }
         ensures late { (day : ℕ) → self.now.day ≡ Some day → result ≡ sixty_days_late (seen_in inputs.now day) (book_on inputs.now day).cycles }
         ensures none { self.now.day ≡ None → result ≡ false }
     {

@@ -5,9 +5,13 @@ mod copies;
 mod from_opening;
 mod kept_book;
 pub mod laws;
+mod sheet;
+mod statement;
 
 pub use card_daily::{
     Amounts, Cycle, Entry, Fee, Fees, Inputs, Issued, Present, Statement, Track, row_for,
 };
-pub use from_opening::{Folded, fold};
+pub use card_statement::Sheet;
+pub use from_opening::{Folded, fold, fold_to};
 pub use kept_book::Book;
+pub use sheet::sheet_of;

@@ -164,7 +164,7 @@ segments-length : (a : Anchor) (terms : Terms) (ss : List CorrectedPost) → len
 unfolding segments
 segments-length a terms ss = omega arith
 
-segments-few : (acc : Account) (a : Anchor) (shared : SharedRows) (history : List Kept) (issued : List IssuedRow) (d : ℕ) → HasFewSegments history → length (all_segments acc (seen_on a shared history issued d)) ≤ 62
+pub segments-few : (acc : Account) (a : Anchor) (shared : SharedRows) (history : List Kept) (issued : List IssuedRow) (d : ℕ) → HasFewSegments history → length (all_segments acc (seen_on a shared history issued d)) ≤ 62
 segments-few acc a shared history issued d h =
     let whole = corrected a shared.holidays history in
     let xs = folded a shared.holidays history in

@@ -63,7 +63,7 @@ debit-on d s x credit =
     on-append d (raises (record { day = d; kind = kind.Interest; post = 0 }) 0 (min x credit)) (raises (record { day = d; kind = kind.Interest; post = 0 }) s (x - credit)) ∙ (rw (first, second) (omega arith))
 
 -- ---- what a closing posts
-sum-push : (s x : ℕ) (xs : List (ℕ × ℕ)) → amounts_sum (xs ++ (s, x) ∷ []) ≡ amounts_sum xs + x
+pub sum-push : (s x : ℕ) (xs : List (ℕ × ℕ)) → amounts_sum (xs ++ (s, x) ∷ []) ≡ amounts_sum xs + x
 sum-push s x xs = sum_by-append _ xs ((s, x) ∷ []) ∙ omega arith
 
 posted-on : (issued : Option IssuedRow) (seen : Seen) (amount : Book → SegmentTerms → ℕ) (gs : List SegmentTerms) (p : Posting)
@@ -146,6 +146,20 @@ posted-covered all issued seen amount [] p h g = g
 posted-covered all issued seen amount (t ∷ ts) p h g =
     posted-covered all issued seen amount ts _ (All-tail (λ (g : SegmentTerms). Covers all g.id) t ts h) (All-push (λ (x : ℕ × ℕ). Covers all x.0) p.amounts (t.id, posted_for issued amount t p) g (All-head (λ (g : SegmentTerms). Covers all g.id) t ts h))
 
+-- the amounts of the closing's cycle are together what was posted
+pub listed-interest : (issued : Option IssuedRow) (a : Account) (seen : Seen) (b : Book) → Rises 5 seen.posts
+    → amounts_sum (closed_cycle issued a seen b (closing_interest issued a seen b)).interest ≡ amounts_sum (closing_interest issued a seen b).amounts
+unfolding closing_interest
+listed-interest issued a seen b r =
+    let all = all_segments a seen in
+    let start : Posting = record { amounts = []; book = b } in
+    let amount = cycle_interest a seen (purchase_case_in seen b) (first_day_of a b) in
+    let once = post_interest issued seen amount all start in
+    let cover = all-cover 2 all (segments-ascend a seen r) in
+    let covered = posted-covered all issued seen (deferred_interest seen) all once cover (posted-covered all issued seen amount all start cover (All-nil (λ (x : ℕ × ℕ). Covers all x.0))) in
+    let twice = post_interest issued seen (deferred_interest seen) all once in
+    by_segment-sum (λ g. amount_at g.id twice.amounts) all ∙ amounts-sum all twice.amounts covered
+
 -- the closing's cycle has what was posted
 closed-interest : (issued : Option IssuedRow) (a : Account) (seen : Seen) (b : Book) → Rises 5 seen.posts → interest_on seen.day b.entries ≡ 0
     → amounts_sum (closed_cycle issued a seen b (closing_interest issued a seen b)).interest ≡ interest_on seen.day (close issued a seen b).entries
@@ -189,7 +203,7 @@ none-before issued a seen b early =
     let second = none-on seen.day added.rest (All-weaker (IsPlain seen.day) (IsNone seen.day) (λ e q s. q.1) added.rest added.all) in
     ap (interest_on seen.day) added.is ∙ (on-append seen.day b.entries added.rest ∙ omega arith)
 
-close-last : (issued : Option IssuedRow) (a : Account) (seen : Seen) (b : Book) → (close issued a seen b).cycles ≡ b.cycles ++ closed_cycle issued a seen b (closing_interest issued a seen b) ∷ []
+pub close-last : (issued : Option IssuedRow) (a : Account) (seen : Seen) (b : Book) → (close issued a seen b).cycles ≡ b.cycles ++ closed_cycle issued a seen b (closing_interest issued a seen b) ∷ []
 unfolding close
 close-last issued a seen b = refl
 

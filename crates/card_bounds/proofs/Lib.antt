@@ -1,6 +1,7 @@
 pub mod Bounded
 pub mod CountDays
 pub mod Counts
+pub mod CycleAmounts
 pub mod CycleInterest
 pub mod Dated
 pub mod Held

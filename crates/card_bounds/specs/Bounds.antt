@@ -5,7 +5,7 @@ use Rattle.card_units.specs.Money.{daily}
 use Rattle.card_events.specs.History.{CorrectedPost, anchor_of}
 use Rattle.card_events.specs.SharedRows.{SharedRows}
 use Rattle.card_events.specs.declared.kept.Kept.{Kept}
-use Rattle.card_model.specs.Accepted.{AreResolvedOnce, HasFewCents, HasFewFees, HasFewRates}
+use Rattle.card_model.specs.Accepted.{AreResolvedOnce, HasFewCents, HasFewFees, HasFewRates, HasFewSegments}
 use Rattle.card_model.specs.Books.{Book, account_of, all_segments, present_cycle, rate_in}
 use Rattle.card_model.specs.Caps.{row_for}
 use Rattle.card_model.specs.Closing.{Posting, post_interest}
@@ -172,3 +172,17 @@ abbrev pub CyclesHaveTheirInterest : Type 0
 CyclesHaveTheirInterest =
     (history : List Kept) (issued : List IssuedRow) (shared : SharedRows) (day : ℕ)
     → All (λ c. amounts_sum c.interest ≡ interest_on c.closing (book history issued shared day).entries) (book history issued shared day).cycles
+
+-- ---- the amounts of a cycle
+-- the most interest of a closing: on each of 62 segments 10^13 cents for its rows, and as much for what was deferred
+abbrev pub most_interest : ℕ
+most_interest = 1_240_000_000_000_000
+
+-- No closed cycle of an account of at most 64 segments has more, and what all entries move, interest apart, is within the limits
+pub record AmountsSmall : Type 0 where
+  pub interest :
+      (history : List Kept) (issued : List IssuedRow) (shared : SharedRows) (day : ℕ) → HasFewSegments history
+      → All (λ c. amounts_sum c.interest ≤ most_interest) (book history issued shared day).cycles
+  pub moves :
+      (posts : ℕ) (history : List Kept) (issued : List IssuedRow) (shared : SharedRows) (day : ℕ) → IsLimited posts history shared day
+      → moved (book history issued shared day).entries ≤ most_moved posts

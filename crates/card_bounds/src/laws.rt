@@ -1,5 +1,5 @@
 //! Bounds from the limits on posts, cents, fees and days alone; on which segments and days entries lie.
-ghost use Rattle.card_bounds.specs.Bounds.{BalancesBounded, BalancesSmall, CyclesHaveTheirInterest, HeldIsNeverBelow, RatesSmall, RowsOfPastDays, RowsSmall, SmallAtEachStep, SumsSmall};
+ghost use Rattle.card_bounds.specs.Bounds.{AmountsSmall, BalancesBounded, BalancesSmall, CyclesHaveTheirInterest, HeldIsNeverBelow, RatesSmall, RowsOfPastDays, RowsSmall, SmallAtEachStep, SumsSmall};
 ghost use Rattle.card_bounds.specs.Counts.{EntriesAreFew};
 ghost use Rattle.card_bounds.specs.Places.{CyclesBeginInTurn, EntriesHaveDays, EntriesHaveSegments};
 ghost use Rattle.card_bounds.specs.Reached.{PaymentsReach};
@@ -77,4 +77,10 @@ pub fn cycles_begin_in_turn()
 /// merchant's credit.
 pub fn payments_reach()
     ensures { PaymentsReach }
+{}
+
+/// A closed cycle of an account of at most 64 segments has at most 1.24 * 10^15 cents of interest, and what all entries move,
+/// interest apart, is within what the limits on posts, cents and fees let them move.
+pub fn amounts_small()
+    ensures { AmountsSmall }
 {}

@@ -58,13 +58,13 @@ fn enter_all<K: Keeper>(
 }
 
 // Has a desk of the kept rows accept lines.
-fn accept_all<K: Keeper>(alloc: Global, keeper: &mut K, lines: &[&str]) -> Result<(), Fail> {
+pub fn accept_all<K: Keeper>(alloc: Global, keeper: &mut K, lines: &[&str]) -> Result<(), Fail> {
     let mut desk = Desk::load(alloc, keeper)?;
     enter_all(alloc, &mut desk, keeper, lines)
 }
 
 // What the desk of the kept rows says of a question.
-fn seen(alloc: Global, keeper: &mut MemoryKeeper, ask: &Ask) -> Result<View, Fail> {
+pub fn seen(alloc: Global, keeper: &mut MemoryKeeper, ask: &Ask) -> Result<View, Fail> {
     let desk = Desk::load(alloc, keeper)?;
     Ok(desk.see(alloc, ask)?)
 }
@@ -321,6 +321,9 @@ fn is_same(one: &Statement, other: &Statement) -> bool {
         && a.average.items() == b.average.items()
         && a.fees.items() == b.fees.items()
         && one.issue == other.issue
+        && one.sheet.due_payment == other.sheet.due_payment
+        && (one.sheet.previous, one.sheet.corrections)
+            == (other.sheet.previous, other.sheet.corrections)
 }
 
 fn are_same(list: &[Statement], other: &[Statement]) -> bool {

@@ -5,6 +5,8 @@
 #[cfg(test)]
 mod account;
 #[cfg(test)]
+mod connections;
+#[cfg(test)]
 mod desks;
 #[cfg(test)]
 mod forms;
@@ -12,6 +14,8 @@ mod forms;
 mod lines;
 #[cfg(test)]
 mod posts;
+#[cfg(test)]
+mod statements;
 #[cfg(test)]
 mod tasks;
 #[cfg(test)]

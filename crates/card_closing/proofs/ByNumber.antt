@@ -93,6 +93,13 @@ total-within (b ∷ bs) w = join (length bs) b (total bs) (w 0) (total-within bs
 pub net-within : (n : ℕ) (t h : ℤ) → n ≤ 64 → IsWithin (n * balance_limit) t → IsWithin balance_limit h → IsWithin 100_000_000_000_000_000 (t -ℤ h)
 net-within n t h few a b = (omega (arith, ints, few, a.0, a.1, b.0, b.1), omega (arith, ints, few, a.0, a.1, b.0, b.1))
 
+-- what is owed, of at most 64 balances
+pub owed-within : (bs : List ℤ) (t : ℤ) → length bs ≤ 64 → AreWithin balance_limit bs → t ≡ total bs → IsWithin 100_000_000_000_000_000 t
+owed-within bs t few w e = wider (length bs) t few (subst (λ z. IsWithin (length bs * balance_limit) z) (sym e) (total-within bs w))
+  where
+    wider : (n : ℕ) (t : ℤ) → n ≤ 64 → IsWithin (n * balance_limit) t → IsWithin 100_000_000_000_000_000 t
+    wider n t few a = (omega (arith, ints, few, a.0), omega (arith, ints, few, a.1))
+
 -- what is owed and what is held, as numbers of 64 bits
 pub record AreFit (bs : List ℤ) (t h : ℤ) : Type 0 where
   pub owed : FitsSigned w64 t

@@ -2,7 +2,7 @@
 use Rattle.std.specs.Prelude.{ℕ, zero, suc, ◌≡◌, ◌+◌, ◌-◌, ◌==◌, nat_lt, if◌then◌else◌, take, length, List, [], ◌∷◌, ◌++◌, Option, Some, None, slice_index_or}
 use Rattle.card_model.specs.Caps.{capped_by, issued_interest}
 use Rattle.card_model.specs.Closing.{within_limit}
-use Rattle.card_model.specs.Cycles.{Amounts, Cycle, IssuedRow}
+use Rattle.card_model.specs.Cycles.{Amounts, Cycle, IssuedRow, no_sheet}
 use Rattle.card_model.specs.Entries.{AreBalances, credit_balance, debit, owing}
 use Rattle.card_model.specs.Limits.{balance_limit}
 use Rattle.card_model.specs.declared.entry.Entry.{Entry}
@@ -21,7 +21,7 @@ turn_of charges all = record { amounts = charges; entries = all }
 -- the issued row of a statement. Caps read nothing of it but the statement
 abbrev pub row_of : Option Cycle → Option IssuedRow
 row_of None = None
-row_of (Some c) = Some (record { cycle = c.number; bill = 0; day = 0; statement = c })
+row_of (Some c) = Some (record { cycle = c.number; bill = 0; day = 0; statement = c; sheet = no_sheet })
 
 -- amounts with one more, none for 0
 abbrev pub with_amount : ℕ → ℕ → Amounts → Amounts

@@ -6,7 +6,7 @@ ghost use Rattle.card_segments.specs.Balances.{AreWithin};
 ghost use Rattle.card_closing.specs.Turns.{AreInStep, BeginsWith};
 
 use crate::interest::{charge_accruals, charge_interest};
-use crate::record::{averages, charged_amounts, grace_of, held, minimum_of};
+use crate::record::{averages, charged_amounts, grace_of, held, minimum_of, owed};
 use crate::{Amounts, Cycle, Fee, Fees};
 use card_days::Day;
 use card_grace::{Accrual, CycleRows, GraceCase};
@@ -63,7 +63,7 @@ fn record(
         closing: closing.closing,
         due: closing.due,
         previous: closing.previous,
-        new_balance: segments.owed(),
+        new_balance: owed(segments),
         held: held(segments),
         interest,
         average,

@@ -8,7 +8,7 @@ use std::marker::Model;
 /// at this one, and what of it is in dispute (12 CFR 1026.13); the interest and the average daily balance of each segment;
 /// the penalty fees; the minimum payment; what has to be paid by the due date to keep the grace period (12 CFR
 /// 1026.54(a)(1)); and how many entries the account had at the end of the closing. Amounts are cents; what is held, the
-/// minimum payment and the grace amount are at least 0.
+/// minimum payment and the grace amount are at least 0, and the new balance is at most 10^17 in size.
 #[derive(Drop)]
 pub struct Cycle {
     pub number: u32,
@@ -28,18 +28,30 @@ pub struct Cycle {
 
 impl Model for Cycle {
     ghost use Rattle.std.specs.Prelude.{pos, ◌≤ℤ◌};
+    ghost use Rattle.card_fees.specs.Limits.{statement_limit};
     ghost use Rattle.card_model.specs.Cycles.{Cycle};
     ghost use Rattle.card_model.specs.Entries.{at_least_zero};
+    ghost use Rattle.card_segments.specs.Balances.{IsWithin};
 
     ghost Value = { Cycle };
 
     ghost view = { λ c. record { number = c.number; first = c.first; closing = c.closing; due = c.due; previous = c.previous; new_balance = c.new_balance; held = at_least_zero c.held; interest = c.interest; average = c.average; fees = c.fees; minimum = at_least_zero c.minimum; grace_amount = at_least_zero c.grace_amount; entries = c.entries } };
 
-    ghost invariant = { λ c. (pos 0 ≤ℤ c.held) × (pos 0 ≤ℤ c.minimum) × (pos 0 ≤ℤ c.grace_amount) };
+    ghost invariant = { λ c. (pos 0 ≤ℤ c.held) × (pos 0 ≤ℤ c.minimum) × (pos 0 ≤ℤ c.grace_amount) × IsWithin statement_limit c.new_balance };
 }
 
 impl Cycle {
     ghost use Rattle.std.specs.Prelude.{◌≡◌, IfOk};
+    ghost use Rattle.card_fees.specs.Limits.{statement_limit};
+    ghost use Rattle.card_segments.specs.Balances.{IsWithin};
+
+    /// What was owed at its closing, in cents, at most 10^17 in size.
+    pub fn owed(&self) -> Cents
+        ensures value { result ≡ self.now.new_balance }
+        ensures small { IsWithin statement_limit result }
+    {
+        self.new_balance
+    }
 
     /// The same cycle in memory of its own.
     pub fn copy(&self, alloc: Global) -> Result<Cycle, NoMemory>

@@ -8,7 +8,7 @@ ghost use Rattle.card_model.specs.Cycles.{amount_at, amounts_sum};
 ghost use Rattle.card_model.specs.Entries.{at_least_zero};
 ghost use Rattle.card_model.specs.Fees.{fees_sum};
 ghost use Rattle.card_model.specs.declared.segment.Segment.{Segment};
-ghost use Rattle.card_segments.specs.Balances.{AreWithin, IsWithin};
+ghost use Rattle.card_segments.specs.Balances.{AreWithin, IsWithin, total};
 ghost use Rattle.card_fees.specs.Limits.{statement_limit};
 ghost use Rattle.card_closing.specs.Record.{AreSmall, HasTermsInRange, averages_of, balance_later, by_number, cycle_average, deferred_after, grace_by, largest_cents, minimum_by, net_of};
 
@@ -122,6 +122,16 @@ pub fn held(segments: &Segments) -> Cents
 {
     let _count = segments.len();
     segments.balance(1)
+}
+
+// What is owed.
+pub fn owed(segments: &Segments) -> Cents
+    requires small { AreWithin balance_limit segments.now.balances }
+    ensures value { result ≡ total segments.now.balances }
+    ensures size { IsWithin statement_limit result }
+{
+    let _count = segments.len();
+    segments.owed()
 }
 
 // What is owed, less what is held.

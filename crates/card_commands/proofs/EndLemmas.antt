@@ -11,7 +11,8 @@ use Rattle.card_commands.specs.Input.{ended_items, all_items, lines}
 use Rattle.card_commands.specs.Outside.{Outside, ReadFirst, ReadAll, Wrote, WroteFront, Runs, HasCause, Unfailed, but_last, sides_of, AreFirst}
 use Rattle.card_commands.specs.Ran.{Finished, HeldAt, StoppedAt, Ran, FellReading}
 use Rattle.card_commands.specs.Run.{text_of, rows_kept}
-use Rattle.card_commands.specs.Written.{TookFront, TookBetween, Did, DidPart, SameCounts, FellIn}
+use Rattle.card_ports.specs.Written.{TookFront}
+use Rattle.card_commands.specs.Written.{TookBetween, Did, DidPart, SameCounts, FellIn}
 use Rattle.card_commands.specs.declared.end.End.{End}
 use Rattle.card_commands.specs.declared.end.End.TheVariants as end
 use Rattle.card_commands.specs.declared.ended.Ended.{Ended}

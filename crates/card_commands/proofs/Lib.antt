@@ -10,3 +10,5 @@ pub mod StatusLemmas
 pub mod ImportLemmas
 pub mod QuietLemmas
 pub mod ToldLemmas
+pub mod ServerLemmas
+pub mod WorldLemmas

@@ -1,16 +1,24 @@
 -- What a command comes to from the ledger that the kept rows gave.
 use Rattle.std.proofs.Common.{◌≡◌, ℕ, ◌⊎◌, inl, inr, List, [], refl, ◌∙◌, subst, Option, None, Some}
 use Rattle.std.proofs.KnownBytes.{Appends-nil}
-use Rattle.card_desk.specs.Views.{listed, seen}
+use Rattle.std.specs.Option.{option_map}
+use Rattle.card_account.specs.Accounts.{issued_statement, restated_statement}
+use Rattle.card_daily.specs.declared.track.Statement.{Statement}
+use Rattle.card_demo.specs.Demonstrations.{Demonstration}
+use Rattle.card_demo.specs.Summary.{demo_text}
+use Rattle.card_desk.specs.Views.{issued, listed, restated, seen, stated}
+use Rattle.card_views.specs.Told.{entries_told, statement_told, text_of_statement, told}
 use Rattle.card_desk.specs.declared.view.Ask.TheVariants as ask
 use Rattle.card_keeper.specs.Rows.{KeepsRows}
 use Rattle.card_model.specs.Machine.{State, lists_of}
 use Rattle.card_model.specs.Refusals.{Lists}
+use Rattle.card_model.specs.Work.{present_in}
 use Rattle.card_ports.specs.Counts.{Rose}
 use Rattle.card_commands.specs.Input.{Cut, lines, records}
-use Rattle.card_commands.specs.Outside.{Outside, Outcome, Runs, HasCause, Unfailed, Loads, Views, Ends, sides_of, lists_text, entries_text, work_text}
-use Rattle.card_commands.specs.Views.{GaveLedger, GaveNone, Loaded, NotLoaded, SidesFailed, Tells, Viewed, view_told}
-use Rattle.card_commands.specs.Written.{SinkSide, Sides}
+use Rattle.card_commands.specs.Outside.{Outside, Outcome, Runs, HasCause, Unfailed, Loads, Views, Ends, sides_of, lists_issued, lists_restated, lists_text, entries_text, issued_text, restated_text, work_text}
+use Rattle.card_commands.specs.Views.{GaveLedger, GaveNone, Loaded, NotLoaded, SidesFailed, Tells, Told, Viewed}
+use Rattle.card_ports.specs.Written.{SinkSide}
+use Rattle.card_commands.specs.Written.{KeeperSide, Sides}
 use Rattle.card_commands.specs.declared.command.Command.{Command}
 use Rattle.card_commands.specs.declared.command.Command.TheVariants as command
 use Rattle.card_commands.specs.declared.ended.Ended.{Ended}
@@ -41,6 +49,7 @@ loaded_run old new k at cut s ended.Keeper keeps ran =
     record { bytes = ran.bytes; read = ran.read; stands = (ran.stands.0, ran.stands.1, (ran.stands.2.0, kept_then old.rows at.keeper.rows new.rows _ keeps ran.stands.2.1)) }
 loaded_run old new k at cut s ended.Memory keeps ran =
     record { bytes = ran.bytes; read = ran.read; stands = (ran.stands.0, ran.stands.1, (ran.stands.2.0, kept_then old.rows at.keeper.rows new.rows _ keeps ran.stands.2.1)) }
+loaded_run old new k at cut s ended.Door keeps ran = absurd ran
 loaded_run old new k at cut s ended.Damaged keeps ran = absurd ran
 loaded_run old new k at cut s ended.Endless keeps ran =
     record { bytes = ran.bytes; read = ran.read; stands = (ran.stands.0, (ran.stands.1.0, kept_then old.rows at.keeper.rows new.rows _ keeps ran.stands.1.1)) }
@@ -57,6 +66,7 @@ loaded_cause old new k at ended.Source same cause = cause
 loaded_cause old new k at ended.Sink same cause = cause
 loaded_cause old new k at ended.Keeper same cause = subst (λ (n : ℕ). Rose n new.keeper_faults) same cause
 loaded_cause old new k at ended.Memory same cause = loaded_unfailed old new k at same cause
+loaded_cause old new k at ended.Door same cause = loaded_unfailed old new k at same cause
 loaded_cause old new k at ended.Damaged same cause = tt
 loaded_cause old new k at ended.Endless same cause = loaded_unfailed old new k at same cause
 
@@ -91,28 +101,57 @@ unloaded_cause old new ended.Source same none cause = absurd none
 unloaded_cause old new ended.Sink same none cause = absurd none
 unloaded_cause old new ended.Keeper same none cause = cause
 unloaded_cause old new ended.Memory same none cause = record { source = same; sides = cause }
+unloaded_cause old new ended.Door same none cause = absurd none
 unloaded_cause old new ended.Damaged same none cause = tt
 unloaded_cause old new ended.Endless same none cause = absurd none
 
-unloaded_ends : {I K : Type 0} (old new : Outside I K) (c : Command) (e : Ended) → new.input ≡ old.input → GaveNone (sides_of old) (sides_of new) e → Ends old new (Some c) e
-unfolding Ends
-unloaded_ends old new command.Apply e same none = inl ((same, none.rows), none.ends)
-unloaded_ends old new command.Import e same none = inl ((same, none.rows), none.ends)
-unloaded_ends old new (command.Export name) e same none = ((same, none.rows), inl ((same, none.rows), none.ends))
-unloaded_ends old new command.Work e same none = ((same, none.rows), inl ((same, none.rows), none.ends))
+-- a command that begins with the kept rows
+abbrev pub LoadsRows : Command → Type 0
+LoadsRows command.Apply = Unit {0}
+LoadsRows command.Import = Unit {0}
+LoadsRows (command.Export name) = Unit {0}
+LoadsRows command.Work = Unit {0}
+LoadsRows (command.Statement name cycle) = Unit {0}
+LoadsRows (command.Restate name cycle) = Unit {0}
+LoadsRows (command.Demo d) = ⊥
+LoadsRows (command.Serve port count) = Unit {0}
 
-pub unloaded_outcome : {I K : Type 0} (old new : Outside I K) (c : Command) (e : Ended) → new.input ≡ old.input → new.source_faults ≡ old.source_faults → GaveNone (sides_of old) (sides_of new) e → Outcome old new (Some c) e
-unloaded_outcome old new c e same count none = record { ends = unloaded_ends old new c e same none; cause = unloaded_cause old new e count none.ends none.cause }
+unloaded_ends : {I K : Type 0} (old new : Outside I K) (c : Command) (e : Ended) → LoadsRows c → new.input ≡ old.input → GaveNone (sides_of old) (sides_of new) e → Ends old new (Some c) e
+unfolding Ends
+unloaded_ends old new command.Apply e loads same none = inl ((same, none.rows), none.ends)
+unloaded_ends old new command.Import e loads same none = inl ((same, none.rows), none.ends)
+unloaded_ends old new (command.Export name) e loads same none = ((same, none.rows), inl ((same, none.rows), none.ends))
+unloaded_ends old new command.Work e loads same none = ((same, none.rows), inl ((same, none.rows), none.ends))
+unloaded_ends old new (command.Statement name cycle) e loads same none = ((same, none.rows), inl ((same, none.rows), none.ends))
+unloaded_ends old new (command.Restate name cycle) e loads same none = ((same, none.rows), inl ((same, none.rows), none.ends))
+unloaded_ends old new (command.Demo d) e loads same none = absurd loads
+unloaded_ends old new (command.Serve port count) e loads same none = ((same, none.rows), none.ends)
+
+pub unloaded_outcome : {I K : Type 0} (old new : Outside I K) (c : Command) (e : Ended) → LoadsRows c → new.input ≡ old.input → new.source_faults ≡ old.source_faults → GaveNone (sides_of old) (sides_of new) e → Outcome old new (Some c) e
+unloaded_outcome old new c e loads same count none = record { ends = unloaded_ends old new c e loads same none; cause = unloaded_cause old new e count none.ends none.cause }
 
 -- memory was wanted before anything was done
+unloaded_memory : {I K : Type 0} (old : Outside I K) (c : Command) → LoadsRows c → Outcome old old (Some c) ended.Memory
+unloaded_memory old c loads =
+    unloaded_outcome old old c ended.Memory loads refl refl (record { ends = inl (Appends-nil old.taken); rows = keeps_same old.rows; cause = counts_refl (sides_of old) })
+
 pub untouched_outcome : {I K : Type 0} (old : Outside I K) (c : Option Command) → Outcome old old c ended.Memory
 unfolding Ends HasCause
 untouched_outcome old None = record {
   ends = (refl, (refl, keeps_same old.rows), record { bytes = []; taken = Appends-nil old.taken; front = front_none _ });
   cause = record { source = refl; sides = counts_refl (sides_of old) };
 }
-untouched_outcome old (Some c) =
-    unloaded_outcome old old c ended.Memory refl refl (record { ends = inl (Appends-nil old.taken); rows = keeps_same old.rows; cause = counts_refl (sides_of old) })
+untouched_outcome old (Some command.Apply) = unloaded_memory old command.Apply tt
+untouched_outcome old (Some command.Import) = unloaded_memory old command.Import tt
+untouched_outcome old (Some (command.Export name)) = unloaded_memory old (command.Export name) tt
+untouched_outcome old (Some command.Work) = unloaded_memory old command.Work tt
+untouched_outcome old (Some (command.Statement name cycle)) = unloaded_memory old (command.Statement name cycle) tt
+untouched_outcome old (Some (command.Restate name cycle)) = unloaded_memory old (command.Restate name cycle) tt
+untouched_outcome old (Some (command.Serve port count)) = unloaded_memory old (command.Serve port count) tt
+untouched_outcome old (Some (command.Demo d)) = record {
+  ends = (refl, (refl, keeps_same old.rows), record { bytes = []; taken = Appends-nil old.taken; front = front_none _ });
+  cause = record { source = refl; sides = counts_refl (sides_of old) };
+}
 
 -- ---- a text of a ledger
 
@@ -129,6 +168,7 @@ told_cause old new text ended.Source same told cause = no_text text told
 told_cause old new text ended.Sink same told cause = cause
 told_cause old new text ended.Keeper same told cause = cause
 told_cause old new text ended.Memory same told cause = record { source = same; sides = cause }
+told_cause old new text ended.Door same told cause = record { source = same; sides = cause }
 told_cause old new text ended.Damaged same told cause = tt
 told_cause old new text ended.Endless same told cause = record { source = same; sides = cause }
 
@@ -144,8 +184,8 @@ viewed_loads : {I K : Type 0} (old new : Outside I K) (text : State → Option (
 viewed_loads old new text e same keeps (inl none) = ((same, keeps), inl ((same, keeps), none))
 viewed_loads old new text e same keeps (inr some) = ((same, keeps), inr some)
 
-pub work_outcome : {I K : Type 0} (old new : Outside I K) (e : Ended) → new.input ≡ old.input → new.source_faults ≡ old.source_faults → Viewed (sides_of old) (sides_of new) (λ s. view_told (seen s ask.Work)) e → Outcome old new (Some command.Work) e
-unfolding Ends seen work_text
+pub work_outcome : {I K : Type 0} (old new : Outside I K) (e : Ended) → new.input ≡ old.input → new.source_faults ≡ old.source_faults → Viewed (sides_of old) (sides_of new) (λ s. told s ask.Work) e → Outcome old new (Some command.Work) e
+unfolding Ends seen told work_text
 work_outcome old new e same count viewed = record { ends = viewed_loads old new work_text e same viewed.rows viewed.ends; cause = viewed_cause old new _ e count viewed }
 
 -- the same text
@@ -157,17 +197,82 @@ viewed_same old new f g e same viewed = record { ends = by viewed.ends; rows = v
     by (inr some) = inr (record { ledger = some.ledger; loaded = some.loaded; ran = subst (Tells old.sink.taken new.sink.taken e) (same some.ledger) some.ran })
 
 -- the text of an account's entries
-lists_told : (s : State) (lists : Option Lists) → view_told (listed s lists) ≡ lists_text s lists
+lists_told : (s : State) (lists : Option Lists) → entries_told (listed s lists) ≡ lists_text s lists
 lists_told s None = refl
 lists_told s (Some lists) = refl
 
-entries_told : (name : List ℕ) (s : State) → view_told (seen s (ask.Entries name)) ≡ entries_text name s
-unfolding seen entries_text
-entries_told name s = lists_told s (lists_of name s.accounts)
+entries_same : (name : List ℕ) (s : State) → told s (ask.Entries name) ≡ entries_text name s
+unfolding seen told entries_text
+entries_same name s = lists_told s (lists_of name s.accounts)
 
 pub export_outcome : {I K : Type 0} (old new : Outside I K) (name : List ℕ) (e : Ended) → new.input ≡ old.input → new.source_faults ≡ old.source_faults
-    → Viewed (sides_of old) (sides_of new) (λ s. view_told (seen s (ask.Entries name))) e → Outcome old new (Some (command.Export name)) e
+    → Viewed (sides_of old) (sides_of new) (λ s. told s (ask.Entries name)) e → Outcome old new (Some (command.Export name)) e
 unfolding Ends
-export_outcome old new name e same count told =
-    let viewed = viewed_same (sides_of old) (sides_of new) (λ s. view_told (seen s (ask.Entries name))) (entries_text name) e (entries_told name) told in
+export_outcome old new name e same count by =
+    let viewed = viewed_same (sides_of old) (sides_of new) (λ s. told s (ask.Entries name)) (entries_text name) e (entries_same name) by in
     record { ends = viewed_loads old new (entries_text name) e same viewed.rows viewed.ends; cause = viewed_cause old new (entries_text name) e count viewed }
+
+-- the text of a statement
+stated_told : (name : List ℕ) (o : Option Statement) → statement_told name (stated o) ≡ option_map (text_of_statement name) o
+stated_told name None = refl
+stated_told name (Some s) = refl
+
+issued_told : (name : List ℕ) (cycle : ℕ) (lists : Option Lists) → statement_told name (issued cycle lists) ≡ lists_issued name cycle lists
+issued_told name cycle None = refl
+issued_told name cycle (Some lists) = stated_told name (issued_statement cycle lists.issued)
+
+statement_is : (name : List ℕ) (cycle : ℕ) (s : State) → told s (ask.Issued name cycle) ≡ issued_text name cycle s
+unfolding seen told issued_text
+statement_is name cycle s = issued_told name cycle (lists_of name s.accounts)
+
+restated_told : (name : List ℕ) (cycle : ℕ) (s : State) (lists : Option Lists) → statement_told name (restated s cycle lists) ≡ lists_restated name cycle s lists
+restated_told name cycle s None = refl
+restated_told name cycle s (Some lists) = stated_told name (restated_statement (present_in s lists) cycle)
+
+restate_is : (name : List ℕ) (cycle : ℕ) (s : State) → told s (ask.Restated name cycle) ≡ restated_text name cycle s
+unfolding seen told restated_text
+restate_is name cycle s = restated_told name cycle s (lists_of name s.accounts)
+
+-- so the commands come to what their lines say
+pub statement_outcome : {I K : Type 0} (old new : Outside I K) (name : List ℕ) (cycle : ℕ) (e : Ended) → new.input ≡ old.input → new.source_faults ≡ old.source_faults
+    → Viewed (sides_of old) (sides_of new) (λ s. told s (ask.Issued name cycle)) e → Outcome old new (Some (command.Statement name cycle)) e
+unfolding Ends
+statement_outcome old new name cycle e same count by =
+    let text = issued_text name cycle in
+    let viewed = viewed_same (sides_of old) (sides_of new) (λ s. told s (ask.Issued name cycle)) text e (statement_is name cycle) by in
+    record { ends = viewed_loads old new text e same viewed.rows viewed.ends; cause = viewed_cause old new text e count viewed }
+
+pub restate_outcome : {I K : Type 0} (old new : Outside I K) (name : List ℕ) (cycle : ℕ) (e : Ended) → new.input ≡ old.input → new.source_faults ≡ old.source_faults
+    → Viewed (sides_of old) (sides_of new) (λ s. told s (ask.Restated name cycle)) e → Outcome old new (Some (command.Restate name cycle)) e
+unfolding Ends
+restate_outcome old new name cycle e same count by =
+    let text = restated_text name cycle in
+    let viewed = viewed_same (sides_of old) (sides_of new) (λ s. told s (ask.Restated name cycle)) text e (restate_is name cycle) by in
+    record { ends = viewed_loads old new text e same viewed.rows viewed.ends; cause = viewed_cause old new text e count viewed }
+
+-- ---- the text of a demonstration
+
+-- where the keeper is as it was, what failed of the sink is all that failed
+told_sides : (sink at : SinkSide) (keeper : KeeperSide) (text : List ℕ) (e : Ended) → Told sink at (Some text) e → SidesFailed (record { sink = sink; keeper = keeper }) (record { sink = at; keeper = keeper }) e
+told_sides sink at keeper text ended.Done told = record { sink = told.cause; keeper = refl }
+told_sides sink at keeper text ended.Refused told = absurd told.ends
+told_sides sink at keeper text ended.Usage told = absurd told.ends
+told_sides sink at keeper text ended.Source told = absurd told.ends
+told_sides sink at keeper text ended.Sink told = told.cause
+told_sides sink at keeper text ended.Keeper told = absurd told.ends
+told_sides sink at keeper text ended.Door told = absurd told.ends
+told_sides sink at keeper text ended.Memory told = record { sink = told.cause; keeper = refl }
+told_sides sink at keeper text ended.Damaged told = absurd told.ends
+told_sides sink at keeper text ended.Endless told = absurd told.ends
+
+-- the sink alone was touched
+pub demo_outcome : {I K : Type 0} (old : Outside I K) (at : SinkSide) (d : Demonstration) (e : Ended) → Told (sides_of old).sink at (Some (demo_text d.start d.accounts d.cycles)) e
+    → Outcome old (record old { taken = at.taken; sink_faults = at.faults }) (Some (command.Demo d)) e
+unfolding Ends
+demo_outcome old at d e told =
+    let text = demo_text d.start d.accounts d.cycles in
+    let new = record old { taken = at.taken; sink_faults = at.faults } in
+    record {
+      ends = (refl, (refl, keeps_same old.rows), told.ends);
+      cause = told_cause old new (Some text) e refl told.ends (told_sides (sides_of old).sink at (sides_of old).keeper text e told);
+    }

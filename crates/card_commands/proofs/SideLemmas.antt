@@ -8,7 +8,8 @@ use Rattle.card_ports.specs.Bytes.{IsFront}
 use Rattle.card_ports.specs.Counts.{Rose}
 use Rattle.card_ports.specs.declared.source.SinkFault.{SinkFault}
 use Rattle.card_ports.specs.declared.source.SinkFault.TheVariants as fault
-use Rattle.card_commands.specs.Written.{SinkSide, Sides, TookFront, TookBetween, TookAll, TookPart, SinkFailed, Did, DidPart, SameCounts, Failed}
+use Rattle.card_ports.specs.Written.{SinkSide, TookFront, TookAll, TookPart, SinkFailed}
+use Rattle.card_commands.specs.Written.{Sides, TookBetween, Did, DidPart, SameCounts, Failed}
 use Rattle.card_commands.specs.declared.end.End.{End}
 use Rattle.card_commands.specs.declared.end.End.TheVariants as end
 use Rattle.card_commands.proofs.RowLemmas.{AddsRows-trans, AddsRows-nil}

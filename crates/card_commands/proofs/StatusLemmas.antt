@@ -1,9 +1,9 @@
 -- The statuses of each command.
-use Rattle.std.proofs.Common.{◌≡◌, ℕ, inl, inr, List, [], ◌∷◌, refl, sym, subst, Option, None, Some}
+use Rattle.std.proofs.Common.{ℕ, inl, inr, List, [], ◌∷◌, refl, Option, None, Some}
 use Rattle.card_model.specs.Machine.{State}
 use Rattle.card_commands.specs.Commands.{status_of, statuses_of, account_statuses, run_statuses, IsOneOf}
 use Rattle.card_commands.specs.Input.{Cut, lines, records}
-use Rattle.card_commands.specs.Outside.{Outside, Outcome, Runs, NoCommand, Loads, Ends, sides_of, entries_text, work_text}
+use Rattle.card_commands.specs.Outside.{Outside, Runs, NoCommand, Loads, Ends, sides_of, entries_text, issued_text, restated_text, work_text}
 use Rattle.card_commands.specs.Views.{NotLoaded, Tells}
 use Rattle.card_commands.specs.Written.{Sides}
 use Rattle.card_commands.specs.declared.command.Command.{Command}
@@ -19,6 +19,7 @@ run_status old new cut s ended.Source ran = inr (inr (inl refl))
 run_status old new cut s ended.Sink ran = inr (inr (inr (inl refl)))
 run_status old new cut s ended.Keeper ran = inr (inr (inr (inr (inl refl))))
 run_status old new cut s ended.Memory ran = inr (inr (inr (inr (inr (inl refl)))))
+run_status old new cut s ended.Door ran = absurd ran
 run_status old new cut s ended.Damaged ran = absurd ran
 run_status old new cut s ended.Endless ran = inr (inr (inr (inr (inr (inr (inr (inl refl)))))))
 
@@ -30,6 +31,7 @@ not_loaded_status old new ended.Source none = absurd none
 not_loaded_status old new ended.Sink none = absurd none
 not_loaded_status old new ended.Keeper none = inl refl
 not_loaded_status old new ended.Memory none = inr (inl refl)
+not_loaded_status old new ended.Door none = absurd none
 not_loaded_status old new ended.Damaged none = inr (inr (inl refl))
 not_loaded_status old new ended.Endless none = absurd none
 
@@ -41,6 +43,7 @@ no_command_status old new ended.Source said = absurd said
 no_command_status old new ended.Sink said = absurd said
 no_command_status old new ended.Keeper said = absurd said
 no_command_status old new ended.Memory said = inr (inl refl)
+no_command_status old new ended.Door said = absurd said
 no_command_status old new ended.Damaged said = absurd said
 no_command_status old new ended.Endless said = absurd said
 
@@ -53,6 +56,13 @@ among_run n (inr (inr (inr never))) = absurd never
 
 among_view : (n : ℕ) → IsOneOf n (5 ∷ 6 ∷ 8 ∷ []) → IsOneOf n (statuses_of (Some command.Work))
 among_view n is = inr (inr is)
+
+-- of a server
+among_server : (port count n : ℕ) → IsOneOf n (5 ∷ 6 ∷ 8 ∷ []) → IsOneOf n (statuses_of (Some (command.Serve port count)))
+among_server port count n (inl is) = inr (inr (inl is))
+among_server port count n (inr (inl is)) = inr (inr (inr (inl is)))
+among_server port count n (inr (inr (inl is))) = inr (inr (inr (inr (inr (inl is)))))
+among_server port count n (inr (inr (inr never))) = absurd never
 
 loads_status : {I K : Type 0} (old new : Outside I K) (cut : Cut) (e : Ended) → Loads old new (Runs old new cut) e → IsOneOf (status_of e) run_statuses
 loads_status old new cut e (inl none) = among_run (status_of e) (not_loaded_status (sides_of old) (sides_of new) e none.1)
@@ -67,6 +77,7 @@ tells_status old new ended.Source text told = absurd told
 tells_status old new ended.Sink text told = inr (inl refl)
 tells_status old new ended.Keeper text told = absurd told
 tells_status old new ended.Memory text told = inr (inr (inr (inl refl)))
+tells_status old new ended.Door text told = absurd told
 tells_status old new ended.Damaged text told = absurd told
 tells_status old new ended.Endless text told = absurd told
 
@@ -89,6 +100,8 @@ account_status old new ended.Source (Some t) told = absurd told
 account_status old new ended.Sink text told = inr (inr (inl refl))
 account_status old new ended.Keeper text told = inr (inr (inr (inl refl)))
 account_status old new ended.Memory text told = inr (inr (inr (inr (inl refl))))
+account_status old new ended.Door None told = absurd told
+account_status old new ended.Door (Some t) told = absurd told
 account_status old new ended.Damaged text told = inr (inr (inr (inr (inr (inl refl)))))
 account_status old new ended.Endless None told = absurd told
 account_status old new ended.Endless (Some t) told = absurd told
@@ -97,18 +110,27 @@ account_view_status : {I K : Type 0} (old new : Outside I K) (text : State → O
 account_view_status old new text e (inl none) = among_account (status_of e) (not_loaded_status (sides_of old) (sides_of new) e none.1)
 account_view_status old new text e (inr run) = account_status old.taken new.taken e (text run.ledger) run.ran
 
-ends_status : {I K : Type 0} (old new : Outside I K) (c : Option Command) (e : Ended) → Ends old new c e → IsOneOf (status_of e) (statuses_of c)
+-- the text of a demonstration
+demo_status : (old new : Option (List ℕ)) (e : Ended) (text : List ℕ) → Tells old new e (Some text) → IsOneOf (status_of e) (0 ∷ 4 ∷ 6 ∷ [])
+demo_status old new ended.Done text told = inl refl
+demo_status old new ended.Refused text told = absurd told
+demo_status old new ended.Usage text told = absurd told
+demo_status old new ended.Source text told = absurd told
+demo_status old new ended.Sink text told = inr (inl refl)
+demo_status old new ended.Keeper text told = absurd told
+demo_status old new ended.Memory text told = inr (inr (inl refl))
+demo_status old new ended.Door text told = absurd told
+demo_status old new ended.Damaged text told = absurd told
+demo_status old new ended.Endless text told = absurd told
+
+pub ends_status : {I K : Type 0} (old new : Outside I K) (c : Option Command) (e : Ended) → Ends old new c e → IsOneOf (status_of e) (statuses_of c)
 unfolding Ends
 ends_status old new None e ends = no_command_status old new e ends.2
 ends_status old new (Some command.Apply) e ends = loads_status old new lines e ends
 ends_status old new (Some command.Import) e ends = loads_status old new records e ends
 ends_status old new (Some (command.Export name)) e ends = account_view_status old new (entries_text name) e ends.1
 ends_status old new (Some command.Work) e ends = work_status old new e ends.1
-
--- an end that is in these words has one of the command's statuses
-pub status_is : {I K : Type 0} (old new : Outside I K) (c : Option Command) (e : Ended) (n : ℕ) → Outcome old new c e → n ≡ status_of e → IsOneOf n (statuses_of c)
-status_is old new c e n outcome is = subst (λ (m : ℕ). IsOneOf m (statuses_of c)) (sym is) (ends_status old new c e outcome.ends)
-
--- the same outcome of the same command
-pub outcome_of : {I K : Type 0} (old new : Outside I K) (c d : Option Command) (e : Ended) → c ≡ d → Outcome old new c e → Outcome old new d e
-outcome_of old new c d e same outcome = subst (λ x. Outcome old new x e) same outcome
+ends_status old new (Some (command.Statement name cycle)) e ends = account_view_status old new (issued_text name cycle) e ends.1
+ends_status old new (Some (command.Restate name cycle)) e ends = account_view_status old new (restated_text name cycle) e ends.1
+ends_status old new (Some (command.Demo d)) e ends = demo_status old.taken new.taken e _ ends.2
+ends_status old new (Some (command.Serve port count)) e ends = among_server port count (status_of e) (not_loaded_status (sides_of old) (sides_of new) e ends.1)

@@ -1,7 +1,10 @@
 -- What a call finds outside and leaves there, and what the one has to do with the other.
-use Rattle.std.specs.Prelude.{◌≡◌, ◌⊎◌, ℕ, ◌-◌, Bool, true, false, List, ◌++◌, length, map, take, Option, Some, None, String, ⊤}
+use Rattle.std.specs.Prelude.{◌≡◌, ◌⊎◌, ℕ, ◌-◌, Bool, true, false, List, ◌++◌, length, take, Option, Some, None, ⊤}
 use Rattle.std.specs.Io.KnownBytes.{Appends, Consumes, IsAtEnd}
+use Rattle.std.specs.Option.{option_map}
 use Rattle.std.specs.String.{string_bytes}
+use Rattle.card_account.specs.Accounts.{issued_statement, restated_statement}
+use Rattle.card_demo.specs.Summary.{demo_text}
 use Rattle.card_model.specs.Refusals.{Lists, book_today}
 use Rattle.card_model.specs.Work.{present_in, work}
 use Rattle.card_slots.specs.Segments.{account_segments}
@@ -11,12 +14,13 @@ use Rattle.card_keeper.specs.Rows.{AddsRows, KeepsRows}
 use Rattle.card_keeper.specs.declared.row.Row.{Row}
 use Rattle.card_model.specs.Machine.{State, lists_of}
 use Rattle.card_ports.specs.Counts.{Rose}
-use Rattle.card_commands.specs.Commands.{command_of, status_of}
 use Rattle.card_commands.specs.Input.{Cut, lines, records, all_items}
 use Rattle.card_commands.specs.Run.{text_of, rows_kept, any_refused}
 use Rattle.card_commands.specs.Words.{usage_line, TookLine}
 use Rattle.card_commands.specs.Views.{Loaded, NotLoaded, Tells}
-use Rattle.card_commands.specs.Written.{Sides, TookFront, TookBetween, SameCounts}
+use Rattle.card_ports.specs.Written.{TookFront}
+use Rattle.card_views.specs.Told.{text_of_statement}
+use Rattle.card_commands.specs.Written.{Sides, TookBetween, SameCounts}
 use Rattle.card_commands.specs.declared.command.Command.{Command}
 use Rattle.card_commands.specs.declared.command.Command.TheVariants as command
 use Rattle.card_commands.specs.declared.ended.Ended.{Ended}
@@ -66,6 +70,24 @@ lists_text s (Some lists) = Some (export_text (book_today (present_in s lists)).
 -- the same of the account with this name
 unfoldable pub entries_text : List ℕ → State → Option (List ℕ)
 entries_text name s = lists_text s (lists_of name s.accounts)
+
+-- the statement of a cycle of an account that has these lists, as it was issued
+abbrev pub lists_issued : List ℕ → ℕ → Option Lists → Option (List ℕ)
+lists_issued name cycle None = None
+lists_issued name cycle (Some lists) = option_map (text_of_statement name) (issued_statement cycle lists.issued)
+
+-- the same of the account with this name
+unfoldable pub issued_text : List ℕ → ℕ → State → Option (List ℕ)
+issued_text name cycle s = lists_issued name cycle (lists_of name s.accounts)
+
+-- the statement of a cycle of an account that has these lists, as the book of today has it
+abbrev pub lists_restated : List ℕ → ℕ → State → Option Lists → Option (List ℕ)
+lists_restated name cycle s None = None
+lists_restated name cycle s (Some lists) = option_map (text_of_statement name) (restated_statement (present_in s lists) cycle)
+
+-- the same of the account with this name
+unfoldable pub restated_text : List ℕ → ℕ → State → Option (List ℕ)
+restated_text name cycle s = lists_restated name cycle s (lists_of name s.accounts)
 
 -- the text of the open tasks of all accounts
 unfoldable pub work_text : State → Option (List ℕ)
@@ -123,13 +145,18 @@ module _ {I K : Type 0} (old new : Outside I K) where
   NoCommand ended.Memory = TookFront old.taken new.taken usage_line
   NoCommand _ = ⊥
 
-  -- how a command ends; and words that are none
+  -- how a command ends, without a door; and words that are none. A server does nothing without one, but that it may have no
+  -- ledger
   unfoldable pub Ends : Option Command → Ended → Type 0
   Ends None e = (new.keeper ≡ old.keeper) × Untouched × NoCommand e
   Ends (Some command.Apply) e = Loads (Runs lines) e
   Ends (Some command.Import) e = Loads (Runs records) e
   Ends (Some (command.Export name)) e = Views (entries_text name) e
   Ends (Some command.Work) e = Views work_text e
+  Ends (Some (command.Statement name cycle)) e = Views (issued_text name cycle) e
+  Ends (Some (command.Restate name cycle)) e = Views (restated_text name cycle) e
+  Ends (Some (command.Demo d)) e = (new.keeper ≡ old.keeper) × Untouched × Tells old.taken new.taken e (Some (demo_text d.start d.accounts d.cycles))
+  Ends (Some (command.Serve port count)) e = Untouched × NotLoaded (sides_of old) (sides_of new) e
 
   -- nothing failed
   pub record Unfailed : Type 0 where
@@ -148,14 +175,6 @@ module _ {I K : Type 0} (old new : Outside I K) where
   pub record Outcome (c : Option Command) (e : Ended) : Type 0 where
     pub ends : Ends c e
     pub cause : HasCause e
-
-  -- that of words: of the command that they are, or of none
-  abbrev pub OutcomeOf : {Z : Type 0} → List (String Z) → Ended → Type 0
-  OutcomeOf words e = Outcome (command_of (map string_bytes words)) e
-
-  -- words came to a status: what was read, written and kept, whatever the end is; and what failed, where the end names it
-  abbrev pub Answered : {Z : Type 0} → List (String Z) → ℕ → Type 0
-  Answered words status = (e : Ended) × (status ≡ status_of e) × OutcomeOf words e
 
 -- ---- where the bytes of the input are told
 -- a run that read it to its end handled all of its lines

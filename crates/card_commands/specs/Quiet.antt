@@ -34,3 +34,7 @@ IsQuiet old new command.Apply = NothingFailed old new × HasSoundRows old × Has
 IsQuiet old new command.Import = NothingFailed old new × HasSoundRows old × HasFewerLeft old records.limit
 IsQuiet old new (command.Export name) = NothingFailed old new × HasSoundRows old
 IsQuiet old new command.Work = NothingFailed old new × HasSoundRows old
+IsQuiet old new (command.Statement name cycle) = NothingFailed old new × HasSoundRows old
+IsQuiet old new (command.Restate name cycle) = NothingFailed old new × HasSoundRows old
+IsQuiet old new (command.Demo d) = NothingFailed old new
+IsQuiet old new (command.Serve port count) = NothingFailed old new × HasSoundRows old

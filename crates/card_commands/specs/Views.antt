@@ -3,16 +3,13 @@ use Rattle.std.specs.Prelude.{◌≡◌, ◌⊎◌, ℕ, List, [], Option, Some,
 use Rattle.std.specs.Option.{unwrap_or}
 use Rattle.std.specs.Io.KnownBytes.{Appends}
 use Rattle.card_desk.specs.Kept.{Fits, IsLoadedOf}
-use Rattle.card_desk.specs.declared.view.View.{View}
-use Rattle.card_desk.specs.declared.view.View.TheVariants as view
 use Rattle.card_keeper.specs.Rows.{KeepsRows}
 use Rattle.card_keeper.specs.declared.row.Row.{Row}
 use Rattle.card_model.specs.Machine.{State}
 use Rattle.card_ports.specs.Counts.{Rose}
-use Rattle.card_text.specs.Export.{export_text}
-use Rattle.card_text.specs.Tasks.{tasks_text}
 use Rattle.card_commands.specs.Words.{none_line, DamagedRows, TookLine}
-use Rattle.card_commands.specs.Written.{Sides, SinkSide, TookFront, SameCounts}
+use Rattle.card_ports.specs.Written.{SinkSide, TookFront}
+use Rattle.card_commands.specs.Written.{Sides, SameCounts}
 use Rattle.card_commands.specs.declared.ended.Ended.{Ended}
 use Rattle.card_commands.specs.declared.ended.Ended.TheVariants as ended
 
@@ -57,12 +54,6 @@ pub record GaveNone (old new : Sides) (e : Ended) : Type 0 where
   pub ends : NotLoaded old new e
   pub rows : KeepsRows old.keeper.rows new.keeper.rows
   pub cause : SidesFailed old new e
-
--- the text of what was asked for, where it is there
-abbrev pub view_told : View → Option (List ℕ)
-view_told (view.Entries list) = Some (export_text list.entries list.segments)
-view_told (view.Work tasks) = Some (tasks_text tasks)
-view_told _ = None
 
 -- what failed of a sink is what an end names
 abbrev pub SinkEnded : SinkSide → SinkSide → Ended → Type 0

@@ -5,7 +5,7 @@ use Rattle.std.specs.Io.KnownBytes.{Appends}
 use Rattle.card_desk.specs.Kept.{AreDamagedAt}
 use Rattle.card_keeper.specs.declared.row.Row.{Row}
 use Rattle.card_ports.specs.Counts.{Rose}
-use Rattle.card_commands.specs.Written.{TookFront}
+use Rattle.card_ports.specs.Written.{TookFront}
 
 unfoldable pub usage_line : List ℕ
 usage_line = codes "usage: apply | import | statement ACCOUNT CYCLE | restate ACCOUNT CYCLE | export ACCOUNT | work | demo START ACCOUNTS CYCLES | serve PORT COUNT" ++ 10 ∷ []

@@ -5,15 +5,9 @@ use Rattle.card_keeper.specs.Rows.{AddsRows}
 use Rattle.card_keeper.specs.declared.row.Row.{Row}
 use Rattle.card_ports.specs.Bytes.{IsFront}
 use Rattle.card_ports.specs.Counts.{Rose}
-use Rattle.card_ports.specs.declared.source.SinkFault.{SinkFault}
-use Rattle.card_ports.specs.declared.source.SinkFault.TheVariants as fault
+use Rattle.card_ports.specs.Written.{SinkSide, TookFront, sink_side}
 use Rattle.card_commands.specs.declared.end.End.{End}
 use Rattle.card_commands.specs.declared.end.End.TheVariants as end
-
--- a sink: the bytes that it took, and how often it failed
-pub record SinkSide : Type 0 where
-  pub taken : Option (List ℕ)
-  pub faults : ℕ
 
 -- a keeper: its rows, and how often it failed
 pub record KeeperSide : Type 0 where
@@ -25,10 +19,6 @@ pub record Sides : Type 0 where
   pub sink : SinkSide
   pub keeper : KeeperSide
 
--- what a sink tells of itself
-abbrev pub sink_side : {O : Type 0} → (O → Option (List ℕ)) → (O → ℕ) → O → SinkSide
-sink_side taken faults output = record { taken = taken output; faults = faults output }
-
 -- what a sink and a keeper tell of themselves
 abbrev pub sides : {O K : Type 0} → (O → Option (List ℕ)) → (O → ℕ) → (K → Option (List Row)) → (K → ℕ) → O → K → Sides
 sides taken sink_faults rows keeper_faults output keeper =
@@ -36,33 +26,12 @@ sides taken sink_faults rows keeper_faults output keeper =
 
 -- ---- a text
 
--- what was taken goes on with a front of the text
-pub record TookFront (old new : Option (List ℕ)) (text : List ℕ) : Type 0 where
-  pub bytes : List ℕ
-  pub taken : Appends old new bytes
-  pub front : IsFront bytes text
-
 -- what was taken goes on with all of low, and then with a front of the rest of high
 pub record TookBetween (old new : Option (List ℕ)) (low high : List ℕ) : Type 0 where
   pub bytes : List ℕ
   pub taken : Appends old new bytes
   pub whole : IsFront low bytes
   pub front : IsFront bytes high
-
--- the whole text was taken, and nothing failed
-pub record TookAll (old new : SinkSide) (text : List ℕ) : Type 0 where
-  pub written : Appends old.taken new.taken text
-  pub count : new.faults ≡ old.faults
-
--- what failed of a sink is what the fault names
-abbrev pub SinkFailed : SinkSide → SinkSide → SinkFault → Type 0
-SinkFailed old new fault.Failed = Rose old.faults new.faults
-SinkFailed old new fault.Memory = new.faults ≡ old.faults
-
--- a fault let a front of the text be taken alone
-pub record TookPart (old new : SinkSide) (text : List ℕ) (f : SinkFault) : Type 0 where
-  pub took : TookFront old.taken new.taken text
-  pub cause : SinkFailed old new f
 
 -- ---- an item
 

@@ -1,10 +1,13 @@
 // What is asked for.
-ghost use Rattle.std.specs.Prelude.{◌≡◌, map, option_map, IfOk};
+ghost use Rattle.std.specs.Prelude.{◌≡◌, ◌≤◌, map, option_map, IfOk, IfSome};
 ghost use Rattle.std.specs.String.{string_bytes};
-ghost use Rattle.card_lines.specs.Forms.{name_of};
+ghost use Rattle.card_lines.specs.Forms.{name_of, number_of};
+ghost use Rattle.card_commands.specs.Commands.{demonstration_of};
 ghost use Rattle.card_commands.specs.Commands as spec;
 
-use card_events::Name;
+use card_demo::Demonstration;
+use card_events::{Name, Num};
+use card_lines::read_number;
 use card_units::NoMemory;
 use std::alloc::Global;
 
@@ -19,6 +22,14 @@ pub enum Command {
     Export(Name),
     /// Writes the open tasks of all accounts.
     Work,
+    /// Writes the statement of the account's cycle of this number, as it was issued.
+    Statement(Name, Num),
+    /// Writes it as the book of today has it.
+    Restate(Name, Num),
+    /// Writes what generated requests come to over a ledger of their own.
+    Demo(Demonstration),
+    /// Answers requests over HTTP: the port to listen on, and how many connections are attended to.
+    Serve { port: u16, count: u32 },
 }
 
 fn command_of_word(word: &str) -> Option<Command>
@@ -57,6 +68,138 @@ fn command_of_account(alloc: Global, word: &str, account: &str) -> Result<Option
     }
 }
 
+fn is_cycle(number: Num) -> bool
+    ensures { result ≡ spec.is_cycle number }
+{
+    let number = number.get();
+    1 <= number && number <= 1_200
+}
+
+// The number of a cycle.
+#[tactic(auto, unfolding(crate::specs::Commands::cycle_of))]
+fn cycle_of(word: &str) -> Option<Num>
+    ensures { result ≡ spec.cycle_of word.now }
+{
+    match read_number(word.as_bytes()) {
+        Some(number) => { if is_cycle(number) { Some(number) } else { None } }
+        None => None,
+    }
+}
+
+// The statement of a cycle of an account with this name, where it is a name.
+#[tactic(auto, unfolding(card_lines::specs::Forms::name_of))]
+fn statement_of(alloc: Global, account: &str, cycle: Num) -> Result<Option<Command>, NoMemory>
+    ensures { IfOk result (λ command. command ≡ option_map (λ name. Command.Statement name cycle) (name_of account.now)) }
+{
+    match Name::read(alloc, account.as_bytes()) {
+        Ok(Some(name)) => Ok(Some(Command::Statement(name, cycle))),
+        Ok(None) => Ok(None),
+        Err(NoMemory) => Err(NoMemory),
+    }
+}
+
+// The same as the book of today has it.
+#[tactic(auto, unfolding(card_lines::specs::Forms::name_of))]
+fn restate_of(alloc: Global, account: &str, cycle: Num) -> Result<Option<Command>, NoMemory>
+    ensures { IfOk result (λ command. command ≡ option_map (λ name. Command.Restate name cycle) (name_of account.now)) }
+{
+    match Name::read(alloc, account.as_bytes()) {
+        Ok(Some(name)) => Ok(Some(Command::Restate(name, cycle))),
+        Ok(None) => Ok(None),
+        Err(NoMemory) => Err(NoMemory),
+    }
+}
+
+fn command_of_number(
+    alloc: Global,
+    word: &str,
+    account: &str,
+    cycle: Num,
+) -> Result<Option<Command>, NoMemory>
+    ensures { IfOk result (λ command. command ≡ spec.command_of_number word.now account.now cycle) }
+{
+    if word == "statement" {
+        statement_of(alloc, account, cycle)
+    } else if word == "restate" {
+        restate_of(alloc, account, cycle)
+    } else {
+        Ok(None)
+    }
+}
+
+fn command_of_cycle(
+    alloc: Global,
+    word: &str,
+    account: &str,
+    cycle: &str,
+) -> Result<Option<Command>, NoMemory>
+    ensures { IfOk result (λ command. command ≡ spec.command_of_cycle word.now account.now (spec.cycle_of cycle.now)) }
+{
+    match cycle_of(cycle) {
+        Some(cycle) => command_of_number(alloc, word, account, cycle),
+        None => Ok(None),
+    }
+}
+
+// A decimal number from low to high.
+fn number_between(text: &str, low: u64, high: u64) -> Option<u64>
+    ensures value { result ≡ spec.number_between low high text.now }
+    ensures bounds { IfSome result (λ n. (low ≤ n) × (n ≤ high)) }
+{
+    let number = read_number(text.as_bytes())?.get();
+    if number >= low && number <= high {
+        Some(number)
+    } else {
+        None
+    }
+}
+
+fn server_of(port: &str, count: &str) -> Option<Command>
+    ensures { result ≡ spec.server_of (spec.number_between 1 65535 port.now) (spec.number_between 1 1000000 count.now) }
+{
+    let port = number_between(port, 1, 65_535)?;
+    let count = number_between(count, 1, 1_000_000)?;
+    Some(Command::Serve {
+        port: port as u16,
+        count: count as u32,
+    })
+}
+
+fn command_of_two(
+    alloc: Global,
+    word: &str,
+    first: &str,
+    second: &str,
+) -> Result<Option<Command>, NoMemory>
+    ensures { IfOk result (λ command. command ≡ spec.command_of_two word.now first.now second.now) }
+{
+    if word == "serve" {
+        Ok(server_of(first, second))
+    } else {
+        command_of_cycle(alloc, word, first, second)
+    }
+}
+
+// The demonstration of three words, where they are numbers in range.
+fn read_demonstration(start: &str, accounts: &str, cycles: &str) -> Option<Demonstration>
+    ensures { result ≡ demonstration_of (number_of start.now) (number_of accounts.now) (number_of cycles.now) }
+{
+    let start = read_number(start.as_bytes())?;
+    let accounts = read_number(accounts.as_bytes())?;
+    let cycles = read_number(cycles.as_bytes())?;
+    Demonstration::new(start, accounts, cycles)
+}
+
+fn command_of_numbers(word: &str, start: &str, accounts: &str, cycles: &str) -> Option<Command>
+    ensures { result ≡ spec.command_of_numbers word.now start.now accounts.now cycles.now }
+{
+    if word == "demo" {
+        read_demonstration(start, accounts, cycles).map(Command::Demo)
+    } else {
+        None
+    }
+}
+
 /// The command that the words are, if they are one. Memory is wanted for a name alone.
 pub fn command_of(alloc: Global, words: &[String]) -> Result<Option<Command>, NoMemory>
     ensures { IfOk result (λ command. command ≡ spec.command_of (map string_bytes words.now)) }
@@ -64,6 +207,15 @@ pub fn command_of(alloc: Global, words: &[String]) -> Result<Option<Command>, No
     match words {
         [word] => Ok(command_of_word(word.as_str())),
         [word, account] => command_of_account(alloc, word.as_str(), account.as_str()),
+        [word, first, second] => {
+            command_of_two(alloc, word.as_str(), first.as_str(), second.as_str())
+        }
+        [word, start, accounts, cycles] => Ok(command_of_numbers(
+            word.as_str(),
+            start.as_str(),
+            accounts.as_str(),
+            cycles.as_str(),
+        )),
         _ => Ok(None),
     }
 }

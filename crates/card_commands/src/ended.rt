@@ -8,7 +8,7 @@ use card_ports::SinkFault;
 /// How a call ends.
 #[derive(Clone, Copy, Debug, PartialEq, Eq)]
 pub enum Ended {
-    /// The input was read to its end, and no line was refused.
+    /// The input was read to its end, and no line was refused; or all connections were attended to.
     Done,
     /// The input was read to its end, and at least one line was refused.
     Refused,
@@ -22,6 +22,8 @@ pub enum Ended {
     Keeper,
     /// Memory was wanted and isn't there.
     Memory,
+    /// The door failed: it didn't listen on the port, or didn't accept a connection.
+    Door,
     /// The kept rows are damaged.
     Damaged,
     /// So many bytes were read, and no end came.
@@ -40,6 +42,7 @@ pub fn status_of(ended: Ended) -> u8
         Ended::Sink => 4,
         Ended::Keeper => 5,
         Ended::Memory => 6,
+        Ended::Door => 7,
         Ended::Damaged => 8,
         Ended::Endless => 9,
     }

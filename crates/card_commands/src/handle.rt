@@ -3,11 +3,10 @@ ghost use Rattle.std.specs.Prelude.{◌≡◌, ◌||◌};
 
 use crate::answer::{answer, carry_out};
 use crate::end::End;
-use crate::write::write_all;
 use card_desk::{Desk, Fault};
 use card_import::Item;
 use card_keeper::Keeper;
-use card_ports::{Sink, SinkFault};
+use card_ports::{Sink, SinkFault, write_all};
 use card_units::NoMemory;
 use std::alloc::Global;
 use std::marker::Model;
@@ -32,7 +31,8 @@ impl Run {
     ghost use Rattle.card_desk.specs.Kept.{Fits};
     ghost use Rattle.card_import.specs.Items.{IsDatedItem};
     ghost use Rattle.card_commands.specs.Ran.{FellOn, Handled};
-    ghost use Rattle.card_commands.specs.Written.{sides, sink_side, TookAll, TookPart};
+    ghost use Rattle.card_ports.specs.Written.{sink_side, TookAll, TookPart};
+    ghost use Rattle.card_commands.specs.Written.{sides};
 
     /// The start of a run.
     pub fn new(desk: Desk) -> Run

@@ -1,8 +1,8 @@
 //! Laws of the top call, for all that it may find outside. Their functions do nothing; their clauses are what holds.
 ghost use Rattle.std.specs.Prelude.{[], ◌∷◌, Some};
 ghost use Rattle.card_commands.specs.Commands.{IsOneOf, status_of};
-ghost use Rattle.card_commands.specs.Outside.{Outside, Outcome, HandledAllLines, HandledFirstLines, HandledFirstLinesInPart};
-ghost use Rattle.card_commands.specs.Quiet.{IsQuiet};
+ghost use Rattle.card_commands.specs.Outside.{HandledAllLines, HandledFirstLines, HandledFirstLinesInPart};
+ghost use Rattle.card_commands.specs.World.{Comes, IsCalm, World};
 
 use crate::command::Command;
 use crate::ended::Ended;
@@ -10,8 +10,8 @@ use card_desk::laws::load_of_rows;
 
 /// Where nothing outside fails, the kept rows are sound and the input isn't too long, a command ends in 0 or 1, or for want
 /// of memory.
-pub fn completeness<I, K>()
-    ensures { (old new : Outside I K) (c : Command) (e : Ended) → Outcome old new (Some c) e → IsQuiet old new c → IsOneOf (status_of e) (0 ∷ 1 ∷ 6 ∷ []) }
+pub fn completeness<I, K, D>()
+    ensures { (old new : World I K D) (c : Command) (e : Ended) → Comes old new (Some c) e → IsCalm old new c → IsOneOf (status_of e) (0 ∷ 1 ∷ 6 ∷ []) }
 {
     load_of_rows();
 }

@@ -1,10 +1,11 @@
 //! The commands of the program and its top call: reads request lines or records, writes a reply to each, and keeps a row of
-//! each newly accepted request; or writes what the ledger holds.
+//! each newly accepted request; or writes what the ledger holds; or answers requests over HTTP.
 #![tactic(auto)]
 
 mod answer;
 mod call;
 mod command;
+mod demo;
 mod end;
 mod ended;
 mod handle;
@@ -14,9 +15,9 @@ pub mod laws;
 mod load;
 mod progress;
 mod run;
+mod serve;
 mod stored;
 mod tell;
-mod write;
 
 pub use call::billctl;
 pub use stored::billctl_over_store;

@@ -2,13 +2,13 @@
 ghost use Rattle.std.specs.Prelude.{IfOk, IfErr, OnOk, OnErr};
 ghost use Rattle.card_commands.specs.Views.{GaveLedger, GaveNone};
 ghost use Rattle.card_commands.specs.Words.{damaged_line, TookLine};
-ghost use Rattle.card_commands.specs.Written.{sides, sink_side, TookAll, TookPart};
+ghost use Rattle.card_ports.specs.Written.{sink_side, TookAll, TookPart};
+ghost use Rattle.card_commands.specs.Written.{sides};
 
 use crate::ended::Ended;
-use crate::write::write_all;
 use card_desk::{Desk, LoadFault};
 use card_keeper::Keeper;
-use card_ports::{Sink, SinkFault};
+use card_ports::{Sink, SinkFault, write_all};
 use card_units::NoMemory;
 use itoa::Buffer;
 use std::alloc::Global;

@@ -1,23 +1,24 @@
 // The top call over rows in a SQLite database in memory.
 ghost use Rattle.card_sqlite.specs.Told.{told_in_memory};
-ghost use Rattle.card_commands.specs.Outside.{Answered, outside};
+ghost use Rattle.card_commands.specs.World.{Answered, world};
 
 use crate::call::billctl;
-use card_ports::{Sink, Source};
+use card_ports::{Door, Sink, Source};
 use card_sqlite::StoreKeeper;
 use sqlite::MemStore;
 use std::alloc::Global;
 
 /// `billctl` over a database in memory: its clause, with the rows that the database holds.
-pub fn billctl_over_store<I: Source, O: Sink>(
+pub fn billctl_over_store<I: Source, O: Sink, D: Door>(
     alloc: Global,
     words: &[String],
     input: &mut I,
     output: &mut O,
     keeper: &mut StoreKeeper<MemStore>,
+    door: &mut D,
 ) -> u8
-    ensures { let at = outside I.left I.faults O.taken O.faults (λ k. told_in_memory k.conn) (λ k. k.faults) in
-        Answered (at input.old output.old keeper.old) (at input.new output.new keeper.new) words.now result }
+    ensures { let at = world I.left I.faults O.taken O.faults (λ k. told_in_memory k.conn) (λ k. k.faults) D.visits D.faults in
+        Answered (at input.old output.old keeper.old door.old) (at input.new output.new keeper.new door.new) words.now result }
 {
-    billctl(alloc, words, input, output, keeper)
+    billctl(alloc, words, input, output, keeper, door)
 }

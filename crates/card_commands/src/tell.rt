@@ -1,30 +1,29 @@
 // Texts of the ledger.
-ghost use Rattle.std.specs.Prelude.{◌≡◌, option_map, IfOk};
+ghost use Rattle.std.specs.Prelude.{Some, option_map};
 ghost use Rattle.std.specs.String.{string_bytes};
-ghost use Rattle.card_desk.specs.Views.{seen};
-ghost use Rattle.card_commands.specs.Views.{view_told, Told, Viewed};
-ghost use Rattle.card_commands.specs.Written.{sides, sink_side};
+ghost use Rattle.card_views.specs.Told.{told};
+ghost use Rattle.card_commands.specs.Views.{Told, Viewed};
+ghost use Rattle.card_ports.specs.Written.{sink_side};
+ghost use Rattle.card_commands.specs.Written.{sides};
 
 use crate::ended::{Ended, ended_by_sink};
 use crate::load::load;
-use crate::write::write_all;
-use card_desk::{Ask, Desk, View};
+use card_desk::Ask;
 use card_keeper::Keeper;
-use card_ports::Sink;
-use card_text::{export_text, tasks_text};
+use card_ports::{Sink, write_all};
 use card_units::NoMemory;
+use card_views::told_text;
 use std::alloc::Global;
 
 const NONE: &str = "none\n";
 
-// The text of what is asked, where it is there.
-fn text_of(alloc: Global, desk: &Desk, ask: &Ask) -> Result<Option<String>, NoMemory>
-    ensures { IfOk result (λ text. option_map string_bytes text ≡ view_told (seen desk.now.state ask.now)) }
+/// Writes a text.
+pub fn write_told<O: Sink>(output: &mut O, text: &str) -> Ended
+    ensures { let at = sink_side O.taken O.faults in Told (at output.old) (at output.new) (Some text.now) result }
 {
-    match desk.see(alloc, ask)? {
-        View::Entries(list) => Ok(Some(export_text(alloc, list.entries(), list.segments())?)),
-        View::Work(tasks) => Ok(Some(tasks_text(alloc, tasks.as_slice())?)),
-        _ => Ok(None),
+    match write_all(output, text.as_bytes()) {
+        Ok(()) => Ended::Done,
+        Err(fault) => ended_by_sink(fault),
     }
 }
 
@@ -34,10 +33,7 @@ fn write_text<O: Sink>(output: &mut O, text: &Option<String>) -> Ended
     ensures { let at = sink_side O.taken O.faults in Told (at output.old) (at output.new) (option_map string_bytes text.now) result }
 {
     match text {
-        Some(text) => match write_all(output, text.as_bytes()) {
-            Ok(()) => Ended::Done,
-            Err(fault) => ended_by_sink(fault),
-        },
+        Some(text) => write_told(output, text.as_str()),
         None => match write_all(output, NONE.as_bytes()) {
             Ok(()) => Ended::Refused,
             Err(fault) => ended_by_sink(fault),
@@ -49,13 +45,13 @@ fn write_text<O: Sink>(output: &mut O, text: &Option<String>) -> Ended
 /// kept.
 pub fn tell<O: Sink, K: Keeper>(alloc: Global, ask: &Ask, output: &mut O, keeper: &mut K) -> Ended
     ensures { let at = sides O.taken O.faults K.rows K.faults in
-        Viewed (at output.old keeper.old) (at output.new keeper.new) (λ s. view_told (seen s ask.now)) result }
+        Viewed (at output.old keeper.old) (at output.new keeper.new) (λ s. told s ask.now) result }
 {
     let desk = match load(alloc, output, keeper) {
         Ok(desk) => desk,
         Err(ended) => return ended,
     };
-    match text_of(alloc, &desk, ask) {
+    match told_text(alloc, &desk, ask) {
         Ok(text) => write_text(output, &text),
         Err(NoMemory) => Ended::Memory,
     }

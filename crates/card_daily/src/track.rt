@@ -1,5 +1,6 @@
 use card_closing::{Cycle, Entry, Fee};
 use card_days::Day;
+use card_statement::Sheet;
 use card_units::NoMemory;
 use std::alloc::Global;
 use std::marker::Model;
@@ -13,11 +14,13 @@ pub struct Track {
     pub fees: Vec<Fee>,
 }
 
-/// The statement of a closed cycle, and the day on which it is issued (12 CFR 1026.5(b)(2), .7(b)).
+/// The statement of a closed cycle (12 CFR 1026.5(b)(2), .7(b)): the day on which it is issued, and what it shows beside the
+/// cycle.
 #[derive(Drop)]
 pub struct Statement {
     pub cycle: Cycle,
     pub issue: Day,
+    pub sheet: Sheet,
 }
 
 /// An issued statement: its cycle, the number of the Bill that issued it, the day of that Bill, and what it said.
@@ -34,7 +37,7 @@ impl Model for Issued {
 
     ghost Value = { IssuedRow };
 
-    ghost view = { λ i. record { cycle = i.cycle; bill = i.bill; day = i.day; statement = i.statement.cycle } };
+    ghost view = { λ i. record { cycle = i.cycle; bill = i.bill; day = i.day; statement = i.statement.cycle; sheet = i.statement.sheet } };
 }
 
 impl Statement {
@@ -47,6 +50,7 @@ impl Statement {
         Ok(Statement {
             cycle: self.cycle.copy(alloc)?,
             issue: self.issue,
+            sheet: self.sheet.copy(alloc)?,
         })
     }
 }

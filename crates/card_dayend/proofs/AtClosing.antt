@@ -48,7 +48,7 @@ segments_in g = (rates_of g.shared.holidays g.history []).segments
 
 -- ---- segments that are still to come
 -- they have no entries
-none-on : (g : Given) (day : ℕ) (b : Book) (t : SegmentTerms) → opened_in g ≤ day → LieOn (segments_by g.history g.issued g.shared day) b.entries → Contains (segments_in g) t → is_added day t ≡ false
+pub none-on : (g : Given) (day : ℕ) (b : Book) (t : SegmentTerms) → opened_in g ≤ day → LieOn (segments_by g.history g.issued g.shared day) b.entries → Contains (segments_in g) t → is_added day t ≡ false
     → All (λ e. eqb e.segment t.id ≡ false) b.entries
 none-on g day b t o lies there e =
     let numbers = segments_of_a_day.numbers g.shared.holidays g.history in

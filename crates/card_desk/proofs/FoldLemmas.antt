@@ -6,7 +6,7 @@ use Rattle.std.proofs.lemmas.List.Elements.{All-cons, All-get_or, All-head, All-
 use Rattle.std.specs.List.{All, filter, list_all}
 use Rattle.std.specs.Prelude.{nat_le, nat_lt, ◌&&◌, ◌++◌, ◌+◌, ◌-◌, if◌then◌else◌, None}
 use Rattle.std.specs.Option.{option_map}
-use Rattle.card_account.specs.Accounts.{IsCorrected, MayBeFolded, OpenAccount, is_closed, present_of, restated_as, restated_statement}
+use Rattle.card_account.specs.Accounts.{IsCorrected, MayBeFolded, OpenAccount, is_closed, issue_of, present_of, restated_as, restated_statement}
 use Rattle.card_account.specs.Entries.{AccountEntries, entries_today}
 use Rattle.card_account.specs.Verdicts.{verdict_of}
 use Rattle.card_account.specs.declared.verdict.Verdict.{Verdict}
@@ -34,10 +34,13 @@ use Rattle.card_events.specs.declared.request.Shared.TheVariants as shared
 use Rattle.card_model.specs.Accepted.{HasFewFees}
 use Rattle.card_model.specs.Books.{Book, account_of}
 use Rattle.card_model.specs.Caps.{row_for}
-use Rattle.card_model.specs.Folds.{book, book_after, cycle_at, rows_issued}
+use Rattle.card_daily.specs.declared.track.Statement.{Statement}
+use Rattle.card_model.specs.Cycles.{Cycle, Seen, Sheet}
+use Rattle.card_model.specs.Folds.{book, book_after, cycle_at, row_of_cycle, rows_issued}
 use Rattle.card_model.specs.Machine.{Accepts, NamedAccount, Refuses, Repeats, State, accepted, at_key, is_open, is_repeat_of, issues, judged, kept_as, outcome_in}
 use Rattle.card_model.specs.Refusals.{Lists, Present, book_today, reason_against}
 use Rattle.card_model.specs.Segments.{kept_segments}
+use Rattle.card_model.specs.Sheets.{issued_sheet_of, sheet_in, sheet_of}
 use Rattle.card_model.specs.declared.entry.Entry.{Entry}
 use Rattle.card_model.specs.declared.segment.Segment.{Segment}
 use Rattle.card_posts.specs.Posted.{last_accepted, opens}
@@ -221,16 +224,42 @@ judged_at places common count today rows accounts i a s d key p v desk state low
     verdict_at s (state_of today rows accounts) key p a.named (get_or s.accounts i d) v state (read_at accounts s.accounts i a d is listed low)
     (same_verdict places common count today rows accounts i a key p v desk here is found)
 
--- and so does what a post brings
-same_issues : (today : ℕ) (lists : Lists) (a b : SharedRows) (p : Post) → book_today (present_of today a lists) ≡ book_today (present_of today b lists) → issues (present_of today a lists) p ≡ issues (present_of today b lists) p
-same_issues today lists a b (post.Bill c) same = ap (λ x. rows_issued c (length lists.posts + 1) today x) same
-same_issues today lists a b _ same = refl
+-- and so do its sheets
+pub same_sheet : (today : ℕ) (lists : Lists) (a b : SharedRows) (issue : ℕ) (c : Cycle) → AreAlike today lists a b → sheet_of lists.posts lists.issued a issue c ≡ sheet_of lists.posts lists.issued b issue c
+unfolding sheet_of book
+same_sheet today lists a b issue c alike =
+    ap (λ (posts : List CorrectedPost). on posts a.fees) alike.posts ∙ ap (λ (rows : List FeeRow). on (corrected (anchor_of lists.posts) b.holidays lists.posts) rows) alike.fees
+  where
+    on : List CorrectedPost → List FeeRow → Sheet
+    on posts rows =
+        let seen : ℕ → Seen = λ day. record {
+          day = day;
+          posts = filter (λ p. nat_le p.day day) (filter (λ p. is_folded p.post) posts);
+          fees = filter (λ r. nat_le r.day day) rows;
+          issued = filter (λ r. nat_lt r.day day) lists.issued;
+        } in
+        sheet_in (account_of lists.posts) (seen c.closing) rows lists.issued issue c
+        (book_after lists.issued (account_of lists.posts) seen (c.closing + 1 - (anchor_of lists.posts).opened))
 
-pub same_accepted : (today : ℕ) (lists : Lists) (a b : SharedRows) (key : List ℕ) (p : Post) → book_today (present_of today a lists) ≡ book_today (present_of today b lists)
+-- rows with the same sheets
+same_rows : (cycle bill today : ℕ) (sheet other : Cycle → Sheet) (o : Option Cycle) → ((c : Cycle) → sheet c ≡ other c) → row_of_cycle cycle bill today sheet o ≡ row_of_cycle cycle bill today other o
+same_rows cycle bill today sheet other None h = refl
+same_rows cycle bill today sheet other (Some c) h = ap (λ (s : Sheet). record { cycle = cycle; bill = bill; day = today; statement = c; sheet = s } ∷ []) (h c)
+
+-- and so does what a post brings
+same_issues : (today : ℕ) (lists : Lists) (a b : SharedRows) (p : Post) → AreAlike today lists a b → issues (present_of today a lists) p ≡ issues (present_of today b lists) p
+same_issues today lists a b (post.Bill c) alike =
+    let sheet = issued_sheet_of (present_of today a lists) in
+    let other = issued_sheet_of (present_of today b lists) in
+    ap (λ x. rows_issued c (length lists.posts + 1) today sheet x) alike.books
+    ∙ same_rows c (length lists.posts + 1) today sheet other (cycle_at c (book_today (present_of today b lists)).cycles) (λ d. same_sheet today lists a b today d alike)
+same_issues today lists a b _ alike = refl
+
+pub same_accepted : (today : ℕ) (lists : Lists) (a b : SharedRows) (key : List ℕ) (p : Post) → AreAlike today lists a b
     → accepted (present_of today a lists) key p ≡ accepted (present_of today b lists) key p
 unfolding accepted
-same_accepted today lists a b key p same =
-    ap (λ more. record { posts = lists.posts ++ kept_as (length lists.posts + 1) key today p ∷ []; issued = lists.issued ++ more }) (same_issues today lists a b p same)
+same_accepted today lists a b key p alike =
+    ap (λ more. record { posts = lists.posts ++ kept_as (length lists.posts + 1) key today p ∷ []; issued = lists.issued ++ more }) (same_issues today lists a b p alike)
 
 -- what the account has after a post is what the machine gives it
 pub accepted_in : (places : List (List ℕ × ℕ)) (common : SharedRows) (count today : ℕ) (rows : List Shared) (accounts : List OpenAccount) (i : ℕ) (a b : OpenAccount) (name key : List ℕ) (p : Post)
@@ -242,7 +271,7 @@ accepted_in places common count today rows accounts i a b name key p desk low is
     let s = state_of today rows accounts in
     let here = (get_or accounts i b).named.lists in
     let read : (get_or (named_all accounts) i b.named).lists ≡ here = ap (λ (x : NamedAccount). x.lists) (get_or-map (λ (x : OpenAccount). x.named) accounts i b b.named low) in
-    let same = same_accepted today here common (shared_rows rows) key p (same_book places common count today rows accounts i b desk low) in
+    let same = same_accepted today here common (shared_rows rows) key p (alike_at places common count today rows accounts i b desk low) in
     allowed b.named ∙ ap (λ (l : Lists). Accepts (accepted (now_of s l) key p)) read ∙ ap (λ (l : Lists). Accepts l) (sym same)
     ∙ ap (λ (x : OpenAccount). Accepts (accepted (present_of today common x.named.lists) key p)) (sym is) ∙ ap (λ (l : Lists). Accepts l) (sym lists)
 
@@ -255,12 +284,25 @@ book_at places common count today rows accounts i a desk low is =
     subst (λ (x : OpenAccount). book_today (present_of today common x.named.lists) ≡ book_today (now_of (state_of today rows accounts) x.named.lists)) (sym is)
     (same_book places common count today rows accounts i a desk low)
 
+-- and it is alike under the desk's rows and the state's
+pub alike_seen : (places : List (List ℕ × ℕ)) (common : SharedRows) (count today : ℕ) (rows : List Shared) (accounts : List OpenAccount) (i : ℕ) (a : OpenAccount)
+    → IsDesk places common count today rows accounts → i < length accounts → a ≡ get_or accounts i a → AreAlike today a.named.lists common (shared_rows rows)
+alike_seen places common count today rows accounts i a desk low is =
+    subst (λ (x : OpenAccount). AreAlike today x.named.lists common (shared_rows rows)) (sym is) (alike_at places common count today rows accounts i a desk low)
+
 -- and a cycle of it as a statement
-pub same_restated : (today : ℕ) (lists : Lists) (a b : SharedRows) (cycle : ℕ) → book_today (present_of today a lists) ≡ book_today (present_of today b lists)
+pub same_restated : (today : ℕ) (lists : Lists) (a b : SharedRows) (cycle : ℕ) → AreAlike today lists a b
     → restated_statement (present_of today a lists) cycle ≡ restated_statement (present_of today b lists) cycle
 unfolding restated_statement
-same_restated today lists a b cycle same =
-    ap (λ (x : Book). if is_closed today lists cycle then option_map (restated_as (row_for cycle lists.issued)) (cycle_at cycle x.cycles) else None) same
+same_restated today lists a b cycle alike =
+    ap (λ (x : Book). if is_closed today lists cycle then option_map (restated_as (present_of today a lists) (row_for cycle lists.issued)) (cycle_at cycle x.cycles) else None) alike.books
+    ∙ ap (λ (o : Option Statement). if is_closed today lists cycle then o else None) (by (cycle_at cycle (book_today (present_of today b lists)).cycles))
+  where
+    by : (o : Option Cycle) → option_map (restated_as (present_of today a lists) (row_for cycle lists.issued)) o ≡ option_map (restated_as (present_of today b lists) (row_for cycle lists.issued)) o
+    by None = refl
+    by (Some c) =
+        let issue = issue_of (row_for cycle lists.issued) c in
+        ap (λ (s : Sheet). Some (record { cycle = c; issue = issue; sheet = s })) (same_sheet today lists a b issue c alike)
 
 -- and its entries with its segments
 abbrev listing : List Entry → List Segment → AccountEntries

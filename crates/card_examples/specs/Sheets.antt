@@ -7,14 +7,14 @@ use Rattle.card_events.specs.declared.post.Place.TheVariants as place
 use Rattle.card_events.specs.declared.post.PlanKind.TheVariants as plan
 use Rattle.card_events.specs.declared.post.Post.TheVariants as post
 use Rattle.card_events.specs.declared.request.Request.{Request}
-use Rattle.card_model.specs.Cycles.{Cycle}
+use Rattle.card_model.specs.Cycles.{Cycle, Sheet}
 use Rattle.card_model.specs.Machine.{State, lists_of, run}
 use Rattle.card_model.specs.Refusals.{Lists}
 use Rattle.card_model.specs.declared.entry.EntryKind.TheVariants as kind
 use Rattle.card_model.specs.declared.segment.Sort.TheVariants as sort
 use Rattle.card_examples.specs.Accounts.{charge_jan10, cycle_after, fee_row, name, open_a, roll, to_a}
 use Rattle.card_examples.specs.Statements.{returned}
-use Rattle.card_statement.specs.Sheets.{Sheet, restated_sheet_of, sheet_of}
+use Rattle.card_model.specs.Sheets.{restated_sheet_of, sheet_of}
 
 -- ---- requests
 -- the second statement is issued, and then a charge of its cycle comes in; the third cycle closes on 2024-04-05
@@ -56,7 +56,7 @@ second =
       moves = record { day = day_at 2024 2 20; kind = kind.Payment; post = 4; cents = negsuc 999 } ∷ record { day = day_at 2024 3 2; kind = kind.Fee; post = 0; cents = pos 2500 } ∷ record { day = day_at 2024 3 4; kind = kind.Return; post = 5; cents = pos 1000 } ∷ [];
       fees_year = pos 2500;
       interest_year = pos 1587;
-      rates = record { segment = 2; sort = sort.Purchase; rate = 1999; average = pos 99897; interest = pos 1587 } ∷ [];
+      rates = record { segment = 2; sort = sort.Purchase; rate = 1999; average = 99897; interest = 1587 } ∷ [];
       deferred = [];
       late_up_to = pos 4100;
       penalty = 2999;
@@ -75,7 +75,7 @@ third =
       moves = record { day = day_at 2024 4 2; kind = kind.Fee; post = 0; cents = pos 4100 } ∷ [];
       fees_year = pos 6600;
       interest_year = pos 3397;
-      rates = record { segment = 2; sort = sort.Purchase; rate = 1999; average = pos 106616; interest = pos 1810 } ∷ [];
+      rates = record { segment = 2; sort = sort.Purchase; rate = 1999; average = 106616; interest = 1810 } ∷ [];
       deferred = [];
       late_up_to = pos 4100;
       penalty = 2999;
@@ -97,8 +97,8 @@ deferred =
       fees_year = pos 0;
       interest_year = pos 51;
       rates =
-          record { segment = 3; sort = sort.Cash; rate = 2499; average = pos 2419; interest = pos 51 }
-          ∷ record { segment = 5; sort = sort.Deferred; rate = 0; average = pos 0; interest = pos 0 } ∷ [];
+          record { segment = 3; sort = sort.Cash; rate = 2499; average = 2419; interest = 51 }
+          ∷ record { segment = 5; sort = sort.Deferred; rate = 0; average = 0; interest = 0 } ∷ [];
       deferred = record { segment = 5; balance = pos 4000; accrued = pos 62; ends = day_at 2024 8 5 } ∷ [];
       late_up_to = pos 4100;
       penalty = 2999;

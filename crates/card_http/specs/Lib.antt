@@ -1,1 +1,5 @@
 pub mod Answers
+pub mod Heard
+pub mod Outcomes
+pub mod Exchanges
+pub mod Chains

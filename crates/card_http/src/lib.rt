@@ -1,8 +1,17 @@
-//! Answers of HTTP/1.1 to requests of the ledger.
+//! One connection of HTTP/1.1 to the ledger: its request, what that comes to, and its answer.
 #![tactic(auto)]
 
 mod answer;
+mod answering;
+mod asking;
+mod outcome;
+mod sending;
+mod served;
+mod serving;
 mod status;
 
 pub use answer::{answer_text, early_text, reply_json};
+pub use outcome::Outcome;
+pub use served::Served;
+pub use serving::serve_one;
 pub use status::Status;

@@ -20,7 +20,7 @@ use Rattle.card_events.specs.declared.request.Request.{Request}
 use Rattle.card_events.specs.declared.request.Shared.{Shared}
 use Rattle.card_model.specs.Accepted.{AreAccepted, AreInRange, AreResolvedOnce, AreSingle, HasFewCents, HasFewFees, HasFewRates, RunsAreAccepted, posted_cents, posted_rate}
 use Rattle.card_model.specs.Caps.{row_for}
-use Rattle.card_model.specs.Cycles.{Cycle, IssuedRow}
+use Rattle.card_model.specs.Cycles.{Cycle, IssuedRow, Sheet}
 use Rattle.card_model.specs.Deadlines.{resolves}
 use Rattle.card_model.specs.Folds.{cycle_at, row_of_cycle}
 use Rattle.card_model.specs.Machine.{Accepts, NamedAccount, Outcome, Refuses, Repeats, State, accepted, accounts_after, at_key, has_accounts, is_open, is_repeat_of, issues, judged, kept_as, lists_of, next_number, opened, outcome, outcome_in, run, run_from, shared_reason, start, step, with_lists, with_shared}
@@ -29,6 +29,7 @@ use Rattle.card_events.specs.declared.reply.Refusal.TheVariants as refusal
 use Rattle.card_events.specs.declared.request.Request.TheVariants as request
 use Rattle.card_events.specs.declared.request.Shared.TheVariants as shared
 use Rattle.card_events.specs.declared.post.Post.TheVariants as post
+use Rattle.card_model.specs.Sheets.{issued_sheet_of}
 use Rattle.card_model.proofs.Issue.{row_for-append}
 
 -- ---- no reason stands
@@ -290,11 +291,11 @@ pub record NewRows (posts : List Kept) (rows new : List IssuedRow) (k : Kept) : 
 no-rows : (posts : List Kept) (rows : List IssuedRow) (k : Kept) → AreSingle rows → All (IsBilled posts) rows → NewRows posts rows [] k
 no-rows posts rows k s b = record { single = rw (append-nil rows) s; billed = rw (append-nil rows) (billed-push posts rows k b) }
 
-bill-rows : (now : Present) (k : Kept) (cycle : ℕ) (o : Option Cycle) (bill today : ℕ) → k.post ≡ post.Bill cycle → number_from (bills cycle) 1 now.lists.posts ≡ None → AreSingle now.lists.issued → All (IsBilled now.lists.posts) now.lists.issued
-    → NewRows now.lists.posts now.lists.issued (row_of_cycle cycle bill today o) k
-bill-rows now k cycle None bill today q e s b = no-rows now.lists.posts now.lists.issued k s b
-bill-rows now k cycle (Some c) bill today q e s b =
-    let row : IssuedRow = record { cycle = cycle; bill = bill; day = today; statement = c } in
+bill-rows : (now : Present) (k : Kept) (cycle : ℕ) (sheet : Cycle → Sheet) (o : Option Cycle) (bill today : ℕ) → k.post ≡ post.Bill cycle → number_from (bills cycle) 1 now.lists.posts ≡ None → AreSingle now.lists.issued → All (IsBilled now.lists.posts) now.lists.issued
+    → NewRows now.lists.posts now.lists.issued (row_of_cycle cycle bill today sheet o) k
+bill-rows now k cycle sheet None bill today q e s b = no-rows now.lists.posts now.lists.issued k s b
+bill-rows now k cycle sheet (Some c) bill today q e s b =
+    let row : IssuedRow = record { cycle = cycle; bill = bill; day = today; statement = c; sheet = sheet c } in
     record {
       single = single-push now.lists.issued row (none-found cycle now.lists.posts now.lists.issued b e) s;
       billed = All-push (IsBilled (now.lists.posts ++ k ∷ [])) now.lists.issued row (billed-push now.lists.posts now.lists.issued k b) (λ h. number-here (bills cycle) 1 now.lists.posts k (rw q (eq-eqb cycle cycle refl)) h);
@@ -304,7 +305,7 @@ issues-rows : (now : Present) (n : ℕ) (key : List ℕ) (p : Post) → wrong_en
     → NewRows now.lists.posts now.lists.issued (issues now p) (kept_as n key now.today p)
 unfolding wrong_entry
 issues-rows now n key (post.Bill cycle) h s b =
-    bill-rows now (kept_as n key now.today (post.Bill cycle)) cycle (cycle_at cycle (book_today now).cycles) (next_number now) now.today refl (mapped-none _ _ h) s b
+    bill-rows now (kept_as n key now.today (post.Bill cycle)) cycle (issued_sheet_of now) (cycle_at cycle (book_today now).cycles) (next_number now) now.today refl (mapped-none _ _ h) s b
 issues-rows now n key (post.Open d t) h s b = no-rows _ _ _ s b
 issues-rows now n key (post.Charge d p c) h s b = no-rows _ _ _ s b
 issues-rows now n key (post.Credit d p c) h s b = no-rows _ _ _ s b

@@ -17,7 +17,7 @@ use Rattle.card_events.specs.declared.post.Post.{Post}
 use Rattle.card_model.specs.Books.{Account, Book, account_of, all_segments, penalty_fee, present_cycle, with_fee}
 use Rattle.card_model.specs.Caps.{at_cents, charged_fee, fee_above, issued_fee, row_for}
 use Rattle.card_model.specs.Closing.{Posting, by_segment, close, closed_cycle, closing_interest, first_day_of, grace_amount, minimum_payment, post_interest, post_one, posted_for, purchase_case_in}
-use Rattle.card_model.specs.Cycles.{Cycle, IssuedRow, Seen, amount_at, last_cycle, posts_on, seen_on}
+use Rattle.card_model.specs.Cycles.{Cycle, IssuedRow, Seen, Sheet, amount_at, last_cycle, posts_on, seen_on}
 use Rattle.card_model.specs.DueDates.{after_due_date, late_fee, on_due}
 use Rattle.card_model.specs.Effects.{after_posts, effect, meant_for, payment_at, returned, returned_fee}
 use Rattle.card_model.specs.Entries.{posted}
@@ -312,12 +312,12 @@ all-at P [] i c h e = cc
 all-at P (x ∷ cs) zero c h e = let same : x ≡ c = cc in subst P same (All-head P x cs h)
 all-at P (x ∷ cs) (suc i) c h e = all-at P cs i c (All-tail P x cs h) e
 
-abbrev row_with : ℕ → ℕ → ℕ → Cycle → IssuedRow
-row_with k n today c = record { cycle = k; bill = n; day = today; statement = c }
+abbrev row_with : ℕ → ℕ → ℕ → (Cycle → Sheet) → Cycle → IssuedRow
+row_with k n today sheet c = record { cycle = k; bill = n; day = today; statement = c; sheet = sheet c }
 
-row-gives : (k n today : ℕ) (b : Book) (c : Cycle) → Settled b → cycle_at k b.cycles ≡ Some c → Gives (row_with k n today c) b
-row-gives zero n today b c h e = cc
-row-gives (suc i) n today b c h e =
+row-gives : (k n today : ℕ) (sheet : Cycle → Sheet) (b : Book) (c : Cycle) → Settled b → cycle_at k b.cycles ≡ Some c → Gives (row_with k n today sheet c) b
+row-gives zero n today sheet b c h e = cc
+row-gives (suc i) n today sheet b c h e =
     let number : c.number ≡ suc i = numbered-at 1 i b.cycles c h.numbers e ∙ omega arith in
     let fees : c.fees ≡ fees_in (suc i) b.fees = all-at (λ (x : Cycle). x.fees ≡ fees_in x.number b.fees) b.cycles i c h.fees e ∙ ap (λ m. fees_in m b.fees) number in
     record {
@@ -329,21 +329,21 @@ row-gives (suc i) n today b c h e =
     some-same c d h = cc
 
 -- a row of today is seen on no day up to today
-rows-unseen : (k n today day : ℕ) (o : Option Cycle) (issued : List IssuedRow) → day ≤ today → filter (λ r. ltb r.day day) (issued ++ row_of_cycle k n today o) ≡ filter (λ r. ltb r.day day) issued
-rows-unseen k n today day None issued l = ap (filter (λ (r : IssuedRow). ltb r.day day)) (append-nil issued)
-rows-unseen k n today day (Some c) issued l =
+rows-unseen : (k n today day : ℕ) (sheet : Cycle → Sheet) (o : Option Cycle) (issued : List IssuedRow) → day ≤ today → filter (λ r. ltb r.day day) (issued ++ row_of_cycle k n today sheet o) ≡ filter (λ r. ltb r.day day) issued
+rows-unseen k n today day sheet None issued l = ap (filter (λ (r : IssuedRow). ltb r.day day)) (append-nil issued)
+rows-unseen k n today day sheet (Some c) issued l =
     let late : ltb today day ≡ false = grind (arith, nat_tests) in
-    filter-append (λ (r : IssuedRow). ltb r.day day) issued (row_with k n today c ∷ []) ∙ rw late (append-nil (filter (λ (r : IssuedRow). ltb r.day day) issued))
+    filter-append (λ (r : IssuedRow). ltb r.day day) issued (row_with k n today sheet c ∷ []) ∙ rw late (append-nil (filter (λ (r : IssuedRow). ltb r.day day) issued))
 
-rows-free : (issued : List IssuedRow) (a : Account) (s : ℕ → Seen) (k m today n later : ℕ) (o : Option Cycle) → cycle_at k (book_after issued a s (later + n)).cycles ≡ o
-    → book_after (issued ++ row_of_cycle k m today o) a s n ≡ book_after issued a s n
-rows-free issued a s k m today n later None e = ap (λ l. book_after l a s n) (append-nil issued)
-rows-free issued a s k m today n later (Some c) e = days-free issued _ a s n later (row-gives k m today (book_after issued a s (later + n)) c (book-settled issued a s (later + n)) e)
+rows-free : (issued : List IssuedRow) (a : Account) (s : ℕ → Seen) (k m today n later : ℕ) (sheet : Cycle → Sheet) (o : Option Cycle) → cycle_at k (book_after issued a s (later + n)).cycles ≡ o
+    → book_after (issued ++ row_of_cycle k m today sheet o) a s n ≡ book_after issued a s n
+rows-free issued a s k m today n later sheet None e = ap (λ l. book_after l a s n) (append-nil issued)
+rows-free issued a s k m today n later sheet (Some c) e = days-free issued _ a s n later (row-gives k m today sheet (book_after issued a s (later + n)) c (book-settled issued a s (later + n)) e)
 
-row-changes-nothing : (history : List Kept) (issued : List IssuedRow) (shared : SharedRows) (m today cycle x : ℕ) → x ≤ today
-    → book history (issued ++ rows_issued cycle m today (book history issued shared today)) shared x ≡ book history issued shared x
+row-changes-nothing : (history : List Kept) (issued : List IssuedRow) (shared : SharedRows) (m today cycle x : ℕ) (sheet : Cycle → Sheet) → x ≤ today
+    → book history (issued ++ rows_issued cycle m today sheet (book history issued shared today)) shared x ≡ book history issued shared x
 unfolding book
-row-changes-nothing history issued shared m today cycle x l =
+row-changes-nothing history issued shared m today cycle x sheet l =
     let a = account_of history in
     let s = seen_on (anchor_of history) shared history issued in
     let n = x + 1 - (anchor_of history).opened in
@@ -351,13 +351,13 @@ row-changes-nothing history issued shared m today cycle x l =
     let later = all - n in
     let sum : later + n ≡ all = omega arith in
     let b = book_after issued a s all in
-    let rows = issued ++ rows_issued cycle m today b in
+    let rows = issued ++ rows_issued cycle m today sheet b in
     same_after rows a (seen_on (anchor_of history) shared history rows) s n (λ k below.
-    let unseen = rows-unseen cycle m today ((anchor_of history).opened + k) (cycle_at cycle b.cycles) issued (omega arith) in
+    let unseen = rows-unseen cycle m today ((anchor_of history).opened + k) sheet (cycle_at cycle b.cycles) issued (omega arith) in
     cc)
-    ∙ subst (λ d. book_after (issued ++ rows_issued cycle m today (book_after issued a s d)) a s n ≡ book_after issued a s n) sum (rows-free issued a s cycle m today n later (cycle_at cycle (book_after issued a s (later + n)).cycles) refl)
+    ∙ subst (λ d. book_after (issued ++ rows_issued cycle m today sheet (book_after issued a s d)) a s n ≡ book_after issued a s n) sum (rows-free issued a s cycle m today n later sheet (cycle_at cycle (book_after issued a s (later + n)).cycles) refl)
 
 pub issuing_changes_no_past_day : IssuingChangesNoPastDay
-issuing_changes_no_past_day history issued shared m key today cycle x l =
-    bill-same history (issued ++ rows_issued cycle m today (book history issued shared today)) shared m key today cycle x
-    ∙ row-changes-nothing history issued shared m today cycle x l
+issuing_changes_no_past_day history issued shared m key today cycle x sheet l =
+    bill-same history (issued ++ rows_issued cycle m today sheet (book history issued shared today)) shared m key today cycle x
+    ∙ row-changes-nothing history issued shared m today cycle x sheet l

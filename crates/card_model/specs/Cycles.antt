@@ -1,5 +1,5 @@
 -- Closed cycles and issued statements (12 CFR 1026.5(b)(2), .7(b)). Days are day numbers, amounts cents.
-use Rattle.std.specs.Prelude.{ℕ, ℤ, ◌==◌, nat_le, nat_lt, List, Option}
+use Rattle.std.specs.Prelude.{ℕ, ℤ, pos, ◌==◌, Bool, false, nat_le, nat_lt, List, [], Option}
 use Rattle.std.specs.List.{filter, find, last_or, sum_by}
 use Rattle.std.specs.Prelude.{None, if◌then◌else◌}
 use Rattle.card_days.specs.declared.anchor.Anchor.{Anchor}
@@ -7,6 +7,9 @@ use Rattle.card_events.specs.History.{CorrectedPost, folded}
 use Rattle.card_events.specs.SharedRows.{FeeRow, SharedRows}
 use Rattle.card_events.specs.declared.kept.Kept.{Kept}
 use Rattle.card_model.specs.declared.fee.Fee.{Fee}
+use Rattle.card_model.specs.declared.lines.DeferredLine.{DeferredLine}
+use Rattle.card_model.specs.declared.lines.Move.{Move}
+use Rattle.card_model.specs.declared.lines.RateLine.{RateLine}
 
 -- amounts by segment, or by the cycle of a due date
 abbrev pub Amounts : Type 0
@@ -41,12 +44,50 @@ pub record Cycle : Type 0 where
 abbrev pub last_cycle : List Cycle → Option Cycle
 last_cycle cycles = last_or None cycles
 
--- a statement as it was issued: its cycle, the number of its Bill, its day, and the cycle's record of that moment
+-- What a statement shows beside its cycle (12 CFR 1026.7(b)). `previous` is the new balance of the statement before,
+-- `corrections` what changed in it since; `fees_year` and `interest_year` are the sums of the year to date; `closing`, `floor`
+-- and `pct` aren't printed
+pub record Sheet : Type 0 where
+  pub due_payment : Bool
+  pub previous : ℤ
+  pub corrections : ℤ
+  pub moves : List Move
+  pub fees_year : ℤ
+  pub interest_year : ℤ
+  pub rates : List RateLine
+  pub deferred : List DeferredLine
+  pub late_up_to : ℤ
+  pub penalty : ℕ
+  pub closing : Amounts
+  pub floor : ℤ
+  pub pct : ℕ
+
+-- a sheet that shows nothing
+abbrev pub no_sheet : Sheet
+no_sheet =
+    record {
+      due_payment = false;
+      previous = pos 0;
+      corrections = pos 0;
+      moves = [];
+      fees_year = pos 0;
+      interest_year = pos 0;
+      rates = [];
+      deferred = [];
+      late_up_to = pos 0;
+      penalty = 0;
+      closing = [];
+      floor = pos 0;
+      pct = 0;
+    }
+
+-- a statement as it was issued: its cycle, the number of its Bill, its day, and the cycle's record and the sheet of that moment
 pub record IssuedRow : Type 0 where
   pub cycle : ℕ
   pub bill : ℕ
   pub day : ℕ
   pub statement : Cycle
+  pub sheet : Sheet
 
 -- What the fold of a day may look at beside the book: the corrected posts and the fee rows up to that day, and the
 -- statements issued before it

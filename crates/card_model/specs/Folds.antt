@@ -7,7 +7,7 @@ use Rattle.card_events.specs.declared.kept.Kept.{Kept}
 use Rattle.card_model.specs.Books.{Account, Book, account_of, empty_book, present_cycle}
 use Rattle.card_model.specs.Caps.{row_for}
 use Rattle.card_model.specs.Closing.{close}
-use Rattle.card_model.specs.Cycles.{Cycle, IssuedRow, Seen, last_cycle, posts_on, seen_on}
+use Rattle.card_model.specs.Cycles.{Cycle, IssuedRow, Seen, Sheet, last_cycle, posts_on, seen_on}
 use Rattle.card_model.specs.DueDates.{on_due}
 use Rattle.card_model.specs.Effects.{after_posts}
 
@@ -36,11 +36,11 @@ abbrev pub cycle_at : ℕ → List Cycle → Option Cycle
 cycle_at zero cycles = None
 cycle_at (suc n) cycles = slice_get cycles n
 
--- the row of a closed cycle
-abbrev pub row_of_cycle : ℕ → ℕ → ℕ → Option Cycle → List IssuedRow
-row_of_cycle cycle bill today None = []
-row_of_cycle cycle bill today (Some c) = record { cycle = cycle; bill = bill; day = today; statement = c } ∷ []
+-- the row of a closed cycle, with its sheet
+abbrev pub row_of_cycle : ℕ → ℕ → ℕ → (Cycle → Sheet) → Option Cycle → List IssuedRow
+row_of_cycle cycle bill today sheet None = []
+row_of_cycle cycle bill today sheet (Some c) = record { cycle = cycle; bill = bill; day = today; statement = c; sheet = sheet c } ∷ []
 
--- the row that a Bill of a cycle adds today, none where the cycle isn't closed
-abbrev pub rows_issued : ℕ → ℕ → ℕ → Book → List IssuedRow
-rows_issued cycle bill today b = row_of_cycle cycle bill today (cycle_at cycle b.cycles)
+-- the row that a Bill of a cycle adds today, none where the cycle isn't closed. What a cycle's sheet shows is given
+abbrev pub rows_issued : ℕ → ℕ → ℕ → (Cycle → Sheet) → Book → List IssuedRow
+rows_issued cycle bill today sheet b = row_of_cycle cycle bill today sheet (cycle_at cycle b.cycles)

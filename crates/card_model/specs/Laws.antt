@@ -7,7 +7,7 @@ use Rattle.card_events.specs.declared.kept.Kept.{Kept}
 use Rattle.card_events.specs.declared.post.Post.TheVariants as post
 use Rattle.card_model.specs.Books.{Book}
 use Rattle.card_model.specs.Caps.{issued_fee, row_for}
-use Rattle.card_model.specs.Cycles.{Cycle, IssuedRow, amount_at}
+use Rattle.card_model.specs.Cycles.{Cycle, IssuedRow, Sheet, amount_at}
 use Rattle.card_model.specs.Entries.{balance, is_kind, owed, sum_of}
 use Rattle.card_model.specs.Fees.{fee_cents}
 use Rattle.card_model.specs.Folds.{book, rows_issued}
@@ -65,11 +65,11 @@ IssuedCaps =
 abbrev pub bill_of : ℕ → List ℕ → ℕ → ℕ → Kept
 bill_of n key today cycle = record { number = n; key = key; accepted = today; post = post.Bill cycle }
 
--- a Bill accepted today, with the row that it adds, changes the book of no day up to today
+-- a Bill accepted today, with the row that it adds, changes the book of no day up to today, whatever its sheet shows
 abbrev pub IssuingChangesNoPastDay : Type 0
 IssuingChangesNoPastDay =
-    (history : List Kept) (issued : List IssuedRow) (shared : SharedRows) (n : ℕ) (key : List ℕ) (today cycle x : ℕ) → x ≤ today
-    → book (history ++ bill_of n key today cycle ∷ []) (issued ++ rows_issued cycle n today (book history issued shared today)) shared x
+    (history : List Kept) (issued : List IssuedRow) (shared : SharedRows) (n : ℕ) (key : List ℕ) (today cycle x : ℕ) (sheet : Cycle → Sheet) → x ≤ today
+    → book (history ++ bill_of n key today cycle ∷ []) (issued ++ rows_issued cycle n today sheet (book history issued shared today)) shared x
     ≡ book history issued shared x
 
 -- ---- corrections

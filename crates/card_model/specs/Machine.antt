@@ -20,6 +20,7 @@ use Rattle.card_events.specs.declared.request.Shared.TheVariants as shared
 use Rattle.card_model.specs.Cycles.{IssuedRow}
 use Rattle.card_model.specs.Folds.{rows_issued}
 use Rattle.card_model.specs.Refusals.{Lists, Present, book_today, first_reason, reason_against, reason_to_open, where_true}
+use Rattle.card_model.specs.Sheets.{issued_sheet_of}
 
 -- an account by its name
 pub record NamedAccount : Type 0 where
@@ -63,9 +64,9 @@ kept_as n key today p = record { number = n; key = key; accepted = today; post =
 abbrev pub next_number : Present → ℕ
 next_number now = length now.lists.posts + 1
 
--- the row that a Bill issues: its cycle as the book has it now
+-- the row that a Bill issues: its cycle and its sheet as the book has them now
 abbrev pub issues : Present → Post → List IssuedRow
-issues now (post.Bill cycle) = rows_issued cycle (next_number now) now.today (book_today now)
+issues now (post.Bill cycle) = rows_issued cycle (next_number now) now.today (issued_sheet_of now) (book_today now)
 issues now _ = []
 
 -- the lists with one more post

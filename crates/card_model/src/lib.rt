@@ -6,6 +6,7 @@ mod fee;
 mod grace;
 mod holding;
 pub mod laws;
+mod lines;
 mod segment;
 mod task;
 
@@ -13,5 +14,6 @@ pub use entry::{Entry, EntryKind, Note};
 pub use fee::{Fee, FeeKind};
 pub use grace::GraceCase;
 pub use holding::Holding;
+pub use lines::{DeferredLine, Move, RateLine};
 pub use segment::{Interval, Segment, Sort};
 pub use task::{Task, TaskKind};

@@ -19,6 +19,9 @@ const LINGER_READS: u32 = 256;
 // How many connections that were broken off `accept` passes over.
 const ABORTED: u32 = 1024;
 
+// How many interruptions by signals one read or write goes on after.
+const INTERRUPTIONS: u32 = 1024;
+
 // What is left until the deadline. No time left is an error, since a wait of no time would be one without end.
 fn time_left<R: Clock>(clock: &R, deadline: Instant) -> io::Result<Duration> {
     let left = deadline.saturating_duration_since(Instant::now(clock)?);
@@ -75,11 +78,25 @@ impl<'a, R: Net + Clock> TcpLink<'a, R> {
         if self.at < self.end {
             return Ok(());
         }
-        let left = time_left(self.clock, self.deadline)?;
-        self.stream.set_read_timeout(Some(left))?;
-        self.end = self.stream.read(&mut self.kept)?;
+        self.end = self.receive()?;
         self.at = 0;
         Ok(())
+    }
+
+    // Waits for what comes. A signal that interrupts it, as when a stopped program goes on, doesn't end it: the wait begins
+    // again with what is left until the deadline.
+    fn receive(&mut self) -> io::Result<usize>
+        ensures { self.new.faults ≡ self.old.faults }
+    {
+        for _ in 0..INTERRUPTIONS {
+            let left = time_left(self.clock, self.deadline)?;
+            self.stream.set_read_timeout(Some(left))?;
+            match self.stream.read(&mut self.kept) {
+                Err(error) if error.kind() == ErrorKind::Interrupted => {}
+                result => return result,
+            }
+        }
+        Err(io::Error::from(ErrorKind::Interrupted))
     }
 
     // Gives as much of what is kept as the buffer has room for.
@@ -93,13 +110,20 @@ impl<'a, R: Net + Clock> TcpLink<'a, R> {
         n
     }
 
+    // Writes what is taken, and goes on after a signal as `receive` does.
     fn send(&mut self, bytes: &[u8]) -> io::Result<usize>
         ensures within { IfOk result (λ n. n ≤ length bytes.now) }
         ensures count { self.new.faults ≡ self.old.faults }
     {
-        let left = time_left(self.clock, self.deadline)?;
-        self.stream.set_write_timeout(Some(left))?;
-        self.stream.write(bytes)
+        for _ in 0..INTERRUPTIONS {
+            let left = time_left(self.clock, self.deadline)?;
+            self.stream.set_write_timeout(Some(left))?;
+            match self.stream.write(bytes) {
+                Err(error) if error.kind() == ErrorKind::Interrupted => {}
+                result => return result,
+            }
+        }
+        Err(io::Error::from(ErrorKind::Interrupted))
     }
 
     // Says that no more is written, and reads a bounded rest: a socket that is closed over bytes that weren't read may lose

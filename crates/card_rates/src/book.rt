@@ -82,6 +82,20 @@ impl RateBook {
         self.penalties[which].last = Some(last);
     }
 
+    /// The segments but Credit and Held, by number. It takes no memory.
+    pub fn segments(&self) -> &[RatedSegment]
+        ensures { result.now ≡ self.now.segments }
+    {
+        &self.segments
+    }
+
+    /// The rate of penalties by the account's terms, in basis points (12 CFR 1026.55(b)(4)). It takes no memory.
+    pub fn penalty_rate(&self) -> Bp
+        ensures { result ≡ self.now.penalty }
+    {
+        self.penalty_rate
+    }
+
     /// The penalties that began, in the order of their beginnings. It takes no memory.
     pub fn penalties(&self) -> &[Interval]
         ensures { result.now ≡ self.now.penalties }
@@ -188,9 +202,9 @@ impl RateBook {
         )
     }
 
-    // the rate of a segment
+    /// The rate of one of its segments on a day, in basis points (12 CFR 1026.55(b)(1), (b)(3), (b)(4)). It takes no memory.
     #[tactic(auto, unfolding(card_model::specs::Rates::rate_on))]
-    fn rate_for(&self, g: &RatedSegment, day: Day) -> Bp
+    pub fn rate_for(&self, g: &RatedSegment, day: Day) -> Bp
         ensures { result ≡ rate_of self.now day g.now }
     {
         if is_to_come(g, day) {

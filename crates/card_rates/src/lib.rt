@@ -9,4 +9,4 @@ mod rate;
 mod segment;
 
 pub use book::RateBook;
-pub use segment::{plan_sort, sort_of};
+pub use segment::{RatedSegment, is_deferred_on, plan_sort, sort_of};

@@ -2,7 +2,7 @@
 ghost use Rattle.std.specs.Prelude.{◌≡◌, ◌≤◌, ◌||◌, Some, None};
 ghost use Rattle.card_days.specs.Range.{last_calendar_day};
 ghost use Rattle.card_model.specs.Rates.{accrual_rate, after_end};
-ghost use Rattle.card_model.specs.Segments.{is_over, is_sort, sort_of_category, sort_of_plan};
+ghost use Rattle.card_model.specs.Segments.{is_deferred_on, is_over, is_sort, sort_of_category, sort_of_plan};
 ghost use Rattle.card_model.specs.declared.segment.Sort.TheVariants.{Promo, Deferred};
 
 use card_days::Day;
@@ -11,7 +11,8 @@ use card_model::Sort;
 use card_units::Bp;
 use std::marker::Model;
 
-// A segment with its rates. A vintage's first day is kept as its number, since it may lie after the last day.
+/// A segment with its rates in basis points: of a vintage its own from `effective` on, of a plan that of its period, and that
+/// after its end. A vintage's first day is kept as its number, since it may lie after the last day.
 #[derive(Clone, Copy)]
 pub struct RatedSegment {
     pub id: u8,
@@ -117,4 +118,11 @@ pub fn accrues(g: &RatedSegment, day: Day) -> Option<Bp>
     } else {
         None
     }
+}
+
+/// Whether it is a deferred plan in its period on a day (12 CFR 1026.55(b)(1)).
+pub fn is_deferred_on(g: &RatedSegment, day: Day) -> bool
+    ensures { result ≡ is_deferred_on day g.now }
+{
+    g.sort == Sort::Deferred && g.begins <= number_of(day) && !is_over(&g.ends, day)
 }

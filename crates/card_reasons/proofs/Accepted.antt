@@ -1,6 +1,6 @@
 -- What an accepted post keeps.
 use Rattle.std.proofs.Common.{◌≡◌, ℕ, zero, suc, ◌<◌, ◌≤◌, Bool, true, false, List, [], ◌∷◌, length, drop, None, refl, sym, ◌∙◌, arith}
-use Rattle.std.specs.Prelude.{nat_lt, ◌||◌, ◌==◌, not, slice_get}
+use Rattle.std.specs.Prelude.{nat_le, nat_lt, ◌||◌, ◌==◌, not, slice_get}
 use Rattle.std.proofs.lemmas.Bool.{leb-false, ltb-false, or_parts}
 use Rattle.card_days.specs.Range.{last_request_day, last_calendar_day}
 use Rattle.card_events.specs.Limits.{post_limit}
@@ -13,7 +13,7 @@ use Rattle.card_events.specs.declared.kept.Kept.{Kept}
 use Rattle.card_events.specs.declared.post.Post.{Post}
 use Rattle.card_events.specs.declared.post.Post.TheVariants as post
 use Rattle.card_events.specs.declared.reply.Refusal.TheVariants as refusal
-use Rattle.card_model.specs.Refusals.{Present, account_full, amount_range, anchor_now, day_ahead, day_before_open, first_reason, fits_target, holds_of, is_no_amount, is_out_of_range, reason_against, reasons, wrong_entry, wrong_target}
+use Rattle.card_model.specs.Refusals.{Present, account_full, amount_range, anchor_now, day_ahead, day_before_open, first_reason, fits_target, holds_of, is_no_amount, is_out_of_range, not_closed, reason_against, reasons, wrong_entry, wrong_target}
 use Rattle.card_posts.specs.Posted.{IsReceived, target_of}
 
 -- nothing is against a post: its reasons from a place on
@@ -79,6 +79,19 @@ small now cycle none =
     let range : ((cycle == 0) || nat_lt last_request_day (closing (anchor_now now) cycle)) ≡ false = range_none now (post.Bill cycle) none in
     let by : closing (anchor_now now) cycle ≤ last_request_day = ltb-false last_request_day (closing (anchor_now now) cycle) (or_parts (cycle == 0) (nat_lt last_request_day (closing (anchor_now now) cycle)) range).1 in
     omega (arith, by, grown (anchor_now now) cycle)
+
+-- a Bill's cycle is one, and closed before today
+pub some_cycle : (now : Present) (cycle : ℕ) → reason_against now (post.Bill cycle) ≡ None → (cycle == 0) ≡ false
+unfolding is_out_of_range
+some_cycle now cycle none =
+    let range : ((cycle == 0) || nat_lt last_request_day (closing (anchor_now now) cycle)) ≡ false = range_none now (post.Bill cycle) none in
+    (or_parts (cycle == 0) (nat_lt last_request_day (closing (anchor_now now) cycle)) range).0
+
+pub shut : (now : Present) (cycle : ℕ) → reason_against now (post.Bill cycle) ≡ None → closing (anchor_now now) cycle < now.today
+unfolding not_closed
+shut now cycle none =
+    let at = closing (anchor_now now) cycle in
+    leb-false now.today at (where_none (nat_le now.today at) (refusal.NotClosed at) (none_head (not_closed now (post.Bill cycle)) (drop 18 (reasons now (post.Bill cycle))) (against now (post.Bill cycle) 17 none)))
 
 -- a number under which some post passes is that of a post
 within-slice : (f : Kept → Bool) (i : ℕ) (ks : List Kept) → holds_of f (slice_get ks i) ≡ true → i < length ks

@@ -1,6 +1,6 @@
 use card_commands::{billctl, billctl_over_store};
 use card_keeper::{Keeper, MemoryKeeper, Row};
-use card_ports::{MemorySink, MemorySource};
+use card_ports::{MemoryDoor, MemorySink, MemorySource};
 use card_sqlite::StoreKeeper;
 use sqlite::{Connection, MemStore};
 use std::alloc::Global;
@@ -17,6 +17,11 @@ fn source(alloc: Global, text: &[u8]) -> Result<MemorySource, Fail> {
     Ok(MemorySource::new(bytes, Vec::new(alloc)))
 }
 
+// A door through which no connection comes.
+fn no_door(alloc: Global) -> Result<MemoryDoor, Fail> {
+    Ok(MemoryDoor::new(alloc, Vec::new(alloc), Vec::new(alloc))?)
+}
+
 // Whether a command over rows in memory writes these replies, none of them a refusal.
 fn replies_in_memory(
     alloc: Global,
@@ -28,7 +33,8 @@ fn replies_in_memory(
     let mut input = source(alloc, text)?;
     let mut output = MemorySink::new(alloc, Vec::new(alloc));
     let words = words(alloc, command)?;
-    let status = billctl(alloc, &words, &mut input, &mut output, keeper);
+    let mut door = no_door(alloc)?;
+    let status = billctl(alloc, &words, &mut input, &mut output, keeper, &mut door);
     Ok(status == 0 && output.taken() == replies)
 }
 
@@ -43,7 +49,8 @@ fn replies_in_store(
     let mut input = source(alloc, text)?;
     let mut output = MemorySink::new(alloc, Vec::new(alloc));
     let words = words(alloc, command)?;
-    let status = billctl_over_store(alloc, &words, &mut input, &mut output, keeper);
+    let mut door = no_door(alloc)?;
+    let status = billctl_over_store(alloc, &words, &mut input, &mut output, keeper, &mut door);
     Ok(status == 0 && output.taken() == replies)
 }
 

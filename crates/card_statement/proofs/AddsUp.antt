@@ -29,7 +29,7 @@ use Rattle.card_model.proofs.Caps.{posts-cycles, due-cycles}
 use Rattle.card_model.proofs.Cuts.{closings_are_cuts}
 use Rattle.card_model.proofs.Posted.{sum_of-append}
 use Rattle.card_statement.specs.Laws.{StatementsAddUp}
-use Rattle.card_statement.specs.Sheets.{cycle_entries, entries_by, moves_of, moves_owed, moves_sum, previous_balance, sheet_in, sheet_of}
+use Rattle.card_model.specs.Sheets.{cycle_entries, entries_by, moves_of, moves_owed, moves_sum, previous_balance, sheet_in, sheet_of}
 use Rattle.card_statement.proofs.Chains.{Adds, Chain, chain-at, chain-longer, chain-push, cycle-take, prior-is}
 use Rattle.card_statement.proofs.MoveSums.{is_hold, is_interest, kinds-sum, moves-sum, total-append, total-cons, total-nil}
 
@@ -129,7 +129,7 @@ record Facts (b : Book) : Type 0 where
   pub interest : All (HasInterest b.entries) b.cycles
 
 -- its entries are those of the last closing, and others without interest
-record Sums (b : Book) : Type 0 where
+pub record Sums (b : Book) : Type 0 where
   pub chain : Chain b.entries None 1 b.cycles
   pub front : List Entry
   pub rest : List Entry
@@ -220,7 +220,7 @@ closed-sums d b new c k a none s f =
     let balance : previous_of before +ℤ sum_of moves_owed (drop (entries_by before) (take c.entries new.entries)) +ℤ pos (amounts_sum c.interest) ≡ c.new_balance =
     ap (λ l. previous_of before +ℤ sum_of moves_owed l +ℤ pos (amounts_sum c.interest)) dropped
     ∙ (ap (λ z. z +ℤ sum_of moves_owed rest +ℤ pos (amounts_sum c.interest)) (sym s.owed) ∙ (sum ∙ (ap owed (sym is) ∙ sym k.new_balance))) in
-    let adds : Adds new.entries before (length b.cycles + 1) c = record { number = k.number; within = let e = k.entries in omega arith; previous = k.previous; balance = balance } in
+    let adds : Adds new.entries before (length b.cycles + 1) c = record { number = k.number; within = let e = k.entries in omega arith; previous = k.previous; balance = balance; interest = ap (total kind.Interest) dropped ∙ n } in
     let chain = subst (λ es. Chain es None 1 b.cycles) (sym a.is) (chain-longer b.entries a.rest None 1 b.cycles s.chain) in
     let pushed = chain-push new.entries None 1 (length b.cycles + 1) b.cycles c refl chain adds in
     let last : last_cycle new.cycles ≡ Some c = ap last_cycle k.cycles ∙ last-pushed None b.cycles c in
@@ -294,7 +294,7 @@ fold-sums history issued shared (suc n) =
     let s = seen_on (anchor_of history) shared history issued in
     day-sums (row_for (present_cycle b) issued) acc (s (acc.anchor.opened + n)) b (book-dates issued acc s n (λ d. refl)) (fold-sums history issued shared n) (fold-facts history issued shared n)
 
-book-sums : (history : List Kept) (issued : List IssuedRow) (shared : SharedRows) (day : ℕ) → Sums (book history issued shared day)
+pub book-sums : (history : List Kept) (issued : List IssuedRow) (shared : SharedRows) (day : ℕ) → Sums (book history issued shared day)
 unfolding book
 book-sums history issued shared day = fold-sums history issued shared (day + 1 - (anchor_of history).opened)
 

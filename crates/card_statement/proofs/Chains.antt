@@ -7,8 +7,10 @@ use Rattle.card_model.specs.Closing.{previous_of}
 use Rattle.card_model.specs.Cycles.{Cycle, amounts_sum}
 use Rattle.card_model.specs.Entries.{sum_of}
 use Rattle.card_model.specs.Folds.{cycle_at}
+use Rattle.card_model.specs.Laws.{total}
 use Rattle.card_model.specs.declared.entry.Entry.{Entry}
-use Rattle.card_statement.specs.Sheets.{entries_by, moves_owed}
+use Rattle.card_model.specs.declared.entry.EntryKind.TheVariants as kind
+use Rattle.card_model.specs.Sheets.{entries_by, moves_owed}
 
 -- the cycle behind another one, or the first, by what it moved among these entries
 pub record Adds (es : List Entry) (before : Option Cycle) (k : ℕ) (c : Cycle) : Type 0 where
@@ -16,6 +18,7 @@ pub record Adds (es : List Entry) (before : Option Cycle) (k : ℕ) (c : Cycle) 
   pub within : c.entries ≤ length es
   pub previous : c.previous ≡ previous_of before
   pub balance : previous_of before +ℤ sum_of moves_owed (drop (entries_by before) (take c.entries es)) +ℤ pos (amounts_sum c.interest) ≡ c.new_balance
+  pub interest : total kind.Interest (drop (entries_by before) (take c.entries es)) ≡ amounts_sum c.interest
 
 abbrev pub Chain : List Entry → Option Cycle → ℕ → List Cycle → Type 0
 Chain es before k [] = Unit {0}
@@ -29,6 +32,7 @@ adds-longer es more before k c a =
       within = let n = length-append es more in let w = a.within in omega arith;
       previous = a.previous;
       balance = ap (λ l. previous_of before +ℤ sum_of moves_owed (drop (entries_by before) l) +ℤ pos (amounts_sum c.interest)) same ∙ a.balance;
+      interest = ap (λ l. total kind.Interest (drop (entries_by before) l)) same ∙ a.interest;
     }
 
 pub chain-longer : (es more : List Entry) (before : Option Cycle) (k : ℕ) (cs : List Cycle) → Chain es before k cs → Chain (es ++ more) before k cs

@@ -8,8 +8,8 @@ use Rattle.card_model.specs.declared.entry.Entry.{Entry}
 use Rattle.card_model.specs.declared.entry.EntryKind.{EntryKind}
 use Rattle.card_model.specs.declared.entry.EntryKind.TheVariants as kind
 use Rattle.card_statement.specs.Gathering.{raised_by, with_entry}
-use Rattle.card_statement.specs.Sheets.{begun_move, gathered, is_of_move, moves_sum}
-use Rattle.card_statement.specs.declared.lines.Move.{Move}
+use Rattle.card_model.specs.Sheets.{begun_move, gathered, is_of_move, moves_sum}
+use Rattle.card_model.specs.declared.lines.Move.{Move}
 
 -- ---- kinds
 kind-true : (a b : EntryKind) → is_kind a b ≡ true → a ≡ b

@@ -1,6 +1,9 @@
 pub mod AddsUp
+pub mod AtClosing
 pub mod Chains
 pub mod Gathering
+pub mod LineSteps
 pub mod MoveSums
+pub mod SeenLines
 pub mod Steps
 pub mod YearSteps

@@ -10,8 +10,8 @@ use Rattle.card_model.specs.Laws.{size_of, total}
 use Rattle.card_model.specs.declared.entry.Entry.{Entry}
 use Rattle.card_model.specs.declared.entry.EntryKind.{EntryKind}
 use Rattle.card_model.specs.declared.entry.EntryKind.TheVariants as kind
-use Rattle.card_statement.specs.Sheets.{gathered, has_cents, is_of_move, moves_of, moves_owed, moves_sum}
-use Rattle.card_statement.specs.declared.lines.Move.{Move}
+use Rattle.card_model.specs.Sheets.{gathered, has_cents, is_of_move, moves_of, moves_owed, moves_sum}
+use Rattle.card_model.specs.declared.lines.Move.{Move}
 
 -- ---- transactions
 -- those that pass and those that don't

@@ -8,8 +8,8 @@ use Rattle.std.proofs.lemmas.List.Elements.{All-cons, All-head, All-nil, All-tai
 use Rattle.std.proofs.lemmas.List.Sums.{sum_by-take-le, sum_by_more}
 use Rattle.card_model.specs.declared.entry.Entry.{Entry}
 use Rattle.card_statement.specs.Gathering.{raised_by, sizes, with_entry, with_if}
-use Rattle.card_statement.specs.Sheets.{begun_move, gathered, is_of_move, moves_owed}
-use Rattle.card_statement.specs.declared.lines.Move.{Move}
+use Rattle.card_model.specs.Sheets.{begun_move, gathered, is_of_move, moves_owed}
+use Rattle.card_model.specs.declared.lines.Move.{Move}
 use Rattle.card_statement.proofs.Gathering.{gathered-push}
 
 -- ---- one entry

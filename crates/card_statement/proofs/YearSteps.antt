@@ -3,7 +3,7 @@ use Rattle.std.proofs.Common.{◌≡◌, ℕ, ◌+◌, ◌*◌, ◌<◌, ◌≤�
 use Rattle.std.proofs.lemmas.List.Sums.{sum_by_more}
 use Rattle.card_days.specs.Civil.{date_of}
 use Rattle.card_model.specs.Cycles.{Cycle}
-use Rattle.card_statement.specs.Sheets.{year_sum}
+use Rattle.card_model.specs.Sheets.{year_sum}
 
 -- what a cycle adds
 abbrev pub part : (Cycle → ℕ) → ℕ → Cycle → ℕ

@@ -2,8 +2,8 @@
 use Rattle.std.specs.Prelude.{ℕ, if◌then◌else◌, List, [], ◌∷◌, ◌+ℤ◌, nat_abs}
 use Rattle.std.specs.List.{sum_by}
 use Rattle.card_model.specs.declared.entry.Entry.{Entry}
-use Rattle.card_statement.specs.Sheets.{begun_move, is_of_move, moves_owed}
-use Rattle.card_statement.specs.declared.lines.Move.{Move}
+use Rattle.card_model.specs.Sheets.{begun_move, is_of_move, moves_owed}
+use Rattle.card_model.specs.declared.lines.Move.{Move}
 
 -- a transaction with the cents of one entry more
 abbrev pub raised_by : Entry → Move → Move

@@ -1,3 +1,3 @@
 pub mod Gathering
 pub mod Laws
-pub mod Sheets
+pub mod Lines

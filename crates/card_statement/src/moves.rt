@@ -3,7 +3,7 @@ ghost use Rattle.std.specs.Prelude.{◌≡◌, ◌≤◌, ◌+◌, ◌^◌, ◌+
 ghost use Rattle.std.specs.List.{All, filter};
 ghost use Rattle.card_model.specs.Entries as entries;
 ghost use Rattle.card_statement.specs.Gathering.{raised_by, sizes, with_entry, with_if};
-ghost use Rattle.card_statement.specs.Sheets as spec;
+ghost use Rattle.card_model.specs.Sheets as spec;
 
 use crate::Move;
 use card_model::{Entry, EntryKind};
@@ -127,7 +127,7 @@ fn moved_something(alloc: Global, moves: &[Move]) -> Result<Vec<Move>, NoMemory>
 /// The transactions that the entries of a cycle make up, each where its first entry stands (12 CFR 1026.7(b)(2), (b)(3),
 /// (b)(6)): one post, or one fee, with the cents of its entries of one kind. Interest and holds are none, nor is what came to
 /// 0. The entries move at most 10^17 cents in all.
-#[tactic(auto, unfolding(crate::specs::Sheets::moves_of))]
+#[tactic(auto, unfolding(card_model::specs::Sheets::moves_of))]
 pub fn moves_of(alloc: Global, entries: &[Entry]) -> Result<Vec<Move>, NoMemory>
     requires small { sizes entries.now ≤ 10 ^ 17 }
     ensures { IfOk result (λ moves. moves.items ≡ spec.moves_of entries.now) }

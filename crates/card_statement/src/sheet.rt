@@ -1,6 +1,7 @@
 use crate::{DeferredLine, Move, RateLine};
 use card_closing::Amounts;
-use card_units::{Bp, Cents};
+use card_units::{Bp, Cents, NoMemory};
+use std::alloc::Global;
 use std::marker::Model;
 
 /// What a statement shows beside its cycle (12 CFR 1026.7(b)), in cents but for the rates. `previous` is the new balance of
@@ -15,8 +16,8 @@ pub struct Sheet {
     pub previous: Cents,
     pub corrections: Cents,
     pub moves: Vec<Move>,
-    pub fees_year: Cents,
-    pub interest_year: Cents,
+    pub fees_year: u128,
+    pub interest_year: u128,
     pub rates: Vec<RateLine>,
     pub deferred: Vec<DeferredLine>,
     pub late_up_to: Cents,
@@ -27,9 +28,35 @@ pub struct Sheet {
 }
 
 impl Model for Sheet {
-    ghost use Rattle.card_statement.specs.Sheets.{Sheet};
+    ghost use Rattle.std.specs.Prelude.{pos};
+    ghost use Rattle.card_model.specs.Cycles.{Sheet};
 
     ghost Value = { Sheet };
 
-    ghost view = { λ s. record { due_payment = s.due_payment; previous = s.previous; corrections = s.corrections; moves = s.moves.items; fees_year = s.fees_year; interest_year = s.interest_year; rates = s.rates.items; deferred = s.deferred.items; late_up_to = s.late_up_to; penalty = s.penalty; closing = s.closing; floor = s.floor; pct = s.pct } };
+    ghost view = { λ s. record { due_payment = s.due_payment; previous = s.previous; corrections = s.corrections; moves = s.moves.items; fees_year = pos s.fees_year; interest_year = pos s.interest_year; rates = s.rates.items; deferred = s.deferred.items; late_up_to = s.late_up_to; penalty = s.penalty; closing = s.closing; floor = s.floor; pct = s.pct } };
+}
+
+impl Sheet {
+    ghost use Rattle.std.specs.Prelude.{◌≡◌, IfOk};
+
+    /// The same sheet in memory of its own.
+    pub fn copy(&self, alloc: Global) -> Result<Sheet, NoMemory>
+        ensures { IfOk result (λ s. s ≡ self.now) }
+    {
+        Ok(Sheet {
+            due_payment: self.due_payment,
+            previous: self.previous,
+            corrections: self.corrections,
+            moves: Vec::from_slice(alloc, &self.moves)?,
+            fees_year: self.fees_year,
+            interest_year: self.interest_year,
+            rates: Vec::from_slice(alloc, &self.rates)?,
+            deferred: Vec::from_slice(alloc, &self.deferred)?,
+            late_up_to: self.late_up_to,
+            penalty: self.penalty,
+            closing: self.closing.copy(alloc)?,
+            floor: self.floor,
+            pct: self.pct,
+        })
+    }
 }

@@ -4,7 +4,7 @@ ghost use Rattle.std.specs.List.{All};
 ghost use Rattle.card_days.specs.Civil.{date_of};
 ghost use Rattle.card_model.specs.Cycles.{amounts_sum};
 ghost use Rattle.card_model.specs.Fees.{fees_sum};
-ghost use Rattle.card_statement.specs.Sheets.{year_sum};
+ghost use Rattle.card_model.specs.Sheets.{year_sum};
 
 use card_closing::Cycle;
 use card_days::Day;

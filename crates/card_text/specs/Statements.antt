@@ -4,15 +4,14 @@ use Rattle.std.specs.Fmt.{decimal}
 use Rattle.std.specs.List.{flat_map}
 use Rattle.card_units.specs.Money.{daily, money_text}
 use Rattle.card_days.specs.Civil.{day_text}
-use Rattle.card_model.specs.Cycles.{Cycle, amounts_sum}
+use Rattle.card_model.specs.Cycles.{Cycle, Sheet, amounts_sum}
 use Rattle.card_model.specs.Fees.{fees_sum}
 use Rattle.card_model.specs.declared.entry.EntryKind.{EntryKind}
 use Rattle.card_model.specs.declared.entry.EntryKind.TheVariants as kind
 use Rattle.card_model.specs.declared.segment.Sort.TheVariants as sort
-use Rattle.card_statement.specs.Sheets.{Sheet}
-use Rattle.card_statement.specs.declared.lines.DeferredLine.{DeferredLine}
-use Rattle.card_statement.specs.declared.lines.Move.{Move}
-use Rattle.card_statement.specs.declared.lines.RateLine.{RateLine}
+use Rattle.card_model.specs.declared.lines.DeferredLine.{DeferredLine}
+use Rattle.card_model.specs.declared.lines.Move.{Move}
+use Rattle.card_model.specs.declared.lines.RateLine.{RateLine}
 use Rattle.card_text.specs.Export.{segment_name}
 
 -- ---- columns; a text that is wider than its places stands whole
@@ -73,8 +72,8 @@ unfoldable pub rate_front : List ℕ → ℕ → List ℕ
 rate_front name rate = codes "RATE " ++ to_left 12 name ++ 32 ∷ to_right 7 (rate_text rate) ++ 32 ∷ to_right 12 (daily_text rate)
 
 -- ` AVERAGE INTEREST`
-unfoldable pub rate_amounts : ℤ → ℤ → List ℕ
-rate_amounts average interest = 32 ∷ amount_text average ++ 32 ∷ amount_text interest ++ 10 ∷ []
+unfoldable pub rate_amounts : ℕ → ℕ → List ℕ
+rate_amounts average interest = 32 ∷ amount_text (pos average) ++ 32 ∷ amount_text (pos interest) ++ 10 ∷ []
 
 -- both, with the name that the segment has in the export
 unfoldable pub rate_line : RateLine → List ℕ

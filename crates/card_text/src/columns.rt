@@ -1,5 +1,5 @@
 // Texts in columns. A text that is wider than its places stands whole.
-ghost use Rattle.std.specs.Prelude.{◌≡◌, ◌++◌, OnOk, replicate};
+ghost use Rattle.std.specs.Prelude.{◌≡◌, ◌++◌, IfOk, OnOk, pos, replicate};
 ghost use Rattle.std.specs.String.{string_bytes};
 ghost use Rattle.card_text.specs.Statements.{labelled, three_texts_ended, to_left, to_right, two_texts, two_texts_ended};
 ghost use Rattle.card_units.specs.Money.{money_text};
@@ -56,6 +56,30 @@ pub fn push_labelled(text: &mut String, label: &str, value: &str) -> Result<(), 
     push_right(text, 14, value)?;
     text.push_str("\n")?;
     Ok(())
+}
+
+// An amount of at least 0, of whatever size, as money.
+#[tactic(auto, using(card_lines::proofs::TextRules::texts), unfolding(card_units::specs::Money::money_text))]
+fn sum_text(alloc: Global, cents: u128) -> Result<String, NoMemory>
+    ensures { IfOk result (λ text. string_bytes text ≡ money_text (pos cents)) }
+{
+    Ok(format!(in alloc; "{}.{}{}", cents / 100, cents % 100 / 10, cents % 10)?)
+}
+
+// The line of a label and such an amount.
+pub fn push_sum(alloc: Global, text: &mut String, label: &str, cents: u128) -> Result<(), NoMemory>
+    ensures { OnOk result (string_bytes text.new ≡ string_bytes text.old ++ labelled label.now (money_text (pos cents))) }
+{
+    let value = sum_text(alloc, cents)?;
+    push_labelled(text, label, value.as_str())
+}
+
+// Such an amount in its column.
+pub fn push_sum_amount(alloc: Global, text: &mut String, cents: u128) -> Result<(), NoMemory>
+    ensures { OnOk result (string_bytes text.new ≡ string_bytes text.old ++ to_right 14 (money_text (pos cents))) }
+{
+    let amount = sum_text(alloc, cents)?;
+    push_right(text, 14, amount.as_str())
 }
 
 // The line of a label and an amount.

@@ -1,5 +1,5 @@
 // A statement as text.
-ghost use Rattle.std.specs.Prelude.{◌≡◌, ◌≤◌, ◌++◌, ◌^◌, IfOk, OnOk, codes, if◌then◌else◌, pos};
+ghost use Rattle.std.specs.Prelude.{◌≡◌, ◌++◌, IfOk, OnOk, codes, if◌then◌else◌, pos};
 ghost use Rattle.std.specs.List.{flat_map};
 ghost use Rattle.std.specs.String.{string_bytes};
 ghost use Rattle.card_days.specs.Civil.{day_text};
@@ -10,7 +10,7 @@ ghost use Rattle.card_units.specs.Money.{money_text};
 
 use crate::columns::{
     push_amount, push_both, push_cents, push_end, push_labelled, push_last, push_left, push_right,
-    push_zeros,
+    push_sum, push_sum_amount, push_zeros,
 };
 use crate::export::segment_name;
 use card_closing::Cycle;
@@ -101,15 +101,15 @@ fn push_rate_front(
 fn push_rate_amounts(
     alloc: Global,
     text: &mut String,
-    average: Cents,
-    interest: Cents,
+    average: u128,
+    interest: u128,
 ) -> Result<(), NoMemory>
     ensures { OnOk result (string_bytes text.new ≡ string_bytes text.old ++ spec.rate_amounts average interest) }
 {
     text.push_str(" ")?;
-    push_amount(alloc, text, average)?;
+    push_sum_amount(alloc, text, average)?;
     text.push_str(" ")?;
-    push_amount(alloc, text, interest)?;
+    push_sum_amount(alloc, text, interest)?;
     text.push_str("\n")?;
     Ok(())
 }
@@ -240,30 +240,21 @@ fn push_earlier(alloc: Global, text: &mut String, sheet: &Sheet) -> Result<(), N
 
 // The fees of the cycle.
 fn push_fees(alloc: Global, text: &mut String, cycle: &Cycle) -> Result<(), NoMemory>
-    requires fees { fees_sum cycle.now.fees ≤ 10 ^ 17 }
     ensures { OnOk result (string_bytes text.new ≡ string_bytes text.old ++ spec.labelled (codes "FEES THIS PERIOD") (money_text (pos (fees_sum cycle.now.fees)))) }
 {
-    push_cents(alloc, text, "FEES THIS PERIOD", cycle.fees.sum() as Cents)
+    push_sum(alloc, text, "FEES THIS PERIOD", cycle.fees.sum())
 }
 
 // The interest of the cycle.
 fn push_interest(alloc: Global, text: &mut String, cycle: &Cycle) -> Result<(), NoMemory>
-    requires interest { amounts_sum cycle.now.interest ≤ 10 ^ 17 }
     ensures { OnOk result (string_bytes text.new ≡ string_bytes text.old ++ spec.labelled (codes "INTEREST THIS PERIOD") (money_text (pos (amounts_sum cycle.now.interest)))) }
 {
-    push_cents(
-        alloc,
-        text,
-        "INTEREST THIS PERIOD",
-        cycle.interest.sum() as Cents,
-    )
+    push_sum(alloc, text, "INTEREST THIS PERIOD", cycle.interest.sum())
 }
 
 // The fees and the interest of the cycle.
 #[tactic(auto, using(card_lines::proofs::TextRules::texts), unfolding(crate::specs::Statements::charge_lines))]
 fn push_charges(alloc: Global, text: &mut String, cycle: &Cycle) -> Result<(), NoMemory>
-    requires fees { fees_sum cycle.now.fees ≤ 10 ^ 17 }
-    requires interest { amounts_sum cycle.now.interest ≤ 10 ^ 17 }
     ensures { OnOk result (string_bytes text.new ≡ string_bytes text.old ++ spec.charge_lines cycle.now) }
 {
     push_fees(alloc, text, cycle)?;
@@ -278,8 +269,6 @@ fn push_activity(
     cycle: &Cycle,
     sheet: &Sheet,
 ) -> Result<(), NoMemory>
-    requires fees { fees_sum cycle.now.fees ≤ 10 ^ 17 }
-    requires interest { amounts_sum cycle.now.interest ≤ 10 ^ 17 }
     ensures { OnOk result (string_bytes text.new ≡ string_bytes text.old ++ spec.activity cycle.now sheet.now) }
 {
     push_earlier(alloc, text, sheet)?;
@@ -291,14 +280,14 @@ fn push_activity(
 fn push_fees_year(alloc: Global, text: &mut String, sheet: &Sheet) -> Result<(), NoMemory>
     ensures { OnOk result (string_bytes text.new ≡ string_bytes text.old ++ spec.labelled (codes "FEES THIS YEAR") (money_text sheet.now.fees_year)) }
 {
-    push_cents(alloc, text, "FEES THIS YEAR", sheet.fees_year)
+    push_sum(alloc, text, "FEES THIS YEAR", sheet.fees_year)
 }
 
 // The interest of the year to date.
 fn push_interest_year(alloc: Global, text: &mut String, sheet: &Sheet) -> Result<(), NoMemory>
     ensures { OnOk result (string_bytes text.new ≡ string_bytes text.old ++ spec.labelled (codes "INTEREST THIS YEAR") (money_text sheet.now.interest_year)) }
 {
-    push_cents(alloc, text, "INTEREST THIS YEAR", sheet.interest_year)
+    push_sum(alloc, text, "INTEREST THIS YEAR", sheet.interest_year)
 }
 
 // The sums of the year to date.
@@ -405,7 +394,7 @@ fn push_warning(
 /// changed in it since, the transactions, fees and interest of the cycle, which add up to the new balance; the sums of the
 /// year, the balances, the minimum payment and its due date, or `-` where there is no due payment; a line for each rate and
 /// for each plan with deferred interest; and, where there is a payment to make, what a late one costs. Amounts are in units
-/// with two digits behind a point. The fees and the interest of the cycle are each at most 10^17 cents.
+/// with two digits behind a point.
 #[tactic(auto, using(card_lines::proofs::TextRules::texts), unfolding(crate::specs::Statements::statement_text))]
 pub fn statement_text(
     alloc: Global,
@@ -413,8 +402,6 @@ pub fn statement_text(
     cycle: &Cycle,
     sheet: &Sheet,
 ) -> Result<String, NoMemory>
-    requires fees { fees_sum cycle.now.fees ≤ 10 ^ 17 }
-    requires interest { amounts_sum cycle.now.interest ≤ 10 ^ 17 }
     ensures { IfOk result (λ text. string_bytes text ≡ spec.statement_text account.now cycle.now sheet.now) }
 {
     let mut text = String::new(alloc);

@@ -1,6 +1,6 @@
 use Rattle.std.proofs.Common.{refl}
 use Rattle.card_model.specs.Everything.{everything}
-use Rattle.card_statement.specs.Sheets.{deferred_lines, gathered, had_balance, moves_of, rate_lines, sheet_in, sheet_of, year_sum}
+use Rattle.card_model.specs.Sheets.{deferred_lines, gathered, had_balance, moves_of, rate_lines, sheet_in, sheet_of, year_sum}
 use Rattle.card_examples.proofs.sheets.Goals as goal
 
 pub returns : goal.returns

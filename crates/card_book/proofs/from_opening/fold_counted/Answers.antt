@@ -4,7 +4,7 @@ use Rattle.card_model.specs.Entries.{AreBalances}
 use Rattle.card_model.specs.declared.entry.Entry.{Entry}
 use Rattle.card_book.specs.Stands.{since_through}
 use Rattle.card_book.proofs.Days.{book_is_the_fold}
-use Rattle.card_book.proofs.Told.{small-on, sums-on, whole-is}
+use Rattle.card_book.proofs.Told.{accruals-on, rates-on, small-on, sums-on, whole-is}
 use Rattle.card_book.proofs.from_opening.fold_counted.Goals as goal
 
 pub advance-requires-clause-stands : goal.advance-requires-clause-stands
@@ -32,3 +32,12 @@ returns-clause-since g c = c.in_ok-advance.ensures.stands.since ∙ ap (since_th
 
 pub returns-clause-segments : goal.returns-clause-segments
 returns-clause-segments g c = (book_is_the_fold c.args.inputs.now c.advance.new.self c.advance.new.track c.in_ok-advance.ensures.stands).segments
+
+pub returns-clause-balances : goal.returns-clause-balances
+returns-clause-balances g c = sums-on c.args.inputs.now c.advance.new.self c.advance.new.track c.args.to c.in_ok-advance.ensures.day c.in_ok-advance.ensures.stands
+
+pub returns-clause-rates : goal.returns-clause-rates
+returns-clause-rates g c = rates-on c.args.inputs.now c.advance.new.self c.advance.new.track c.args.to c.in_ok-advance.ensures.day c.in_ok-advance.ensures.stands
+
+pub returns-clause-accruals : goal.returns-clause-accruals
+returns-clause-accruals g c = accruals-on c.args.inputs.now c.advance.new.self c.advance.new.track c.args.to c.in_ok-advance.ensures.day c.in_ok-advance.ensures.stands

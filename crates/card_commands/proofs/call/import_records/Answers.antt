@@ -3,6 +3,7 @@ use Rattle.card_commands.specs.Feed.{Run}
 use Rattle.card_commands.specs.Outside.{outside}
 use Rattle.card_commands.specs.Views.{GaveLedger}
 use Rattle.card_commands.specs.Written.{sides}
+use Rattle.card_commands.specs.declared.command.Command.TheVariants as command
 use Rattle.card_commands.proofs.LoadedLemmas.{import_outcome, unloaded_outcome}
 use Rattle.card_commands.proofs.call.import_records.Goals as goal
 
@@ -17,4 +18,4 @@ returns-in-Ok g c =
 pub returns-in-Err : goal.returns-in-Err
 returns-in-Err g c =
     let at = outside g.I.Source.left g.I.Source.faults g.O.Sink.taken g.O.Sink.faults g.K.Keeper.rows g.K.Keeper.faults in
-    unloaded_outcome (at c.args.input.now c.args.output.now c.args.keeper.now) (at c.args.input.now c.load.new.output c.load.new.keeper) _ c.in-Err.ended refl refl c.in-Err.ensures.err
+    unloaded_outcome (at c.args.input.now c.args.output.now c.args.keeper.now) (at c.args.input.now c.load.new.output c.load.new.keeper) command.Import c.in-Err.ended tt refl refl c.in-Err.ensures.err

@@ -2,8 +2,8 @@ use Rattle.std.proofs.Common.{◌≡◌, ◌∙◌, ◌++◌, [], ◌∷◌, ◌
 use Rattle.std.proofs.Common.{List, get_or}
 use Rattle.std.proofs.lemmas.List.{get_or_default}
 use Rattle.card_statement.specs.Gathering.{raised_by}
-use Rattle.card_statement.specs.Sheets.{is_of_move}
-use Rattle.card_statement.specs.declared.lines.Move.{Move}
+use Rattle.card_model.specs.Sheets.{is_of_move}
+use Rattle.card_model.specs.declared.lines.Move.{Move}
 use Rattle.card_statement.proofs.Steps.{ended, found, passed}
 use Rattle.card_statement.proofs.moves.add.Goals as goal
 

@@ -3,7 +3,7 @@ use Rattle.std.specs.Prelude.{nat_abs}
 use Rattle.std.specs.List.{All}
 use Rattle.card_model.specs.declared.entry.Entry.{Entry}
 use Rattle.card_statement.specs.Gathering.{sizes, with_if}
-use Rattle.card_statement.specs.declared.lines.Move.{Move}
+use Rattle.card_model.specs.declared.lines.Move.{Move}
 use Rattle.card_statement.proofs.Steps.{gathered-more, if-small, none-gathered, room}
 use Rattle.card_statement.proofs.moves.gather.Goals as goal
 

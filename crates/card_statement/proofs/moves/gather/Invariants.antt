@@ -2,7 +2,7 @@ use Rattle.std.proofs.Common.{◌≡◌, ◌≤◌, All, take}
 use Rattle.std.specs.List.{filter}
 use Rattle.std.specs.Prelude.{nat_abs}
 use Rattle.card_statement.specs.Gathering.{sizes}
-use Rattle.card_statement.specs.Sheets.{gathered, moves_owed}
+use Rattle.card_model.specs.Sheets.{gathered, moves_owed}
 use Rattle.card_statement.proofs.moves.gather.Given as goal
 
 abbrev pub invariant-loop-i : goal.invariant-loop-i

@@ -1,6 +1,6 @@
 use Rattle.std.proofs.Common.{◌≡◌, take}
 use Rattle.std.specs.List.{filter}
-use Rattle.card_statement.specs.Sheets.{has_cents}
+use Rattle.card_model.specs.Sheets.{has_cents}
 use Rattle.card_statement.proofs.moves.moved_something.Given as goal
 
 abbrev pub invariant-loop-line : goal.invariant-loop-line

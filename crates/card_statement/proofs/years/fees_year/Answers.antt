@@ -1,7 +1,7 @@
 use Rattle.std.proofs.Common.{◌≡◌, ℕ, ◌∙◌, ◌+◌, ◌<◌, ◌^◌, ap, arith, get_or, length, rules, sym, take}
 use Rattle.card_model.specs.Cycles.{Cycle}
 use Rattle.card_model.specs.Fees.{fees_sum}
-use Rattle.card_statement.specs.Sheets.{year_sum}
+use Rattle.card_model.specs.Sheets.{year_sum}
 use Rattle.card_statement.proofs.YearSteps.{bounded, grows, more, none, part}
 use Rattle.card_statement.proofs.years.fees_year.Goals as goal
 

@@ -1,6 +1,6 @@
 use Rattle.std.proofs.Common.{◌≡◌, ◌≤◌, ◌*◌, ◌^◌, take}
 use Rattle.card_model.specs.Fees.{fees_sum}
-use Rattle.card_statement.specs.Sheets.{year_sum}
+use Rattle.card_model.specs.Sheets.{year_sum}
 use Rattle.card_statement.proofs.years.fees_year.Given as goal
 
 abbrev pub invariant-loop-i : goal.invariant-loop-i

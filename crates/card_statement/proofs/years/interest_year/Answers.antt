@@ -1,6 +1,6 @@
 use Rattle.std.proofs.Common.{◌≡◌, ℕ, ◌∙◌, ◌+◌, ◌<◌, ◌^◌, ap, arith, get_or, length, rules, sym, take}
 use Rattle.card_model.specs.Cycles.{Cycle, amounts_sum}
-use Rattle.card_statement.specs.Sheets.{year_sum}
+use Rattle.card_model.specs.Sheets.{year_sum}
 use Rattle.card_statement.proofs.YearSteps.{bounded, grows, more, none, part}
 use Rattle.card_statement.proofs.years.interest_year.Goals as goal
 

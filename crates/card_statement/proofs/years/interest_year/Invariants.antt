@@ -1,6 +1,6 @@
 use Rattle.std.proofs.Common.{◌≡◌, ◌≤◌, ◌*◌, ◌^◌, take}
 use Rattle.card_model.specs.Cycles.{amounts_sum}
-use Rattle.card_statement.specs.Sheets.{year_sum}
+use Rattle.card_model.specs.Sheets.{year_sum}
 use Rattle.card_statement.proofs.years.interest_year.Given as goal
 
 abbrev pub invariant-loop-i : goal.invariant-loop-i

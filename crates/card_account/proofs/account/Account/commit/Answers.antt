@@ -1,4 +1,4 @@
-use Rattle.std.proofs.Common.{◌≡◌, List, length, ap, sym, subst, ◌∙◌, arith}
+use Rattle.std.proofs.Common.{◌≡◌, List, length, ap, sym, subst, arith}
 use Rattle.card_account.specs.Accounts.{OpenAccount, present_of}
 use Rattle.card_reasons.proofs.Accepted.{few, received, target_there}
 use Rattle.card_events.specs.History.{anchor_of}

@@ -1,7 +1,7 @@
-use Rattle.std.proofs.Common.{◌≡◌, ℕ, ◌+◌, ◌≤◌, Option, Some, sym, ap, ◌∙◌, subst, arith}
+use Rattle.std.proofs.Common.{◌≡◌, ℕ, ◌+◌, ◌≤◌, sym, ap, ◌∙◌, subst, arith}
 use Rattle.card_days.specs.Range.{last_request_day}
 use Rattle.card_rates.specs.Next.{IsNext}
-use Rattle.card_daily.specs.Given.{Given, IsSound, opened_in}
+use Rattle.card_daily.specs.Given.{Given, IsSound}
 use Rattle.card_daily.specs.declared.track.Track.{Track}
 use Rattle.card_dayend.specs.Spans.{breaks_by}
 use Rattle.card_book.specs.Stands.{StandsFor, Summary, day_to_fold, steps_over}

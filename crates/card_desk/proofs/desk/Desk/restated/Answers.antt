@@ -8,7 +8,7 @@ use Rattle.card_model.specs.Refusals.{Lists}
 use Rattle.card_desk.specs.Desks.{named_all, state_of}
 use Rattle.card_desk.specs.Views.{restated, stated}
 use Rattle.card_desk.proofs.DeskLemmas.{found_at, found_none, state_by, there_at}
-use Rattle.card_desk.proofs.FoldLemmas.{book_at, may_be_folded, same_restated}
+use Rattle.card_desk.proofs.FoldLemmas.{alike_seen, may_be_folded, same_restated}
 use Rattle.card_desk.proofs.PlaceLemmas.{no_place}
 use Rattle.card_desk.proofs.desk.Desk.restated.Goals as goal
 
@@ -44,6 +44,6 @@ returns-in_ok-statement-in-Some c =
     let low : c.in-Some.at < length items = omega (arith, place.bound, length-map items (λ (x : OpenAccount). x.named)) in
     let here = there_at items name c.in-Some.at a place c.index-account.ensures in
     let s = state_of d.today d.shared.items items in
-    let same = book_at d.index d.common d.count d.today d.shared.items items c.in-Some.at a c.self.invariant low c.index-account.ensures in
+    let same = alike_seen d.index d.common d.count d.today d.shared.items items c.in-Some.at a c.self.invariant low c.index-account.ensures in
     c.stated.ensures ∙ ap (λ (o : Option Statement). stated o) (c.in_ok-statement-in-Some.ensures ∙ same_restated d.today a.named.lists d.common (shared_rows d.shared.items) c.args.cycle same)
     ∙ ap (λ (o : Option Lists). restated s c.args.cycle o) here ∙ ap (λ (x : State). restated x c.args.cycle (lists_of name x.accounts)) (state_by _ _ c.self.view_is)

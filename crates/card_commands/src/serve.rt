@@ -1,0 +1,116 @@
+// A server of the ledger.
+ghost use Rattle.std.specs.Prelude.{◌≡◌, OnOk, IfErr};
+ghost use Rattle.card_desk.specs.Kept.{Fits};
+ghost use Rattle.card_commands.specs.Attended.{AttendedOne, FellAttending, HaveCome, HavePassed, Serves, parties};
+ghost use Rattle.card_commands.specs.Attended as spec;
+
+use crate::ended::{Ended, ended_by_sink};
+use card_desk::Desk;
+use card_http::{Served, Status, serve_one};
+use card_keeper::Keeper;
+use card_ports::{Door, Failed, Sink, write_all};
+use std::alloc::Global;
+
+fn status_line(status: Status) -> &'static str
+    ensures { result.now ≡ spec.status_line status }
+{
+    match status {
+        Status::Done => "200\n",
+        Status::BadRequest => "400\n",
+        Status::NotFound => "404\n",
+        Status::BadMethod => "405\n",
+        Status::Conflict => "409\n",
+        Status::TooLarge => "413\n",
+        Status::NoRequest => "422\n",
+        Status::LongHead => "431\n",
+        Status::Unavailable => "503\n",
+        Status::NoStorage => "507\n",
+    }
+}
+
+// The line of a connection. It takes no memory.
+#[tactic(auto, unfolding(crate::specs::Attended::line_of))]
+fn line_of(served: Served) -> &'static str
+    ensures { result.now ≡ spec.line_of served }
+{
+    match served {
+        Served::Answered(status) => status_line(status),
+        Served::Cut => "cut\n",
+        Served::Memory => "memory\n",
+    }
+}
+
+// The next connection: it is accepted, served and closed, and then its line is written.
+fn attend<O: Sink, K: Keeper, D: Door>(
+    desk: &mut Desk,
+    alloc: Global,
+    output: &mut O,
+    keeper: &mut K,
+    door: &mut D,
+) -> Result<(), Ended>
+    requires fits { Fits (K.rows keeper.old) desk.old.state }
+    ensures ok { let at = parties O.taken O.faults K.rows K.faults D.visits D.faults in
+        OnOk result (AttendedOne (at output.old keeper.old door.old) (at output.new keeper.new door.new) desk.old.state desk.new.state) }
+    ensures err { let at = parties O.taken O.faults K.rows K.faults D.visits D.faults in
+        IfErr result (FellAttending (at output.old keeper.old door.old) (at output.new keeper.new door.new) desk.old.state desk.new.state) }
+{
+    let mut link = match door.accept() {
+        Ok(link) => link,
+        Err(Failed) => return Err(Ended::Door),
+    };
+    let served = serve_one(alloc, desk, keeper, &mut link);
+    let line = line_of(served).as_bytes();
+    door.close(link);
+    match write_all(output, line) {
+        Ok(()) => Ok(()),
+        Err(fault) => Err(ended_by_sink(fault)),
+    }
+}
+
+// Attends to so many connections, one after the other.
+fn attend_all<O: Sink, K: Keeper, D: Door>(
+    desk: &mut Desk,
+    alloc: Global,
+    count: u32,
+    output: &mut O,
+    keeper: &mut K,
+    door: &mut D,
+) -> Ended
+    requires fits { Fits (K.rows keeper.old) desk.old.state }
+    ensures { let at = parties O.taken O.faults K.rows K.faults D.visits D.faults in
+        Serves (HavePassed (D.visits door.old) (D.visits door.new)) count desk.old.state (at output.old keeper.old door.old) (at output.new keeper.new door.new) result }
+{
+    let mut served = 0;
+    while served < count {
+        match attend(desk, alloc, output, keeper, door) {
+            Ok(()) => {}
+            Err(ended) => return ended,
+        }
+        served += 1;
+    }
+    Ended::Done
+}
+
+/// Listens on the port, and attends to so many connections, one after the other. Each is accepted, served and closed before
+/// its line is written. A connection that fails, a keeper that fails and want of memory for an answer end that connection alone.
+///
+/// `Door`: the door failed to listen or to accept. `Sink`: the sink failed; `Memory`: it wanted memory. Of the last line a
+/// front was written.
+pub fn serve<O: Sink, K: Keeper, D: Door>(
+    desk: &mut Desk,
+    alloc: Global,
+    port: u16,
+    count: u32,
+    output: &mut O,
+    keeper: &mut K,
+    door: &mut D,
+) -> Ended
+    requires fits { Fits (K.rows keeper.old) desk.old.state }
+    ensures { let at = parties O.taken O.faults K.rows K.faults D.visits D.faults in
+        Serves (HaveCome port (D.visits door.old) (D.visits door.new)) count desk.old.state (at output.old keeper.old door.old) (at output.new keeper.new door.new) result }
+{
+    match door.listen(port) {
+        Ok(()) => attend_all(desk, alloc, count, output, keeper, door),
+        Err(Failed) => Ended::Door,
+    }
+}

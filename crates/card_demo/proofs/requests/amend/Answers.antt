@@ -1,0 +1,8 @@
+use Rattle.std.proofs.Common.{ap, ◌∙◌}
+use Rattle.card_events.specs.Dated.{is_dated, is_dated_post, is_request_day}
+use Rattle.card_demo.proofs.DayLemmas.{amended_day}
+use Rattle.card_demo.proofs.requests.amend.Goals as goal
+
+pub returns-clause-dated : goal.returns-clause-dated
+unfolding is_dated is_dated_post
+returns-clause-dated c = ap is_request_day c.date.ensures ∙ amended_day

@@ -1,0 +1,8 @@
+pub mod Generator
+pub mod Requests
+pub mod Demonstrations
+pub mod Progress
+pub mod Sums
+pub mod Summary
+pub mod Laws
+pub mod Worked

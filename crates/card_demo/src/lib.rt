@@ -1,0 +1,19 @@
+//! A demonstration: accounts that charge, pay and correct, by requests that a generator of numbers draws, over a ledger of its
+//! own, and what these requests come to.
+#![tactic(auto)]
+
+mod demonstration;
+mod generator;
+pub mod laws;
+mod ledger;
+mod names;
+mod progress;
+mod requests;
+mod summary;
+mod tally;
+mod text;
+mod totals;
+mod wide_money;
+
+pub use demonstration::Demonstration;
+pub use text::demo_text;

@@ -1,0 +1,82 @@
+// What a request comes to over the ledger.
+ghost use Rattle.std.specs.Prelude.{◌≡◌, ◌⊎◌, true};
+ghost use Rattle.card_desk.specs.Kept.{Fits};
+ghost use Rattle.card_events.specs.Dated.{is_dated};
+ghost use Rattle.card_json.specs.Bodies as said;
+ghost use Rattle.card_http.specs.Outcomes.{Comes, IsFaultOf, IsLookedUp, IsPosted, IsRouted, asked, ledger, posted, told_asked};
+
+use crate::asking::read_ask;
+use crate::outcome::Outcome;
+use card_desk::{Desk, Fault};
+use card_events::Request;
+use card_json::read_body;
+use card_keeper::Keeper;
+use card_units::NoMemory;
+use card_views::told_text;
+use card_wire::Route;
+use std::alloc::Global;
+
+/// What a request of this route comes to, whose body was read whole. A POST is carried out, and its row kept where it is newly
+/// accepted. Where the keeper failed or memory was wanted, nothing was done.
+pub fn answer_route<K: Keeper>(
+    alloc: Global,
+    desk: &mut Desk,
+    keeper: &mut K,
+    route: Route,
+    path: &[u8],
+    body: &[u8],
+) -> Outcome
+    requires fits { Fits (K.rows keeper.old) desk.old.state }
+    ensures { let at = ledger K.rows K.faults in
+        Comes (λ a. IsRouted desk.old.state route path.now body.now a ⊎ IsFaultOf route a) (at desk.old.state keeper.old) (at desk.new.state keeper.new) result }
+{
+    match route {
+        Route::Posts => post(alloc, desk, keeper, body),
+        Route::Account => look_up(alloc, desk, route, path),
+        Route::Statement => look_up(alloc, desk, route, path),
+        Route::Cycle => look_up(alloc, desk, route, path),
+        Route::Entries => look_up(alloc, desk, route, path),
+        Route::Work => look_up(alloc, desk, route, path),
+    }
+}
+
+// Carries out the request that a JSON body is.
+fn post<K: Keeper>(alloc: Global, desk: &mut Desk, keeper: &mut K, body: &[u8]) -> Outcome
+    requires fits { Fits (K.rows keeper.old) desk.old.state }
+    ensures { let at = ledger K.rows K.faults in
+        Comes (λ a. IsPosted desk.old.state body.now a ⊎ IsFaultOf Route.Posts a) (at desk.old.state keeper.old) (at desk.new.state keeper.new) result }
+{
+    match read_body(alloc, body) {
+        Ok(request) => carry_out(alloc, desk, keeper, &request),
+        Err(fault) => Outcome::unread(fault),
+    }
+}
+
+// Carries out a request.
+fn carry_out<K: Keeper>(alloc: Global, desk: &mut Desk, keeper: &mut K, wanted: &Request) -> Outcome
+    requires dated { is_dated wanted.now ≡ true }
+    requires fits { Fits (K.rows keeper.old) desk.old.state }
+    ensures { let at = ledger K.rows K.faults in
+        Comes (λ a. (a ≡ posted desk.old.state (said.request wanted.now)) ⊎ IsFaultOf Route.Posts a) (at desk.old.state keeper.old) (at desk.new.state keeper.new) result }
+{
+    match desk.apply(alloc, keeper, wanted) {
+        Ok(reply) => Outcome::Replied(reply),
+        Err(Fault::Keeper) => Outcome::KeeperFailed,
+        Err(Fault::Memory) => Outcome::MemoryWanted,
+    }
+}
+
+// What is asked by a path, as text.
+fn look_up(alloc: Global, desk: &Desk, route: Route, path: &[u8]) -> Outcome
+    ensures { IsLookedUp (told_asked desk.now.state (asked route path.now)) result }
+{
+    match read_ask(alloc, route, path) {
+        Ok(Some(ask)) => match told_text(alloc, desk, &ask) {
+            Ok(Some(text)) => Outcome::Told(text),
+            Ok(None) => Outcome::Missing,
+            Err(NoMemory) => Outcome::MemoryWanted,
+        },
+        Ok(None) => Outcome::Missing,
+        Err(NoMemory) => Outcome::MemoryWanted,
+    }
+}

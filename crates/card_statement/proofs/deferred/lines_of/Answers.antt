@@ -1,0 +1,8 @@
+use Rattle.card_statement.specs.Lines.{kept_deferred_line}
+use Rattle.card_statement.proofs.LineSteps.{line-pushed}
+use Rattle.card_statement.proofs.deferred.lines_of.Goals as goal
+
+pub loop-g-preserved : goal.loop-g-preserved
+loop-g-preserved c =
+    line-pushed (kept_deferred_line c.args.day c.args.segments.now.balances c.args.accruals.now) c.args.rated.now c.loop-g.g-index c.g-item.result c.loop-g.lines.items c.add_line.new.lines.items
+    c.loop-g-test.true c.g-item.is c.loop-g.invariant c.in_ok-add_line.ensures
