@@ -1,0 +1,67 @@
+#!/bin/sh
+# Statements of whole examples over rows in a file, held against those of the independent model (examples/NAME.statements, the
+# statements of all cycles of the account one behind the other). Then an old charge of `two-years` is corrected, and the
+# correction is taken back: what was issued stays as it was, and the cycles as recomputed are the model's
+# (two-years.restated) in between, and those from before at the end.
+#
+#     tests/statements.sh
+top=$(cd "$(dirname "$0")/.." && pwd) || exit 1
+program="$top/crates/billctl/out/billctl"
+room=$(mktemp -d) || exit 1
+trap 'rm -rf "$room"' EXIT
+
+# The statements of all cycles of the example: as issued, or as recomputed.
+texts() {
+    cycle=1
+    while [ "$cycle" -le "$cycles" ]; do
+        "$program" "$rows" "$1" "$account" "$cycle" || exit 1
+        cycle=$((cycle + 1))
+    done >"$room/texts"
+}
+
+same() {
+    if ! cmp -s "$room/texts" "$1"; then
+        echo "statements: $name, $2 differ"
+        diff "$1" "$room/texts" | head -n 5
+        exit 1
+    fi
+}
+
+say() {
+    echo "$1" | "$program" "$rows" apply >"$room/reply"
+    if [ "$(cat "$room/reply")" != "$2" ]; then
+        echo "statements: $1 is answered $(cat "$room/reply"), wanted $2"
+        exit 1
+    fi
+}
+
+count=0
+for expected in "$top"/examples/*.statements; do
+    name=$(basename "$expected" .statements)
+    input="${expected%.statements}.txt"
+    rows="$room/$name"
+    account=$(awk '$1 == "open" { print $2; exit }' "$input")
+    cycles=$(grep -c '^bill ' "$input")
+    "$program" "$rows" apply <"$input" >"$room/replies"
+    texts statement
+    same "$expected" "what was issued"
+    texts restate
+    same "$expected" "the cycles as recomputed"
+    count=$((count + cycles))
+done
+
+name=two-years
+rows="$room/$name"
+account=anna
+cycles=24
+say 'amend anna m1 4 2024-02-10 2000' 'ok 51'
+texts statement
+same "$top/examples/$name.statements" "what was issued, after a correction"
+texts restate
+same "$top/examples/$name.restated" "the cycles as recomputed after a correction"
+say 'amend anna m2 4 2024-02-10 1000' 'ok 52'
+texts statement
+same "$top/examples/$name.statements" "what was issued, after the correction was taken back"
+texts restate
+same "$top/examples/$name.statements" "the cycles as recomputed after the correction was taken back"
+echo "statements: $count of them, those of the model; a correction of an old charge and back leaves them"
