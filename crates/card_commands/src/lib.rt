@@ -16,8 +16,6 @@ mod load;
 mod progress;
 mod run;
 mod serve;
-mod stored;
 mod tell;
 
 pub use call::billctl;
-pub use stored::billctl_over_store;

@@ -1,4 +1,5 @@
-use card_commands::{billctl, billctl_over_store};
+use crate::stored::billctl_over_store;
+use card_commands::billctl;
 use card_keeper::{Keeper, MemoryKeeper, Row};
 use card_ports::{MemoryDoor, MemorySink, MemorySource};
 use card_sqlite::StoreKeeper;

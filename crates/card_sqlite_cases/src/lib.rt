@@ -1,8 +1,14 @@
-//! The calls of rows in a database with ample memory: rows that are kept are loaded again, and an append that is stopped
-//! leaves all of its rows or none.
+//! What is shown over rows in a database: the top call has the clause that it has over any rows; with ample memory rows that
+//! are kept are loaded again, and an append that is stopped leaves all of its rows or none. And the top call's server over
+//! connections in memory.
 #![tactic(auto)]
 
 #[cfg(test)]
 mod commands;
 #[cfg(test)]
+mod doors;
+mod stored;
+#[cfg(test)]
 mod stores;
+
+pub use stored::billctl_over_store;

@@ -1,7 +1,7 @@
 use card_keeper::{Body, Keeper, KeeperFault, Row};
 use card_sqlite::{SqliteKeeper, StoreKeeper};
 use sqlite::{Alter, Connection, Files, Options};
-use sqlite_disk::{Crash, Fuse, Memory};
+use sqlite_disk::{Crash, Disk, Fuse, Memory};
 use std::alloc::Global;
 use std::fs;
 use std::test::Fail;
@@ -50,12 +50,12 @@ fn add<S: Alter>(keeper: &mut StoreKeeper<S>, alloc: Global, two: &[Row]) -> boo
     keeper.load_rows(alloc).is_ok() && keeper.append_rows(two).is_ok()
 }
 
-// An append of two rows over files that stop after so many calls: what is left of the files, and whether nothing stopped it.
-fn stopped(alloc: Global, log: u64, db: u64, two: &[Row]) -> (Files<Fused>, bool) {
-    let files = Files {
-        log: Fuse::new(Memory::new(alloc), log),
-        db: Fuse::new(Memory::new(alloc), db),
-    };
+// An append of two rows over two files: what is left of the files, and whether nothing stopped it. Over any disk, so that no
+// clause of a disk in memory is read for it.
+fn added<D: Disk>(alloc: Global, files: Files<D>, two: &[Row]) -> (Files<D>, bool) {
+    if !files.may_be_used() {
+        return (files, false);
+    }
     match Connection::open_files(alloc, files, Options::new(7)) {
         Ok(conn) => {
             let mut keeper = StoreKeeper::adopt(conn);
@@ -66,14 +66,22 @@ fn stopped(alloc: Global, log: u64, db: u64, two: &[Row]) -> (Files<Fused>, bool
     }
 }
 
+// Files in memory that stop after so many calls.
+fn stopping(alloc: Global, log: u64, db: u64) -> Files<Fused> {
+    Files {
+        log: Fuse::new(Memory::new(alloc), log),
+        db: Fuse::new(Memory::new(alloc), db),
+    }
+}
+
 fn crashed(mut files: Files<Fused>) -> Files<Fused> {
     files.log.crash();
     files.db.crash();
     files
 }
 
-// The rows after the crash. None where the files can't be opened or the rows aren't whole.
-fn rows_left(alloc: Global, files: Files<Fused>) -> Option<usize> {
+// The rows of two files. None where the files can't be opened or the rows aren't whole.
+fn rows_in<D: Disk>(alloc: Global, files: Files<D>) -> Option<usize> {
     if !files.may_be_used() {
         return None;
     }
@@ -92,8 +100,8 @@ fn stops(alloc: Global, is_log: bool, two: &[Row]) -> Option<u64> {
         } else {
             (ENDLESS, calls)
         };
-        let (files, done) = stopped(alloc, log, db, two);
-        match rows_left(alloc, crashed(files)) {
+        let (files, done) = added(alloc, stopping(alloc, log, db), two);
+        match rows_in(alloc, crashed(files)) {
             Some(2) if done => return Some(calls),
             Some(0 | 2) if !done => {}
             _ => return None,

@@ -2,7 +2,7 @@
 ghost use Rattle.card_sqlite.specs.Told.{told_in_memory};
 ghost use Rattle.card_commands.specs.World.{Answered, world};
 
-use crate::call::billctl;
+use card_commands::billctl;
 use card_ports::{Door, Sink, Source};
 use card_sqlite::StoreKeeper;
 use sqlite::MemStore;
