@@ -2,7 +2,10 @@ pub mod Agreement
 pub mod Compliance
 pub mod GoingOn
 pub mod Laws
+pub mod Marks
 pub mod QuietSpans
+pub mod Renewed
 pub mod Rewound
+pub mod StepCounts
 pub mod Stands
 pub mod Statements

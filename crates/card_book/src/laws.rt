@@ -3,9 +3,12 @@ ghost use Rattle.card_book.specs.Agreement.{LaterChangesAgree, LaterRowsAgree};
 ghost use Rattle.card_book.specs.Compliance.{DisputedAmountsAreLeftAlone, NoticesKeepEarlierRates, PenaltyFeesAreReasonable};
 ghost use Rattle.card_book.specs.GoingOn.{AgreementGoesOn, BillsGoOn, BooksGoOn, RatesGoOn};
 ghost use Rattle.card_book.specs.Laws.{IssuedRowsStay, OnlyBillsIssue};
+ghost use Rattle.card_book.specs.Marks.{MarksGoOn, MarksGrow};
 ghost use Rattle.card_book.specs.QuietSpans.{QuietSpansChangeNothing};
-ghost use Rattle.card_book.specs.Rewound.{RewoundBooksStand};
+ghost use Rattle.card_book.specs.Renewed.{RenewedBooksStand};
+ghost use Rattle.card_book.specs.Rewound.{FeesStandInOrder, RewoundBooksStand};
 ghost use Rattle.card_book.specs.Stands.{BookIsTheFold};
+ghost use Rattle.card_book.specs.StepCounts.{StepsAddUp};
 ghost use Rattle.card_model.specs.Laws.{BalanceIdentity, CorrectionBack, IssuedCaps, IssuingChangesNoPastDay, PastIsEnough};
 
 /// A Book and its track have the entries, the cycles, the fees and the balances of the account's book at the end of the last
@@ -112,4 +115,30 @@ pub fn rates_go_on()
 /// A Book and its track taken back to the closing of a cycle stand for the account's book at that closing.
 pub fn rewound_books_stand()
     ensures { RewoundBooksStand }
+{}
+
+/// The fees of the first cycles of a track stand before all others.
+pub fn fees_stand_in_order()
+    ensures { FeesStandInOrder }
+{}
+
+/// A Book at a closing, with the rates and segments of all posts that were added since, stands for the new book.
+pub fn renewed_books_stand()
+    ensures { RenewedBooksStand }
+{}
+
+/// What was kept of each closing still is what it was, with that of one closing more.
+pub fn marks_grow()
+    ensures { MarksGrow }
+{}
+
+/// What was kept of each closing goes on over what is given now, where all of them came before the first change.
+pub fn marks_go_on()
+    ensures { MarksGoOn }
+{}
+
+/// The steps to a break day and from there on are those of the whole, and no fold takes more than one step beside those for its
+/// break days.
+pub fn steps_add_up()
+    ensures { StepsAddUp }
 {}

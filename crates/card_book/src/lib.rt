@@ -5,6 +5,7 @@ mod copies;
 mod from_opening;
 mod kept_book;
 pub mod laws;
+mod marks;
 mod sheet;
 mod statement;
 
@@ -14,4 +15,5 @@ pub use card_daily::{
 pub use card_statement::Sheet;
 pub use from_opening::{Folded, fold, fold_to};
 pub use kept_book::Book;
+pub use marks::Accruing;
 pub use sheet::sheet_of;
