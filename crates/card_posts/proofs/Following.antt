@@ -119,7 +119,7 @@ slots-of n segment (k ∷ ks) [] l = absurd (omega (arith, l))
 slots-of n segment (k ∷ ks) (x ∷ es) l = ap (λ u. record { day = x.day; number = n; cents = pos x.cents } ∷ u) (slots-of (suc n) (next_segment segment k.post) ks es (omega (arith, l)))
 
 -- ---- a history that may be kept
-same-anchor : (h : List Kept) (k : Kept) → 1 ≤ length h → anchor_of h ≡ anchor_of (more h k)
+pub same-anchor : (h : List Kept) (k : Kept) → 1 ≤ length h → anchor_of h ≡ anchor_of (more h k)
 same-anchor [] k l = absurd (omega (arith, l))
 same-anchor (q ∷ h) k l = refl
 

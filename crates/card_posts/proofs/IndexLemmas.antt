@@ -83,7 +83,7 @@ behind x y e f = let r = nat_list_cmp_total.antisymm y x in rw r (at (slice_cmp 
     at Equal e f = absurd (cc)
     at Greater e f = refl
 
-same_bytes : (x y : List ℕ) → bytes_eq x y ≡ true → x ≡ y
+pub same_bytes : (x y : List ℕ) → bytes_eq x y ≡ true → x ≡ y
 same_bytes x y e = (bytes_decides x y).0 e
 
 -- ---- a sorted index is parted by each key
@@ -143,14 +143,14 @@ start-finds h (n ∷ ns) key (suc p) s b =
     rw other (start-finds h ns key p s.1 (start-less h n ns key p b))
 
 -- ---- one more post
-key-more : (h : List Kept) (k : Kept) (n : ℕ) → n ≤ length h → key_of (more h k) n ≡ key_of h n
+pub key-more : (h : List Kept) (k : Kept) (n : ℕ) → n ≤ length h → key_of (more h k) n ≡ key_of h n
 key-more h k n l = ap key_in (number-more n h k l)
 
 last-get : (h : List Kept) (k : Kept) → slice_get (h ++ k ∷ []) (length h) ≡ Some k
 last-get [] k = refl
 last-get (q ∷ h) k = last-get h k
 
-key-last : (h : List Kept) (k : Kept) → key_of (more h k) (suc (length h)) ≡ k.key
+pub key-last : (h : List Kept) (k : Kept) → key_of (more h k) (suc (length h)) ≡ k.key
 key-last h k = ap key_in (last-get h k)
 
 from-more : (h : List Kept) (k : Kept) (key : List ℕ) (ns : List ℕ) → AreNumbers (length h) ns → AreFrom h key ns → AreFrom (more h k) key ns
@@ -229,7 +229,7 @@ sorted-insert g (m ∷ ns) key (suc p) n is s e =
     let up : is_up_to (key_of g m) (key_of g n) ≡ true = ap (is_up_to (key_of g m)) is ∙ e.front 0 m (omega arith) (omega arith) in
     (from-insert g (key_of g m) ns p n s.0 up, sorted-insert g ns key p n is s.1 (end-less g m ns key p e))
 
-none-last : {X : Type 0} (o : Option X) → o ≡ option_or o None
+pub none-last : {X : Type 0} (o : Option X) → o ≡ option_or o None
 none-last None = refl
 none-last (Some x) = refl
 
@@ -251,7 +251,7 @@ first-insert g q (m ∷ ns) key (suc p) n is e = at (bytes_eq (key_of g m) q) (f
     at true r = refl
     at false r = r
 
-keys-more : (q : List ℕ) (n : ℕ) (h : List Kept) (k : Kept) → key_from q n (h ++ k ∷ []) ≡ option_or (key_from q n h) (cond (bytes_eq k.key q) (Some (n + length h)) None)
+pub keys-more : (q : List ℕ) (n : ℕ) (h : List Kept) (k : Kept) → key_from q n (h ++ k ∷ []) ≡ option_or (key_from q n h) (cond (bytes_eq k.key q) (Some (n + length h)) None)
 unfolding key_from
 keys-more q n [] k = let z : n ≡ n + 0 = omega arith in ap (λ m. cond (bytes_eq k.key q) (Some m) None) z
 keys-more q n (j ∷ h) k = at (bytes_eq j.key q) (keys-more q (n + 1) h k ∙ ap (λ m. option_or (key_from q (n + 1) h) (cond (bytes_eq k.key q) (Some m) None)) next)

@@ -12,3 +12,6 @@ pub mod IndexLemmas
 pub mod Opening
 pub mod Holidays
 pub mod Numbered
+pub mod Fronts
+pub mod IndexFronts
+pub mod Withdrawn

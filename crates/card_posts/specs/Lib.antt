@@ -1,5 +1,6 @@
 pub mod Change
 pub mod Corrections
+pub mod Draft
 pub mod Effect
 pub mod Index
 pub mod Order

@@ -2,6 +2,7 @@
 #![tactic(auto)]
 
 mod correction;
+mod draft;
 mod effect;
 mod enter;
 mod index;
@@ -11,6 +12,7 @@ mod order;
 mod posts;
 mod refresh;
 
+pub use draft::Draft;
 pub use posts::{Posts, Pushed};
 
 /// Transactions that lie so many days after a Notice, or more, are owed on its vintage, which bears the increased rate; those

@@ -62,7 +62,7 @@ pub fn place(order: &mut Vec<Slot>, slot: Slot)
 }
 
 // Takes the slot of a post out of its place.
-fn take_out(order: &mut Vec<Slot>, effects: &[Effect], i: usize)
+pub fn take_out(order: &mut Vec<Slot>, effects: &[Effect], i: usize)
     requires few { length effects.now ≤ post_limit }
     requires order { order.old.items ≡ in_order (slots_from 1 effects.now) }
     requires known { i < length effects.now }

@@ -1,4 +1,5 @@
 use crate::correction::{Correction, numbered};
+use crate::draft::{Draft, beside_if_corrected, keep_first, put_back};
 use crate::effect::{Effect, no_cents};
 use crate::enter::enter;
 use crate::index::{enter_key, find};
@@ -43,14 +44,16 @@ pub struct Pushed {
 }
 
 impl Posts {
-    ghost use Rattle.std.specs.Prelude.{◌≡◌, ℕ, ◌+◌, ◌<◌, ◌≤◌, ◌++◌, List, [], ◌∷◌, true, false, length, IsOk, IfOk, OnOk, OnErr, option_copied};
+    ghost use Rattle.std.specs.Prelude.{◌≡◌, ℕ, ◌+◌, ◌<◌, ◌≤◌, ◌++◌, List, [], ◌∷◌, true, false, length, IsOk, IfOk, OnOk, OnErr, None, option_copied};
     ghost use Rattle.card_events.specs.Limits.{post_limit};
     ghost use Rattle.card_days.specs.Range.{last_request_day};
     ghost use Rattle.card_days.specs.Billing.{IsCloseDay};
     ghost use Rattle.card_events.specs.History.{anchor_of, at_number, terms_in};
     ghost use Rattle.card_events.specs.Keys.{with_key};
+    ghost use Rattle.card_events.specs.declared.kept.Kept.{Kept};
     ghost use Rattle.card_posts.specs.Change.{IsFirstChange};
-    ghost use Rattle.card_posts.specs.Posted.{AreBounded, AreNumbered, IsReceived, StandsFor, folding_order, opens, slot_with, target_of};
+    ghost use Rattle.card_posts.specs.Draft.{AwaitsReturn, IsDraft};
+    ghost use Rattle.card_posts.specs.Posted.{Posted, AreBounded, AreNumbered, IsReceived, StandsFor, folding_order, opens, slot_with, target_of};
     ghost use Rattle.card_posts.specs.Stored.{AreTimely};
 
     /// The post that opens an account, which has number 1. Its terms close cycles on day 1 to 28 of a month. The
@@ -186,6 +189,59 @@ impl Posts {
         );
         self.has_room = false;
         Pushed { number, from }
+    }
+
+    /// Enters a post behind the others for a while, with room made for it: as `add` does, but so that `withdraw` takes it back.
+    /// Its key is new. A post that corrects others takes memory for what counted before it; another one takes none. After want
+    /// of memory the posts are as they were.
+    pub fn draft(
+        &mut self,
+        alloc: Global,
+        key: Name,
+        accepted: Day,
+        post: &Post,
+        calendar: &Calendar,
+    ) -> Result<Draft, NoMemory>
+        requires room { self.old.has_room ≡ true }
+        requires few { length self.old.history < post_limit }
+        requires stands { StandsFor calendar.now self.old }
+        requires fresh { with_key key self.old.history ≡ None }
+        requires target { target_of post.now ≤ length self.old.history }
+        requires dated { accepted ≤ last_request_day }
+        requires received { IsReceived (anchor_of self.old.history).opened accepted post.now }
+        ensures draft { IfOk result (IsDraft (record { number = length self.old.history + 1; key = key; accepted = accepted; post = post.now }) self.old self.new) }
+        ensures stands { OnOk result (StandsFor calendar.now self.new) }
+        ensures err { OnErr result (self.new ≡ self.old) }
+    {
+        let before = beside_if_corrected(
+            alloc,
+            post,
+            &self.corrections,
+            &self.effects,
+            &self.order,
+        )?;
+        let pushed = self.add(key, accepted, post, calendar);
+        Ok(Draft {
+            from: pushed.from,
+            before,
+        })
+    }
+
+    /// Takes the last post back, which was entered for a while. The posts are as they were before it, with room for one more.
+    /// It takes no memory and can't fail.
+    pub fn withdraw(&mut self, draft: Draft)
+        requires draft { AwaitsReturn self.old draft }
+        ensures { (kept : Kept) (before : Posted) → IsDraft kept before self.old draft → self.new ≡ before }
+    {
+        put_back(
+            draft.before,
+            &mut self.corrections,
+            &mut self.effects,
+            &mut self.order,
+        );
+        let _ = self.history.pop();
+        keep_first(&mut self.index, self.history.len() as u32);
+        self.has_room = true;
     }
 
     /// One more post: `make_room` and `add`. Where there is room already it can't fail. After want of memory the posts are

@@ -32,7 +32,7 @@ pub fn sooner(a: Day, b: Day) -> Day
 }
 
 // Whether a post changes what counts for earlier ones.
-fn is_correction(post: &Post) -> bool
+pub fn is_correction(post: &Post) -> bool
     ensures { result ≡ corrects post.now }
 {
     matches!(post, Post::Amend { .. } | Post::Resolve { .. })

@@ -1,0 +1,141 @@
+// A post that is entered for a while, and taken back.
+ghost use Rattle.std.specs.Prelude.{◌≡◌, ◌<◌, ◌≤◌, length, nat_le, vec_len, vec_capacity, IfOk, None};
+ghost use Rattle.std.specs.List.{filter};
+ghost use Rattle.card_events.specs.Limits.{post_limit};
+ghost use Rattle.card_posts.specs.Draft.{IsCopy, IsCopyIfAny, IsRoomyIfAny, corrections_before, effects_before, slots_before};
+ghost use Rattle.card_posts.specs.Effect.{slots_from};
+ghost use Rattle.card_posts.specs.Order.{in_order};
+
+use crate::correction::Correction;
+use crate::effect::Effect;
+use crate::order::take_out;
+use crate::refresh::is_correction;
+use card_days::Day;
+use card_events::{Post, Slot};
+use card_units::NoMemory;
+use std::alloc::Global;
+
+// What was kept beside the posts before one that corrects others.
+#[derive(Drop)]
+pub struct Beside {
+    pub corrections: Vec<Correction>,
+    pub effects: Vec<Effect>,
+    pub order: Vec<Slot>,
+}
+
+/// A post that was entered behind the others for a while: the first day on which the corrected list differs, and what takes the
+/// post back.
+#[derive(Drop)]
+pub struct Draft {
+    pub(crate) from: Day,
+    pub(crate) before: Option<Beside>,
+}
+
+impl Draft {
+    ghost use Rattle.std.specs.Prelude.{◌≡◌};
+
+    /// The earliest day on which the corrected list differs from what it was.
+    pub fn from(&self) -> Day
+        ensures { result ≡ self.now.from }
+    {
+        self.from
+    }
+}
+
+// A list in memory of its own, with room for one more.
+fn copy_with_room<T: Copy>(alloc: Global, list: &[T]) -> Result<Vec<T>, NoMemory>
+    ensures items { IfOk result (λ copy. copy.items ≡ list.now) }
+    ensures room { IfOk result (λ copy. vec_len copy < vec_capacity copy) }
+{
+    let mut copy = Vec::from_slice(alloc, list)?;
+    copy.reserve(1)?;
+    Ok(copy)
+}
+
+// What is kept beside the posts, in memory of its own.
+fn copy_beside(
+    alloc: Global,
+    corrections: &[Correction],
+    effects: &[Effect],
+    order: &[Slot],
+) -> Result<Beside, NoMemory>
+    ensures { IfOk result (IsCopy corrections.now effects.now order.now) }
+{
+    Ok(Beside {
+        corrections: copy_with_room(alloc, corrections)?,
+        effects: copy_with_room(alloc, effects)?,
+        order: copy_with_room(alloc, order)?,
+    })
+}
+
+// The same where the post corrects others, and nothing where it doesn't.
+pub fn beside_if_corrected(
+    alloc: Global,
+    post: &Post,
+    corrections: &[Correction],
+    effects: &[Effect],
+    order: &[Slot],
+) -> Result<Option<Beside>, NoMemory>
+    ensures { IfOk result (IsCopyIfAny post.now corrections.now effects.now order.now) }
+{
+    if is_correction(post) {
+        Ok(Some(copy_beside(alloc, corrections, effects, order)?))
+    } else {
+        Ok(None)
+    }
+}
+
+// Takes out what counts for the last post, which corrects no other.
+fn pop_last(corrections: &mut Vec<Correction>, effects: &mut Vec<Effect>, order: &mut Vec<Slot>)
+    requires corrections { 1 ≤ length corrections.old.items }
+    requires effects { 1 ≤ length effects.old.items }
+    requires few { length effects.old.items ≤ post_limit }
+    requires order { order.old.items ≡ in_order (slots_from 1 effects.old.items) }
+    ensures corrections { corrections.new.items ≡ corrections_before None corrections.old.items }
+    ensures effects { effects.new.items ≡ effects_before None effects.old.items }
+    ensures order { order.new.items ≡ slots_before None effects.old.items }
+    ensures correction_room { vec_len corrections.new < vec_capacity corrections.new }
+    ensures effect_room { vec_len effects.new < vec_capacity effects.new }
+    ensures slot_room { vec_len order.new < vec_capacity order.new }
+{
+    take_out(order, effects, effects.len() - 1);
+    let _ = corrections.pop();
+    let _ = effects.pop();
+}
+
+// Puts back what stood beside the posts before the last one: what was kept, or else all but what counts for the last.
+pub fn put_back(
+    before: Option<Beside>,
+    corrections: &mut Vec<Correction>,
+    effects: &mut Vec<Effect>,
+    order: &mut Vec<Slot>,
+)
+    requires room { IsRoomyIfAny before }
+    requires corrections { 1 ≤ length corrections.old.items }
+    requires effects { 1 ≤ length effects.old.items }
+    requires few { length effects.old.items ≤ post_limit }
+    requires order { order.old.items ≡ in_order (slots_from 1 effects.old.items) }
+    ensures corrections { corrections.new.items ≡ corrections_before before corrections.old.items }
+    ensures effects { effects.new.items ≡ effects_before before effects.old.items }
+    ensures order { order.new.items ≡ slots_before before effects.old.items }
+    ensures correction_room { vec_len corrections.new < vec_capacity corrections.new }
+    ensures effect_room { vec_len effects.new < vec_capacity effects.new }
+    ensures slot_room { vec_len order.new < vec_capacity order.new }
+{
+    match before {
+        Some(kept) => {
+            *corrections = kept.corrections;
+            *effects = kept.effects;
+            *order = kept.order;
+        }
+        None => pop_last(corrections, effects, order),
+    }
+}
+
+// Takes the numbers above a count out of an index.
+pub fn keep_first(index: &mut Vec<u32>, count: u32)
+    ensures items { index.new.items ≡ filter (λ number. nat_le number count) index.old.items }
+    ensures capacity { vec_capacity index.new ≡ vec_capacity index.old }
+{
+    index.retain(|number| *number <= count);
+}
