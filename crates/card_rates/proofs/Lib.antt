@@ -1,6 +1,7 @@
 pub mod Added
 pub mod ByNumber
 pub mod DayLaws
+pub mod Earlier
 pub mod LaterPosts
 pub mod Nearest
 pub mod OneMore

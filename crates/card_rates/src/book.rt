@@ -1,5 +1,6 @@
 use crate::change::{penalties_change, segments_change};
 use crate::make::{add_all, first_segments, penalty_rate_in, post_of};
+use crate::past::penalties_at;
 use crate::rate::{
     BegunRate, capped_as, is_running, is_to_come, least_of, newest_of, no_rate, raised,
     rate_in_period, vintage_rate,
@@ -38,6 +39,7 @@ impl RateBook {
     ghost use Rattle.std.specs.List.{All, Contains, fold};
     ghost use Rattle.card_events.specs.History.{terms_of};
     ghost use Rattle.card_model.specs.Accepted.{AreInRange, HasFewRates, HasFewSegments};
+    ghost use Rattle.card_model.specs.Cuts.{penalties_at};
     ghost use Rattle.card_model.specs.Rates.{accrual_rate, bears_as, capped, own, starts, with_penalty};
     ghost use Rattle.card_model.specs.Segments.{SegmentTerms, newest, sort_of_category};
     ghost use Rattle.card_model.specs.declared.segment.Interval.{Interval};
@@ -113,6 +115,31 @@ impl RateBook {
             caps: Vec::from_slice(alloc, &self.caps)?,
             penalties: Vec::from_slice(alloc, &self.penalties)?,
         })
+    }
+
+    /// The same rates in memory of their own, with the penalties as they stood at the end of a day: without those of later
+    /// posts, which begin 45 days after them, and without the ends that came later (12 CFR 1026.55(b)(4)).
+    pub fn as_of(&self, alloc: Global, day: Day) -> Result<RateBook, NoMemory>
+        ensures { IfOk result (λ book. book ≡ with_penalties (penalties_at day self.now.penalties) self.now) }
+    {
+        Ok(RateBook {
+            penalty_rate: self.penalty_rate,
+            segments: Vec::from_slice(alloc, &self.segments)?,
+            caps: Vec::from_slice(alloc, &self.caps)?,
+            penalties: penalties_at(alloc, &self.penalties, day)?,
+        })
+    }
+
+    /// The rates of an account's posts, with the penalties begun so far. What `of` asks of the posts is asked here.
+    pub fn renewed(&self, alloc: Global, posts: &Posts) -> Result<RateBook, NoMemory>
+        requires terms { AreInRange (terms_of posts.now.history) }
+        requires rates { All HasFewRates posts.now.history }
+        requires few { HasFewSegments posts.now.history }
+        ensures { IfOk result (λ book. (holidays : List ℕ) → book ≡ rates_of holidays posts.now.history self.now.penalties) }
+    {
+        let mut book = RateBook::of(alloc, posts)?;
+        book.penalties = Vec::from_slice(alloc, &self.penalties)?;
+        Ok(book)
     }
 
     /// The rate of a segment on a day, in basis points (12 CFR 1026.55(b)(1), (b)(3), (b)(4)). It takes no memory. Credit and

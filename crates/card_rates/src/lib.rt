@@ -5,6 +5,7 @@ mod book;
 mod change;
 pub mod laws;
 mod make;
+mod past;
 mod rate;
 mod segment;
 

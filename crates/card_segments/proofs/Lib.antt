@@ -3,3 +3,4 @@ pub mod Kept
 pub mod Totals
 pub mod Sums
 pub mod Unposted
+pub mod SumsBack

@@ -9,7 +9,7 @@ ghost use Rattle.card_model.specs.Segments.{kept_segments};
 ghost use Rattle.card_model.specs.declared.entry.Entry.{Entry};
 ghost use Rattle.card_model.specs.declared.entry.Note.{Note};
 ghost use Rattle.card_segments.specs.Balances.{AreOn, opening_segments, total};
-ghost use Rattle.card_segments.specs.Unposted.{BalancesGoBack};
+ghost use Rattle.card_segments.specs.Unposted.{BalancesBefore, BalancesGoBack};
 
 /// Where each balance is the sum of its segment's entries, so it is after more entries on segments that are there, and
 /// after a segment is added.
@@ -40,4 +40,9 @@ pub fn opening()
 /// Where each balance is the sum of its segment's entries, so it was before the last of these.
 pub fn balances_go_back()
     ensures { BalancesGoBack }
+{}
+
+/// The same of balances that were taken back segment by segment.
+pub fn balances_before()
+    ensures { BalancesBefore }
 {}

@@ -1,6 +1,7 @@
 //! The segments of an account, their balances, and the entries that move them.
 #![tactic(auto)]
 
+mod before;
 pub mod laws;
 mod moves;
 mod segments;

@@ -1,9 +1,11 @@
-ghost use Rattle.std.specs.Prelude.{◌≡◌, ℕ, ◌+◌, ◌<◌, ◌≤◌, ◌++◌, [], ◌∷◌, length, replicate, IsOk, IfOk, OnOk, OnErr, pos, ◌≤ℤ◌, slice_index_or, vec_len, vec_capacity};
+ghost use Rattle.std.specs.Prelude.{◌≡◌, ℕ, ◌+◌, ◌<◌, ◌≤◌, ◌++◌, [], ◌∷◌, drop, length, replicate, IsOk, IfOk, OnOk, OnErr, pos, ◌≤ℤ◌, slice_index_or, vec_len, vec_capacity};
 ghost use Rattle.card_model.specs.Entries.{at_least_zero, credit_in, debit, holds, lowers, releases};
 ghost use Rattle.card_model.specs.Segments.{unbilled};
 ghost use Rattle.card_model.specs.declared.segment.Segment.{Segment};
 ghost use Rattle.card_segments.specs.Balances.{HaveSigns, MayMoveWithin, after_entries, movable_balance, opening_segments, opening_vintage, total};
+ghost use Rattle.card_segments.specs.Unposted.{AreBefore, MayGoBack};
 
+use crate::before::{balances_before, write_first};
 use crate::moves::{hold, lower, raise, release, sum};
 use crate::{Entry, Note, Segment, Sort};
 use card_days::Day;
@@ -236,5 +238,26 @@ impl Segments {
             segments: Vec::from_slice(alloc, &self.segments)?,
             balances: Vec::from_slice(alloc, &self.balances)?,
         })
+    }
+
+    /// The same segments with the balances before entries, in memory of their own. Condition: before them each balance was at
+    /// most 1.1 * 10^16 cents in size, Credit not above 0 and no other segment below.
+    pub fn less(&self, alloc: Global, entries: &[Entry]) -> Result<Segments, NoMemory>
+        requires { MayGoBack entries.now self.now.balances }
+        ensures { IfOk result (λ s. AreBefore entries.now self.now s) }
+    {
+        Ok(Segments {
+            segments: Vec::from_slice(alloc, &self.segments)?,
+            balances: balances_before(alloc, &self.balances, entries)?,
+        })
+    }
+
+    /// Takes the balances of fewer segments, or as many, for those of its first ones. The rest stay as they are.
+    pub fn take_balances(&mut self, first: &Segments)
+        requires fewer { length first.now.balances ≤ length self.old.balances }
+        ensures segments { self.new.segments ≡ self.old.segments }
+        ensures balances { self.new.balances ≡ first.now.balances ++ drop (length first.now.balances) self.old.balances }
+    {
+        write_first(&mut self.balances, &first.balances);
     }
 }
