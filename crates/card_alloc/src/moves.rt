@@ -70,6 +70,7 @@ pub fn take(
     ensures err { OnErr result (s.new ≡ s.old) }
     ensures err_entries { OnErr result (out.new.items ≡ out.old.items) }
     ensures len { length s.new.balances ≡ length s.old.balances }
+    ensures capacity { vec_capacity out.old ≤ vec_capacity out.new }
 {
     let items = parts.items();
     out.reserve(items.len())?;
@@ -101,6 +102,7 @@ pub fn put_back(
     ensures err { OnErr result (s.new ≡ s.old) }
     ensures err_entries { OnErr result (out.new.items ≡ out.old.items) }
     ensures len { length s.new.balances ≡ length s.old.balances }
+    ensures capacity { vec_capacity out.old ≤ vec_capacity out.new }
 {
     let items = parts.items();
     out.reserve(2 * items.len())?;

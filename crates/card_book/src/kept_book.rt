@@ -72,7 +72,7 @@ impl Book {
     ghost use Rattle.card_days.specs.Range.{last_request_day, last_calendar_day};
     ghost use Rattle.card_book.specs.Stands.{IsRequestDay, StandsFor, book_through, day_to_fold, days_through, since_after, steps_over};
     ghost use Rattle.card_daily.specs.Given.{Given, book_on, opened_in, seen_in};
-    ghost use Rattle.card_daily.specs.Stands.{AreBefore, Begins, IsBlank};
+    ghost use Rattle.card_daily.specs.Stands.{AreBefore, Begins, IsBlank, KeepsRoom};
     ghost use Rattle.card_daily.specs.declared.track.Track.{Track};
     ghost use Rattle.card_model.specs.Entries.{AreBalances, balance, credit_in, owed};
     ghost use Rattle.card_model.specs.Folds.{cycle_at};
@@ -97,7 +97,7 @@ impl Book {
     /// Folds to the end of a day, one step a break day and one more where the last day is none: the days before a break day are
     /// folded with it, as one row a segment. The Book is whole, and with the track it stands for the book of these
     /// inputs; the day isn't before the last one folded or the opening day, and at most 2099-12-31. After want of memory the
-    /// Book isn't whole and is only dropped, and the track begins with what it held.
+    /// Book isn't whole and is only dropped, and the track begins with what it held. No list of the track loses room.
     pub fn advance<L: Ledger>(
         &mut self,
         alloc: Global,
@@ -119,6 +119,7 @@ impl Book {
         ensures most_spans { steps.new ≤ steps.old + steps_over inputs.now to (day_to_fold inputs.now self.old.day) }
         ensures most_steps { steps.new ≤ steps.old + days_through inputs.now self.old.day to }
         ensures begins { Begins track.old track.new }
+        ensures room { KeepsRoom track.old track.new }
     {
         let _opening = opening_day(inputs);
         self.whole = false;
@@ -252,6 +253,7 @@ impl Book {
         ensures day { OnOk result (self.new.day ≡ Some end) }
         ensures whole { self.new.whole ≡ self.old.whole }
         ensures begins { Begins track.old track.new }
+        ensures room { KeepsRoom track.old track.new }
     {
         let _opening = opening_day(inputs);
         next_span(alloc, inputs, first, end, &mut self.state, track)?;

@@ -1,4 +1,4 @@
-ghost use Rattle.std.specs.Prelude.{◌≡◌, ◌+◌, ◌++◌, [], ◌∷◌, length, IfOk, OnOk, option_copied};
+ghost use Rattle.std.specs.Prelude.{◌≡◌, ◌+◌, ◌++◌, [], ◌∷◌, length, IfOk, OnOk, option_copied, vec_capacity, ◌≤◌};
 ghost use Rattle.card_model.specs.Limits.{balance_limit};
 ghost use Rattle.card_closing.specs.Closes.{ClosesAs};
 ghost use Rattle.card_closing.specs.Record.{AreSmall, HasTermsInRange, recorded};
@@ -100,6 +100,7 @@ pub fn close(
     ensures step { OnOk result (AreInStep segments.new out.new.items) }
     ensures segments { OnOk result (segments.new.segments ≡ segments.old.segments) }
     ensures begins { BeginsWith out.old.items out.new.items }
+    ensures capacity { vec_capacity out.old ≤ vec_capacity out.new }
 {
     let _count = segments.len();
     let mut done = Amounts::none(alloc);

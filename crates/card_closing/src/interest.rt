@@ -1,5 +1,5 @@
 // The interest of all segments, and the accruals whose period ends.
-ghost use Rattle.std.specs.Prelude.{◌≡◌, ◌+◌, ◌<◌, nat_lt, length, List, OnOk, slice_index_or, option_copied};
+ghost use Rattle.std.specs.Prelude.{◌≡◌, ◌+◌, ◌<◌, nat_lt, length, List, OnOk, slice_index_or, option_copied, vec_capacity, ◌≤◌};
 ghost use Rattle.card_model.specs.Entries.{owing};
 ghost use Rattle.card_model.specs.declared.entry.Entry.{Entry};
 ghost use Rattle.card_model.specs.declared.segment.Segment.{Segment};
@@ -69,6 +69,7 @@ pub fn charge_interest(
     ensures turn { OnOk result (turn_of done.new out.new.items ≡ interest_of_all (option_copied issued.entry) closing.now segments.old.segments rows.now (turn_of done.old out.old.items)) }
     ensures kept { OnOk result (StayInStep segments.old segments.new out.new.items) }
     ensures begins { BeginsWith out.old.items out.new.items }
+    ensures capacity { vec_capacity out.old ≤ vec_capacity out.new }
 {
     let note = note_on(closing.closing);
     for id in 2..segments.len() {
@@ -114,6 +115,7 @@ pub fn charge_accruals(
     ensures turn { OnOk result (turn_of done.new out.new.items ≡ accruals_of_all (option_copied issued.entry) closing.now segments.old.segments accruals.now (turn_of done.old out.old.items)) }
     ensures kept { OnOk result (StayInStep segments.old segments.new out.new.items) }
     ensures begins { BeginsWith out.old.items out.new.items }
+    ensures capacity { vec_capacity out.old ≤ vec_capacity out.new }
 {
     let note = note_on(closing.closing);
     for id in 2..segments.len() {

@@ -1,5 +1,5 @@
 // What a closing charges to one segment.
-ghost use Rattle.std.specs.Prelude.{◌≡◌, ◌+◌, ◌-◌, ◌<◌, ◌≤◌, length, OnOk, pos, List, slice_index_or, option_copied};
+ghost use Rattle.std.specs.Prelude.{◌≡◌, ◌+◌, ◌-◌, ◌<◌, ◌≤◌, length, OnOk, pos, List, slice_index_or, option_copied, vec_capacity};
 ghost use Rattle.card_model.specs.Closing.{within_limit};
 ghost use Rattle.card_model.specs.Entries.{at_least_zero};
 ghost use Rattle.card_model.specs.declared.entry.Entry.{Entry};
@@ -70,6 +70,7 @@ pub fn debit(
     ensures entries { OnOk result (out.new.items ≡ debited note.now id cents out.old.items) }
     ensures kept { OnOk result (StayInStep segments.old segments.new out.new.items) }
     ensures begins { BeginsWith out.old.items out.new.items }
+    ensures capacity { vec_capacity out.old ≤ vec_capacity out.new }
 {
     segments.debit(id, cents as i64, note, out)?;
     Ok(())
@@ -91,6 +92,7 @@ pub fn charge(
     ensures turn { OnOk result (turn_of done.new out.new.items ≡ charged (option_copied issued.entry) note.now id asked (turn_of done.old out.old.items)) }
     ensures kept { OnOk result (StayInStep segments.old segments.new out.new.items) }
     ensures begins { BeginsWith out.old.items out.new.items }
+    ensures capacity { vec_capacity out.old ≤ vec_capacity out.new }
 {
     let cents = charge_of(issued, done, segments, id, asked);
     debit(segments, note, id, cents, out)?;

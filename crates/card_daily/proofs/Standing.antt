@@ -25,7 +25,7 @@ use Rattle.card_rates.proofs.DayLaws.{segments_of_a_day}
 use Rattle.card_rates.specs.RateBooks.{rates_of}
 use Rattle.card_daily.proofs.Books.{day-is}
 use Rattle.card_daily.specs.Given.{Given, account_in, opened_in, seen_in}
-use Rattle.card_daily.specs.Stands.{StandFor, amid, before}
+use Rattle.card_daily.specs.Stands.{KeepsRoom, StandFor, amid, before}
 use Rattle.card_daily.specs.declared.state.State.{State}
 use Rattle.card_daily.specs.declared.track.Track.{Track}
 
@@ -82,3 +82,10 @@ begins-with old new rest e = ap (take (length old)) e ∙ front old rest
 
 pub begins-same : {A : Type 0} (old new : List A) → new ≡ old → take (length old) new ≡ old
 begins-same old new e = begins-with old new [] (e ∙ sym (append-nil old))
+
+-- ---- the room of a track
+pub room-same : (t : Track) → KeepsRoom t t
+room-same t = record { entries = omega arith; cycles = omega arith; fees = omega arith }
+
+pub room-then : (t u v : Track) → KeepsRoom t u → KeepsRoom u v → KeepsRoom t v
+room-then t u v h k = record { entries = omega (arith, h.entries, k.entries); cycles = omega (arith, h.cycles, k.cycles); fees = omega (arith, h.fees, k.fees) }

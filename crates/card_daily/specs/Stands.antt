@@ -1,5 +1,5 @@
 -- What is kept of an account stands for its book, at the points of a day. Days are day numbers.
-use Rattle.std.specs.Prelude.{ℕ, ◌+◌, ◌-◌, ◌≡◌, ◌≤◌, ◌||◌, Bool, false, true, map, take, List, [], length, slice_index_or}
+use Rattle.std.specs.Prelude.{ℕ, ◌+◌, ◌-◌, ◌≡◌, ◌≤◌, ◌||◌, Bool, false, true, map, take, List, [], length, slice_index_or, vec_capacity}
 use Rattle.std.specs.List.{All, Contains, filter, list_any}
 use Rattle.card_bounds.specs.Bounds.{book_amid}
 use Rattle.card_events.specs.History.{CorrectedPost, is_folded}
@@ -112,3 +112,9 @@ pub record IsBlank (t : Track) : Type 0 where
   pub entries : t.entries.items ≡ []
   pub cycles : t.cycles.items ≡ []
   pub fees : t.fees.items ≡ []
+
+-- no list of a track has less room than in another
+pub record KeepsRoom (old new : Track) : Type 0 where
+  pub entries : vec_capacity old.entries ≤ vec_capacity new.entries
+  pub cycles : vec_capacity old.cycles ≤ vec_capacity new.cycles
+  pub fees : vec_capacity old.fees ≤ vec_capacity new.fees

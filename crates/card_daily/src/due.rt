@@ -14,7 +14,7 @@ ghost use Rattle.card_model.specs.Caps.{row_for};
 ghost use Rattle.card_model.specs.Cycles.{Cycle, Seen, last_cycle};
 ghost use Rattle.card_model.specs.DueDates as model;
 ghost use Rattle.card_daily.specs.Given.{IsDayOf, opened_in, row_in, seen_in};
-ghost use Rattle.card_daily.specs.Stands.{AreAmid, AreBefore, Begins, before};
+ghost use Rattle.card_daily.specs.Stands.{AreAmid, AreBefore, Begins, before, KeepsRoom};
 
 use crate::penalties::end_penalties;
 use crate::{Inputs, Issued, State, Track};
@@ -136,6 +136,7 @@ fn charge(day: Day, late: Fee, state: &mut State, track: &mut Track) -> Result<(
     ensures cycles { track.new.cycles.items ≡ track.old.cycles.items }
     ensures err { OnErr result (track.new.entries.items ≡ track.old.entries.items) }
     ensures err_fees { OnErr result (track.new.fees.items ≡ track.old.fees.items) }
+    ensures room { KeepsRoom track.old track.new }
 {
     track.fees.reserve(1)?;
     fee(
@@ -161,6 +162,7 @@ fn charge_late(
     requires before { AreBefore inputs.now day state.old track.old }
     ensures charged { OnOk result (AreCharged inputs.now day state.new track.new) }
     ensures begins { Begins track.old track.new }
+    ensures room { KeepsRoom track.old track.new }
 {
     let _anchor = inputs.anchor();
     if let Some(late) = fee_due(inputs, day, &track.fees, track.cycles.last()) {
@@ -183,6 +185,7 @@ pub fn due_day(
     requires before { AreBefore inputs.now day state.old track.old }
     ensures amid { OnOk result (AreAmid inputs.now day [] state.new track.new) }
     ensures begins { Begins track.old track.new }
+    ensures room { KeepsRoom track.old track.new }
 {
     charge_late(inputs, day, state, track)?;
     end_penalties(inputs, day, &track.cycles, &mut state.rates);
@@ -192,7 +195,8 @@ pub fn due_day(
 // One more, for which room was made.
 pub(crate) fn push_fee(list: &mut Vec<Fee>, fee: Fee)
     requires { vec_len list.old < vec_capacity list.old }
-    ensures { list.new.items ≡ list.old.items ++ fee ∷ [] }
+    ensures items { list.new.items ≡ list.old.items ++ fee ∷ [] }
+    ensures capacity { vec_capacity list.old ≤ vec_capacity list.new }
 {
     let _ = list.push(fee);
 }

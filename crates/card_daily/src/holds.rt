@@ -14,7 +14,7 @@ ghost use Rattle.card_model.specs.Segments.{SegmentTerms};
 ghost use Rattle.card_segments.specs.Balances.{AreWithin};
 ghost use Rattle.card_daily.specs.Given.{account_in, seen_in};
 ghost use Rattle.card_daily.specs.Posts.{EntersOn, LeavesRest};
-ghost use Rattle.card_daily.specs.Stands.{Begins};
+ghost use Rattle.card_daily.specs.Stands.{Begins, KeepsRoom};
 
 use crate::{Inputs, State, Track};
 use card_events::{Num, Slot};
@@ -34,6 +34,7 @@ pub(crate) fn enter_dispute(
     requires small { AreWithin balance_limit state.old.segments.balances }
     ensures stands { OnOk result ((on : ℕ) → EntersOn inputs.now (post.Dispute on charge claim) slot.now state.old state.new track.old track.new) }
     ensures left { LeavesRest result state.old state.new track.old track.new }
+    ensures room { KeepsRoom track.old track.new }
 {
     dispute(
         inputs.posts(),
@@ -60,6 +61,7 @@ pub(crate) fn enter_resolve(
     requires small { AreWithin balance_limit state.old.segments.balances }
     ensures stands { OnOk result ((on cents : ℕ) → EntersOn inputs.now (post.Resolve on target cents) slot.now state.old state.new track.old track.new) }
     ensures left { LeavesRest result state.old state.new track.old track.new }
+    ensures room { KeepsRoom track.old track.new }
 {
     resolve(
         inputs.posts(),

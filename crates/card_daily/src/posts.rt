@@ -25,7 +25,7 @@ ghost use Rattle.card_slots.specs.Days.{day_post};
 ghost use Rattle.card_daily.specs.Given.{IsDayOf, seen_in};
 ghost use Rattle.card_daily.specs.Posts.{EntersIf, EntersPost, EntersWith, HasBegun, IsUnreturned, LeavesRest, done_by, is_penalty, place_in};
 ghost use Rattle.card_daily.specs.Returns.{SeesPayment};
-ghost use Rattle.card_daily.specs.Stands.{AreAmid, AreClosedBefore, Begins, before, posts_of};
+ghost use Rattle.card_daily.specs.Stands.{AreAmid, AreClosedBefore, Begins, before, posts_of, KeepsRoom};
 
 use crate::due::due_cycle;
 use crate::holds::{enter_dispute, enter_resolve};
@@ -97,6 +97,7 @@ fn enter_charge(
     requires asked { MayMove state.old.segments state.old.rates slot.now.cents }
     ensures stands { OnOk result ((a : Account) (seen : Seen) (on cents : ℕ) → EntersWith a seen (post.Charge on place.now cents) slot.now state.old state.new track.old track.new) }
     ensures left { LeavesRest result state.old state.new track.old track.new }
+    ensures room { KeepsRoom track.old track.new }
 {
     charge(
         &mut state.segments,
@@ -112,6 +113,7 @@ fn enter_refund(slot: &Slot, state: &mut State, track: &mut Track) -> Result<(),
     requires asked { MayMove state.old.segments state.old.rates slot.now.cents }
     ensures stands { OnOk result ((a : Account) (seen : Seen) (cents : ℕ) → EntersWith a seen (post.Refund cents) slot.now state.old state.new track.old track.new) }
     ensures left { LeavesRest result state.old state.new track.old track.new }
+    ensures room { KeepsRoom track.old track.new }
 {
     refund(&mut state.segments, &state.rates, slot, &mut track.entries)
 }
@@ -129,6 +131,7 @@ fn enter_payment(
     requires rows { length state.old.rows.items + 2 ≡ length state.old.segments.balances }
     ensures stands { OnOk result ((on minute cents : ℕ) (by : Channel) → EntersIf IsUnreturned inputs.now (post.Payment on minute by cents) slot.now state.old state.new track.old track.new) }
     ensures left { LeavesRest result state.old state.new track.old track.new }
+    ensures room { KeepsRoom track.old track.new }
 {
     let anchor = inputs.anchor();
     let left = left_if_any(inputs, slot.day, slot.number, track.cycles.last());
@@ -159,6 +162,7 @@ fn enter_credit(
     requires rows { length state.old.rows.items + 2 ≡ length state.old.segments.balances }
     ensures stands { OnOk result ((on cents : ℕ) → EntersIf HasBegun inputs.now (post.Credit on place.now cents) slot.now state.old state.new track.old track.new) }
     ensures left { LeavesRest result state.old state.new track.old track.new }
+    ensures room { KeepsRoom track.old track.new }
 {
     let anchor = inputs.anchor();
     let parts = credit(
@@ -193,6 +197,7 @@ fn enter_post(
     requires named { (n : ℕ) → returns n post.now.post ≡ true → (n ≤ post_limit) × SeesPayment inputs.now post.now.day n }
     ensures stands { OnOk result (EntersPost inputs.now post.now state.old state.new track.old track.new) }
     ensures left { LeavesRest result state.old state.new track.old track.new }
+    ensures room { KeepsRoom track.old track.new }
 {
     let slot = Slot {
         day: post.day,
@@ -230,6 +235,7 @@ fn enter(
     requires amid { AreAmid inputs.now day (done_by inputs.now day place) state.old track.old }
     ensures amid { OnOk result (AreAmid inputs.now day (done_by inputs.now day (place + 1)) state.new track.new) }
     ensures begins { Begins track.old track.new }
+    ensures room { KeepsRoom track.old track.new }
 {
     let _anchor = inputs.anchor();
     // what the length says is needed as a fact: a balance for each segment, five of them at least, and at most 64
@@ -259,6 +265,7 @@ pub fn post_day(
     requires amid { AreAmid inputs.now day [] state.old track.old }
     ensures posted { OnOk result (AreAmid inputs.now day (posts_of inputs.now day) state.new track.new) }
     ensures begins { Begins track.old track.new }
+    ensures room { KeepsRoom track.old track.new }
 {
     let posts = inputs.posts();
     let first = first_place(posts, day);

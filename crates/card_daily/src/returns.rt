@@ -19,7 +19,7 @@ ghost use Rattle.card_segments.specs.Balances.{AreWithin};
 ghost use Rattle.card_daily.specs.Given.{account_in, opened_in, row_in, seen_in};
 ghost use Rattle.card_daily.specs.Returns.{IsDueBy, SeesPayment, fee_of, fees_with};
 ghost use Rattle.card_daily.specs.Posts.{EntersReturn, LeavesRest};
-ghost use Rattle.card_daily.specs.Stands.{AreClosedBefore};
+ghost use Rattle.card_daily.specs.Stands.{AreClosedBefore, KeepsRoom};
 
 use crate::due::{due_cycle, fees_of, minimum_of, push_fee};
 use crate::{Inputs, State, Track};
@@ -140,7 +140,8 @@ fn fee_of(inputs: &Inputs, day: Day, payment: u32, fees: &[Fee], cycles: &[Cycle
 // Adds a fee, where there is one, for which room was made.
 fn push_if_any(list: &mut Vec<Fee>, fee: Option<Fee>)
     requires { vec_len list.old < vec_capacity list.old }
-    ensures { list.new.items ≡ fees_with fee list.old.items }
+    ensures items { list.new.items ≡ fees_with fee list.old.items }
+    ensures capacity { vec_capacity list.old ≤ vec_capacity list.new }
 {
     if let Some(fee) = fee {
         push_fee(list, fee);
@@ -163,6 +164,7 @@ pub(crate) fn enter_return(
     requires seen { SeesPayment inputs.now slot.now.day payment }
     ensures stands { OnOk result (EntersReturn inputs.now payment slot.now state.old state.new track.old track.new) }
     ensures left { LeavesRest result state.old state.new track.old track.new }
+    ensures room { KeepsRoom track.old track.new }
 {
     let _anchor = inputs.anchor();
     let charged = fee_of(inputs, slot.day, payment, &track.fees, &track.cycles);

@@ -14,8 +14,8 @@ use card_slots::segments_of;
 use card_units::NoMemory;
 use std::alloc::Global;
 
-// So many cycles that begin on a day, without rows.
-fn empty_rows(alloc: Global, count: usize, first: Day) -> Result<Vec<CycleRows>, NoMemory>
+/// The rows of so many segments in a cycle that begins on a day: none.
+pub fn empty_rows(alloc: Global, count: usize, first: Day) -> Result<Vec<CycleRows>, NoMemory>
     ensures { IfOk result (λ rows. rows.items ≡ replicate count (no_rows first)) }
 {
     let mut rows = Vec::new(alloc);

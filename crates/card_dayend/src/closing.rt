@@ -15,7 +15,7 @@ ghost use Rattle.card_model.specs.Folds.{cycle_at};
 ghost use Rattle.card_model.specs.Payments as payments;
 ghost use Rattle.card_daily.specs.Closing.{IsClosing, IsClosingOf};
 ghost use Rattle.card_daily.specs.Given.{IsDayOf, account_in, seen_in};
-ghost use Rattle.card_daily.specs.Stands.{AreBefore, ArePosted, Begins, posted};
+ghost use Rattle.card_daily.specs.Stands.{AreBefore, ArePosted, Begins, posted, KeepsRoom};
 
 use card_closing::{Closing, Cycle, GraceCase, close};
 use card_daily::{Inputs, Issued, State, Track, due_cycle};
@@ -202,6 +202,7 @@ fn close_cycle(
     requires posted { ArePosted inputs.now day state.old track.old }
     ensures closed { OnOk result (AreBefore inputs.now (day + 1) state.new track.new) }
     ensures begins { Begins track.old track.new }
+    ensures room { KeepsRoom track.old track.new }
 {
     let _anchor = inputs.anchor();
     let _count = state.segments.len();
@@ -237,6 +238,7 @@ pub fn close_day(
     requires posted { ArePosted inputs.now day state.old track.old }
     ensures closed { OnOk result (AreBefore inputs.now (day + 1) state.new track.new) }
     ensures begins { Begins track.old track.new }
+    ensures room { KeepsRoom track.old track.new }
 {
     if is_closing(&inputs.anchor(), day) {
         close_cycle(alloc, inputs, day, state, track)?;

@@ -2,7 +2,7 @@
 ghost use Rattle.std.specs.Prelude.{◌≡◌, ◌+◌, ◌-◌, ◌≤◌, OnOk};
 ghost use Rattle.card_rates.specs.Laws.{AreQuiet};
 ghost use Rattle.card_daily.specs.Given.{IsDayOf, opened_in};
-ghost use Rattle.card_daily.specs.Stands.{AreBefore, Begins};
+ghost use Rattle.card_daily.specs.Stands.{AreBefore, Begins, KeepsRoom};
 
 use crate::{close_day, opening_day, pass_quiet, row_day};
 use card_daily::{Inputs, State, Track, due_day, post_day};
@@ -24,6 +24,7 @@ pub fn next_day(
     requires before { AreBefore inputs.now day state.old track.old }
     ensures folded { OnOk result (AreBefore inputs.now (day + 1) state.new track.new) }
     ensures begins { Begins track.old track.new }
+    ensures room { KeepsRoom track.old track.new }
 {
     let _opening = opening_day(inputs);
     due_day(inputs, day, state, track)?;
@@ -60,6 +61,7 @@ pub fn next_span(
     requires before { AreBefore inputs.now first state.old track.old }
     ensures folded { OnOk result (AreBefore inputs.now (end + 1) state.new track.new) }
     ensures begins { Begins track.old track.new }
+    ensures room { KeepsRoom track.old track.new }
 {
     let _opening = opening_day(inputs);
     pass_quiet(first, days_to(first, end), state)?;

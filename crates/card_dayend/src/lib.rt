@@ -8,7 +8,7 @@ mod closing;
 mod day;
 mod rows;
 
-pub use begin::{opening_day, start};
+pub use begin::{empty_rows, opening_day, start};
 pub use break_day::span_end;
 pub use closing::close_day;
 pub use day::{next_day, next_span};

@@ -1,5 +1,5 @@
 // What is debited to a segment.
-ghost use Rattle.std.specs.Prelude.{◌≡◌, ℕ, Option, Some, OnOk, OnErr, pos, ◌≤ℤ◌};
+ghost use Rattle.std.specs.Prelude.{◌≡◌, ℕ, Option, Some, OnOk, OnErr, pos, ◌≤ℤ◌, vec_capacity, ◌≤◌};
 ghost use Rattle.card_model.specs.Limits.{balance_limit};
 ghost use Rattle.card_effects.specs.Entering.{ChargesFee, Enters, Leaves, MayMove};
 ghost use Rattle.card_events.specs.History.{CorrectedPost};
@@ -42,6 +42,7 @@ pub fn charge(
     requires asked { MayMove segments.old rates.now slot.now.cents }
     ensures stands { OnOk result ((day cents : ℕ) → Enters (post.Charge day place.now cents) slot.now rates.now segments.old out.old.items segments.new out.new.items) }
     ensures left { Leaves result segments.old segments.new out.old.items out.new.items }
+    ensures capacity { vec_capacity out.old ≤ vec_capacity out.new }
 {
     let segment = segment_at(segments, rates, place, slot.day);
     let note = note_of(slot, EntryKind::Charge);
@@ -61,6 +62,7 @@ pub fn refund(
     requires asked { MayMove segments.old rates.now slot.now.cents }
     ensures stands { OnOk result ((cents : ℕ) → Enters (post.Refund cents) slot.now rates.now segments.old out.old.items segments.new out.new.items) }
     ensures left { Leaves result segments.old segments.new out.old.items out.new.items }
+    ensures capacity { vec_capacity out.old ≤ vec_capacity out.new }
 {
     let segment = newest(segments, rates, Category::Purchase, slot.day);
     let note = note_of(slot, EntryKind::Refund);
@@ -82,6 +84,7 @@ pub fn fee(
     requires asked { MayMove segments.old rates.now fee.now.cents }
     ensures stands { OnOk result (ChargesFee day number (Some fee.now) rates.now segments.old out.old.items segments.new out.new.items) }
     ensures left { Leaves result segments.old segments.new out.old.items out.new.items }
+    ensures capacity { vec_capacity out.old ≤ vec_capacity out.new }
 {
     let segment = newest(segments, rates, Category::Purchase, day);
     let note = Note {

@@ -1,5 +1,5 @@
 // What payments and merchants' credits repay.
-ghost use Rattle.std.specs.Prelude.{◌≡◌, ◌++◌, Option, IfOk, OnOk, OnErr, min, pos, ◌≤ℤ◌};
+ghost use Rattle.std.specs.Prelude.{◌≡◌, ◌++◌, Option, IfOk, OnOk, OnErr, min, pos, ◌≤ℤ◌, vec_capacity, ◌≤◌};
 ghost use Rattle.card_model.specs.Limits.{balance_limit};
 ghost use Rattle.card_alloc.specs.Parts.{AreParts};
 ghost use Rattle.card_effects.specs.Entering.{EntersCredit, EntersPayment, Leaves, MayMove};
@@ -44,6 +44,7 @@ pub fn payment(
     ensures entries { IfOk result (λ parts. out.new.items ≡ out.old.items ++ parts_entries (record { day = slot.now.day; kind = kind.Payment; post = slot.now.number }) parts) }
     ensures whole { IfOk result (λ parts. AreParts segments.old.balances (at_least_zero slot.now.cents) parts) }
     ensures left { Leaves result segments.old segments.new out.old.items out.new.items }
+    ensures capacity { vec_capacity out.old ≤ vec_capacity out.new }
 {
     let ranks = ranks(alloc, segments, rates, following_closing, slot.day)?;
     let parts = allocate(alloc, segments, &ranks, minimum_part, slot.cents)?;
@@ -70,6 +71,7 @@ pub fn credit(
     ensures entries { IfOk result (λ parts. out.new.items ≡ out.old.items ++ parts_entries (record { day = slot.now.day; kind = kind.Credit; post = slot.now.number }) parts) }
     ensures whole { IfOk result (λ parts. AreParts segments.old.balances (at_least_zero slot.now.cents) parts) }
     ensures left { Leaves result segments.old segments.new out.old.items out.new.items }
+    ensures capacity { vec_capacity out.old ≤ vec_capacity out.new }
 {
     let ranks = ranks(alloc, segments, rates, following_closing, slot.day)?;
     let first = numbers_of(alloc, segments, place)?;

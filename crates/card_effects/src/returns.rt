@@ -1,5 +1,5 @@
 // What a returned payment brings back.
-ghost use Rattle.std.specs.Prelude.{◌≡◌, ℕ, ◌++◌, ◌<◌, ◌≤◌, List, Option, Some, OnOk, OnErr, length, pos, take, ◌≤ℤ◌};
+ghost use Rattle.std.specs.Prelude.{◌≡◌, ℕ, ◌++◌, ◌<◌, ◌≤◌, List, Option, Some, OnOk, OnErr, length, pos, take, ◌≤ℤ◌, vec_capacity};
 ghost use Rattle.card_model.specs.Limits.{balance_limit};
 ghost use Rattle.card_alloc.specs.Parts.{back_entries};
 ghost use Rattle.card_effects.specs.Returned.{AreOfThose, AreReturnable, IsChargeable, parts_of};
@@ -41,6 +41,7 @@ fn put_parts_back(
     ensures segments { segments.new.segments ≡ segments.old.segments }
     ensures small { OnOk result (AreWithin movable_balance segments.new.balances) }
     ensures begins { take (length out.old.items) out.new.items ≡ out.old.items }
+    ensures capacity { vec_capacity out.old ≤ vec_capacity out.new }
 {
     let parts = Parts::of_payment(alloc, out, payment)?;
     let newest = newest(segments, rates, Category::Purchase, slot.day);
@@ -63,6 +64,7 @@ fn charge_fee(
     ensures stands { OnOk result (ChargesFee slot.now.day slot.now.number (Some fee.now) rates.now segments.old out.old.items segments.new out.new.items) }
     ensures segments { segments.new.segments ≡ segments.old.segments }
     ensures err_entries { OnErr result (out.new.items ≡ out.old.items) }
+    ensures capacity { vec_capacity out.old ≤ vec_capacity out.new }
 {
     let segment = newest(segments, rates, Category::Purchase, slot.day);
     let note = note_of(slot, EntryKind::Fee);
@@ -84,6 +86,7 @@ fn charge_if_any(
     ensures stands { OnOk result (ChargesFee slot.now.day slot.now.number charged.now rates.now segments.old out.old.items segments.new out.new.items) }
     ensures segments { segments.new.segments ≡ segments.old.segments }
     ensures err_entries { OnErr result (out.new.items ≡ out.old.items) }
+    ensures capacity { vec_capacity out.old ≤ vec_capacity out.new }
 {
     match charged {
         Some(fee) => charge_fee(segments, rates, slot, fee, out),
@@ -113,6 +116,7 @@ pub fn returned(
     ensures stands { OnOk result ((day : ℕ) → EntersWhere (IsReturnOf payment charged.now rates.now) (post.Return day payment) slot.now rates.now segments.old out.old.items segments.new out.new.items) }
     ensures segments { segments.new.segments ≡ segments.old.segments }
     ensures err { OnErr result (take (length out.old.items) out.new.items ≡ out.old.items) }
+    ensures capacity { vec_capacity out.old ≤ vec_capacity out.new }
 {
     put_parts_back(alloc, segments, rates, slot, payment, out)?;
     charge_if_any(segments, rates, slot, charged, out)

@@ -1,5 +1,5 @@
 // A charge that is disputed.
-ghost use Rattle.std.specs.Prelude.{◌≡◌, ℕ, List, OnOk, OnErr, min, pos, ◌≤ℤ◌, unsigned_abs, Option};
+ghost use Rattle.std.specs.Prelude.{◌≡◌, ℕ, List, OnOk, OnErr, min, pos, ◌≤ℤ◌, unsigned_abs, Option, vec_capacity, ◌≤◌};
 ghost use Rattle.card_model.specs.Limits.{balance_limit};
 ghost use Rattle.card_effects.specs.Entering.{Leaves};
 ghost use Rattle.card_events.specs.History.{CorrectedPost};
@@ -61,6 +61,7 @@ pub fn dispute(
     requires small { AreWithin balance_limit segments.old.balances }
     ensures stands { OnOk result ((day : ℕ) → EntersOf posts.now (post.Dispute day charge claim) slot.now rates.now segments.old out.old.items segments.new out.new.items) }
     ensures left { Leaves result segments.old segments.new out.old.items out.new.items }
+    ensures capacity { vec_capacity out.old ≤ vec_capacity out.new }
 {
     let disputed = charge_seen(posts, charge.get(), slot.day);
     let segment = segment_of(rates, segments, &disputed, slot.day);

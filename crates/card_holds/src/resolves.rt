@@ -1,5 +1,5 @@
 // A dispute that is resolved.
-ghost use Rattle.std.specs.Prelude.{◌≡◌, ◌≤◌, ℕ, List, OnOk, OnErr, pos, ◌≤ℤ◌, cond, Option, slice_index_or};
+ghost use Rattle.std.specs.Prelude.{◌≡◌, ◌≤◌, ℕ, List, OnOk, OnErr, pos, ◌≤ℤ◌, cond, Option, slice_index_or, vec_capacity};
 ghost use Rattle.card_model.specs.Limits.{balance_limit};
 ghost use Rattle.card_bounds.specs.Bounds.{moved};
 ghost use Rattle.card_effects.specs.Entering.{Leaves};
@@ -98,6 +98,7 @@ pub fn resolve(
     requires small { AreWithin balance_limit segments.old.balances }
     ensures stands { OnOk result ((day cents : ℕ) → EntersOf posts.now (post.Resolve day dispute cents) slot.now rates.now segments.old out.old.items segments.new out.new.items) }
     ensures left { Leaves result segments.old segments.new out.old.items out.new.items }
+    ensures capacity { vec_capacity out.old ≤ vec_capacity out.new }
 {
     let disputed = charge_named(&post_seen(posts, dispute.get(), slot.day));
     let charge = charge_seen(posts, disputed, slot.day);

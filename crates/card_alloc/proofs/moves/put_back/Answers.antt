@@ -82,6 +82,7 @@ loop-i-preserved c =
       known = rw (ok, length-posted ds s.balances) c.loop-i.invariant.known;
       same = rw (ok, length-posted ds s.balances) c.loop-i.invariant.same;
       room = omega (arith, longer, c.loop-i.invariant.room, c.return_part.ensures.len, c.return_part.ensures.capacity);
+      capacity = omega (arith, c.loop-i.invariant.capacity, c.return_part.ensures.capacity);
     }
 
 pub returns-clause-ok : goal.returns-clause-ok

@@ -12,4 +12,5 @@ invariant-loop-i l = record {
   known : l.newest < length l.s.balances;
   same : length l.s.balances ≡ length l.fn.s.balances;
   room : vec_len l.out + 2 * length (drop l.i l.items) ≤ vec_capacity l.out;
+  capacity : vec_capacity l.fn.out ≤ vec_capacity l.out;
 }

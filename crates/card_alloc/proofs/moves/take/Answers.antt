@@ -48,4 +48,5 @@ loop-i-preserved c =
       payable = rw c.take_part.ensures.ok (payable-step note c.loop-i.s.balances p rest payable);
       same = rw (c.take_part.ensures.ok, length-posted (lowers note p.0 p.1) c.loop-i.s.balances) c.loop-i.invariant.same;
       room = omega (arith, longer, c.loop-i.invariant.room, c.take_part.ensures.len, c.take_part.ensures.capacity);
+      capacity = omega (arith, c.loop-i.invariant.capacity, c.take_part.ensures.capacity);
     }

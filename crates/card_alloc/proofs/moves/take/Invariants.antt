@@ -11,4 +11,5 @@ invariant-loop-i l = record {
   payable : ArePayable l.s.balances (drop l.i l.items);
   same : length l.s.balances ≡ length l.fn.s.balances;
   room : vec_len l.out + length (drop l.i l.items) ≤ vec_capacity l.out;
+  capacity : vec_capacity l.fn.out ≤ vec_capacity l.out;
 }

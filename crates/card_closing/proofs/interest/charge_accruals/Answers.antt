@@ -10,7 +10,7 @@ use Rattle.card_closing.proofs.interest.charge_accruals.Goals as goal
 
 pub loop-id-init : goal.loop-id-init
 unfolding in_turn
-loop-id-init c = record { turn = refl; step = c.requires.step; segments = refl; balances = refl; begins = take_all (length c.args.out.now.items) c.args.out.now.items (omega arith) }
+loop-id-init c = record { turn = refl; step = c.requires.step; segments = refl; balances = refl; begins = take_all (length c.args.out.now.items) c.args.out.now.items (omega arith); capacity = omega arith }
 
 pub loop-id-preserved : goal.loop-id-preserved
 loop-id-preserved c =
@@ -38,6 +38,7 @@ loop-id-preserved c =
       segments = c.in_ok-charge.ensures.kept.segments ∙ c.loop-id.invariant.segments;
       balances = c.in_ok-charge.ensures.kept.balances ∙ c.loop-id.invariant.balances;
       begins = begins-trans c.args.out.now.items c.loop-id.out.items c.charge.new.out.items c.loop-id.invariant.begins c.in_ok-charge.ensures.begins;
+      capacity = omega (arith, c.loop-id.invariant.capacity, c.charge.ensures.capacity);
     }
 
 pub returns-clause-turn : goal.returns-clause-turn

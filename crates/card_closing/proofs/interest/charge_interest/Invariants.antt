@@ -1,5 +1,5 @@
-use Rattle.std.proofs.Common.{◌≡◌, ◌-◌, length, drop}
-use Rattle.std.specs.Prelude.{option_copied}
+use Rattle.std.proofs.Common.{◌≡◌, ◌-◌, ◌≤◌, length, drop}
+use Rattle.std.specs.Prelude.{option_copied, vec_capacity}
 use Rattle.card_closing.specs.Interest.{cycle_charge, amounts_of, note_on}
 use Rattle.card_closing.specs.Turns.{AreInStep, BeginsWith, asked_of, in_turn}
 use Rattle.card_closing.proofs.interest.charge_interest.Given as goal
@@ -13,4 +13,5 @@ invariant-loop-id l = record {
   segments : l.segments.segments ≡ l.initial.segments.segments;
   balances : length l.segments.balances ≡ length l.initial.segments.balances;
   begins : BeginsWith l.initial.out.items l.out.items;
+  capacity : vec_capacity l.initial.out ≤ vec_capacity l.out;
 }

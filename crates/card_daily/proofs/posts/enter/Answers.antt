@@ -93,6 +93,7 @@ returns-in_default c =
     record {
       amid = on-ok c.enter_post.result _ _ c.enter_post.ensures.stands (λ did. next-amid g day place x c.args.state.now c.enter_post.new.state c.args.track.now c.enter_post.new.track sound c.requires.dated.opened c.requires.dated.last c.requires.from c.requires.within here kind c.requires.amid c.enter_post.ensures.left.rest did);
       begins = either-way c.enter_post.result _ (on-ok c.enter_post.result _ _ c.enter_post.ensures.stands (λ did. next-begins g day place x c.args.state.now c.enter_post.new.state c.args.track.now c.enter_post.new.track sound c.requires.dated.opened c.requires.dated.last c.requires.from c.requires.within here kind c.requires.amid c.enter_post.ensures.left.rest did)) c.enter_post.ensures.left.err;
+      room = c.enter_post.ensures.room;
     }
 
 pub begin_penalty-requires : goal.begin_penalty-requires

@@ -6,6 +6,7 @@ use Rattle.card_model.specs.Deadlines.{resolves}
 use Rattle.card_model.specs.Payments.{is_payment, returns}
 use Rattle.card_slots.specs.declared.day.DayPost.{DayPost}
 use Rattle.card_daily.proofs.Posting.{handed, nothing-done, of-kind, of-return, on-ok, returns-none, slot-is}
+use Rattle.card_daily.proofs.Standing.{room-same}
 use Rattle.card_daily.specs.Given.{account_in, opened_in, row_in, seen_in}
 use Rattle.card_daily.specs.Posts.{StandWith}
 use Rattle.card_daily.proofs.posts.enter_post.Goals as goal
@@ -88,6 +89,7 @@ returns-in_default c =
           (subst (λ (d : Book). StandWith a seen first returned rows_by d c.args.state.now c.args.track.now)
           (sym (nothing-done row a seen p x.post b c.requires.kind c.in_default.not-Charge c.in_default.not-Credit c.in_default.not-Payment c.in_default.not-Refund c.in_default.not-Return c.in_default.not-Dispute c.in_default.not-Resolve)) h);
       left = record { rest = record { segments = refl; rates = refl; accruals = refl; cycles = refl }; err = tt };
+      room = room-same c.args.track.now;
     }
 
 pub returns-in-Dispute-clause-stands : goal.returns-in-Dispute-clause-stands

@@ -1,6 +1,7 @@
 use Rattle.std.proofs.Common.{◌+◌, arith, subst, refl}
 use Rattle.card_daily.proofs.PostDay.{begins-twice, done-all, done-none, end-is, place-is}
 use Rattle.card_daily.proofs.Posting.{begins-kept}
+use Rattle.card_daily.proofs.Standing.{room-same, room-then}
 use Rattle.card_daily.specs.Stands.{AreAmid}
 use Rattle.card_daily.proofs.posts.post_day.Goals as goal
 
@@ -11,6 +12,7 @@ loop-place-init c =
     record {
       amid = subst (λ done. AreAmid g c.args.day done c.args.state.now c.args.track.now) (done-none g c.args.day c.first_place-first.result first) c.requires.amid;
       begins = begins-kept c.args.track.now c.args.track.now refl refl refl;
+      room = room-same c.args.track.now;
     }
 
 pub enter-requires-clause-from : goal.enter-requires-clause-from
@@ -32,6 +34,7 @@ pub loop-place-preserved : goal.loop-place-preserved
 loop-place-preserved c = record {
   amid = c.in_ok-enter.ensures.amid;
   begins = begins-twice c.args.track.now c.loop-place.track c.enter.new.track c.loop-place.invariant.begins c.enter.ensures.begins;
+  room = room-then c.args.track.now c.loop-place.track c.enter.new.track c.loop-place.invariant.room c.enter.ensures.room;
 }
 
 pub returns-clause-posted : goal.returns-clause-posted
@@ -44,3 +47,6 @@ returns-clause-posted c =
 
 pub returns-in_err-enter-clause-begins : goal.returns-in_err-enter-clause-begins
 returns-in_err-enter-clause-begins c = begins-twice c.args.track.now c.loop-place.track c.enter.new.track c.loop-place.invariant.begins c.enter.ensures.begins
+
+pub returns-in_err-enter-clause-room : goal.returns-in_err-enter-clause-room
+returns-in_err-enter-clause-room c = room-then c.args.track.now c.loop-place.track c.enter.new.track c.loop-place.invariant.room c.enter.ensures.room

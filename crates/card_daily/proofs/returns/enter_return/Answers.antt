@@ -32,6 +32,6 @@ returns-clause-stands c first gone rows_by p b on cycles credits those is h =
     return-stand row (account_in g) (seen_in g day) first gone rows_by p b on c.args.payment c.args.state.now new c.args.track.now after charged h at fee
     (record {
       rates = refl;
-      fees = c.push_if_any.ensures ∙ ap (fees_with charged) c.reserve.ensures.items;
+      fees = c.push_if_any.ensures.items ∙ ap (fees_with charged) c.reserve.ensures.items;
       rows = rows ∙ (c.unpay.ensures ∙ ap (map (without_post c.args.payment)) c.deref_mut.ensures.value);
     }) credits

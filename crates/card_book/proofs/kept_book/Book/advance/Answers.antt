@@ -7,6 +7,7 @@ use Rattle.card_dayend.specs.Spans.{breaks_by}
 use Rattle.card_book.specs.Stands.{StandsFor, Summary, day_to_fold, steps_over}
 use Rattle.card_book.proofs.More.{from-opening}
 use Rattle.card_book.proofs.Steps.{begins-then, span-step}
+use Rattle.card_daily.proofs.Standing.{room-then}
 use Rattle.card_book.proofs.kept_book.Book.advance.Goals as goal
 
 -- a span more is a step more
@@ -45,4 +46,8 @@ loop-alloc-preserved g c =
       steps = omega (arith, c.tick.ensures, l.invariant.steps, step, rest);
       most = omega (arith, c.tick.ensures, l.invariant.most, behind, low, l.invariant.begun);
       begins = begins-then c.args.track.now l.track c.fold_span.new.track l.invariant.begins c.fold_span.ensures.begins;
+      room = room-then c.args.track.now l.track c.fold_span.new.track l.invariant.room c.fold_span.ensures.room;
     }
+
+pub returns-in_err-fold_span-clause-room : goal.returns-in_err-fold_span-clause-room
+returns-in_err-fold_span-clause-room g c = room-then c.args.track.now c.loop-alloc.track c.fold_span.new.track c.loop-alloc.invariant.room c.fold_span.ensures.room

@@ -1,6 +1,6 @@
 use Rattle.std.proofs.Common.{◌≡◌, ◌+◌, ◌-◌, ◌≤◌, false}
 use Rattle.card_book.specs.Stands.{StandsFor, day_to_fold, steps_over}
-use Rattle.card_daily.specs.Stands.{Begins}
+use Rattle.card_daily.specs.Stands.{Begins, KeepsRoom}
 use Rattle.card_book.proofs.kept_book.Book.advance.Given as goal
 
 abbrev pub invariant-loop-alloc : goal.invariant-loop-alloc
@@ -13,6 +13,7 @@ invariant-loop-alloc g l = record {
   steps : l.steps + steps_over l.inputs l.to l.first ≡ l.fn.steps + steps_over l.inputs l.to (day_to_fold l.inputs l.fn.self.day);
   most : l.steps ≤ l.fn.steps + (l.first - day_to_fold l.inputs l.fn.self.day);
   begins : Begins l.fn.track l.track;
+  room : KeepsRoom l.fn.track l.track;
 }
 
 abbrev pub decreases-loop-alloc : goal.decreases-loop-alloc
