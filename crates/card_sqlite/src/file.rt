@@ -4,7 +4,8 @@ use crate::StoreKeeper;
 use crate::fault::fault_of;
 use crate::store::counted;
 use card_keeper::{Keeper, KeeperFault, Row};
-use sqlite::{Connection, File, FileStore};
+use sqlite::{Alter, Connection, File, FileStore};
+use sqlite_disk::Disk;
 use std::alloc::Global;
 use std::rt::HostRuntime;
 
@@ -25,10 +26,52 @@ pub struct SqliteKeeper {
     faults: u64,
 }
 
-// Opens the file.
-fn opened(rt: &HostRuntime, path: &str) -> Result<Store, KeeperFault> {
+// Whether the file was opened. This and the next ones are over any store, so that no clause of a file's is read for them.
+fn is_open<S: Alter>(store: &Option<StoreKeeper<S>>) -> bool {
+    store.is_some()
+}
+
+fn put<S: Alter + Drop>(store: &mut Option<StoreKeeper<S>>, conn: Connection<S>) {
+    *store = Some(StoreKeeper::adopt(conn));
+}
+
+fn load_rows<S: Alter>(
+    store: &mut Option<StoreKeeper<S>>,
+    alloc: Global,
+) -> Result<Vec<Row>, KeeperFault> {
+    match store {
+        Some(store) => store.load_rows(alloc),
+        None => Err(KeeperFault::Failed),
+    }
+}
+
+fn append_rows<S: Alter>(
+    store: &mut Option<StoreKeeper<S>>,
+    rows: &[Row],
+) -> Result<(), KeeperFault> {
+    match store {
+        Some(store) => store.append_rows(rows),
+        None => Err(KeeperFault::Failed),
+    }
+}
+
+fn close<D: Disk + Drop>(store: StoreKeeper<FileStore<D>>) -> Result<(), KeeperFault> {
+    match store.give_back().close() {
+        Ok(()) => Ok(()),
+        Err(error) => Err(fault_of(error)),
+    }
+}
+
+// Opens the file, where no call has opened it before.
+fn open(store: &mut Option<Store>, rt: &HostRuntime, path: &str) -> Result<(), KeeperFault> {
+    if is_open(store) {
+        return Ok(());
+    }
     match Connection::open(rt, path) {
-        Ok(conn) => Ok(StoreKeeper::adopt(conn)),
+        Ok(conn) => {
+            put(store, conn);
+            Ok(())
+        }
         Err(error) => Err(fault_of(error)),
     }
 }
@@ -39,15 +82,8 @@ fn load(
     path: &str,
     alloc: Global,
 ) -> Result<Vec<Row>, KeeperFault> {
-    match store {
-        Some(store) => store.load_rows(alloc),
-        None => {
-            let mut fresh = opened(rt, path)?;
-            let loaded = fresh.load_rows(alloc);
-            *store = Some(fresh);
-            loaded
-        }
-    }
+    open(store, rt, path)?;
+    load_rows(store, alloc)
 }
 
 fn append(
@@ -56,15 +92,8 @@ fn append(
     path: &str,
     rows: &[Row],
 ) -> Result<(), KeeperFault> {
-    match store {
-        Some(store) => store.append_rows(rows),
-        None => {
-            let mut fresh = opened(rt, path)?;
-            let appended = fresh.append_rows(rows);
-            *store = Some(fresh);
-            appended
-        }
-    }
+    open(store, rt, path)?;
+    append_rows(store, rows)
 }
 
 impl SqliteKeeper {
@@ -90,10 +119,7 @@ impl SqliteKeeper {
         } = self;
         match store {
             None => Ok(()),
-            Some(store) => match store.give_back().close() {
-                Ok(()) => Ok(()),
-                Err(error) => Err(fault_of(error)),
-            },
+            Some(store) => close(store),
         }
     }
 }

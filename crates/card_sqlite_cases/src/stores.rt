@@ -52,7 +52,7 @@ fn add<S: Alter>(keeper: &mut StoreKeeper<S>, alloc: Global, two: &[Row]) -> boo
 
 // An append of two rows over two files: what is left of the files, and whether nothing stopped it. Over any disk, so that no
 // clause of a disk in memory is read for it.
-fn added<D: Disk>(alloc: Global, files: Files<D>, two: &[Row]) -> (Files<D>, bool) {
+fn added<D: Disk + Drop>(alloc: Global, files: Files<D>, two: &[Row]) -> (Files<D>, bool) {
     if !files.may_be_used() {
         return (files, false);
     }
@@ -81,7 +81,7 @@ fn crashed(mut files: Files<Fused>) -> Files<Fused> {
 }
 
 // The rows of two files. None where the files can't be opened or the rows aren't whole.
-fn rows_in<D: Disk>(alloc: Global, files: Files<D>) -> Option<usize> {
+fn rows_in<D: Disk + Drop>(alloc: Global, files: Files<D>) -> Option<usize> {
     if !files.may_be_used() {
         return None;
     }
