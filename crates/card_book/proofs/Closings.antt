@@ -8,6 +8,7 @@ use Rattle.card_events.specs.History.{anchor_of}
 use Rattle.card_model.specs.Cycles.{Cycle}
 use Rattle.card_model.specs.Folds.{cycle_at}
 use Rattle.card_model.proofs.Calendar.{cycles_are_of_the_calendar, is-anchor}
+use Rattle.card_model.proofs.Cuts.{closing-entries, closing-within}
 use Rattle.card_daily.specs.Given.{Given, IsSound, book_on, opened_in}
 
 -- how many there are up to a day: the last of them isn't after it, and the next one is
@@ -25,6 +26,14 @@ closed-up-to g day sound low dated =
     let before = subst (λ k. closing a k < day + 1) back around.0 in
     let after = around.1 in
     record { last = omega (arith, before); next = omega (arith, after) }
+
+-- the day that closed a closed cycle isn't after the day of the book
+pub closed-by : (g : Given) (day k : ℕ) (c : Cycle) → opened_in g ≤ day → cycle_at k (book_on g day).cycles ≡ Some c → c.closing ≤ day
+closed-by g day k c low e = closing-within g.history g.issued g.shared day k c low e
+
+-- its count of entries is that of the book of that day
+pub closing-count : (g : Given) (day k : ℕ) (c : Cycle) → cycle_at k (book_on g day).cycles ≡ Some c → length (book_on g c.closing).entries ≡ c.entries
+closing-count g day k c e = closing-entries g.history g.issued g.shared day k c e
 
 -- where no day is folded, no cycle is closed
 pub none-closed : (k : ℕ) (cs : List Cycle) (c : Cycle) → cs ≡ [] → cycle_at k cs ≡ Some c → ⊥
