@@ -70,7 +70,7 @@ has_cents m = not (nat_abs m.cents == 0)
 unfoldable pub moves_of : List Entry → List Move
 moves_of entries = filter has_cents (gathered (filter moves_owed entries))
 
--- ---- sums of the year to date (12 CFR 1026.7(b)(6)(iii))
+-- ---- sums of the year to date (12 CFR 1026.7(b)(6)(ii), (iii))
 -- the sum over the cycles whose closing lies in the calendar year of this one
 unfoldable pub year_sum : (Cycle → ℕ) → ℕ → List Cycle → ℕ
 year_sum amount closing cycles = sum_by (λ d. if (date_of d.closing).year == (date_of closing).year then amount d else 0) cycles

@@ -51,7 +51,7 @@ pub fn fees_year(cycles: &[Cycle], closing: Day) -> u128
     sum
 }
 
-/// The cents of the interest of the cycles that closed in the calendar year of a closing (12 CFR 1026.7(b)(6)(iii)). Those of
+/// The cents of the interest of the cycles that closed in the calendar year of a closing (12 CFR 1026.7(b)(6)(ii)). Those of
 /// each cycle are at most 10^17. It takes no memory.
 pub fn interest_year(cycles: &[Cycle], closing: Day) -> u128
     requires small { All (λ d. amounts_sum d.interest ≤ 10 ^ 17) cycles.now }
