@@ -185,7 +185,8 @@ impl Account {
         requires { MayBeFolded today shared.now self.now }
         ensures { IfOk result (λ o. o ≡ owing_in (book_today (present_of today shared.now self.now.named.lists))) }
     {
-        let folded = fold(alloc, &self.present(today, shared))?;
+        let opened = fold(alloc, &self.present(today, shared))?;
+        let folded = opened.folded();
         Ok(Owing {
             owed: folded.owed(),
             credit: folded.credit(),

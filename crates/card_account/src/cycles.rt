@@ -8,7 +8,7 @@ ghost use Rattle.card_daily.specs.Given.{given_today};
 ghost use Rattle.card_events.specs.History.{anchor_of};
 ghost use Rattle.card_model.specs.Folds.{cycle_at};
 
-use card_book::{Cycle, Folded, Present, fold_to};
+use card_book::{Cycle, Folded, FromOpening, Present, fold_to};
 use card_days::Day;
 use card_events::Num;
 use card_reasons::closing_of;
@@ -16,7 +16,7 @@ use card_units::NoMemory;
 use std::alloc::Global;
 
 /// The closed cycle with a number, none where it isn't closed.
-pub fn closed_cycle(folded: &Folded, cycle: Num) -> Option<&Cycle>
+pub fn closed_cycle<'a>(folded: &Folded<'a>, cycle: Num) -> Option<&'a Cycle>
     requires { cycle ≤ last_calendar_day }
     ensures { option_copied result ≡ cycle_at cycle folded.now.book.cycles }
 {
@@ -35,7 +35,7 @@ fn closing_day(now: &Present, cycle: Num) -> Day
 
 /// The book of an account at the end of the closing of a cycle that is closed before today. It has the cycle as the book of
 /// today has it.
-pub fn fold_to_closing(alloc: Global, now: &Present, cycle: Num) -> Result<Folded, NoMemory>
+pub fn fold_to_closing(alloc: Global, now: &Present, cycle: Num) -> Result<FromOpening, NoMemory>
     requires { is_closed now.now.today now.now.lists cycle ≡ true }
     ensures { IfOk result (IsFoldedTo (given_today now.now) (closing (anchor_of now.now.lists.posts) cycle)) }
 {

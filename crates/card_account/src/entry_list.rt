@@ -52,10 +52,11 @@ pub fn entries_today(alloc: Global, now: &Present) -> Result<EntryList, NoMemory
 {
     let _opening = now.anchor();
     let _last = now.today();
-    let folded = fold(alloc, now)?;
+    let opened = fold(alloc, now)?;
+    let folded = opened.folded();
     let segments = folded.segments(alloc)?;
     Ok(EntryList {
-        entries: folded.into_entries(),
+        entries: Vec::from_slice(alloc, folded.entries())?,
         segments,
     })
 }

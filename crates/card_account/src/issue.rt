@@ -35,7 +35,8 @@ fn row_of(alloc: Global, now: &Present, cycle: Num) -> Result<Option<Issued>, No
 {
     let _anchor = now.anchor();
     let _today = now.today();
-    let folded = fold_to_closing(alloc, now, cycle)?;
+    let opened = fold_to_closing(alloc, now, cycle)?;
+    let folded = opened.folded();
     match closed_cycle(&folded, cycle) {
         Some(closed) => Ok(Some(row_for_cycle(alloc, now, &folded, cycle, closed)?)),
         None => Ok(None),

@@ -18,7 +18,8 @@ use std::alloc::Global;
 fn credit_today(alloc: Global, now: &Present) -> Result<Cents, NoMemory>
     ensures { IfOk result (λ credit. credit ≡ pos (credit_balance (book_today now.now).entries)) }
 {
-    let folded = fold(alloc, now)?;
+    let opened = fold(alloc, now)?;
+    let folded = opened.folded();
     Ok(folded.credit())
 }
 
@@ -26,7 +27,8 @@ fn credit_today(alloc: Global, now: &Present) -> Result<Cents, NoMemory>
 fn is_late_today(alloc: Global, now: &Present) -> Result<bool, NoMemory>
     ensures { IfOk result (λ late. late ≡ sixty_days_late (seen_today now.now) (book_today now.now).cycles) }
 {
-    let folded = fold(alloc, now)?;
+    let opened = fold(alloc, now)?;
+    let folded = opened.folded();
     Ok(folded.late_today(now))
 }
 

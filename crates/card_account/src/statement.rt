@@ -93,7 +93,8 @@ fn restated_of(alloc: Global, now: &Present, cycle: Num) -> Result<Option<Statem
     let _anchor = now.anchor();
     let _today = now.today();
     let issued = now.issued_for(cycle.get());
-    let folded = fold_to_closing(alloc, now, cycle)?;
+    let opened = fold_to_closing(alloc, now, cycle)?;
+    let folded = opened.folded();
     match closed_cycle(&folded, cycle) {
         Some(closed) => Ok(Some(restated_as(alloc, now, &folded, issued, closed)?)),
         None => Ok(None),

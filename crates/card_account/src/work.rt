@@ -13,7 +13,8 @@ use std::alloc::Global;
 pub fn tasks_today(alloc: Global, name: &Name, now: &Present) -> Result<Vec<Task>, NoMemory>
     ensures { IfOk result (λ tasks. tasks.items ≡ tasks_in name.now now.now (book_today now.now)) }
 {
-    let folded = fold(alloc, now)?;
+    let opened = fold(alloc, now)?;
+    let folded = opened.folded();
     work_of(
         alloc,
         name,

@@ -4,9 +4,12 @@ use Rattle.card_days.specs.Range.{last_request_day}
 use Rattle.card_grace.specs.Accruals.{Accrued}
 use Rattle.card_model.specs.Books.{Book, empty_book}
 use Rattle.card_model.specs.Cuts.{is_break_by}
+use Rattle.card_model.specs.Cycles.{Cycle}
 use Rattle.card_model.specs.Deadlines.{credit_since}
 use Rattle.card_model.specs.Entries.{AreBalances}
 use Rattle.card_model.specs.Spans.{steps_among}
+use Rattle.card_model.specs.declared.entry.Entry.{Entry}
+use Rattle.card_model.specs.declared.fee.Fee.{Fee}
 use Rattle.card_model.specs.declared.segment.Interval.{Interval}
 use Rattle.card_model.specs.declared.segment.Segment.{Segment}
 use Rattle.card_rates.specs.RateBooks.{Rates, rates_of}
@@ -41,6 +44,18 @@ pub record FoldedBook : Type 0 where
   pub balances : List ℤ
   pub rates : Rates
   pub accruals : List Accrued
+
+-- what is told of a Book, with these entries, closed cycles and fees
+abbrev pub told : Summary → List Entry → List Cycle → List Fee → FoldedBook
+told b entries cycles fees =
+    record {
+      book = record { entries = entries; cycles = cycles; fees = fees; penalties = b.state.rates.penalties };
+      since = b.credit_since;
+      segments = b.state.segments.segments;
+      balances = b.state.segments.balances;
+      rates = b.state.rates;
+      accruals = b.state.accruals.items;
+    }
 
 -- it is the book of a day, and what is kept beside it stands for that book
 pub record IsFoldedTo (g : Given) (day : ℕ) (f : FoldedBook) : Type 0 where

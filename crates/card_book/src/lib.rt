@@ -2,6 +2,7 @@
 #![tactic(auto)]
 
 mod copies;
+mod folded;
 mod from_opening;
 mod kept_book;
 pub mod laws;
@@ -13,7 +14,9 @@ pub use card_daily::{
     Amounts, Cycle, Entry, Fee, Fees, Inputs, Issued, Present, Statement, Track, row_for,
 };
 pub use card_statement::Sheet;
-pub use from_opening::{Folded, fold, fold_to};
+pub use folded::Folded;
+pub use from_opening::{FromOpening, fold, fold_to};
 pub use kept_book::Book;
 pub use marks::Accruing;
 pub use sheet::sheet_of;
+pub use statement::statement_of;

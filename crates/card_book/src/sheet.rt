@@ -14,7 +14,7 @@ ghost use Rattle.card_statement.specs.Laws.{StandsAtClosing};
 ghost use Rattle.card_statement.specs.Lines as lines;
 ghost use Rattle.card_model.specs.Sheets as spec;
 
-use crate::from_opening::Folded;
+use crate::folded::Folded;
 use card_daily::{Amounts, Cycle, Inputs, Issued};
 use card_days::Day;
 use card_statement::{

@@ -1,5 +1,5 @@
 use Rattle.std.proofs.Common.{◌≡◌, take}
-use Rattle.card_book.proofs.from_opening.copy_segments.Given as goal
+use Rattle.card_book.proofs.folded.copy_segments.Given as goal
 
 abbrev pub invariant-loop-id : goal.invariant-loop-id
 invariant-loop-id l = l.copy.items ≡ take l.id l.segments.segments

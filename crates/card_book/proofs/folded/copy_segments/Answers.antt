@@ -1,7 +1,7 @@
 use Rattle.std.proofs.Common.{◌<◌, List, [], ◌∷◌, ◌++◌, length, take, ap, sym, ◌∙◌, arith}
 use Rattle.std.proofs.lemmas.List.{take_more}
 use Rattle.card_model.specs.declared.segment.Segment.{Segment}
-use Rattle.card_book.proofs.from_opening.copy_segments.Goals as goal
+use Rattle.card_book.proofs.folded.copy_segments.Goals as goal
 
 pub loop-id-preserved : goal.loop-id-preserved
 loop-id-preserved c =

@@ -5,7 +5,7 @@ use Rattle.card_book.specs.Stands.{FoldedBook}
 use Rattle.card_model.specs.Entries.{owed}
 use Rattle.card_segments.proofs.Totals.{total-owed}
 use Rattle.card_segments.specs.Balances.{Balances, total}
-use Rattle.card_book.proofs.from_opening.Folded.owed.Goals as goal
+use Rattle.card_book.proofs.folded.Folded.owed.Goals as goal
 
 pub returns : goal.returns
 returns c =
@@ -13,4 +13,4 @@ returns c =
     to_z-of_z w64 c.owed.result (record { sfits = c.owed.type_inv })
     ∙ (c.owed.ensures
     ∙ (ap (λ (b : Balances). total b.balances) c.segments.ensures.kept
-    ∙ (total-owed inside.track.entries.items inside.book.state.segments.balances c.self.invariant.0 ∙ ap (λ (f : FoldedBook). owed f.book.entries) c.self.view_is)))
+    ∙ (total-owed inside.entries.now inside.book.now.state.segments.balances c.self.invariant.0 ∙ ap (λ (f : FoldedBook). owed f.book.entries) c.self.view_is)))
