@@ -5,6 +5,7 @@ ghost use Rattle.std.specs.List.{list_all};
 ghost use Rattle.card_lines.specs.Forms.{number_of, is_decimal, value_after, day_of, request_day_at, category_of, place_in, place_of, channel_of, plan_kind_of, finding_of};
 ghost use Rattle.card_lines.specs.Forms as spec;
 
+use crate::word::is_word;
 use card_days::{Channel, Day};
 use card_events::{Category, Finding, Num, Place, PlanKind};
 
@@ -97,11 +98,11 @@ fn request_day(year: u64, month: u64, day: u64) -> Option<Day>
 pub fn read_category(text: &[u8]) -> Option<Category>
     ensures { result ≡ category_of text.now }
 {
-    if text == b"purchase".as_slice() {
+    if is_word(text, b"purchase") {
         Some(Category::Purchase)
-    } else if text == b"cash".as_slice() {
+    } else if is_word(text, b"cash") {
         Some(Category::Cash)
-    } else if text == b"transfer".as_slice() {
+    } else if is_word(text, b"transfer") {
         Some(Category::Transfer)
     } else {
         None
@@ -134,9 +135,9 @@ fn whole_category(category: Category) -> Place
 pub fn read_channel(text: &[u8]) -> Option<Channel>
     ensures { result ≡ channel_of text.now }
 {
-    if text == b"mail".as_slice() {
+    if is_word(text, b"mail") {
         Some(Channel::Mail)
-    } else if text == b"online".as_slice() {
+    } else if is_word(text, b"online") {
         Some(Channel::Online)
     } else {
         None
@@ -148,9 +149,9 @@ pub fn read_channel(text: &[u8]) -> Option<Channel>
 pub fn read_plan_kind(text: &[u8]) -> Option<PlanKind>
     ensures { result ≡ plan_kind_of text.now }
 {
-    if text == b"promo".as_slice() {
+    if is_word(text, b"promo") {
         Some(PlanKind::Promo)
-    } else if text == b"deferred".as_slice() {
+    } else if is_word(text, b"deferred") {
         Some(PlanKind::Deferred)
     } else {
         None
@@ -162,9 +163,9 @@ pub fn read_plan_kind(text: &[u8]) -> Option<PlanKind>
 pub fn read_finding(text: &[u8]) -> Option<Finding>
     ensures { result ≡ finding_of text.now }
 {
-    if text == b"keep".as_slice() {
+    if is_word(text, b"keep") {
         Some(Finding::Keep)
-    } else if text == b"reduce".as_slice() {
+    } else if is_word(text, b"reduce") {
         Some(Finding::Reduce)
     } else {
         None

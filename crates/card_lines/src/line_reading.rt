@@ -82,9 +82,8 @@ fn show_line(read: Result<Name, LineFault>) -> Result<Line, NoMemory>
 fn read_roll(text: &[u8]) -> Result<Request, BadField>
     ensures { ReadsAll result (roll_of (fields_left text.now)) }
 {
-    let mut left = text;
-    let rest = &mut left;
-    let day = day_field(2, rest)?;
+    let mut rest = text;
+    let day = day_field(2, &mut rest)?;
     at_end(3, rest)?;
     Ok(Request::Shared(Shared::Roll(day)))
 }
@@ -93,9 +92,8 @@ fn read_roll(text: &[u8]) -> Result<Request, BadField>
 fn read_holiday(text: &[u8]) -> Result<Request, BadField>
     ensures { ReadsAll result (holiday_of (fields_left text.now)) }
 {
-    let mut left = text;
-    let rest = &mut left;
-    let day = day_field(2, rest)?;
+    let mut rest = text;
+    let day = day_field(2, &mut rest)?;
     at_end(3, rest)?;
     Ok(Request::Shared(Shared::Holiday(day)))
 }
@@ -104,11 +102,10 @@ fn read_holiday(text: &[u8]) -> Result<Request, BadField>
 fn read_fee_row(text: &[u8]) -> Result<Request, BadField>
     ensures { ReadsAll result (fee_row_of (fields_left text.now)) }
 {
-    let mut left = text;
-    let rest = &mut left;
-    let day = day_field(2, rest)?;
-    let first = number_field(3, rest)?;
-    let repeat = number_field(4, rest)?;
+    let mut rest = text;
+    let day = day_field(2, &mut rest)?;
+    let first = number_field(3, &mut rest)?;
+    let repeat = number_field(4, &mut rest)?;
     let row = Shared::FeeRow { day, first, repeat };
     at_end(5, rest)?;
     Ok(Request::Shared(row))
@@ -118,10 +115,9 @@ fn read_fee_row(text: &[u8]) -> Result<Request, BadField>
 fn read_posted(alloc: Global, kind: PostKind, text: &[u8]) -> Result<Request, LineFault>
     ensures { GivesAll result (posted_of kind (fields_left text.now)) }
 {
-    let mut left = text;
-    let rest = &mut left;
-    let account = name_field(alloc, 2, rest)?;
-    let key = name_field(alloc, 3, rest)?;
+    let mut rest = text;
+    let account = name_field(alloc, 2, &mut rest)?;
+    let key = name_field(alloc, 3, &mut rest)?;
     let post = read_post(kind, rest)?;
     Ok(Request::Post { account, key, post })
 }
@@ -130,9 +126,8 @@ fn read_posted(alloc: Global, kind: PostKind, text: &[u8]) -> Result<Request, Li
 fn read_show(alloc: Global, text: &[u8]) -> Result<Name, LineFault>
     ensures { GivesAll result (show_of (fields_left text.now)) }
 {
-    let mut left = text;
-    let rest = &mut left;
-    let account = name_field(alloc, 2, rest)?;
+    let mut rest = text;
+    let account = name_field(alloc, 2, &mut rest)?;
     at_end(3, rest)?;
     Ok(account)
 }

@@ -40,13 +40,14 @@ pub fn read_post(kind: PostKind, text: &[u8]) -> Result<Post, BadField>
 fn read_terms(rest: &mut &[u8]) -> Result<Terms, BadField>
     ensures { Reads result (fields_left rest.new.now) (terms_of (fields_left rest.old.now)) }
 {
-    let close = number_field(5, rest)?;
-    let purchase = number_field(6, rest)?;
-    let cash = number_field(7, rest)?;
-    let transfer = number_field(8, rest)?;
-    let penalty = number_field(9, rest)?;
-    let floor = number_field(10, rest)?;
-    let pct = number_field(11, rest)?;
+    let mut left = *rest;
+    let close = number_field(5, &mut left)?;
+    let purchase = number_field(6, &mut left)?;
+    let cash = number_field(7, &mut left)?;
+    let transfer = number_field(8, &mut left)?;
+    let penalty = number_field(9, &mut left)?;
+    let floor = number_field(10, &mut left)?;
+    let pct = number_field(11, &mut left)?;
     let terms = Terms {
         close,
         purchase,
@@ -56,6 +57,7 @@ fn read_terms(rest: &mut &[u8]) -> Result<Terms, BadField>
         floor,
         pct,
     };
+    *rest = left;
     Ok(terms)
 }
 
@@ -63,10 +65,9 @@ fn read_terms(rest: &mut &[u8]) -> Result<Terms, BadField>
 fn read_open(text: &[u8]) -> Result<Post, BadField>
     ensures { ReadsAll result (open_of (fields_left text.now)) }
 {
-    let mut left = text;
-    let rest = &mut left;
-    let day = day_field(4, rest)?;
-    let terms = read_terms(rest)?;
+    let mut rest = text;
+    let day = day_field(4, &mut rest)?;
+    let terms = read_terms(&mut rest)?;
     at_end(12, rest)?;
     Ok(Post::Open { day, terms })
 }
@@ -75,11 +76,10 @@ fn read_open(text: &[u8]) -> Result<Post, BadField>
 fn read_charge(text: &[u8]) -> Result<Post, BadField>
     ensures { ReadsAll result (charge_of (fields_left text.now)) }
 {
-    let mut left = text;
-    let rest = &mut left;
-    let day = day_field(4, rest)?;
-    let place = place_field(5, rest)?;
-    let cents = number_field(6, rest)?;
+    let mut rest = text;
+    let day = day_field(4, &mut rest)?;
+    let place = place_field(5, &mut rest)?;
+    let cents = number_field(6, &mut rest)?;
     at_end(7, rest)?;
     Ok(Post::Charge { day, place, cents })
 }
@@ -88,11 +88,10 @@ fn read_charge(text: &[u8]) -> Result<Post, BadField>
 fn read_credit(text: &[u8]) -> Result<Post, BadField>
     ensures { ReadsAll result (credit_of (fields_left text.now)) }
 {
-    let mut left = text;
-    let rest = &mut left;
-    let day = day_field(4, rest)?;
-    let place = place_field(5, rest)?;
-    let cents = number_field(6, rest)?;
+    let mut rest = text;
+    let day = day_field(4, &mut rest)?;
+    let place = place_field(5, &mut rest)?;
+    let cents = number_field(6, &mut rest)?;
     at_end(7, rest)?;
     Ok(Post::Credit { day, place, cents })
 }
@@ -101,12 +100,11 @@ fn read_credit(text: &[u8]) -> Result<Post, BadField>
 fn read_payment(text: &[u8]) -> Result<Post, BadField>
     ensures { ReadsAll result (payment_of (fields_left text.now)) }
 {
-    let mut left = text;
-    let rest = &mut left;
-    let day = day_field(4, rest)?;
-    let minute = number_field(5, rest)?;
-    let channel = channel_field(6, rest)?;
-    let cents = number_field(7, rest)?;
+    let mut rest = text;
+    let day = day_field(4, &mut rest)?;
+    let minute = number_field(5, &mut rest)?;
+    let channel = channel_field(6, &mut rest)?;
+    let cents = number_field(7, &mut rest)?;
     let post = Post::Payment {
         day,
         minute,
@@ -121,10 +119,9 @@ fn read_payment(text: &[u8]) -> Result<Post, BadField>
 fn read_return(text: &[u8]) -> Result<Post, BadField>
     ensures { ReadsAll result (return_of (fields_left text.now)) }
 {
-    let mut left = text;
-    let rest = &mut left;
-    let day = day_field(4, rest)?;
-    let target = number_field(5, rest)?;
+    let mut rest = text;
+    let day = day_field(4, &mut rest)?;
+    let target = number_field(5, &mut rest)?;
     at_end(6, rest)?;
     Ok(Post::Return { day, target })
 }
@@ -133,13 +130,12 @@ fn read_return(text: &[u8]) -> Result<Post, BadField>
 fn read_plan(text: &[u8]) -> Result<Post, BadField>
     ensures { ReadsAll result (plan_of (fields_left text.now)) }
 {
-    let mut left = text;
-    let rest = &mut left;
-    let day = day_field(4, rest)?;
-    let kind = plan_kind_field(5, rest)?;
-    let rate = number_field(6, rest)?;
-    let end = day_field(7, rest)?;
-    let after = number_field(8, rest)?;
+    let mut rest = text;
+    let day = day_field(4, &mut rest)?;
+    let kind = plan_kind_field(5, &mut rest)?;
+    let rate = number_field(6, &mut rest)?;
+    let end = day_field(7, &mut rest)?;
+    let after = number_field(8, &mut rest)?;
     let post = Post::Plan {
         day,
         kind,
@@ -155,12 +151,11 @@ fn read_plan(text: &[u8]) -> Result<Post, BadField>
 fn read_notice(text: &[u8]) -> Result<Post, BadField>
     ensures { ReadsAll result (notice_of (fields_left text.now)) }
 {
-    let mut left = text;
-    let rest = &mut left;
-    let day = day_field(4, rest)?;
-    let category = category_field(5, rest)?;
-    let rate = number_field(6, rest)?;
-    let effective = day_field(7, rest)?;
+    let mut rest = text;
+    let day = day_field(4, &mut rest)?;
+    let category = category_field(5, &mut rest)?;
+    let rate = number_field(6, &mut rest)?;
+    let effective = day_field(7, &mut rest)?;
     let post = Post::Notice {
         day,
         category,
@@ -175,11 +170,10 @@ fn read_notice(text: &[u8]) -> Result<Post, BadField>
 fn read_lower(text: &[u8]) -> Result<Post, BadField>
     ensures { ReadsAll result (lower_of (fields_left text.now)) }
 {
-    let mut left = text;
-    let rest = &mut left;
-    let day = day_field(4, rest)?;
-    let category = category_field(5, rest)?;
-    let rate = number_field(6, rest)?;
+    let mut rest = text;
+    let day = day_field(4, &mut rest)?;
+    let category = category_field(5, &mut rest)?;
+    let rate = number_field(6, &mut rest)?;
     at_end(7, rest)?;
     Ok(Post::Lower {
         day,
@@ -192,10 +186,9 @@ fn read_lower(text: &[u8]) -> Result<Post, BadField>
 fn read_review(text: &[u8]) -> Result<Post, BadField>
     ensures { ReadsAll result (review_of (fields_left text.now)) }
 {
-    let mut left = text;
-    let rest = &mut left;
-    let day = day_field(4, rest)?;
-    let finding = finding_field(5, rest)?;
+    let mut rest = text;
+    let day = day_field(4, &mut rest)?;
+    let finding = finding_field(5, &mut rest)?;
     at_end(6, rest)?;
     Ok(Post::Review { day, finding })
 }
@@ -204,11 +197,10 @@ fn read_review(text: &[u8]) -> Result<Post, BadField>
 fn read_dispute(text: &[u8]) -> Result<Post, BadField>
     ensures { ReadsAll result (dispute_of (fields_left text.now)) }
 {
-    let mut left = text;
-    let rest = &mut left;
-    let day = day_field(4, rest)?;
-    let target = number_field(5, rest)?;
-    let cents = number_field(6, rest)?;
+    let mut rest = text;
+    let day = day_field(4, &mut rest)?;
+    let target = number_field(5, &mut rest)?;
+    let cents = number_field(6, &mut rest)?;
     at_end(7, rest)?;
     Ok(Post::Dispute { day, target, cents })
 }
@@ -217,10 +209,9 @@ fn read_dispute(text: &[u8]) -> Result<Post, BadField>
 fn read_ack(text: &[u8]) -> Result<Post, BadField>
     ensures { ReadsAll result (ack_of (fields_left text.now)) }
 {
-    let mut left = text;
-    let rest = &mut left;
-    let day = day_field(4, rest)?;
-    let target = number_field(5, rest)?;
+    let mut rest = text;
+    let day = day_field(4, &mut rest)?;
+    let target = number_field(5, &mut rest)?;
     at_end(6, rest)?;
     Ok(Post::Ack { day, target })
 }
@@ -229,11 +220,10 @@ fn read_ack(text: &[u8]) -> Result<Post, BadField>
 fn read_resolve(text: &[u8]) -> Result<Post, BadField>
     ensures { ReadsAll result (resolve_of (fields_left text.now)) }
 {
-    let mut left = text;
-    let rest = &mut left;
-    let day = day_field(4, rest)?;
-    let target = number_field(5, rest)?;
-    let cents = number_field(6, rest)?;
+    let mut rest = text;
+    let day = day_field(4, &mut rest)?;
+    let target = number_field(5, &mut rest)?;
+    let cents = number_field(6, &mut rest)?;
     at_end(7, rest)?;
     Ok(Post::Resolve { day, target, cents })
 }
@@ -242,9 +232,8 @@ fn read_resolve(text: &[u8]) -> Result<Post, BadField>
 fn read_ask_refund(text: &[u8]) -> Result<Post, BadField>
     ensures { ReadsAll result (ask_refund_of (fields_left text.now)) }
 {
-    let mut left = text;
-    let rest = &mut left;
-    let day = day_field(4, rest)?;
+    let mut rest = text;
+    let day = day_field(4, &mut rest)?;
     at_end(5, rest)?;
     Ok(Post::AskRefund { day })
 }
@@ -253,9 +242,8 @@ fn read_ask_refund(text: &[u8]) -> Result<Post, BadField>
 fn read_refund(text: &[u8]) -> Result<Post, BadField>
     ensures { ReadsAll result (refund_of (fields_left text.now)) }
 {
-    let mut left = text;
-    let rest = &mut left;
-    let cents = number_field(4, rest)?;
+    let mut rest = text;
+    let cents = number_field(4, &mut rest)?;
     at_end(5, rest)?;
     Ok(Post::Refund { cents })
 }
@@ -264,11 +252,10 @@ fn read_refund(text: &[u8]) -> Result<Post, BadField>
 fn read_amend(text: &[u8]) -> Result<Post, BadField>
     ensures { ReadsAll result (amend_of (fields_left text.now)) }
 {
-    let mut left = text;
-    let rest = &mut left;
-    let target = number_field(4, rest)?;
-    let day = day_field(5, rest)?;
-    let cents = number_field(6, rest)?;
+    let mut rest = text;
+    let target = number_field(4, &mut rest)?;
+    let day = day_field(5, &mut rest)?;
+    let cents = number_field(6, &mut rest)?;
     at_end(7, rest)?;
     Ok(Post::Amend { target, day, cents })
 }
@@ -277,9 +264,8 @@ fn read_amend(text: &[u8]) -> Result<Post, BadField>
 fn read_bill(text: &[u8]) -> Result<Post, BadField>
     ensures { ReadsAll result (bill_of (fields_left text.now)) }
 {
-    let mut left = text;
-    let rest = &mut left;
-    let cycle = number_field(4, rest)?;
+    let mut rest = text;
+    let cycle = number_field(4, &mut rest)?;
     at_end(5, rest)?;
     Ok(Post::Bill { cycle })
 }

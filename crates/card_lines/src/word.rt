@@ -1,4 +1,5 @@
 ghost use Rattle.std.specs.Prelude.{◌≡◌};
+ghost use Rattle.std.specs.Str.{bytes_eq};
 ghost use Rattle.card_lines.specs.Words.{word_of, post_kind_of};
 
 /// A word that a line begins with.
@@ -33,18 +34,25 @@ pub enum PostKind {
     Bill,
 }
 
+/// The text is this word, byte for byte.
+pub fn is_word(text: &[u8], word: &[u8]) -> bool
+    ensures { result ≡ bytes_eq text.now word.now }
+{
+    text == word
+}
+
 /// The word with these bytes. Case matters; None comes exactly for bytes that are no word.
 #[tactic(auto, unfolding(crate::specs::Words::word_of))]
 pub fn read_word(text: &[u8]) -> Option<Word>
     ensures { result ≡ word_of text.now }
 {
-    if text == b"roll".as_slice() {
+    if is_word(text, b"roll") {
         Some(Word::Roll)
-    } else if text == b"holiday".as_slice() {
+    } else if is_word(text, b"holiday") {
         Some(Word::Holiday)
-    } else if text == b"feerow".as_slice() {
+    } else if is_word(text, b"feerow") {
         Some(Word::FeeRow)
-    } else if text == b"show".as_slice() {
+    } else if is_word(text, b"show") {
         Some(Word::Show)
     } else {
         match read_post_kind(text) {
@@ -58,39 +66,39 @@ pub fn read_word(text: &[u8]) -> Option<Word>
 fn read_post_kind(text: &[u8]) -> Option<PostKind>
     ensures { result ≡ post_kind_of text.now }
 {
-    if text == b"open".as_slice() {
+    if is_word(text, b"open") {
         Some(PostKind::Open)
-    } else if text == b"charge".as_slice() {
+    } else if is_word(text, b"charge") {
         Some(PostKind::Charge)
-    } else if text == b"credit".as_slice() {
+    } else if is_word(text, b"credit") {
         Some(PostKind::Credit)
-    } else if text == b"payment".as_slice() {
+    } else if is_word(text, b"payment") {
         Some(PostKind::Payment)
-    } else if text == b"return".as_slice() {
+    } else if is_word(text, b"return") {
         Some(PostKind::Return)
-    } else if text == b"plan".as_slice() {
+    } else if is_word(text, b"plan") {
         Some(PostKind::Plan)
-    } else if text == b"notice".as_slice() {
+    } else if is_word(text, b"notice") {
         Some(PostKind::Notice)
-    } else if text == b"lower".as_slice() {
+    } else if is_word(text, b"lower") {
         Some(PostKind::Lower)
-    } else if text == b"penalty".as_slice() {
+    } else if is_word(text, b"penalty") {
         Some(PostKind::Penalty)
-    } else if text == b"review".as_slice() {
+    } else if is_word(text, b"review") {
         Some(PostKind::Review)
-    } else if text == b"dispute".as_slice() {
+    } else if is_word(text, b"dispute") {
         Some(PostKind::Dispute)
-    } else if text == b"ack".as_slice() {
+    } else if is_word(text, b"ack") {
         Some(PostKind::Ack)
-    } else if text == b"resolve".as_slice() {
+    } else if is_word(text, b"resolve") {
         Some(PostKind::Resolve)
-    } else if text == b"askrefund".as_slice() {
+    } else if is_word(text, b"askrefund") {
         Some(PostKind::AskRefund)
-    } else if text == b"refund".as_slice() {
+    } else if is_word(text, b"refund") {
         Some(PostKind::Refund)
-    } else if text == b"amend".as_slice() {
+    } else if is_word(text, b"amend") {
         Some(PostKind::Amend)
-    } else if text == b"bill".as_slice() {
+    } else if is_word(text, b"bill") {
         Some(PostKind::Bill)
     } else {
         None
