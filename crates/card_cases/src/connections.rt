@@ -1,5 +1,5 @@
 // Connections in memory, each over the desk of the kept rows.
-use card_desk::Desk;
+use card_desk::uncounted;
 use card_http::{Served, Status, serve_one};
 use card_keeper::{FailingKeeper, MemoryKeeper};
 use card_ports::{Door, MemoryLink, TcpDoor};
@@ -88,7 +88,7 @@ fn link_of(alloc: Global, bytes: &[u8], fails: &[u64]) -> Result<MemoryLink, Fai
 
 // How a connection ends, over the desk of the kept rows.
 fn served(alloc: Global, keeper: &mut MemoryKeeper, link: &mut MemoryLink) -> Result<Served, Fail> {
-    let mut desk = Desk::load(alloc, keeper)?;
+    let mut desk = uncounted::load(alloc, keeper)?;
     Ok(serve_one(alloc, &mut desk, keeper, link))
 }
 
@@ -180,7 +180,7 @@ fn a_keeper_that_fails_is_told(rt: HostRuntime) -> Result<(), Fail> {
     let alloc = rt.alloc();
     let mut keeper = FailingKeeper::new(alloc, Vec::from_slice(alloc, &[2])?);
     let mut link = link_of(alloc, ROLL, &[])?;
-    let mut desk = Desk::load(alloc, &mut keeper)?;
+    let mut desk = uncounted::load(alloc, &mut keeper)?;
     let end = serve_one(alloc, &mut desk, &mut keeper, &mut link);
     assert!(rt; end == Served::Answered(Status::Unavailable));
     Ok(())
@@ -203,7 +203,7 @@ fn a_socket_is_served(rt: HostRuntime) -> Result<(), Fail> {
     client.write_all(b"GET /work HTTP/1.1\r\n\r\n")?;
     client.shutdown(Shutdown::Write)?;
     let mut keeper = MemoryKeeper::new(alloc);
-    let mut desk = Desk::load(alloc, &mut keeper)?;
+    let mut desk = uncounted::load(alloc, &mut keeper)?;
     let Ok(mut link) = door.accept() else {
         return Err(Fail::from("no connection came"));
     };

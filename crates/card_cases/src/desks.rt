@@ -1,10 +1,10 @@
 // The desk, and through it an account's calls. Requests are told as lines.
-ghost use Rattle.std.specs.Prelude.{OnOk};
+ghost use Rattle.std.specs.Prelude.{OnOk, ◌≡◌};
 ghost use Rattle.card_desk.specs.Kept.{Fits};
 
 use crate::lines::{digits, request};
 use crate::values::{day, name};
-use card_desk::{Ask, Desk, Fault, LoadFault, Statement, View};
+use card_desk::{Ask, Desk, Fault, LoadFault, Statement, View, uncounted};
 use card_events::{Num, Refusal, Reply};
 use card_keeper::{Body, FailingKeeper, Keeper, MemoryKeeper, Row};
 use card_text::tasks_text;
@@ -25,8 +25,8 @@ fn answer<K: Keeper>(
     line: &str,
 ) -> Result<Result<Reply, Fault>, Fail> {
     let request = request(alloc, line)?;
-    let mut desk = Desk::load(alloc, keeper)?;
-    Ok(desk.apply(alloc, keeper, &request))
+    let mut desk = uncounted::load(alloc, keeper)?;
+    Ok(uncounted::apply(alloc, &mut desk, keeper, &request))
 }
 
 // Has a line accepted.
@@ -35,7 +35,7 @@ fn enter<K: Keeper>(alloc: Global, desk: &mut Desk, keeper: &mut K, line: &str) 
     ensures fits { OnOk result (Fits (K.rows keeper.new) desk.new.state) }
 {
     let request = request(alloc, line)?;
-    match desk.apply(alloc, keeper, &request) {
+    match uncounted::apply(alloc, desk, keeper, &request) {
         Ok(Reply::Done) => Ok(()),
         Ok(Reply::Accepted(_)) => Ok(()),
         _ => Err(Fail::from("a line that isn't accepted")),
@@ -59,14 +59,14 @@ fn enter_all<K: Keeper>(
 
 // Has a desk of the kept rows accept lines.
 pub fn accept_all<K: Keeper>(alloc: Global, keeper: &mut K, lines: &[&str]) -> Result<(), Fail> {
-    let mut desk = Desk::load(alloc, keeper)?;
+    let mut desk = uncounted::load(alloc, keeper)?;
     enter_all(alloc, &mut desk, keeper, lines)
 }
 
 // What the desk of the kept rows says of a question.
 pub fn seen(alloc: Global, keeper: &mut MemoryKeeper, ask: &Ask) -> Result<View, Fail> {
-    let desk = Desk::load(alloc, keeper)?;
-    Ok(desk.see(alloc, ask)?)
+    let mut desk = uncounted::load(alloc, keeper)?;
+    Ok(uncounted::see(alloc, &mut desk, ask)?)
 }
 
 // What is owed, the credit balance, and what is held.
@@ -90,9 +90,9 @@ fn are_kept(rt: &impl Abort, alloc: Global, rows: &[Row]) -> Result<(), Fail> {
     Ok(())
 }
 
-fn is_first_day(rt: &impl Abort, alloc: Global, desk: &Desk) -> Result<(), Fail> {
+fn is_first_day(rt: &impl Abort, alloc: Global, desk: &mut Desk) -> Result<(), Fail> {
     assert_eq!(rt; (desk.today(), desk.count()), (day(rt, 19_783), 3));
-    let view = desk.show(alloc, &name(rt, alloc, "a")?)?;
+    let view = uncounted::show(alloc, desk, &name(rt, alloc, "a")?)?;
     assert_eq!(rt; shown(&view), Some((1_250, 0, 0)));
     Ok(())
 }
@@ -104,8 +104,8 @@ fn the_first_day_is_kept(rt: HostRuntime) -> Result<(), Fail> {
     let mut keeper = MemoryKeeper::new(alloc);
     accept_all(alloc, &mut keeper, &FIRST_DAY)?;
     are_kept(&rt, alloc, keeper.rows())?;
-    let desk = Desk::load(alloc, &mut keeper)?;
-    is_first_day(&rt, alloc, &desk)
+    let mut desk = uncounted::load(alloc, &mut keeper)?;
+    is_first_day(&rt, alloc, &mut desk)
 }
 
 // The second append fails: the Roll's row alone is kept, and the Open is accepted when it comes again.
@@ -151,7 +151,7 @@ fn loaded(alloc: Global, rows: &[(u64, &[u8]); 3]) -> Result<Result<u64, LoadFau
         let body = Body::of(Vec::from_slice(alloc, body)?);
         keeper.append(alloc, &[Row { seq, body }])?;
     }
-    match Desk::load(alloc, &mut keeper) {
+    match uncounted::load(alloc, &mut keeper) {
         Ok(desk) => Ok(Ok(desk.count())),
         Err(fault) => Ok(Err(fault)),
     }
@@ -281,10 +281,12 @@ fn two_years<K: Keeper>(alloc: Global, desk: &mut Desk, keeper: &mut K) -> Resul
 fn statement(
     rt: &impl Abort,
     alloc: Global,
-    desk: &Desk,
+    desk: &mut Desk,
     cycle: u64,
     as_issued: bool,
-) -> Result<Statement, Fail> {
+) -> Result<Statement, Fail>
+    ensures { desk.new.state ≡ desk.old.state }
+{
     let account = name(rt, alloc, "a")?;
     let cycle = Num::new(cycle).expect(rt, "a number");
     let ask = if as_issued {
@@ -292,7 +294,7 @@ fn statement(
     } else {
         Ask::Restated(account, cycle)
     };
-    match desk.see(alloc, &ask)? {
+    match uncounted::see(alloc, desk, &ask)? {
         View::Statement(statement) => Ok(statement),
         _ => Err(Fail::from("no statement")),
     }
@@ -302,9 +304,11 @@ fn statement(
 fn statements(
     rt: &impl Abort,
     alloc: Global,
-    desk: &Desk,
+    desk: &mut Desk,
     as_issued: bool,
-) -> Result<Vec<Statement>, Fail> {
+) -> Result<Vec<Statement>, Fail>
+    ensures { desk.new.state ≡ desk.old.state }
+{
     let mut list = Vec::new(alloc);
     for cycle in 1..25u64 {
         list.push(statement(rt, alloc, desk, cycle, as_issued)?)?;
@@ -334,9 +338,11 @@ fn are_same(list: &[Statement], other: &[Statement]) -> bool {
 fn stay(
     rt: &impl Abort,
     alloc: Global,
-    desk: &Desk,
+    desk: &mut Desk,
     issued: &[Statement],
-) -> Result<(bool, bool), Fail> {
+) -> Result<(bool, bool), Fail>
+    ensures { desk.new.state ≡ desk.old.state }
+{
     let as_issued = statements(rt, alloc, desk, true)?;
     let of_now = statements(rt, alloc, desk, false)?;
     Ok((are_same(&as_issued, issued), are_same(&of_now, issued)))
@@ -381,7 +387,7 @@ fn issued<K: Keeper>(
 fn a_correction_that_is_taken_back(rt: HostRuntime) -> Result<(), Fail> {
     let alloc = rt.alloc();
     let mut keeper = MemoryKeeper::new(alloc);
-    let mut desk = Desk::load(alloc, &mut keeper)?;
+    let mut desk = uncounted::load(alloc, &mut keeper)?;
     let issued = issued(&rt, alloc, &mut desk, &mut keeper)?;
     let raised = "amend a m1 4 2024-02-10 2000";
     let stay = stay_after(&rt, alloc, &mut desk, &mut keeper, raised, &issued)?;

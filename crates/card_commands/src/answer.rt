@@ -11,7 +11,7 @@ ghost use Rattle.card_commands.specs.Answers.{answer_text, is_refused, item_rows
 ghost use Rattle.card_commands.specs.Answers as spec;
 ghost use Rattle.card_import.specs.Items.{IsDatedItem};
 
-use card_desk::{Desk, Fault, View};
+use card_desk::{Desk, Fault, View, uncounted};
 use card_events::{Name, Refusal, Reply};
 use card_import::Item;
 use card_keeper::Keeper;
@@ -37,7 +37,7 @@ pub fn carry_out<K: Keeper>(
     ensures counts { IsCounted Fault.Keeper Fault.Memory (K.faults keeper.old) (K.faults keeper.new) result }
 {
     match item {
-        Item::Request(request) => match desk.apply(alloc, keeper, request) {
+        Item::Request(request) => match uncounted::apply(alloc, desk, keeper, request) {
             Ok(reply) => Ok(Some(reply)),
             Err(fault) => Err(fault),
         },
@@ -49,12 +49,13 @@ pub fn carry_out<K: Keeper>(
 #[tactic(auto, unfolding(crate::specs::Answers::reply_in, crate::specs::Answers::next, crate::specs::Answers::answer_text, crate::specs::Answers::is_refused))]
 pub fn answer(
     alloc: Global,
-    desk: &Desk,
+    desk: &mut Desk,
     item: &Item,
     reply: &Option<Reply>,
 ) -> Result<(String, bool), NoMemory>
-    ensures text { (s : State) → desk.now.state ≡ next s item.now → reply.now ≡ reply_in s item.now → IfOk result (λ a. string_bytes a.0 ≡ answer_text s item.now) }
-    ensures refused { (s : State) → desk.now.state ≡ next s item.now → reply.now ≡ reply_in s item.now → IfOk result (λ a. a.1 ≡ is_refused s item.now) }
+    ensures state { desk.new.state ≡ desk.old.state }
+    ensures text { (s : State) → desk.old.state ≡ next s item.now → reply.now ≡ reply_in s item.now → IfOk result (λ a. string_bytes a.0 ≡ answer_text s item.now) }
+    ensures refused { (s : State) → desk.old.state ≡ next s item.now → reply.now ≡ reply_in s item.now → IfOk result (λ a. a.1 ≡ is_refused s item.now) }
 {
     match item {
         Item::Request(_) => answer_request(alloc, reply),
@@ -74,11 +75,12 @@ fn answer_request(alloc: Global, reply: &Option<Reply>) -> Result<(String, bool)
 }
 
 #[tactic(auto, unfolding(card_desk::specs::Views::seen))]
-fn answer_show(alloc: Global, desk: &Desk, account: &Name) -> Result<(String, bool), NoMemory>
-    ensures text { IfOk result (λ a. string_bytes a.0 ≡ spec.view_text account.now (seen desk.now.state (ask.Show account.now))) }
-    ensures refused { IfOk result (λ a. a.1 ≡ spec.is_no_account (seen desk.now.state (ask.Show account.now))) }
+fn answer_show(alloc: Global, desk: &mut Desk, account: &Name) -> Result<(String, bool), NoMemory>
+    ensures state { desk.new.state ≡ desk.old.state }
+    ensures text { IfOk result (λ a. string_bytes a.0 ≡ spec.view_text account.now (seen desk.old.state (ask.Show account.now))) }
+    ensures refused { IfOk result (λ a. a.1 ≡ spec.is_no_account (seen desk.old.state (ask.Show account.now))) }
 {
-    let view = desk.show(alloc, account)?;
+    let view = uncounted::show(alloc, desk, account)?;
     Ok((view_text(alloc, account, &view)?, is_no_account(&view)))
 }
 

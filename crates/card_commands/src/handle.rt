@@ -89,7 +89,7 @@ impl Run {
             Err(Fault::Keeper) => return Err(End::Keeper),
             Err(Fault::Memory) => return Err(End::Memory),
         };
-        let (text, refused) = match answer(alloc, &self.desk, item, &reply) {
+        let (text, refused) = match answer(alloc, &mut self.desk, item, &reply) {
             Ok(answer) => answer,
             Err(NoMemory) => return Err(End::Memory),
         };

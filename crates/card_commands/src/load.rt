@@ -6,7 +6,7 @@ ghost use Rattle.card_ports.specs.Written.{sink_side, TookAll, TookPart};
 ghost use Rattle.card_commands.specs.Written.{sides};
 
 use crate::ended::Ended;
-use card_desk::{Desk, LoadFault};
+use card_desk::{Desk, LoadFault, uncounted};
 use card_keeper::Keeper;
 use card_ports::{Sink, SinkFault, write_all};
 use card_units::NoMemory;
@@ -24,7 +24,7 @@ pub fn load<O: Sink, K: Keeper>(
     ensures err { let at = sides O.taken O.faults K.rows K.faults in
         IfErr result (GaveNone (at output.old keeper.old) (at output.new keeper.new)) }
 {
-    match Desk::load(alloc, keeper) {
+    match uncounted::load(alloc, keeper) {
         Ok(desk) => Ok(desk),
         Err(LoadFault::Keeper) => Err(Ended::Keeper),
         Err(LoadFault::Memory) => Err(Ended::Memory),

@@ -47,11 +47,11 @@ pub fn tell<O: Sink, K: Keeper>(alloc: Global, ask: &Ask, output: &mut O, keeper
     ensures { let at = sides O.taken O.faults K.rows K.faults in
         Viewed (at output.old keeper.old) (at output.new keeper.new) (λ s. told s ask.now) result }
 {
-    let desk = match load(alloc, output, keeper) {
+    let mut desk = match load(alloc, output, keeper) {
         Ok(desk) => desk,
         Err(ended) => return ended,
     };
-    match told_text(alloc, &desk, ask) {
+    match told_text(alloc, &mut desk, ask) {
         Ok(text) => write_text(output, &text),
         Err(NoMemory) => Ended::Memory,
     }

@@ -9,7 +9,7 @@ ghost use Rattle.card_model.specs.Machine.{step};
 
 use crate::names::account_name;
 use crate::totals::{Totals, with_entries};
-use card_desk::{Ask, Desk, Fault, View};
+use card_desk::{Ask, Desk, Fault, View, uncounted};
 use card_events::{Reply, Request};
 use card_keeper::MemoryKeeper;
 use card_units::NoMemory;
@@ -55,7 +55,7 @@ fn carry_out(
     ensures state { OnOk result (desk.new.state ≡ (step desk.old.state request.now).0) }
     ensures fits { Fits (Some keeper.new) desk.new.state }
 {
-    match desk.apply(alloc, keeper, request) {
+    match uncounted::apply(alloc, desk, keeper, request) {
         Ok(reply) => Ok(is_refusal(&reply)),
         Err(Fault::Memory) => Err(NoMemory),
         Err(Fault::Keeper) => unreachable!(),
@@ -75,13 +75,14 @@ fn with_listed(view: &View, sums: &Totals) -> Totals
     }
 }
 
-// The sums with the entries that the answer to what is asked lists.
-fn with_answer(alloc: Global, desk: &Desk, ask: &Ask, sums: &Totals) -> Result<Totals, NoMemory>
+// The sums with the entries that the answer to what is asked lists. The state stays.
+fn with_answer(alloc: Global, desk: &mut Desk, ask: &Ask, sums: &Totals) -> Result<Totals, NoMemory>
     requires room { AreWithin (2 ^ 110) sums.now }
-    ensures sums { IfOk result (λ t. t ≡ with_entries (entries_seen (seen desk.now.state ask.now)) sums.now) }
+    ensures state { desk.new.state ≡ desk.old.state }
+    ensures sums { IfOk result (λ t. t ≡ with_entries (entries_seen (seen desk.old.state ask.now)) sums.now) }
     ensures bound { IfOk result (λ t. (n : ℕ) → AreWithin n sums.now → AreWithin (n + 2 ^ 95) t) }
 {
-    let view = desk.see(alloc, ask)?;
+    let view = uncounted::see(alloc, desk, ask)?;
     Ok(with_listed(&view, sums))
 }
 
@@ -114,19 +115,21 @@ impl MemoryLedger {
     }
 
     // The sums with the entries of the i-th account.
-    fn with_account(&self, alloc: Global, i: u32, sums: &Totals) -> Result<Totals, NoMemory>
+    fn with_account(&mut self, alloc: Global, i: u32, sums: &Totals) -> Result<Totals, NoMemory>
         requires room { AreWithin (2 ^ 110) sums.now }
-        ensures sums { IfOk result (λ t. t ≡ with_entries (entries_in self.now (lists_of (account i) self.now.accounts)) sums.now) }
+        ensures same { self.new ≡ self.old }
+        ensures sums { IfOk result (λ t. t ≡ with_entries (entries_in self.old (lists_of (account i) self.old.accounts)) sums.now) }
         ensures bound { IfOk result (λ t. (n : ℕ) → AreWithin n sums.now → AreWithin (n + 2 ^ 95) t) }
     {
         let name = account_name(alloc, i)?;
-        with_answer(alloc, &self.desk, &Ask::Entries(name), sums)
+        with_answer(alloc, &mut self.desk, &Ask::Entries(name), sums)
     }
 
     /// The sums over the first so many accounts, at most 1,000, up to the end of today.
-    pub fn totals(&self, alloc: Global, accounts: u32) -> Result<Totals, NoMemory>
+    pub fn totals(&mut self, alloc: Global, accounts: u32) -> Result<Totals, NoMemory>
         requires accounts { accounts ≤ 1000 }
-        ensures { IfOk result (λ t. t ≡ totals (all_entries self.now accounts)) }
+        ensures same { self.new ≡ self.old }
+        ensures totals { IfOk result (λ t. t ≡ totals (all_entries self.old accounts)) }
     {
         let mut sums = Totals::none();
         for i in 0..accounts {

@@ -213,9 +213,10 @@ impl Progress {
     }
 
     /// The sums over the first so many accounts, at most 1,000, up to the end of today.
-    pub fn totals(&self, alloc: Global, accounts: u32) -> Result<Totals, NoMemory>
+    pub fn totals(&mut self, alloc: Global, accounts: u32) -> Result<Totals, NoMemory>
         requires accounts { accounts ≤ 1000 }
-        ensures { IfOk result (λ t. t ≡ totals (all_entries self.now.state accounts)) }
+        ensures same { self.new ≡ self.old }
+        ensures totals { IfOk result (λ t. t ≡ totals (all_entries self.old.state accounts)) }
     {
         self.ledger.totals(alloc, accounts)
     }

@@ -8,6 +8,7 @@ pub mod laws;
 mod load;
 mod row;
 mod share;
+pub mod uncounted;
 mod view;
 
 pub use card_account::{EntryList, Statement, Task, TaskKind, Tasks};

@@ -81,10 +81,16 @@ looked s r path body l (outcome.NoRequest name) here fits is = absurd is
 looked s r path body l outcome.KeeperFailed here fits is = absurd is
 
 -- the same of a route that is this one
-pub looked_at : (s : State) (r q : Route) (path body : List ℕ) (l : Ledger) (o : Outcome) → r ≡ q → IsRouted s q path body (looked_up (told_asked s (asked q path))) → Fits l.rows l.state → IsLookedUp (told_asked s (asked r path)) o
+looked_at : (s : State) (r q : Route) (path body : List ℕ) (l : Ledger) (o : Outcome) → r ≡ q → IsRouted s q path body (looked_up (told_asked s (asked q path))) → Fits l.rows l.state → IsLookedUp (told_asked s (asked r path)) o
     → Comes (λ a. IsRouted s r path body a ⊎ IsFaultOf r a) l l o
 looked_at s r q path body l o same here fits is =
     looked s r path body l o (subst (λ (x : Route). IsRouted s x path body (looked_up (told_asked s (asked x path)))) (sym same) here) fits is
+
+-- and where the ledger stays
+pub looked_after : (s : State) (r q : Route) (path body : List ℕ) (l m : Ledger) (o : Outcome) → r ≡ q → IsRouted s q path body (looked_up (told_asked s (asked q path))) → Fits l.rows l.state → m ≡ l → IsLookedUp (told_asked s (asked r path)) o
+    → Comes (λ a. IsRouted s r path body a ⊎ IsFaultOf r a) l m o
+looked_after s r q path body l m o same here fits stays is =
+    subst (λ (x : Ledger). Comes (λ a. IsRouted s r path body a ⊎ IsFaultOf r a) l x o) (sym stays) (looked_at s r q path body l o same here fits is)
 
 -- the same route
 pub at_route : (s : State) (r q : Route) (path body : List ℕ) (old new : Ledger) (o : Outcome) → r ≡ q → Comes (λ a. IsRouted s q path body a ⊎ IsFaultOf q a) old new o → Comes (λ a. IsRouted s r path body a ⊎ IsFaultOf r a) old new o

@@ -7,7 +7,7 @@ ghost use Rattle.card_http.specs.Outcomes.{Comes, IsFaultOf, IsLookedUp, IsPoste
 
 use crate::asking::read_ask;
 use crate::outcome::Outcome;
-use card_desk::{Desk, Fault};
+use card_desk::{Desk, Fault, uncounted};
 use card_events::Request;
 use card_json::read_body;
 use card_keeper::Keeper;
@@ -59,16 +59,17 @@ fn carry_out<K: Keeper>(alloc: Global, desk: &mut Desk, keeper: &mut K, wanted: 
     ensures { let at = ledger K.rows K.faults in
         Comes (λ a. (a ≡ posted desk.old.state (said.request wanted.now)) ⊎ IsFaultOf Route.Posts a) (at desk.old.state keeper.old) (at desk.new.state keeper.new) result }
 {
-    match desk.apply(alloc, keeper, wanted) {
+    match uncounted::apply(alloc, desk, keeper, wanted) {
         Ok(reply) => Outcome::Replied(reply),
         Err(Fault::Keeper) => Outcome::KeeperFailed,
         Err(Fault::Memory) => Outcome::MemoryWanted,
     }
 }
 
-// What is asked by a path, as text.
-fn look_up(alloc: Global, desk: &Desk, route: Route, path: &[u8]) -> Outcome
-    ensures { IsLookedUp (told_asked desk.now.state (asked route path.now)) result }
+// What is asked by a path, as text. The state stays.
+fn look_up(alloc: Global, desk: &mut Desk, route: Route, path: &[u8]) -> Outcome
+    ensures state { desk.new.state ≡ desk.old.state }
+    ensures told { IsLookedUp (told_asked desk.old.state (asked route path.now)) result }
 {
     match read_ask(alloc, route, path) {
         Ok(Some(ask)) => match told_text(alloc, desk, &ask) {

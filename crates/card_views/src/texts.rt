@@ -3,7 +3,7 @@ ghost use Rattle.std.specs.Prelude.{◌≡◌, option_map, IfOk};
 ghost use Rattle.std.specs.String.{string_bytes};
 ghost use Rattle.card_views.specs.Told as spec;
 
-use card_desk::{Ask, Desk, View};
+use card_desk::{Ask, Desk, View, uncounted};
 use card_events::Name;
 use card_lines::show_text;
 use card_text::{export_text, statement_text, tasks_text};
@@ -24,12 +24,13 @@ pub fn view_text(alloc: Global, ask: &Ask, view: &View) -> Result<Option<String>
     }
 }
 
-/// The text of what is asked of the desk. None: the account or the statement isn't there.
+/// The text of what is asked of the desk, whose state stays. None: the account or the statement isn't there.
 #[tactic(auto, unfolding(crate::specs::Told::told))]
-pub fn told_text(alloc: Global, desk: &Desk, ask: &Ask) -> Result<Option<String>, NoMemory>
-    ensures { IfOk result (λ text. option_map string_bytes text ≡ spec.told desk.now.state ask.now) }
+pub fn told_text(alloc: Global, desk: &mut Desk, ask: &Ask) -> Result<Option<String>, NoMemory>
+    ensures state { desk.new.state ≡ desk.old.state }
+    ensures text { IfOk result (λ text. option_map string_bytes text ≡ spec.told desk.old.state ask.now) }
 {
-    match desk.see(alloc, ask) {
+    match uncounted::see(alloc, desk, ask) {
         Ok(view) => view_text(alloc, ask, &view),
         Err(NoMemory) => Err(NoMemory),
     }

@@ -9,6 +9,9 @@ use Rattle.card_model.specs.Machine.{State, lists_of}
 use Rattle.card_model.specs.declared.entry.Entry.{Entry}
 use Rattle.card_demo.proofs.ledger.MemoryLedger.with_account.Goals as goal
 
+pub returns-clause-same : goal.returns-clause-same
+returns-clause-same c = c.with_answer.ensures.state ∙ c.self.view_is
+
 pub returns-clause-sums : goal.returns-clause-sums
 returns-clause-sums c =
     let s = c.args.self.now in

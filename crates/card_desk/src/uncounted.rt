@@ -1,0 +1,72 @@
+//! Calls on a desk that is lent to who asks. Nobody counts the steps of these calls.
+ghost use Rattle.std.specs.Prelude.{◌≡◌, ℕ, true, Err, IfOk, OnErr};
+ghost use Rattle.card_desk.specs.Apart.{IsApart};
+ghost use Rattle.card_desk.specs.Applied.{IsCounted, Steps};
+ghost use Rattle.card_desk.specs.Kept.{AreDamagedAt, Fits, IsLoadedOf};
+ghost use Rattle.card_desk.specs.Views.{seen, shown};
+ghost use Rattle.card_events.specs.Dated.{is_dated};
+ghost use Rattle.card_keeper.specs.Rows.{KeepsRows, SameRowsTold};
+ghost use Rattle.card_model.specs.Machine.{lists_of};
+
+use crate::{Ask, Desk, Fault, LoadFault, View};
+use card_events::{Name, Reply, Request};
+use card_keeper::Keeper;
+use card_units::NoMemory;
+use std::alloc::Global;
+
+/// Carries out a request, as `Desk::apply` does: one step of the machine, and the row of a newly accepted request is kept. The
+/// request has days of requests, and the keeper's rows go on from the desk's state.
+///
+/// `Keeper`: the keeper failed, which alone raises its count. `Memory`: memory was wanted and isn't there. After either the
+/// desk's state and the rows are as they were.
+pub fn apply<K: Keeper>(
+    alloc: Global,
+    desk: &mut Desk,
+    keeper: &mut K,
+    request: &Request,
+) -> Result<Reply, Fault>
+    requires dated { is_dated request.now ≡ true }
+    requires fits { Fits (K.rows keeper.old) desk.old.state }
+    ensures ok { IfOk result (Steps (K.rows keeper.old) (K.rows keeper.new) desk.old.state request.now desk.new.state) }
+    ensures apart { IfOk result (IsApart desk.old.state request.now desk.new.state) }
+    ensures err { OnErr result (desk.new.state ≡ desk.old.state) }
+    ensures rows_stay { OnErr result (KeepsRows (K.rows keeper.old) (K.rows keeper.new)) }
+    ensures told { SameRowsTold (K.rows keeper.old) (K.rows keeper.new) }
+    ensures counts { IsCounted Fault.Keeper Fault.Memory (K.faults keeper.old) (K.faults keeper.new) result }
+{
+    desk.apply(alloc, keeper, request)
+}
+
+/// The answer to what is asked, as `Desk::see` gives it, or want of memory. The state stays, whatever is answered.
+pub fn see(alloc: Global, desk: &mut Desk, ask: &Ask) -> Result<View, NoMemory>
+    ensures state { desk.new.state ≡ desk.old.state }
+    ensures view { IfOk result (λ view. view ≡ seen desk.old.state ask.now) }
+{
+    desk.see(alloc, ask)
+}
+
+/// What is owed on an account today, in cents, or that it isn't there, as `Desk::show` gives it; or want of memory. The state
+/// stays, whatever is answered.
+pub fn show(alloc: Global, desk: &mut Desk, account: &Name) -> Result<View, NoMemory>
+    ensures state { desk.new.state ≡ desk.old.state }
+    ensures view { IfOk result (λ view. view ≡ shown desk.old.state (lists_of account.now desk.old.state.accounts)) }
+{
+    desk.show(alloc, account)
+}
+
+/// The desk that the kept rows give, as `Desk::load` gives it. The rows stay, whatever is answered.
+///
+/// `Damaged(n)`: row n, counted from 1, is the first whose number isn't n, whose body is no spelling, or whose request is
+/// refused or a repeat in its place. `Keeper`: the keeper failed, which alone raises its count. `Memory`: memory was wanted and
+/// isn't there.
+pub fn load<K: Keeper>(alloc: Global, keeper: &mut K) -> Result<Desk, LoadFault>
+    ensures ok { IfOk result (λ d. IsLoadedOf (K.rows keeper.old) d.state) }
+    ensures fits { IfOk result (λ d. Fits (K.rows keeper.new) d.state) }
+    ensures damaged { (n : ℕ) → result ≡ Err (LoadFault.Damaged n) → AreDamagedAt (K.rows keeper.old) n }
+    ensures rows_stay { KeepsRows (K.rows keeper.old) (K.rows keeper.new) }
+    ensures told { SameRowsTold (K.rows keeper.old) (K.rows keeper.new) }
+    ensures counts { IsCounted LoadFault.Keeper LoadFault.Memory (K.faults keeper.old) (K.faults keeper.new) result }
+    ensures damaged_count { (n : ℕ) → result ≡ Err (LoadFault.Damaged n) → K.faults keeper.new ≡ K.faults keeper.old }
+{
+    Desk::load(alloc, keeper)
+}
