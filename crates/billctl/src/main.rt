@@ -3,8 +3,7 @@
 #![tactic(auto)]
 
 use card_commands::billctl;
-use card_keeper::{Keeper, MemoryKeeper};
-use card_ports::{StdSink, StdSource, TcpDoor};
+use card_ports::{Keeper, MemoryKeeper, StdSink, StdSource, TcpDoor};
 use card_sqlite::SqliteKeeper;
 use card_units::NoMemory;
 use std::io;

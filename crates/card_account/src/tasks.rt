@@ -7,7 +7,7 @@ ghost use Rattle.card_account.specs.Works.{tasks_of, work_of};
 use crate::Account;
 use card_days::Day;
 use card_disputes::{Task, in_work_order};
-use card_shared::SharedRows;
+use card_fees::SharedRows;
 use card_units::NoMemory;
 use std::alloc::Global;
 use std::marker::Model;

@@ -1,8 +1,7 @@
 // Connections in memory, each over the desk of the kept rows.
 use card_desk::uncounted;
 use card_http::{Served, Status, serve_one};
-use card_keeper::{FailingKeeper, MemoryKeeper};
-use card_ports::{Door, MemoryLink, TcpDoor};
+use card_ports::{Door, FailingKeeper, MemoryKeeper, MemoryLink, TcpDoor};
 use std::alloc::Global;
 use std::io::{self, Read, Write};
 use std::net::{Ipv4Addr, Shutdown, TcpListener, TcpStream};

@@ -6,7 +6,7 @@ use crate::lines::{digits, request};
 use crate::values::{day, name};
 use card_desk::{Ask, Desk, Fault, LoadFault, Statement, View, uncounted};
 use card_events::{Num, Refusal, Reply};
-use card_keeper::{Body, FailingKeeper, Keeper, MemoryKeeper, Row};
+use card_ports::{Body, FailingKeeper, Keeper, MemoryKeeper, Row};
 use card_text::tasks_text;
 use std::alloc::Global;
 use std::process::Abort;

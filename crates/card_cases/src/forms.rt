@@ -1,6 +1,8 @@
 // Sources, sinks and keepers, in memory and over std's readers and writers.
-use card_keeper::{Body, FailingKeeper, Keeper, KeeperFault, MemoryKeeper, Row};
-use card_ports::{Failed, MemorySink, MemorySource, Sink, SinkFault, Source, StdSink, StdSource};
+use card_ports::{
+    Body, Failed, FailingKeeper, Keeper, KeeperFault, MemoryKeeper, MemorySink, MemorySource, Row,
+    Sink, SinkFault, Source, StdSink, StdSource,
+};
 use std::alloc::{AllocError, Global};
 use std::io::{self, Cursor, Read, Write};
 use std::process::Abort;

@@ -4,7 +4,7 @@ use crate::desks::{accept_all, seen};
 use crate::values::name;
 use card_desk::{Ask, View};
 use card_events::Num;
-use card_keeper::MemoryKeeper;
+use card_ports::MemoryKeeper;
 use card_text::statement_text;
 use std::alloc::Global;
 use std::process::Abort;

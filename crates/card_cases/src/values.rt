@@ -3,9 +3,7 @@ ghost use Rattle.std.specs.Prelude.{◌≡◌, ◌≤◌};
 
 use card_days::{Anchor, Calendar, Channel, Day, closing, credit_day, due, next_business};
 use card_events::{Name, Num};
-use card_fees::FeeTable;
-use card_index::NameIndex;
-use card_shared::SharedRows;
+use card_fees::{FeeTable, SharedRows};
 use card_units::Money;
 use std::alloc::Global;
 use std::process::Abort;
@@ -108,12 +106,6 @@ fn names(rt: HostRuntime) -> Result<(), Fail> {
     let account = name(&rt, alloc, "h-1")?.copy(alloc)?;
     assert_eq!(rt; account.bytes(), b"h-1".as_slice());
     assert!(rt; Name::read(alloc, b"-1")?.is_none());
-    let mut index = NameIndex::new(alloc);
-    index.insert(alloc, account.bytes(), 1)?;
-    index.insert(alloc, b"H-1", 2)?;
-    assert_eq!(rt; index.find(b"h-1"), Some(1));
-    index.remove(b"h-1");
-    assert_eq!(rt; (index.find(b"h-1"), index.find(b"H-1")), (None, Some(2)));
     Ok(())
 }
 

@@ -6,3 +6,4 @@ pub mod OfClosing
 pub mod Recorded
 pub mod Steps
 pub mod Untouched
+pub mod PenaltyFold

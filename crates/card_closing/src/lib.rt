@@ -1,5 +1,5 @@
-//! The closing of a cycle: interest, the minimum payment, the grace amount, and the record of the cycle
-//! (12 CFR 1026.7(b), .14(b), .54).
+//! The closing of a cycle: interest, the minimum payment, the grace amount, and the record of the cycle; and when a penalty
+//! rate may begin, and when it ends (12 CFR 1026.7(b), .14(b), .54, .55(b)(4)).
 #![tactic(auto)]
 
 mod amounts;
@@ -8,6 +8,9 @@ mod cycle;
 mod fees;
 mod interest;
 pub mod laws;
+mod penalty_end;
+mod penalty_late;
+pub mod penalty_laws;
 mod record;
 mod turn;
 
@@ -16,3 +19,5 @@ pub use card_model::{Entry, Fee, GraceCase};
 pub use closing::{Closing, close};
 pub use cycle::Cycle;
 pub use fees::Fees;
+pub use penalty_end::{awaits_end, is_due_after, is_met};
+pub use penalty_late::{begin_after, owes_sixty_days};

@@ -2,7 +2,7 @@
 use Rattle.std.proofs.Common.{◌≡◌, ℕ, ◌-◌, ◌^◌, Bool, true, false, ◌⊎◌, inl, inr, List, [], ◌++◌, take, ap, sym, ◌∙◌, subst, append-nil, Option, Result, Ok, Err}
 use Rattle.std.specs.Io.KnownBytes.{Appends, Consumes, IsAtEnd}
 use Rattle.std.specs.Prelude.{IfOk, IfErr}
-use Rattle.card_keeper.specs.Rows.{AddsRows}
+use Rattle.card_ports.specs.Rows.{AddsRows}
 use Rattle.card_model.specs.Machine.{State}
 use Rattle.card_ports.specs.Bytes.{IsFront}
 use Rattle.card_commands.specs.Commands.{ended_by, ended_of}

@@ -5,8 +5,8 @@ use Rattle.card_desk.specs.Kept.{Fits}
 use Rattle.card_import.specs.Import.{items_of_bytes}
 use Rattle.card_import.specs.declared.item.Item.{Item}
 use Rattle.card_model.specs.Machine.{State}
-use Rattle.card_keeper.specs.Rows.{AddsRows}
-use Rattle.card_keeper.specs.declared.row.Row.{Row}
+use Rattle.card_ports.specs.Rows.{AddsRows}
+use Rattle.card_ports.specs.declared.row.Row.{Row}
 use Rattle.card_ports.specs.Bytes.{IsFront}
 use Rattle.card_ports.specs.Counts.{Rose}
 use Rattle.card_commands.specs.Answers.{next, answer_text, is_refused, item_rows}

@@ -1,7 +1,7 @@
 -- Rows that a keeper took, one list after the other.
 use Rattle.std.proofs.Common.{List, [], ◌++◌, refl, ap, sym, ◌∙◌, append_assoc, append-nil, Option, None, Some}
-use Rattle.card_keeper.specs.Rows.{AddsRows, KeepsRows}
-use Rattle.card_keeper.specs.declared.row.Row.{Row}
+use Rattle.card_ports.specs.Rows.{AddsRows, KeepsRows}
+use Rattle.card_ports.specs.declared.row.Row.{Row}
 
 pub AddsRows-trans : (a b c : Option (List Row)) (xs ys : List Row) → AddsRows a b xs → AddsRows b c ys → AddsRows a c (xs ++ ys)
 AddsRows-trans None b c xs ys p q = tt

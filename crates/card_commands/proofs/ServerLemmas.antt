@@ -14,8 +14,8 @@ use Rattle.card_http.specs.declared.served.Served.{Served}
 use Rattle.card_http.specs.declared.served.Served.TheVariants as served
 use Rattle.card_http.specs.declared.status.Status.{Status}
 use Rattle.card_http.specs.declared.status.Status.TheVariants as status
-use Rattle.card_keeper.specs.Rows.{AddsRows, KeepsRows}
-use Rattle.card_keeper.specs.declared.row.Row.{Row}
+use Rattle.card_ports.specs.Rows.{AddsRows, KeepsRows}
+use Rattle.card_ports.specs.declared.row.Row.{Row}
 use Rattle.card_model.specs.Machine.{State}
 use Rattle.card_ports.specs.Counts.{Rose}
 use Rattle.card_ports.specs.Visits.{Accepts, Visits, Wire, closing, listening}

@@ -9,8 +9,8 @@ use Rattle.card_http.specs.Exchanges.{Exchange}
 use Rattle.card_http.specs.declared.served.Served.{Served}
 use Rattle.card_http.specs.declared.served.Served.TheVariants as served
 use Rattle.card_http.specs.declared.status.Status.{Status}
-use Rattle.card_keeper.specs.Rows.{AddsRows}
-use Rattle.card_keeper.specs.declared.row.Row.{Row}
+use Rattle.card_ports.specs.Rows.{AddsRows}
+use Rattle.card_ports.specs.declared.row.Row.{Row}
 use Rattle.card_model.specs.Machine.{State}
 use Rattle.card_ports.specs.Counts.{Rose}
 use Rattle.card_ports.specs.Visits.{Visits, listening}

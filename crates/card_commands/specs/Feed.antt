@@ -1,6 +1,6 @@
 -- A run over bytes, one by one.
 use Rattle.std.specs.Prelude.{ℕ, ◌+◌, Bool, false, ◌||◌, nat_lt, ◌==◌, if◌then◌else◌, List, [], ◌∷◌, ◌++◌, length}
-use Rattle.card_keeper.specs.declared.row.Row.{Row}
+use Rattle.card_ports.specs.declared.row.Row.{Row}
 use Rattle.card_model.specs.Machine.{State}
 use Rattle.card_lines.specs.Lines.{line_of}
 use Rattle.card_lines.specs.declared.line.Line.{Line}

@@ -10,8 +10,8 @@ use Rattle.card_model.specs.Work.{present_in, work}
 use Rattle.card_slots.specs.Segments.{account_segments}
 use Rattle.card_text.specs.Export.{export_text}
 use Rattle.card_text.specs.Tasks.{tasks_text}
-use Rattle.card_keeper.specs.Rows.{AddsRows, KeepsRows}
-use Rattle.card_keeper.specs.declared.row.Row.{Row}
+use Rattle.card_ports.specs.Rows.{AddsRows, KeepsRows}
+use Rattle.card_ports.specs.declared.row.Row.{Row}
 use Rattle.card_model.specs.Machine.{State, lists_of}
 use Rattle.card_ports.specs.Counts.{Rose}
 use Rattle.card_commands.specs.Input.{Cut, lines, records, all_items}

@@ -2,7 +2,7 @@
 use Rattle.std.specs.Prelude.{◌≡◌, ℕ, ◌<◌, List, length, Some}
 use Rattle.card_desk.specs.Kept.{AreSound}
 use Rattle.card_events.specs.declared.request.Request.{Request}
-use Rattle.card_keeper.specs.declared.row.Row.{Row}
+use Rattle.card_ports.specs.declared.row.Row.{Row}
 use Rattle.card_ports.specs.Counts.{Rose}
 use Rattle.card_commands.specs.Input.{lines, records}
 use Rattle.card_commands.specs.Outside.{Outside}

@@ -10,7 +10,7 @@ use Rattle.card_commands.specs.Written.{Sides, TookBetween, Did, SameCounts, Fai
 use Rattle.card_commands.specs.declared.end.End.{End}
 use Rattle.card_commands.specs.declared.end.End.TheVariants as end
 use Rattle.card_import.specs.declared.item.Item.{Item}
-use Rattle.card_keeper.specs.Rows.{AddsRows}
+use Rattle.card_ports.specs.Rows.{AddsRows}
 
 -- an item was handled: its text was written, and its rows were kept
 pub record Handled (old new : Sides) (r : Run) (x : Item) (next : Run) : Type 0 where

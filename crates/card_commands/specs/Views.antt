@@ -3,8 +3,8 @@ use Rattle.std.specs.Prelude.{◌≡◌, ◌⊎◌, ℕ, List, [], Option, Some,
 use Rattle.std.specs.Option.{unwrap_or}
 use Rattle.std.specs.Io.KnownBytes.{Appends}
 use Rattle.card_desk.specs.Kept.{Fits, IsLoadedOf}
-use Rattle.card_keeper.specs.Rows.{KeepsRows}
-use Rattle.card_keeper.specs.declared.row.Row.{Row}
+use Rattle.card_ports.specs.Rows.{KeepsRows}
+use Rattle.card_ports.specs.declared.row.Row.{Row}
 use Rattle.card_model.specs.Machine.{State}
 use Rattle.card_ports.specs.Counts.{Rose}
 use Rattle.card_commands.specs.Words.{none_line, DamagedRows, TookLine}

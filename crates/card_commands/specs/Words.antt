@@ -3,7 +3,7 @@ use Rattle.std.specs.Prelude.{◌⊎◌, ℕ, List, [], ◌∷◌, ◌++◌, Opt
 use Rattle.std.specs.Fmt.{decimal}
 use Rattle.std.specs.Io.KnownBytes.{Appends}
 use Rattle.card_desk.specs.Kept.{AreDamagedAt}
-use Rattle.card_keeper.specs.declared.row.Row.{Row}
+use Rattle.card_ports.specs.declared.row.Row.{Row}
 use Rattle.card_ports.specs.Counts.{Rose}
 use Rattle.card_ports.specs.Written.{TookFront}
 

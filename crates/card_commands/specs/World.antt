@@ -1,7 +1,7 @@
 -- What a call finds in the world and leaves there: what lies outside, and the door.
 use Rattle.std.specs.Prelude.{◌≡◌, ◌⊎◌, ℕ, List, map, Option, Some, String}
 use Rattle.std.specs.String.{string_bytes}
-use Rattle.card_keeper.specs.declared.row.Row.{Row}
+use Rattle.card_ports.specs.declared.row.Row.{Row}
 use Rattle.card_ports.specs.Counts.{Rose}
 use Rattle.card_ports.specs.Visits.{Visits}
 use Rattle.card_commands.specs.Attended.{HaveCome, Parties, Serves}

@@ -1,8 +1,8 @@
 -- What a sink took, and what a keeper kept.
 use Rattle.std.specs.Prelude.{◌≡◌, ◌⊎◌, ℕ, List, [], Option}
 use Rattle.std.specs.Io.KnownBytes.{Appends}
-use Rattle.card_keeper.specs.Rows.{AddsRows}
-use Rattle.card_keeper.specs.declared.row.Row.{Row}
+use Rattle.card_ports.specs.Rows.{AddsRows}
+use Rattle.card_ports.specs.declared.row.Row.{Row}
 use Rattle.card_ports.specs.Bytes.{IsFront}
 use Rattle.card_ports.specs.Counts.{Rose}
 use Rattle.card_ports.specs.Written.{SinkSide, TookFront, sink_side}

@@ -20,8 +20,7 @@ use crate::run::run;
 use crate::serve::serve;
 use crate::tell::tell;
 use card_desk::Ask;
-use card_keeper::Keeper;
-use card_ports::{Door, Sink, SinkFault, Source, write_all};
+use card_ports::{Door, Keeper, Sink, SinkFault, Source, write_all};
 use card_units::NoMemory;
 use std::alloc::Global;
 

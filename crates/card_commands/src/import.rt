@@ -11,8 +11,7 @@ use crate::end::End;
 use crate::ended::{Ended, ended_by, ended_of};
 use crate::handle::Run;
 use card_import::Records;
-use card_keeper::Keeper;
-use card_ports::{Failed, Sink, Source};
+use card_ports::{Failed, Keeper, Sink, Source};
 use card_units::NoMemory;
 use std::alloc::Global;
 

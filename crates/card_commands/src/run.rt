@@ -10,8 +10,7 @@ ghost use Rattle.card_commands.specs.Ran.{Ran, FellReading};
 use crate::end::End;
 use crate::ended::{Ended, ended_by, ended_of};
 use crate::progress::Progress;
-use card_keeper::Keeper;
-use card_ports::{Failed, Sink, Source};
+use card_ports::{Failed, Keeper, Sink, Source};
 use std::alloc::Global;
 
 const PIECE: usize = 4096;

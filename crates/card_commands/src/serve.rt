@@ -7,8 +7,7 @@ ghost use Rattle.card_commands.specs.Attended as spec;
 use crate::ended::{Ended, ended_by_sink};
 use card_desk::Desk;
 use card_http::{Served, Status, serve_one};
-use card_keeper::Keeper;
-use card_ports::{Door, Failed, Sink, write_all};
+use card_ports::{Door, Failed, Keeper, Sink, write_all};
 use std::alloc::Global;
 
 fn status_line(status: Status) -> &'static str

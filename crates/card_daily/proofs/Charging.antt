@@ -8,9 +8,9 @@ use Rattle.card_bounds.proofs.Whole.{folded-few, limits-on}
 use Rattle.card_days.specs.Billing.{cycle_of}
 use Rattle.card_days.specs.Range.{last_request_day}
 use Rattle.card_days.specs.declared.anchor.Anchor.{Anchor}
-use Rattle.card_due.proofs.LateFees.{caps-fold}
-use Rattle.card_due.specs.Charged.{capped_if_any}
-use Rattle.card_due.specs.Laws.{issued_fees}
+use Rattle.card_fees.proofs.LateFees.{caps-fold}
+use Rattle.card_fees.specs.DueFee.{capped_if_any}
+use Rattle.card_fees.specs.DueLaws.{issued_fees}
 use Rattle.card_events.specs.History.{anchor_of}
 use Rattle.card_events.specs.SharedRows.{FeeRow}
 use Rattle.card_fees.proofs.Charges.{fee-fold}

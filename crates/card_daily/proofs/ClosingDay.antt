@@ -8,10 +8,10 @@ use Rattle.card_days.specs.Range.{last_request_day, last_calendar_day, first_cal
 use Rattle.card_days.specs.declared.anchor.Anchor.{Anchor}
 use Rattle.card_days.proofs.Cycles.{IsAnchor, closing_grows, cycle_around, cycle_from_one, due_day-bounds}
 use Rattle.card_days.proofs.DueLaws.{closing_laws, due_before_next}
-use Rattle.card_due.proofs.Cases.{case-fold}
-use Rattle.card_due.specs.Asked.{case_by}
-use Rattle.card_due.specs.Laws.{AreDueBy, AreOfTheCalendar, due_cycle_at}
-use Rattle.card_due.specs.declared.due_cycle.DueCycle.{DueCycle}
+use Rattle.card_fees.proofs.Cases.{case-fold}
+use Rattle.card_fees.specs.Asked.{case_by}
+use Rattle.card_fees.specs.DueLaws.{AreDueBy, AreOfTheCalendar, due_cycle_at}
+use Rattle.card_fees.specs.declared.due_cycle.DueCycle.{DueCycle}
 use Rattle.card_events.specs.History.{CorrectedPost, anchor_of, corrected}
 use Rattle.card_fees.proofs.Days.{closing-from, due-later}
 use Rattle.card_fees.proofs.Fold.{past-due-fold}

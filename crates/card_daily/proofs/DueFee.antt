@@ -2,10 +2,10 @@
 use Rattle.std.proofs.Common.{◌≡◌, ℕ, ◌+◌, ◌-◌, ◌≤◌, List, refl, sym, ap, ◌∙◌, arith, Option}
 use Rattle.card_days.specs.Billing.{due}
 use Rattle.card_days.specs.declared.anchor.Anchor.{Anchor}
-use Rattle.card_due.proofs.LateFees.{late-fold}
-use Rattle.card_due.specs.Charged.{late_by}
-use Rattle.card_due.specs.Laws.{due_cycle_of, issued_fees}
-use Rattle.card_due.specs.declared.due_cycle.DueCycle.{DueCycle}
+use Rattle.card_fees.proofs.LateFees.{late-fold}
+use Rattle.card_fees.specs.DueFee.{late_by}
+use Rattle.card_fees.specs.DueLaws.{due_cycle_of, issued_fees}
+use Rattle.card_fees.specs.declared.due_cycle.DueCycle.{DueCycle}
 use Rattle.card_events.specs.History.{CorrectedPost, anchor_of, corrected}
 use Rattle.card_events.specs.SharedRows.{FeeRow}
 use Rattle.card_fees.proofs.Days.{closing-from, due-later}

@@ -5,7 +5,7 @@ use Rattle.std.specs.List.{All, Contains, filter}
 use Rattle.std.proofs.lemmas.Bool.{eqb-true}
 use Rattle.std.proofs.lemmas.List.{take-append-drop}
 use Rattle.std.proofs.lemmas.List.Elements.{All-cons, All-contains, All-filter, All-get_or, All-head, All-nil, All-tail, All-weaker, filter-append, filter_passes}
-use Rattle.card_alloc.specs.Parts.{AreOnSegments, Ascend, IsOnSegment, parts_in, parts_sum}
+use Rattle.card_segments.specs.Parts.{AreOnSegments, Ascend, IsOnSegment, parts_in, parts_sum}
 use Rattle.card_bounds.proofs.OnSegments.{entries_have_segments}
 use Rattle.card_bounds.proofs.Reached.{payments_reach}
 use Rattle.card_bounds.specs.Bounds.{AreSmall}

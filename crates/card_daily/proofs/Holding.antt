@@ -12,8 +12,8 @@ use Rattle.card_events.specs.Limits.{post_limit}
 use Rattle.card_events.specs.declared.kept.Kept.{Kept}
 use Rattle.card_events.specs.declared.post.Post.TheVariants as post
 use Rattle.card_grace.specs.Rows.{Rows}
-use Rattle.card_holds.proofs.Covers.{held_covers_releases}
-use Rattle.card_holds.specs.Accounts.{AreOf}
+use Rattle.card_effects.proofs.Covers.{held_covers_releases}
+use Rattle.card_effects.specs.Accounts.{AreOf}
 use Rattle.card_model.proofs.EntryFacts.{all-holds, all-releases}
 use Rattle.card_model.specs.Books.{Account, Book, note_of}
 use Rattle.card_model.specs.Cycles.{IssuedRow, Seen, post_at, posts_on}

@@ -9,8 +9,8 @@ use Rattle.card_days.specs.Billing.{closing, cycle_of, due}
 use Rattle.card_days.specs.Range.{last_request_day}
 use Rattle.card_days.specs.declared.anchor.Anchor.{Anchor}
 use Rattle.card_days.proofs.Cycles.{cycle_around}
-use Rattle.card_due.specs.Laws.{due_cycle_of}
-use Rattle.card_due.specs.declared.due_cycle.DueCycle.{DueCycle}
+use Rattle.card_fees.specs.DueLaws.{due_cycle_of}
+use Rattle.card_fees.specs.declared.due_cycle.DueCycle.{DueCycle}
 use Rattle.card_events.specs.History.{CorrectedPost, anchor_of, corrected}
 use Rattle.card_events.specs.declared.post.Post.{Post}
 use Rattle.card_events.specs.declared.post.Post.TheVariants as post
@@ -28,9 +28,9 @@ use Rattle.card_model.specs.Payments.{met, owes_sixty_days, returns}
 use Rattle.card_model.specs.Rates.{starts}
 use Rattle.card_model.specs.Segments.{SegmentTerms}
 use Rattle.card_model.specs.declared.segment.Interval.{Interval}
-use Rattle.card_penalties.proofs.Fold.{cured-fold, met-own, owes-fold}
-use Rattle.card_penalties.specs.Ending.{cured_with, met_by}
-use Rattle.card_penalties.specs.Late.{owes_by}
+use Rattle.card_closing.proofs.PenaltyFold.{cured-fold, met-own, owes-fold}
+use Rattle.card_closing.specs.PenaltyEnd.{cured_with, met_by}
+use Rattle.card_closing.specs.PenaltyLate.{owes_by}
 use Rattle.card_rates.proofs.Penalties.{penalties_stay}
 use Rattle.card_rates.specs.RateBooks as rates
 use Rattle.card_rates.specs.RateBooks.{Rates, rates_of}

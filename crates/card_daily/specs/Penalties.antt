@@ -7,7 +7,7 @@ use Rattle.card_model.specs.Cycles.{Cycle, Seen}
 use Rattle.card_model.specs.DueDates.{cured_by}
 use Rattle.card_model.specs.Payments.{sixty_days_late}
 use Rattle.card_model.specs.declared.segment.Interval.{Interval}
-use Rattle.card_penalties.specs.Ending.{cured_with}
+use Rattle.card_closing.specs.PenaltyEnd.{cured_with}
 use Rattle.card_daily.specs.Given.{Given}
 
 -- a closed cycle with its number and days, which are there

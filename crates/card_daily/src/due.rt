@@ -9,7 +9,7 @@ ghost use Rattle.card_daily.specs.Due as spec;
 ghost use Rattle.card_daily.specs.Due.{AreCharged};
 ghost use Rattle.card_events.specs.History.{anchor_of};
 ghost use Rattle.card_model.specs.CycleDays.{HasItsDays};
-ghost use Rattle.card_due.specs.Laws.{due_cycle_of, issue_day, issued_fees};
+ghost use Rattle.card_fees.specs.DueLaws.{due_cycle_of, issue_day, issued_fees};
 ghost use Rattle.card_model.specs.Caps.{row_for};
 ghost use Rattle.card_model.specs.Cycles.{Cycle, Seen, last_cycle};
 ghost use Rattle.card_model.specs.DueDates as model;
@@ -20,8 +20,8 @@ use crate::penalties::end_penalties;
 use crate::{Inputs, Issued, State, Track};
 use card_closing::Cycle;
 use card_days::Day;
-use card_due::{DueCycle, due_fee, has_due_payment};
 use card_effects::fee;
+use card_fees::{DueCycle, due_fee, has_due_payment};
 use card_model::Fee;
 use card_units::{Cents, NoMemory};
 

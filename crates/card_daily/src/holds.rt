@@ -6,7 +6,7 @@ ghost use Rattle.card_effects.specs.Standing.{IsSlotOf};
 ghost use Rattle.card_events.specs.History.{CorrectedPost};
 ghost use Rattle.card_events.specs.declared.post.Post.TheVariants as post;
 ghost use Rattle.card_grace.specs.Rows.{Rows};
-ghost use Rattle.card_holds.specs.Accounts.{AreOf};
+ghost use Rattle.card_effects.specs.Accounts.{AreOf};
 ghost use Rattle.card_model.specs.Books.{Book};
 ghost use Rattle.card_model.specs.Cycles.{IssuedRow};
 ghost use Rattle.card_model.specs.Effects.{effect, moved_by};
@@ -17,8 +17,8 @@ ghost use Rattle.card_daily.specs.Posts.{EntersOn, LeavesRest};
 ghost use Rattle.card_daily.specs.Stands.{Begins, KeepsRoom};
 
 use crate::{Inputs, State, Track};
+use card_effects::{dispute, resolve};
 use card_events::{Num, Slot};
-use card_holds::{dispute, resolve};
 use card_units::NoMemory;
 
 // Enters a Dispute of a charge, by the charge's number.

@@ -7,9 +7,8 @@ ghost use Rattle.card_model.specs.CycleDays.{IsOpening};
 use crate::Issued;
 use card_days::{Anchor, Calendar};
 use card_events::{Post, Terms};
-use card_fees::FeeTable;
+use card_fees::{FeeTable, SharedRows};
 use card_posts::Posts;
-use card_shared::SharedRows;
 use std::marker::Model;
 
 // The terms of an Open.

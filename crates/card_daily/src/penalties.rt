@@ -8,7 +8,7 @@ ghost use Rattle.card_model.specs.DueDates.{due_after_day};
 ghost use Rattle.card_model.specs.Payments as model;
 ghost use Rattle.card_model.specs.Payments.{met, sixty_days_late};
 ghost use Rattle.card_model.specs.declared.segment.Interval.{Interval};
-ghost use Rattle.card_penalties.specs.Ending.{awaits_end, cured_with};
+ghost use Rattle.card_closing.specs.PenaltyEnd.{awaits_end, cured_with};
 ghost use Rattle.card_rates.specs.RateBooks.{with_penalties};
 ghost use Rattle.card_daily.specs.Given.{seen_in};
 ghost use Rattle.card_daily.specs.Penalties.{IsClosed, begun_on, cured_at, cured_on};
@@ -17,10 +17,9 @@ ghost use Rattle.card_daily.specs.Stands.{AreClosedBefore};
 
 use crate::Inputs;
 use crate::due::{due_cycle, is_day_after};
-use card_closing::Cycle;
+use card_closing::{Cycle, awaits_end, begin_after, is_due_after, is_met, owes_sixty_days};
 use card_days::Day;
 use card_model::Interval;
-use card_penalties::{awaits_end, begin_after, is_due_after, is_met, owes_sixty_days};
 use card_rates::RateBook;
 use card_units::NoMemory;
 

@@ -1,7 +1,7 @@
 use crate::{Inputs, Issued};
 use card_days::{Anchor, Calendar, Day};
+use card_fees::SharedRows;
 use card_posts::Posts;
-use card_shared::SharedRows;
 use std::marker::Model;
 
 /// An account as it is judged and shown today: its posts, its issued statements, what all accounts share, and today. Its fold

@@ -1,8 +1,8 @@
 -- Rows that go on from a state.
 use Rattle.std.proofs.Common.{◌≡◌, ◌+◌, List, [], Some, refl, sym, ap, ◌∙◌}
 use Rattle.card_desk.specs.Kept.{Fits, accepted_count, posts_in}
-use Rattle.card_keeper.specs.Rows.{KeepsRows, next_after, next_seq}
-use Rattle.card_keeper.specs.declared.row.Row.{Row}
+use Rattle.card_ports.specs.Rows.{KeepsRows, next_after, next_seq}
+use Rattle.card_ports.specs.declared.row.Row.{Row}
 use Rattle.card_model.specs.Machine.{State, start}
 
 -- rows and state are as they were

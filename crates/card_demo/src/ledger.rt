@@ -11,7 +11,7 @@ use crate::names::account_name;
 use crate::totals::{Totals, with_entries};
 use card_desk::{Ask, Desk, Fault, View, uncounted};
 use card_events::{Reply, Request};
-use card_keeper::MemoryKeeper;
+use card_ports::MemoryKeeper;
 use card_units::NoMemory;
 use std::alloc::Global;
 use std::marker::Model;

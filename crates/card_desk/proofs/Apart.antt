@@ -9,7 +9,7 @@ use Rattle.card_events.specs.declared.reply.Refusal.{Refusal}
 use Rattle.card_events.specs.declared.request.Request.{Request}
 use Rattle.card_events.specs.declared.request.Request.TheVariants as request
 use Rattle.card_events.specs.declared.request.Shared.{Shared}
-use Rattle.card_keeper.specs.declared.row.Row.{Row}
+use Rattle.card_ports.specs.declared.row.Row.{Row}
 use Rattle.card_model.specs.Isolated.{Own, own_of}
 use Rattle.card_model.specs.Machine.{Accepts, NamedAccount, Outcome, Refuses, Repeats, State, accounts_after, has_accounts, lists_of, outcome_in, reply_to, shared_reason, step, with_lists, with_shared}
 use Rattle.card_model.specs.Refusals.{Lists, book_today}

@@ -3,7 +3,7 @@ use Rattle.std.proofs.Common.{◌≡◌, ℕ, zero, suc, ◌+◌, ◌<◌, List,
 use Rattle.card_events.specs.Keys.{with_key}
 use Rattle.card_events.specs.declared.post.Post.{Post}
 use Rattle.card_events.specs.declared.request.Shared.{Shared}
-use Rattle.card_index.specs.Places.{place_of}
+use Rattle.card_desk.specs.IndexPlaces.{place_of}
 use Rattle.card_model.specs.Machine.{State, NamedAccount, lists_of, with_lists, at_key, outcome_in}
 use Rattle.card_model.specs.Refusals.{Lists}
 use Rattle.card_desk.specs.Kept.{accepted_count, posts_in}

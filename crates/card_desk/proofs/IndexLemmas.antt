@@ -2,8 +2,8 @@
 use Rattle.std.proofs.Common.{◌≡◌, ℕ, ◌+◌, Bool, true, false, cond, refl, List, [], ◌∷◌, ◌++◌, length, get_or, set, Option, Some, None, ap, sym, ◌∙◌, arith}
 use Rattle.std.specs.Str.{bytes_eq}
 use Rattle.std.specs.Cmp.Lexicographic.{nat_list_eq_equiv}
-use Rattle.card_index.specs.Places.{place_of, Places}
-use Rattle.card_index.proofs.MapLemmas.{same_bytes}
+use Rattle.card_desk.specs.IndexPlaces.{place_of, Places}
+use Rattle.card_desk.proofs.MapLemmas.{same_bytes}
 use Rattle.card_model.specs.Machine.{NamedAccount}
 use Rattle.card_desk.specs.Places.{place_from, IsIndex}
 use Rattle.card_desk.proofs.PlaceLemmas.{place_pushed, place_set}

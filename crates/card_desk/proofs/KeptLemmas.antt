@@ -16,7 +16,7 @@ use Rattle.card_days.specs.Business.{is_holiday, with_holiday}
 use Rattle.card_days.proofs.Holidays.{with_holiday-is}
 use Rattle.card_desk.specs.Desks.{AreCorrected, AreSameHolidays, IsDesk, IsRun, named_all, state_of}
 use Rattle.card_desk.specs.Kept.{accepted_count, posts_in}
-use Rattle.card_index.specs.Places.{place_of}
+use Rattle.card_desk.specs.IndexPlaces.{place_of}
 use Rattle.card_desk.specs.Applied.{are_short}
 use Rattle.card_desk.specs.Places.{IsIndex, IsPlace, place_from}
 use Rattle.card_desk.proofs.CountLemmas.{short_pushed, short_set}

@@ -14,3 +14,4 @@ pub mod ShareLemmas
 pub mod SoundLemmas
 pub mod StepLemmas
 pub mod WorkLemmas
+pub mod MapLemmas

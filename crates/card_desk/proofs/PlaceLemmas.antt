@@ -2,7 +2,7 @@
 use Rattle.std.proofs.Common.{◌≡◌, ℕ, zero, suc, ◌+◌, ◌<◌, Bool, true, false, cond, List, [], ◌∷◌, ◌++◌, length, get_or, set, Some, None, refl, ap, sym, ◌∙◌, subst, arith}
 use Rattle.std.proofs.lemmas.Bool.{false≢true}
 use Rattle.std.specs.Str.{bytes_eq}
-use Rattle.card_index.proofs.MapLemmas.{cond_swap, same_bytes, own_bytes}
+use Rattle.card_desk.proofs.MapLemmas.{cond_swap, same_bytes, own_bytes}
 use Rattle.card_model.specs.Machine.{NamedAccount, lists_of, with_lists}
 use Rattle.card_model.specs.Refusals.{Lists}
 use Rattle.card_desk.specs.Places.{place_from, IsPlace}

@@ -7,8 +7,8 @@ use Rattle.card_events.specs.Dated.{is_dated, is_dated_shared}
 use Rattle.card_events.specs.declared.request.Request.{Request}
 use Rattle.card_events.specs.declared.request.Request.TheVariants as request
 use Rattle.card_events.specs.declared.request.Shared.TheVariants as shared
-use Rattle.card_keeper.specs.Rows.{KeepsRows, SameRowsTold, GivesRows}
-use Rattle.card_keeper.specs.declared.row.Row.{Row}
+use Rattle.card_ports.specs.Rows.{KeepsRows, SameRowsTold, GivesRows}
+use Rattle.card_ports.specs.declared.row.Row.{Row}
 use Rattle.card_model.specs.Machine.{State, is_new}
 use Rattle.card_rows.proofs.RequestLaws.{one_request}
 use Rattle.card_rows.specs.Spelling.{IsSpelling}

@@ -4,7 +4,7 @@ use Rattle.std.specs.Prelude.{if◌then◌else◌}
 use Rattle.std.specs.List.{list_all}
 use Rattle.std.proofs.lemmas.Bool.{and_parts, and_from}
 use Rattle.card_events.specs.declared.request.Request.{Request}
-use Rattle.card_keeper.specs.declared.row.Row.{Row}
+use Rattle.card_ports.specs.declared.row.Row.{Row}
 use Rattle.card_model.specs.Machine.{State, start, step, run, run_from, is_new, accepted_from}
 use Rattle.card_rows.specs.Held.{is_request}
 use Rattle.card_desk.specs.Kept.{accepted_count, row_of, rows_from}

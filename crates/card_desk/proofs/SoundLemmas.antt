@@ -6,8 +6,8 @@ use Rattle.std.proofs.lemmas.Bool.{and_from}
 use Rattle.std.proofs.lemmas.List.{length-take-le, take_more}
 use Rattle.std.proofs.lemmas.List.Folds.{list_all-append}
 use Rattle.card_events.specs.declared.request.Request.{Request}
-use Rattle.card_keeper.specs.Rows.{KeepsRows, SameRowsTold, GivesRows, next_seq, next_after}
-use Rattle.card_keeper.specs.declared.row.Row.{Row}
+use Rattle.card_ports.specs.Rows.{KeepsRows, SameRowsTold, GivesRows, next_seq, next_after}
+use Rattle.card_ports.specs.declared.row.Row.{Row}
 use Rattle.card_model.specs.Machine.{State, start, step, run, run_from, is_new, accepted_from}
 use Rattle.card_rows.specs.Held.{is_request}
 use Rattle.card_desk.specs.Kept.{AreSound, AreDamaged, IsNewRow, IsRunOf, Fits, accepted_count, row_of, rows_of, rows_from}

@@ -8,8 +8,8 @@ use Rattle.card_events.specs.declared.reply.Reply.TheVariants as reply
 use Rattle.card_events.specs.declared.request.Request.{Request}
 use Rattle.card_events.specs.declared.request.Request.TheVariants as request
 use Rattle.card_events.specs.declared.request.Shared.{Shared}
-use Rattle.card_keeper.specs.Rows.{AddsRows, GoOn, SameRowsTold, next_after, next_seq, are_from}
-use Rattle.card_keeper.specs.declared.row.Row.{Row}
+use Rattle.card_ports.specs.Rows.{AddsRows, GoOn, SameRowsTold, next_after, next_seq, are_from}
+use Rattle.card_ports.specs.declared.row.Row.{Row}
 use Rattle.card_model.specs.Machine.{State, Outcome, Refuses, Repeats, Accepts, step, is_new, outcome_in, with_outcome, shared_reason, has_accounts, rolled, with_shared, with_lists, accepts}
 use Rattle.card_model.specs.Refusals.{Lists}
 use Rattle.card_desk.specs.Applied.{Carried, Steps}

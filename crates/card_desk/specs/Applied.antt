@@ -7,8 +7,8 @@ use Rattle.card_events.specs.Dated.{is_dated}
 use Rattle.card_events.specs.Limits.{post_limit}
 use Rattle.card_events.specs.declared.reply.Reply.{Reply}
 use Rattle.card_events.specs.declared.request.Request.{Request}
-use Rattle.card_keeper.specs.Rows.{AddsRows, KeepsRows, SameRowsTold}
-use Rattle.card_keeper.specs.declared.row.Row.{Row}
+use Rattle.card_ports.specs.Rows.{AddsRows, KeepsRows, SameRowsTold}
+use Rattle.card_ports.specs.declared.row.Row.{Row}
 use Rattle.card_model.specs.Machine.{State, NamedAccount, step}
 use Rattle.card_ports.specs.Counts.{Rose}
 use Rattle.card_desk.specs.Kept.{new_rows, Fits}

@@ -6,3 +6,4 @@ pub mod Loads
 pub mod Places
 pub mod Shares
 pub mod Views
+pub mod IndexPlaces

@@ -1,7 +1,7 @@
 -- How the rows are loaded one after the other.
 use Rattle.std.specs.Prelude.{◌≡◌, ℕ}
 use Rattle.card_events.specs.declared.request.Request.{Request}
-use Rattle.card_keeper.specs.declared.row.Row.{Row}
+use Rattle.card_ports.specs.declared.row.Row.{Row}
 use Rattle.card_model.specs.Machine.{State, step}
 use Rattle.card_desk.specs.Kept.{IsNewRow}
 

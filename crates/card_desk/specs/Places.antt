@@ -1,7 +1,7 @@
 -- The places of accounts.
 use Rattle.std.specs.Prelude.{◌≡◌, ℕ, ◌+◌, ◌<◌, if◌then◌else◌, List, [], ◌∷◌, length, slice_index_or, slice_set, Option, Some, None}
 use Rattle.std.specs.Str.{bytes_eq}
-use Rattle.card_index.specs.Places.{place_of}
+use Rattle.card_desk.specs.IndexPlaces.{place_of}
 use Rattle.card_model.specs.Machine.{NamedAccount, lists_of, with_lists}
 use Rattle.card_model.specs.Refusals.{Lists}
 

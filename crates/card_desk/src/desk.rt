@@ -5,6 +5,7 @@ ghost use Rattle.card_account.specs.Accounts.{OpenAccount};
 ghost use Rattle.card_desk.specs.Views.{stated};
 ghost use Rattle.card_desk.specs.Kept as spec;
 
+use crate::index::NameIndex;
 use crate::keep::keep_row;
 use crate::row::row_of;
 use crate::share::{load, loaded, rolled, shared_reason};
@@ -12,9 +13,8 @@ use crate::{Ask, Fault, View};
 use card_account::{Account, Owing, Statement, Verdict, open_reason, work_today};
 use card_days::Day;
 use card_events::{Name, Num, Post, Refusal, Reply, Request, Shared};
-use card_index::NameIndex;
-use card_keeper::{Keeper, Row};
-use card_shared::SharedRows;
+use card_fees::SharedRows;
+use card_ports::{Keeper, Row};
 use card_units::NoMemory;
 use std::alloc::Global;
 use std::marker::Model;
@@ -50,7 +50,7 @@ impl Desk {
     ghost use Rattle.card_days.specs.Billing.{IsCloseDay};
     ghost use Rattle.card_events.specs.Dated.{is_dated};
     ghost use Rattle.card_events.specs.History.{terms_in};
-    ghost use Rattle.card_keeper.specs.Rows.{KeepsRows, SameRowsTold};
+    ghost use Rattle.card_ports.specs.Rows.{KeepsRows, SameRowsTold};
     ghost use Rattle.card_model.specs.Machine.{NamedAccount, start, lists_of, outcome_in, Accepts, accepted, shared_reason, has_accounts};
     ghost use Rattle.card_model.specs.Refusals.{reason_against, reason_to_open};
     ghost use Rattle.card_model.specs.Work.{work};

@@ -1,10 +1,10 @@
 // Keeping one row.
 ghost use Rattle.std.specs.Prelude.{[], ◌∷◌, OnOk, OnErr};
-ghost use Rattle.card_keeper.specs.Rows.{GoOn, KeepsRows, AddsRows, SameRowsTold};
+ghost use Rattle.card_ports.specs.Rows.{GoOn, KeepsRows, AddsRows, SameRowsTold};
 ghost use Rattle.card_desk.specs.Applied.{IsCounted};
 
 use crate::Fault;
-use card_keeper::{Keeper, KeeperFault, Row};
+use card_ports::{Keeper, KeeperFault, Row};
 use std::alloc::Global;
 
 /// Adds the row at the end, or leaves the rows as they are.

@@ -2,7 +2,7 @@
 ghost use Rattle.std.specs.Prelude.{◌≡◌, ◌++◌, ℕ, true, List, []};
 ghost use Rattle.std.specs.List.{list_all};
 ghost use Rattle.card_events.specs.declared.request.Request.{Request};
-ghost use Rattle.card_keeper.specs.declared.row.Row.{Row};
+ghost use Rattle.card_ports.specs.declared.row.Row.{Row};
 ghost use Rattle.card_model.specs.Machine.{State, start, step, run, accepted_from};
 ghost use Rattle.card_model.specs.Isolated.{Isolation};
 ghost use Rattle.card_rows.specs.Held.{is_request};

@@ -3,6 +3,7 @@
 
 mod desk;
 mod fault;
+mod index;
 mod keep;
 pub mod laws;
 mod load;

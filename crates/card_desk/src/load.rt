@@ -2,7 +2,7 @@
 ghost use Rattle.std.specs.Prelude.{◌≡◌, ◌≤◌, ◌+◌, ℕ, true, false, IfOk, OnOk, IsErrOf};
 ghost use Rattle.card_events.specs.Dated.{is_dated};
 ghost use Rattle.card_events.specs.declared.request.Request.{Request};
-ghost use Rattle.card_keeper.specs.Rows.{GivesRows, KeepsRows, SameRowsTold};
+ghost use Rattle.card_ports.specs.Rows.{GivesRows, KeepsRows, SameRowsTold};
 ghost use Rattle.card_model.specs.Machine.{is_new, step};
 ghost use Rattle.card_desk.specs.Applied.{IsCounted};
 ghost use Rattle.card_desk.specs.Kept.{AreDamaged, IsNewRow, IsRunOf, accepted_count};
@@ -11,7 +11,7 @@ ghost use Rattle.card_desk.specs.Loads.{GoesOn};
 use crate::fault::LoadFault;
 use crate::{Desk, Fault};
 use card_events::Request;
-use card_keeper::{Keeper, KeeperFault, Row};
+use card_ports::{Keeper, KeeperFault, Row};
 use card_rows::decode;
 use card_units::NoMemory;
 use std::alloc::Global;
@@ -38,7 +38,7 @@ impl Keeper for Untold {
 
 impl Desk {
     ghost use Rattle.std.specs.Prelude.{◌≡◌, ◌≤◌, ℕ, Err, IfOk, OnOk, IsErrOf};
-    ghost use Rattle.card_keeper.specs.Rows.{KeepsRows, SameRowsTold};
+    ghost use Rattle.card_ports.specs.Rows.{KeepsRows, SameRowsTold};
     ghost use Rattle.card_desk.specs.Applied.{IsCounted};
     ghost use Rattle.card_desk.specs.Kept.{AreDamagedAt, IsLoadedOf, Fits};
 

@@ -5,7 +5,7 @@ ghost use Rattle.card_desk.specs.Kept as spec;
 ghost use Rattle.card_rows.specs.Held.{is_request};
 
 use card_events::Request;
-use card_keeper::{Body, Row};
+use card_ports::{Body, Row};
 use card_rows::encode;
 use card_units::NoMemory;
 use std::alloc::Global;

@@ -5,7 +5,7 @@ ghost use Rattle.card_desk.specs.Shares.{IsLoadable, loaded};
 
 use card_days::Day;
 use card_events::{Refusal, Shared};
-use card_shared::{SharedRows, fees_reason, holiday_reason, roll_reason};
+use card_fees::{SharedRows, fees_reason, holiday_reason, roll_reason};
 use card_units::NoMemory;
 use std::alloc::Global;
 

@@ -5,12 +5,12 @@ ghost use Rattle.card_desk.specs.Applied.{IsCounted, Steps};
 ghost use Rattle.card_desk.specs.Kept.{AreDamagedAt, Fits, IsLoadedOf};
 ghost use Rattle.card_desk.specs.Views.{seen, shown};
 ghost use Rattle.card_events.specs.Dated.{is_dated};
-ghost use Rattle.card_keeper.specs.Rows.{KeepsRows, SameRowsTold};
+ghost use Rattle.card_ports.specs.Rows.{KeepsRows, SameRowsTold};
 ghost use Rattle.card_model.specs.Machine.{lists_of};
 
 use crate::{Ask, Desk, Fault, LoadFault, View};
 use card_events::{Name, Reply, Request};
-use card_keeper::Keeper;
+use card_ports::Keeper;
 use card_units::NoMemory;
 use std::alloc::Global;
 

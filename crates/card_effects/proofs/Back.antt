@@ -5,9 +5,9 @@ use Rattle.std.specs.List.{All, filter}
 use Rattle.std.proofs.lemmas.Bool.{false≢true}
 use Rattle.std.proofs.lemmas.Int.{ints}
 use Rattle.std.proofs.lemmas.List.Elements.{All-append, All-cons, All-filter, All-head, All-nil, All-tail}
-use Rattle.card_alloc.proofs.Payable.{HaveRoom, back-known, can-move, limit, room-raise, room-start}
-use Rattle.card_alloc.proofs.Returned.{returned-is}
-use Rattle.card_alloc.specs.Parts.{AreOnSegments, back_entries, parts_in, parts_sum, segment_back}
+use Rattle.card_segments.proofs.Payable.{HaveRoom, back-known, can-move, limit, room-raise, room-start}
+use Rattle.card_segments.proofs.Returned.{returned-is}
+use Rattle.card_segments.specs.Parts.{AreOnSegments, back_entries, parts_in, parts_sum, segment_back}
 use Rattle.card_events.specs.History.{CorrectedPost}
 use Rattle.card_events.specs.declared.kept.Slot.{Slot}
 use Rattle.card_events.specs.declared.post.Post.TheVariants as post

@@ -4,7 +4,7 @@ use Rattle.std.proofs.lemmas.Bool.{ne_eqb}
 use Rattle.std.proofs.lemmas.Bool.Decides.{nat_tests}
 use Rattle.std.proofs.lemmas.List.{append-nil, append_assoc, length-map, map-set, set-get_or, take_more}
 use Rattle.std.proofs.lemmas.List.Elements.{filter-append}
-use Rattle.card_alloc.specs.Parts.{parts_sum}
+use Rattle.card_segments.specs.Parts.{parts_sum}
 use Rattle.card_grace.specs.BookRows.{brought}
 use Rattle.card_grace.specs.Growth.{with_repaid}
 use Rattle.card_grace.specs.Rows.{Rows, others, with_repayment, without_post}

@@ -7,3 +7,8 @@ pub mod Places
 pub mod Reached
 pub mod Repaid
 pub mod Standing
+pub mod Covers
+pub mod HeldSums
+pub mod Numbered
+pub mod HeldSegments
+pub mod HoldStanding

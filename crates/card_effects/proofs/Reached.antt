@@ -4,8 +4,8 @@ use Rattle.std.specs.List.{All, Contains, filter, list_any}
 use Rattle.std.proofs.lemmas.Bool.{false≢true}
 use Rattle.std.proofs.lemmas.List.{drop_all, drop_more}
 use Rattle.std.proofs.lemmas.List.Elements.{All-nil, All-cons, All-head, All-tail, All-weaker, All-contains_itself}
-use Rattle.card_alloc.specs.Holdings as made
-use Rattle.card_alloc.specs.declared.rank.Rank.{Rank}
+use Rattle.card_segments.specs.Holdings as made
+use Rattle.card_segments.specs.declared.rank.Rank.{Rank}
 use Rattle.card_events.specs.declared.post.Place.{Place}
 use Rattle.card_model.specs.Allocation.{Ascends, allocated, placed}
 use Rattle.card_model.specs.Books.{Account, Book}

@@ -6,9 +6,9 @@ use Rattle.std.proofs.lemmas.Int.{ints}
 use Rattle.std.proofs.lemmas.Bool.{eqb-true}
 use Rattle.std.proofs.lemmas.List.{length-map}
 use Rattle.std.proofs.lemmas.List.Elements.{All-nil, All-append, All-head, All-tail}
-use Rattle.card_alloc.specs.Holdings as made
-use Rattle.card_alloc.specs.declared.rank.Rank.{Rank}
-use Rattle.card_alloc.specs.Parts.{AreCovered, AreOnSegments, AreParts, IsOnSegment}
+use Rattle.card_segments.specs.Holdings as made
+use Rattle.card_segments.specs.declared.rank.Rank.{Rank}
+use Rattle.card_segments.specs.Parts.{AreCovered, AreOnSegments, AreParts, IsOnSegment}
 use Rattle.card_days.specs.declared.anchor.Channel.{Channel}
 use Rattle.card_events.specs.History.{CorrectedPost}
 use Rattle.card_events.specs.declared.kept.Slot.{Slot}

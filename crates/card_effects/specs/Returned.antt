@@ -1,7 +1,7 @@
 -- The parts of a payment that was returned, as its entries tell them.
 use Rattle.std.specs.Prelude.{ℕ, ◌==◌, ◌≡◌, ◌≤◌, false, List, Option, Some, pos, ◌≤ℤ◌}
 use Rattle.std.specs.List.{All, Contains, filter}
-use Rattle.card_alloc.specs.Parts.{Ascend, AreOnSegments, parts_in, parts_sum}
+use Rattle.card_segments.specs.Parts.{Ascend, AreOnSegments, parts_in, parts_sum}
 use Rattle.card_model.specs.Effects.{is_part_of}
 use Rattle.card_model.specs.Limits.{balance_limit}
 use Rattle.card_model.specs.Segments.{SegmentTerms}

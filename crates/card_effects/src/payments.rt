@@ -1,7 +1,7 @@
 // What payments and merchants' credits repay.
 ghost use Rattle.std.specs.Prelude.{◌≡◌, ◌++◌, Option, IfOk, OnOk, OnErr, min, pos, ◌≤ℤ◌, vec_capacity, ◌≤◌};
 ghost use Rattle.card_model.specs.Limits.{balance_limit};
-ghost use Rattle.card_alloc.specs.Parts.{AreParts};
+ghost use Rattle.card_segments.specs.Parts.{AreParts};
 ghost use Rattle.card_effects.specs.Entering.{EntersCredit, EntersPayment, Leaves, MayMove};
 ghost use Rattle.card_days.specs.declared.anchor.Channel.{Channel};
 ghost use Rattle.card_events.specs.History.{CorrectedPost};
@@ -16,11 +16,10 @@ ghost use Rattle.card_segments.specs.Balances.{AreWithin};
 use crate::debits::note_of;
 use crate::place::numbers_of;
 use crate::ranks::ranks;
-use card_alloc::{Parts, allocate, place_credit, take};
 use card_days::Day;
 use card_events::{Place, Slot};
 use card_rates::RateBook;
-use card_segments::{Entry, EntryKind, Segments};
+use card_segments::{Entry, EntryKind, Parts, Segments, allocate, place_credit, take};
 use card_units::{Cents, NoMemory};
 use std::alloc::Global;
 

@@ -4,12 +4,11 @@ ghost use Rattle.card_effects.specs.Ranks.{end_by, no_rank, rank_on, ranks_on};
 ghost use Rattle.card_effects.specs.Standing.{AreRated};
 ghost use Rattle.card_model.specs.Segments.{SegmentTerms};
 
-use card_alloc::Rank;
 use card_days::Day;
 use card_grace::is_deferred;
 use card_model::Segment;
 use card_rates::RateBook;
-use card_segments::Segments;
+use card_segments::{Rank, Segments};
 use card_units::NoMemory;
 use std::alloc::Global;
 

@@ -1,7 +1,7 @@
 // What a returned payment brings back.
 ghost use Rattle.std.specs.Prelude.{◌≡◌, ℕ, ◌++◌, ◌<◌, ◌≤◌, List, Option, Some, OnOk, OnErr, length, pos, take, ◌≤ℤ◌, vec_capacity};
 ghost use Rattle.card_model.specs.Limits.{balance_limit};
-ghost use Rattle.card_alloc.specs.Parts.{back_entries};
+ghost use Rattle.card_segments.specs.Parts.{back_entries};
 ghost use Rattle.card_effects.specs.Returned.{AreOfThose, AreReturnable, IsChargeable, parts_of};
 ghost use Rattle.card_effects.specs.Entering.{ChargesFee, EntersWhere, IsReturnOf, PutsBack};
 ghost use Rattle.card_effects.specs.Standing.{AreRated};
@@ -17,11 +17,10 @@ ghost use Rattle.card_segments.specs.Balances.{AreWithin, movable_balance};
 
 use crate::debits::note_of;
 use crate::place::newest;
-use card_alloc::{Parts, put_back};
 use card_events::{Category, Slot};
 use card_model::Fee;
 use card_rates::RateBook;
-use card_segments::{Entry, EntryKind, Note, Segments};
+use card_segments::{Entry, EntryKind, Note, Parts, Segments, put_back};
 use card_units::NoMemory;
 use std::alloc::Global;
 

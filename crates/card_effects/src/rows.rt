@@ -1,13 +1,13 @@
 // What payments and merchants' credits bring to the rows of the cycle.
 ghost use Rattle.std.specs.Prelude.{◌≡◌, ◌+◌, ◌<◌, ◌≤◌, [], ◌∷◌, map, length, OnOk, OnErr};
 ghost use Rattle.card_model.specs.Limits.{balance_limit};
-ghost use Rattle.card_alloc.specs.Parts.{AreOnSegments, parts_sum};
+ghost use Rattle.card_segments.specs.Parts.{AreOnSegments, parts_sum};
 ghost use Rattle.card_effects.specs.Repaid.{AreRepaid};
 ghost use Rattle.card_grace.specs.Rows.{without_post};
 
-use card_alloc::Parts;
 use card_events::Slot;
 use card_grace::CycleRows;
+use card_segments::Parts;
 use card_units::{Cents, NoMemory};
 
 /// Takes all that a payment brought out of the rows. It takes no memory.

@@ -9,3 +9,8 @@ pub mod Before
 pub mod Charges
 pub mod Returned
 pub mod OneFee
+pub mod Repaid
+pub mod Cases
+pub mod Remainder
+pub mod Issued
+pub mod LateFees

@@ -5,3 +5,6 @@ pub mod Laws
 pub mod Limits
 pub mod Rows
 pub mod Table
+pub mod Asked
+pub mod DueFee
+pub mod DueLaws

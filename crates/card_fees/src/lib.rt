@@ -1,16 +1,30 @@
-//! The fee table, sums over payments, the minimum payment and penalty fees (12 CFR 1026.5(b)(2)(ii), .52(b), .55(b)(4)).
+//! The fee table, the minimum payment, what a due date asks for and whether it was paid, penalty fees, and what all accounts
+//! share (12 CFR 1026.5(b)(2)(ii), .52(b), .54, .55(b)(4)).
 #![tactic(auto)]
 
 mod charge;
 mod counting;
 mod due;
+mod due_cycle;
+mod due_fees;
+pub mod due_laws;
+mod grace;
 pub mod laws;
+mod left;
 mod required;
+mod shared_reason;
+mod shared_rows;
 mod table;
 
-pub use card_model::{Fee, FeeKind};
+pub use card_model::{Fee, FeeKind, GraceCase};
 pub use charge::{late_fee, returned_fee};
 pub use counting::{counted, counted_before, credited};
 pub use due::{met, owes_sixty_days, past_due, sixty_days_late};
+pub use due_cycle::{DueCycle, asked, has_due_payment};
+pub use due_fees::{capped_fee, due_fee};
+pub use grace::{paid, purchase_case};
+pub use left::minimum_left;
 pub use required::minimum;
+pub use shared_reason::{fees_reason, holiday_reason, roll_reason};
+pub use shared_rows::SharedRows;
 pub use table::FeeTable;

@@ -9,8 +9,8 @@ use Rattle.card_events.specs.declared.request.Request.{Request}
 use Rattle.card_json.specs.Bodies.{FailsBody, Says, request, bad}
 use Rattle.card_json.specs.declared.body.BodyFault.{BodyFault}
 use Rattle.card_json.specs.declared.body.BodyFault.TheVariants as body_fault
-use Rattle.card_keeper.specs.Rows.{AddsRows, KeepsRows, SameRowsTold}
-use Rattle.card_keeper.specs.declared.row.Row.{Row}
+use Rattle.card_ports.specs.Rows.{AddsRows, KeepsRows, SameRowsTold}
+use Rattle.card_ports.specs.declared.row.Row.{Row}
 use Rattle.card_model.specs.Machine.{State, step}
 use Rattle.card_ports.specs.Counts.{Rose}
 use Rattle.card_wire.specs.declared.route.Route.{Route}

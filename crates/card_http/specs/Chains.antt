@@ -1,6 +1,6 @@
 -- Connections that are served one after the other.
 use Rattle.std.specs.Prelude.{◌⊎◌, ℕ, ◌+◌, ◌-◌, ◌^◌, ◌≤◌, List, [], ◌∷◌, ◌++◌, ⊤}
-use Rattle.card_keeper.specs.declared.row.Row.{Row}
+use Rattle.card_ports.specs.declared.row.Row.{Row}
 use Rattle.card_model.specs.Machine.{State}
 use Rattle.card_http.specs.Exchanges.{EndsAs, Exchange, Makes}
 use Rattle.card_http.specs.Heard.{EndsInside}

@@ -8,8 +8,8 @@ use Rattle.card_json.specs.Answers.{member_text}
 use Rattle.card_json.specs.Bodies.{IsNoJson, Said, Says, request, bad}
 use Rattle.card_json.specs.declared.body.BodyFault.{BodyFault}
 use Rattle.card_json.specs.declared.body.BodyFault.TheVariants as body_fault
-use Rattle.card_keeper.specs.Rows.{AddsRows}
-use Rattle.card_keeper.specs.declared.row.Row.{Row}
+use Rattle.card_ports.specs.Rows.{AddsRows}
+use Rattle.card_ports.specs.declared.row.Row.{Row}
 use Rattle.card_lines.specs.Forms.{name_of, number_of}
 use Rattle.card_model.specs.Machine.{State, step}
 use Rattle.card_ports.specs.Counts.{Rose}

@@ -10,7 +10,7 @@ use crate::outcome::Outcome;
 use card_desk::{Desk, Fault, uncounted};
 use card_events::Request;
 use card_json::read_body;
-use card_keeper::Keeper;
+use card_ports::Keeper;
 use card_units::NoMemory;
 use card_views::told_text;
 use card_wire::Route;

@@ -12,8 +12,7 @@ use crate::served::Served;
 use crate::status::Status;
 use arrayvec::ArrayVec;
 use card_desk::Desk;
-use card_keeper::Keeper;
-use card_ports::Link;
+use card_ports::{Keeper, Link};
 use card_wire::{
     BODY_LIMIT, Early, FIELD_LIMIT, HEAD_LIMIT, Head, HeadEnd, Wanted, judge, path_of, read_body,
     read_head,

@@ -4,3 +4,10 @@ pub mod Totals
 pub mod Sums
 pub mod Unposted
 pub mod SumsBack
+pub mod Better
+pub mod Turn
+pub mod HoldingLists
+pub mod PartFacts
+pub mod Payable
+pub mod Undone
+pub mod Returned

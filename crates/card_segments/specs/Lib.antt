@@ -1,2 +1,6 @@
 pub mod Balances
 pub mod Unposted
+pub mod Holdings
+pub mod AllocationLaws
+pub mod Parts
+pub mod Rules

@@ -10,7 +10,7 @@ use Rattle.sqlite_schema.specs.declared.schema.Schema.{Schema}
 use Rattle.sqlite.specs.Effect.{Database}
 use Rattle.sqlite.specs.Values.{IsInt}
 use Rattle.sqlite.specs.State.{State}
-use Rattle.card_keeper.specs.declared.row.Row.{Row}
+use Rattle.card_ports.specs.declared.row.Row.{Row}
 use Rattle.card_sqlite.specs.Kept.{no_schema, kept_schema, shown, row_in, IsFor, Creates, AreShown, AreKept, Keeps, Stays, StaysKept}
 use Rattle.card_sqlite.proofs.Order.{empty_keeps}
 

@@ -16,8 +16,8 @@ use Rattle.sqlite_value.proofs.OrderLemmas.{value_cmp-Int}
 use Rattle.sqlite_trees.specs.Tree.{Trees, put_row, rowid}
 use Rattle.sqlite_rules.specs.Edit.{is_taken}
 use Rattle.sqlite.specs.Values.{IsInt}
-use Rattle.card_keeper.specs.declared.row.Row.{Row}
-use Rattle.card_keeper.specs.Rows.{next_after, next_seq, are_from}
+use Rattle.card_ports.specs.declared.row.Row.{Row}
+use Rattle.card_ports.specs.Rows.{next_after, next_seq, are_from}
 use Rattle.card_sqlite.specs.Kept.{AreKept, IsAdded, Grows, stored, shown, row_in, seq_in, bytes_in, by_seq}
 
 -- a list is empty, or has a last element

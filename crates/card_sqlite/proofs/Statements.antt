@@ -36,7 +36,7 @@ use Rattle.sqlite.specs.Effect.{Database}
 use Rattle.sqlite.specs.State.{State, mode_of, Writes, Executes, ExecutesIn, IsNotRun, ExecutesInside, KeepsCommit, IsUnchanged, IsRolledBack, FailsToQuery, FailsToShow, Shown, RunsCommand, shows_rows}
 use Rattle.sqlite.specs.Steps.{FailsToCommit}
 use Rattle.sqlite.proofs.Callers.{IsPlain, command_of, statement_of, runs_as, reads_as, one_step}
-use Rattle.card_keeper.specs.declared.row.Row.{Row}
+use Rattle.card_ports.specs.declared.row.Row.{Row}
 use Rattle.card_sqlite.specs.Kept.{create_text, insert_text, select_text, kept, no_schema, kept_schema, AddsRow, IsFor, Creates, Stays, IsSettled, AreShown, shown, by_seq}
 use Rattle.card_sqlite.proofs.Texts.{create_missing, create_there, insert_is, select_is, create_plain, create_there_plain, insert_plain, select_plain, terms, query}
 

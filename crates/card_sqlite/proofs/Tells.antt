@@ -24,11 +24,11 @@ use Rattle.sqlite_keyed.proofs.ListLemmas.{ascending-map, ascending_weaker}
 use Rattle.sqlite_exec.proofs.PartitionLemmas.{sorted_from_ascending}
 use Rattle.sqlite.specs.Effect.{Database}
 use Rattle.sqlite.specs.Values.{IsInt}
-use Rattle.card_keeper.specs.declared.row.Row.{Row}
-use Rattle.card_keeper.specs.declared.keeper.KeeperFault.{KeeperFault}
+use Rattle.card_ports.specs.declared.row.Row.{Row}
+use Rattle.card_ports.specs.declared.keeper.KeeperFault.{KeeperFault}
 use Rattle.card_sqlite.specs.Kept.{no_schema, kept_schema, shown, row_in, by_seq, IsFor, AreShown, AreKept, Keeps, KeepsAll, Extends}
 use Rattle.card_sqlite.specs.Told.{IsShown, same_code, same_schema, is_for, rows_in, told}
-use Rattle.card_keeper.specs.Rows.{next_seq, are_from, GoOn, KeepsRows, AddsRows, GivesRows, SameRowsTold}
+use Rattle.card_ports.specs.Rows.{next_seq, are_from, GoOn, KeepsRows, AddsRows, GivesRows, SameRowsTold}
 use Rattle.sqlite_trees.specs.declared.store.Store.{Ghosts}
 use Rattle.sqlite_trees.proofs.Doubt.{no_doubt}
 use Rattle.sqlite.specs.State.{State, HasCleanDisk, IsLive}

@@ -7,7 +7,7 @@ use Rattle.sqlite_store.specs.declared.store.FileStore.{FileStore}
 use Rattle.sqlite.specs.Held.{Held}
 use Rattle.sqlite.specs.Files.{file_state, Finds}
 use Rattle.sqlite.specs.Closing.{IsCopied}
-use Rattle.card_keeper.specs.declared.row.Row.{Row}
+use Rattle.card_ports.specs.declared.row.Row.{Row}
 use Rattle.card_sqlite.specs.Kept.{AreKept}
 
 -- Files that a close left hold the rows of the last commit, and a connection that finds what they hold keeps them, and no others.

@@ -2,8 +2,8 @@
 use Rattle.sqlite.specs.declared.error.ErrorCode.TheVariants.{OutOfMemory}
 use Rattle.sqlite.specs.declared.error.Error.{Error}
 use Rattle.sqlite.specs.declared.error.Error.TheVariants.{SqliteFailure}
-use Rattle.card_keeper.specs.declared.keeper.KeeperFault.{KeeperFault}
-use Rattle.card_keeper.specs.declared.keeper.KeeperFault.TheVariants.{Failed, Memory}
+use Rattle.card_ports.specs.declared.keeper.KeeperFault.{KeeperFault}
+use Rattle.card_ports.specs.declared.keeper.KeeperFault.TheVariants.{Failed, Memory}
 
 -- only want of memory is Memory
 abbrev pub fault_of : Error → KeeperFault

@@ -14,8 +14,8 @@ use Rattle.sqlite_schema.specs.declared.schema.Kind.TheVariants as kind
 use Rattle.sqlite.specs.Effect.{Database}
 use Rattle.sqlite.specs.Values.{IsInt}
 use Rattle.sqlite.specs.State.{HasCleanDisk, State}
-use Rattle.card_keeper.specs.declared.row.Row.{Row}
-use Rattle.card_keeper.specs.Rows.{next_seq, are_from}
+use Rattle.card_ports.specs.declared.row.Row.{Row}
+use Rattle.card_ports.specs.Rows.{next_seq, are_from}
 
 abbrev pub seq_column : Column
 seq_column = record { name = codes "seq"; kind = kind.Integer; is_strict = true; not_null = false; default = Null; collation = Binary }

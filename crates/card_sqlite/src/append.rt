@@ -5,7 +5,7 @@ ghost use Rattle.sqlite.specs.Held.{state};
 ghost use Rattle.sqlite.specs.declared.types.Value.TheVariants.{Int, Blob};
 ghost use Rattle.card_sqlite.specs.Kept.{insert_text, kept_schema, AddsRow, AddsAll, Grows, GrowsTable, InTransaction, IsSettled, Stays};
 
-use card_keeper::Row;
+use card_ports::Row;
 use sqlite::{Alter, Connection, Error, ErrorCode, Transaction, params};
 
 // The seq as a rowid, where it is one.

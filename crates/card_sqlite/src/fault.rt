@@ -1,7 +1,7 @@
 ghost use Rattle.std.specs.Prelude.{◌≡◌};
 ghost use Rattle.card_sqlite.specs.Faults as spec;
 
-use card_keeper::KeeperFault;
+use card_ports::KeeperFault;
 use sqlite::{Error, ErrorCode};
 
 // Only want of memory is `Memory`.

@@ -3,7 +3,7 @@ ghost use Rattle.std.specs.Prelude.{◌≡◌};
 use crate::StoreKeeper;
 use crate::fault::fault_of;
 use crate::store::counted;
-use card_keeper::{Keeper, KeeperFault, Row};
+use card_ports::{Keeper, KeeperFault, Row};
 use sqlite::{Alter, Connection, File, FileStore};
 use sqlite_disk::Disk;
 use std::alloc::Global;

@@ -1,5 +1,5 @@
 use crate::{StoreKeeper, Told};
-use card_keeper::{Keeper, KeeperFault, Row};
+use card_ports::{Keeper, KeeperFault, Row};
 use std::alloc::Global;
 
 impl<S: Told> Keeper for StoreKeeper<S> {

@@ -7,7 +7,7 @@ ghost use Rattle.sqlite.specs.Values.{IsInt};
 ghost use Rattle.card_sqlite.specs.Kept.{kept_schema, row_in, seq_in, IsFor, Creates, Keeps, AreShown, IsSettled, Stays, StaysKept};
 ghost use Rattle.sqlite.specs.declared.types.Value.TheVariants.{Int};
 
-use card_keeper::{Body, Row};
+use card_ports::{Body, Row};
 use sqlite::{Alter, Connection, Error, Row as Record};
 use std::alloc::Global;
 

@@ -8,7 +8,7 @@ use crate::append::append;
 use crate::fault::fault_of;
 use crate::fits::{fits, is_kept_alone};
 use crate::load::load;
-use card_keeper::{KeeperFault, Row};
+use card_ports::{KeeperFault, Row};
 use sqlite::{Alter, Connection};
 use sqlite_schema::schema::Schema;
 use std::alloc::Global;

@@ -1,7 +1,6 @@
 use crate::stored::billctl_over_store;
 use card_commands::billctl;
-use card_keeper::{Keeper, MemoryKeeper, Row};
-use card_ports::{MemoryDoor, MemorySink, MemorySource};
+use card_ports::{Keeper, MemoryDoor, MemoryKeeper, MemorySink, MemorySource, Row};
 use card_sqlite::StoreKeeper;
 use sqlite::{Connection, MemStore};
 use std::alloc::Global;

@@ -1,7 +1,6 @@
 // The server of the top call over connections in memory.
 use card_commands::billctl;
-use card_keeper::MemoryKeeper;
-use card_ports::{MemoryDoor, MemoryLink, MemorySink, MemorySource};
+use card_ports::{MemoryDoor, MemoryKeeper, MemoryLink, MemorySink, MemorySource};
 use std::alloc::Global;
 use std::test::Fail;
 

@@ -1,4 +1,4 @@
-use card_keeper::{Body, Keeper, KeeperFault, Row};
+use card_ports::{Body, Keeper, KeeperFault, Row};
 use card_sqlite::{SqliteKeeper, StoreKeeper};
 use sqlite::{Alter, Connection, Files, Options};
 use sqlite_disk::{Crash, Disk, Fuse, Memory};

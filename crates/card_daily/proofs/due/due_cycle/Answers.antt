@@ -1,9 +1,9 @@
 use Rattle.std.proofs.Common.{◌≡◌, ℕ, Bool, pos, sym, ap, ◌∙◌, refl, Option}
 use Rattle.std.specs.Option.{option_map}
-use Rattle.card_due.proofs.Issued.{due-fold}
-use Rattle.card_due.specs.Asked.{is_due_by}
+use Rattle.card_fees.proofs.Issued.{due-fold}
+use Rattle.card_fees.specs.Asked.{is_due_by}
 use Rattle.card_days.specs.declared.anchor.Anchor.{Anchor}
-use Rattle.card_due.specs.declared.due_cycle.DueCycle.{DueCycle}
+use Rattle.card_fees.specs.declared.due_cycle.DueCycle.{DueCycle}
 use Rattle.card_events.specs.History.{anchor_of}
 use Rattle.card_model.specs.Caps.{row_for}
 use Rattle.card_model.specs.Cycles.{Cycle, IssuedRow}

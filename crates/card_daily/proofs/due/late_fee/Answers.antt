@@ -1,8 +1,8 @@
 use Rattle.std.proofs.Common.{ℕ, ◌+◌, ◌<◌, ◌≤◌, sym, ap, ◌∙◌, arith, subst}
 use Rattle.card_days.specs.Billing.{due}
 use Rattle.card_events.specs.History.{anchor_of, corrected}
-use Rattle.card_due.specs.Laws.{issued_fees}
-use Rattle.card_due.specs.declared.due_cycle.DueCycle.{DueCycle}
+use Rattle.card_fees.specs.DueLaws.{issued_fees}
+use Rattle.card_fees.specs.declared.due_cycle.DueCycle.{DueCycle}
 use Rattle.card_model.specs.Caps.{row_for}
 use Rattle.card_model.specs.Cycles.{Cycle}
 use Rattle.card_daily.proofs.DueFee.{few, late-is}

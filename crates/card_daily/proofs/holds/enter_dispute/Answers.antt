@@ -2,7 +2,7 @@ use Rattle.std.proofs.Common.{List, refl, sym, subst}
 use Rattle.card_effects.specs.Standing.{IsSlotOf, StandsAt}
 use Rattle.card_events.specs.declared.kept.Kept.{Kept}
 use Rattle.card_events.specs.declared.post.Post.TheVariants as post
-use Rattle.card_holds.specs.Accounts.{AreOf}
+use Rattle.card_effects.specs.Accounts.{AreOf}
 use Rattle.card_model.specs.Books.{account_of}
 use Rattle.card_model.specs.Effects.{effect}
 use Rattle.card_rates.specs.Laws.{seen_in}

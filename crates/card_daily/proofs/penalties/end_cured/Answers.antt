@@ -1,6 +1,6 @@
 use Rattle.std.proofs.Common.{◌+◌, None, List, length, get_or, ap, ◌∙◌, refl, arith}
 use Rattle.card_model.specs.declared.segment.Interval.{Interval}
-use Rattle.card_penalties.specs.Ending.{cured_with}
+use Rattle.card_closing.specs.PenaltyEnd.{cured_with}
 use Rattle.card_rates.specs.RateBooks.{Rates, with_penalties}
 use Rattle.card_daily.proofs.Penalized.{done-all, done-length, done-set, done-to}
 use Rattle.card_daily.specs.Given.{seen_in}

@@ -1,5 +1,5 @@
 use Rattle.std.proofs.Common.{◌≡◌}
-use Rattle.card_penalties.specs.Ending.{cured_with}
+use Rattle.card_closing.specs.PenaltyEnd.{cured_with}
 use Rattle.card_rates.specs.RateBooks.{with_penalties}
 use Rattle.card_daily.proofs.Penalized.{done-to}
 use Rattle.card_daily.specs.Given.{seen_in}

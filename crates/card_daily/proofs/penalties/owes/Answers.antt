@@ -1,5 +1,5 @@
 use Rattle.std.proofs.Common.{◌≤◌, sym, ap, ◌∙◌, subst}
-use Rattle.card_due.specs.declared.due_cycle.DueCycle.{DueCycle}
+use Rattle.card_fees.specs.declared.due_cycle.DueCycle.{DueCycle}
 use Rattle.card_events.specs.History.{anchor_of, corrected}
 use Rattle.card_daily.proofs.Penalized.{owes-is}
 use Rattle.card_daily.proofs.penalties.owes.Goals as goal

@@ -3,10 +3,10 @@ use Rattle.std.proofs.lemmas.Int.{to_z-of_z}
 use Rattle.card_days.specs.Billing.{closing}
 use Rattle.card_days.specs.Range.{last_request_day}
 use Rattle.card_days.specs.declared.anchor.Anchor.{Anchor}
-use Rattle.card_due.proofs.Remainder.{left-fold}
-use Rattle.card_due.specs.Asked.{left_by}
-use Rattle.card_due.specs.Laws.{due_cycle_of}
-use Rattle.card_due.specs.declared.due_cycle.DueCycle.{DueCycle}
+use Rattle.card_fees.proofs.Remainder.{left-fold}
+use Rattle.card_fees.specs.Asked.{left_by}
+use Rattle.card_fees.specs.DueLaws.{due_cycle_of}
+use Rattle.card_fees.specs.declared.due_cycle.DueCycle.{DueCycle}
 use Rattle.card_events.specs.History.{CorrectedPost, anchor_of, corrected}
 use Rattle.card_model.specs.Cycles.{Cycle}
 use Rattle.card_daily.proofs.Following.{begun-by, due-most}

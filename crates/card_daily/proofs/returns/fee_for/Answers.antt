@@ -2,8 +2,8 @@ use Rattle.std.proofs.Common.{pos, refl, sym, ap, ◌∙◌, arith, w64}
 use Rattle.std.proofs.lemmas.Int.{to_z-of_z}
 use Rattle.std.specs.Prelude.{option_copied, unsigned_abs}
 use Rattle.card_days.specs.Billing.{cycle_of}
-use Rattle.card_due.specs.Charged.{capped_if_any}
-use Rattle.card_due.specs.Laws.{issued_fees}
+use Rattle.card_fees.specs.DueFee.{capped_if_any}
+use Rattle.card_fees.specs.DueLaws.{issued_fees}
 use Rattle.card_model.specs.Cycles.{Cycle}
 use Rattle.card_model.specs.Fees.{last_due}
 use Rattle.card_model.specs.Payments.{asked}

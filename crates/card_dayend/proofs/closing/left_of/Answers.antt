@@ -1,7 +1,7 @@
 use Rattle.std.proofs.Common.{Some, w64, pos, ap, sym, ◌∙◌, arith}
 use Rattle.std.proofs.lemmas.Int.{to_z-of_z}
 use Rattle.std.specs.Prelude.{unsigned_abs}
-use Rattle.card_due.specs.Asked.{asks}
+use Rattle.card_fees.specs.Asked.{asks}
 use Rattle.card_events.specs.History.{anchor_of, corrected}
 use Rattle.card_model.specs.Payments.{asked}
 use Rattle.card_daily.proofs.ClosingDay.{last-at, left-alike, left-is}

@@ -1,5 +1,5 @@
 use Rattle.std.proofs.Common.{length, sym, ap, ◌∙◌, subst}
-use Rattle.card_alloc.specs.Parts.{AreOnSegments, parts_sum}
+use Rattle.card_segments.specs.Parts.{AreOnSegments, parts_sum}
 use Rattle.std.specs.Prelude.{◌≤◌}
 use Rattle.card_effects.proofs.Back.{back-small, back-stands, both-ok}
 use Rattle.card_effects.specs.Returned.{parts_of}

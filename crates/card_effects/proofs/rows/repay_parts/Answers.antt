@@ -1,6 +1,6 @@
 use Rattle.std.proofs.Common.{ℕ, List, ap, ◌∙◌, subst, arith}
 use Rattle.std.proofs.lemmas.List.{take_all}
-use Rattle.card_alloc.specs.Parts.{parts_sum}
+use Rattle.card_segments.specs.Parts.{parts_sum}
 use Rattle.card_effects.specs.Repaid.{AreRepaid}
 use Rattle.card_effects.proofs.Carried.{next-part, part-within}
 use Rattle.card_effects.proofs.rows.repay_parts.Goals as goal

@@ -12,7 +12,7 @@ use Rattle.card_desk.specs.Kept.{row_of, accepted_count}
 use Rattle.card_desk.specs.Places.{place_from}
 use Rattle.card_desk.proofs.DeskLemmas.{count_opened, opened_state, state_by}
 use Rattle.card_desk.proofs.IndexLemmas.{index_back, index_pushed}
-use Rattle.card_index.specs.Places.{Places}
+use Rattle.card_desk.specs.IndexPlaces.{Places}
 use Rattle.card_desk.proofs.KeptLemmas.{index_desk, opened_desk}
 use Rattle.card_desk.proofs.OutcomeLemmas.{open_accepted}
 use Rattle.card_desk.proofs.PlaceLemmas.{no_place}

@@ -1,6 +1,6 @@
 use Rattle.std.proofs.Common.{List, subst, sym}
-use Rattle.card_keeper.specs.Rows.{GivesRows}
-use Rattle.card_keeper.specs.declared.row.Row.{Row}
+use Rattle.card_ports.specs.Rows.{GivesRows}
+use Rattle.card_ports.specs.declared.row.Row.{Row}
 use Rattle.card_desk.proofs.RowLemmas.{fits_result}
 use Rattle.card_desk.proofs.desk.Desk.load.Goals as goal
 

@@ -1,6 +1,0 @@
-use Rattle.std.proofs.Common.{drop}
-use Rattle.card_alloc.specs.Rules.{IsPlaceOf, chosen}
-use Rattle.card_alloc.proofs.choice.best.Given as goal
-
-abbrev pub invariant-loop-i : goal.invariant-loop-i
-invariant-loop-i l = IsPlaceOf l.holdings (chosen l.choice (drop l.i l.holdings)) l.found

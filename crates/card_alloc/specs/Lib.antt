@@ -1,4 +1,0 @@
-pub mod Holdings
-pub mod Laws
-pub mod Parts
-pub mod Rules

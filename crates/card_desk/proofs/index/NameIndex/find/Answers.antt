@@ -1,0 +1,7 @@
+use Rattle.std.proofs.Common.{◌∙◌, sym, ap}
+use Rattle.card_desk.specs.IndexPlaces.{place_of}
+use Rattle.card_desk.proofs.MapLemmas.{found}
+use Rattle.card_desk.proofs.index.NameIndex.find.Goals as goal
+
+pub returns : goal.returns
+returns c = c.copied.ensures ∙ c.get.ensures.value ∙ found c.args.name.now c.self.inside.places.entries ∙ ap (place_of c.args.name.now) c.self.view_is

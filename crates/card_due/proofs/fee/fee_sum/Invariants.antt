@@ -1,7 +1,0 @@
-use Rattle.std.proofs.Common.{◌≡◌, ◌≤◌, ◌*◌, take}
-use Rattle.std.specs.List.{sum_by}
-use Rattle.card_due.specs.Charged.{cents_for}
-use Rattle.card_due.proofs.fee.fee_sum.Given as goal
-
-abbrev pub invariant-loop-fee : goal.invariant-loop-fee
-invariant-loop-fee l = (l.total ≡ sum_by (cents_for l.due_cycle) (take l.fee-index l.fees)) × (l.total ≤ l.fee-index * 9_223_372_036_854_775_807)

@@ -1,0 +1,109 @@
+// The late fee for a due date that wasn't met.
+ghost use Rattle.std.specs.Prelude.{◌≡◌, ℕ, ◌+◌, ◌<◌, ◌≤◌, ◌≤ℤ◌, List, Some, min, pos, option_copied};
+ghost use Rattle.card_days.specs.Billing.{IsCloseDay, due};
+ghost use Rattle.card_fees.specs.DueFee.{capped, cents_for, fee_sum, late_by};
+ghost use Rattle.card_model.specs.Caps.{fee_above};
+ghost use Rattle.card_model.specs.Fees.{fee_cents};
+ghost use Rattle.card_posts.specs.Posted.{StandsFor};
+
+use crate::due_cycle::{DueCycle, asked};
+use crate::{FeeTable, late_fee, met};
+use card_days::Anchor;
+use card_model::Fee;
+use card_posts::Posts;
+use card_units::Cents;
+
+// the cents of a fee for a due date, 0 for those of others
+fn cents_for(due_cycle: u32, fee: &Fee) -> u64
+    ensures value { result ≡ cents_for due_cycle fee.now }
+    ensures bound { result ≤ 9_223_372_036_854_775_807 }
+{
+    if fee.due_cycle == due_cycle {
+        cents_of(fee)
+    } else {
+        0
+    }
+}
+
+// the fees for a due date together
+fn fee_sum(due_cycle: u32, fees: &[Fee]) -> u128
+    ensures { result ≡ fee_sum due_cycle fees.now }
+{
+    let mut total = 0;
+    for fee in fees {
+        total += cents_for(due_cycle, fee) as u128;
+    }
+    total
+}
+
+// a fee's cents, which are at least 0
+fn cents_of(fee: &Fee) -> u64
+    ensures value { result ≡ fee_cents fee.now }
+    ensures bound { result ≤ 9_223_372_036_854_775_807 }
+{
+    fee.cents.max(0) as u64
+}
+
+// a fee at other cents, none for 0
+fn above(cents: u64, fee: &Fee) -> Option<Fee>
+    requires { cents ≤ 9_223_372_036_854_775_807 }
+    ensures { result ≡ fee_above cents fee.now }
+{
+    if cents == 0 {
+        return None;
+    }
+    Some(Fee {
+        cents: cents as i64,
+        ..*fee
+    })
+}
+
+// the cents of a fee, at most those of the fees for its due date among issued ones
+fn lower(issued: &[Fee], fee: &Fee) -> u64
+    ensures value { result ≡ min (fee_cents fee.now) (fee_sum fee.now.due_cycle issued.now) }
+    ensures bound { result ≤ 9_223_372_036_854_775_807 }
+{
+    let cents = cents_of(fee);
+    fee_sum(fee.due_cycle, issued).min(cents as u128) as u64
+}
+
+/// A penalty fee, at most what the issued statement of its cycle has for its due date, in cents. None comes exactly where
+/// that is 0. Without an issued statement it stays as it is. It takes no memory.
+#[tactic(auto, unfolding(crate::specs::DueFee::capped))]
+pub fn capped_fee(issued: Option<&[Fee]>, fee: &Fee) -> Option<Fee>
+    ensures { result ≡ capped (option_copied issued.entry) fee.now }
+{
+    match issued {
+        Some(fees) => above(lower(fees, fee), fee),
+        None => above(cents_of(fee), fee),
+    }
+}
+
+/// The late fee for the due date of a cycle, charged on the day after it where the payments up to it didn't reach the
+/// minimum payment (12 CFR 1026.52(b)(1)(ii), (b)(2)): the table's amount of that day, at most the minimum payment, and at
+/// most what the issued statement of the cycle that is charged has for this due date, in cents. The fees are those charged
+/// so far. None comes exactly where the due date was met or the fee is 0, or where one was charged for the due date
+/// before. The cycle is at least 1, and its due date is there and before 2100-12-31; its minimum payment is at least 0.
+/// The corrected list is that of the posts under some calendar. It takes no memory.
+pub fn due_fee(
+    table: &FeeTable,
+    fees: &[Fee],
+    posts: &Posts,
+    a: &Anchor,
+    c: &DueCycle,
+    issued: Option<&[Fee]>,
+) -> Option<Fee>
+    requires close_day { IsCloseDay a.now.close_day }
+    requires cycle { 1 ≤ c.now.cycle }
+    requires last { due a.now c.now.cycle < 47_846 }
+    requires low { pos 0 ≤ℤ c.now.minimum }
+    ensures { (holidays : List ℕ) → StandsFor holidays posts.now → result ≡ late_by table.now (option_copied issued.entry) fees.now a.now posts.now.corrected c.now }
+{
+    if met(posts, *a, c.cycle, asked(c)) {
+        return None;
+    }
+    match late_fee(table, fees, *a, c.cycle, c.minimum) {
+        Some(fee) => capped_fee(issued, &fee),
+        None => None,
+    }
+}

@@ -1,0 +1,38 @@
+// What earlier payments left of a minimum payment.
+ghost use Rattle.std.specs.Prelude.{◌≡◌, ℕ, ◌-◌, ◌<◌, ◌≤◌, ◌≤ℤ◌, List, pos, unsigned_abs};
+ghost use Rattle.card_days.specs.Billing.{IsCloseDay, closing};
+ghost use Rattle.card_fees.specs.Asked.{left_by};
+ghost use Rattle.card_posts.specs.Posted.{StandsFor};
+
+use crate::counted_before;
+use crate::due_cycle::{DueCycle, asked};
+use card_days::{Anchor, Day, after_closing};
+use card_posts::Posts;
+use card_units::Cents;
+
+// what an amount leaves of another
+fn rest(amount: Cents, paid: Cents) -> Cents
+    requires low { pos 0 ≤ℤ amount }
+    requires paid { pos 0 ≤ℤ paid }
+    ensures { result ≡ pos (unsigned_abs amount - unsigned_abs paid) }
+{
+    (amount as u64).saturating_sub(paid as u64) as i64
+}
+
+/// What is left of a cycle's minimum payment for the payment with this number, whose effective day is this one, in cents
+/// (12 CFR 1026.53(a)): the minimum payment less the payments that are folded before it, with effective days after the
+/// cycle's closing, without those that a Return before it takes back; not below 0, and 0 without a due payment. The payments
+/// folded before are those of earlier days, and of the same day those with smaller numbers. The cycle is at least 1 and
+/// closed before the day; its minimum payment is at least 0. The corrected list is that of the posts under some calendar.
+/// It takes no memory.
+pub fn minimum_left(posts: &Posts, a: &Anchor, c: &DueCycle, day: Day, number: u32) -> Cents
+    requires close_day { IsCloseDay a.now.close_day }
+    requires cycle { 1 ≤ c.now.cycle }
+    requires closed { closing a.now c.now.cycle < day }
+    requires low { pos 0 ≤ℤ c.now.minimum }
+    ensures { (holidays : List ℕ) → StandsFor holidays posts.now → result ≡ pos (left_by a.now posts.now.corrected c.now day number) }
+{
+    let _last = day.number();
+    let from = after_closing(a, c.cycle);
+    rest(asked(c), counted_before(posts, from, day, number))
+}

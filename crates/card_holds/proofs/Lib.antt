@@ -1,5 +1,0 @@
-pub mod Covers
-pub mod Sums
-pub mod Numbered
-pub mod Segments
-pub mod Standing

@@ -1,5 +1,0 @@
-pub mod Accounts
-pub mod Entering
-pub mod Laws
-pub mod Seen
-pub mod TestAccount

@@ -1,7 +1,0 @@
-//! A law on what is held. Its function does nothing; its clause is what holds.
-ghost use Rattle.card_holds.specs.Laws.{HeldCoversReleases};
-
-/// Where no Dispute is resolved twice, Held has at least what a Dispute moved whenever it is resolved.
-pub fn held_covers_releases()
-    ensures { HeldCoversReleases }
-{}

@@ -1,7 +1,0 @@
-use Rattle.std.proofs.Common.{◌∙◌, sym, ap}
-use Rattle.card_index.specs.Places.{place_of}
-use Rattle.card_index.proofs.MapLemmas.{found}
-use Rattle.card_index.proofs.index.NameIndex.find.Goals as goal
-
-pub returns : goal.returns
-returns c = c.copied.ensures ∙ c.get.ensures.value ∙ found c.args.name.now c.self.inside.places.entries ∙ ap (place_of c.args.name.now) c.self.view_is
