@@ -1,4 +1,7 @@
 // The server of the top call over connections in memory.
+ghost use Rattle.std.specs.Prelude.{◌≡◌, All, IfOk};
+ghost use Rattle.card_ports.specs.Forms.{IsFresh};
+
 use card_commands::billctl;
 use card_ports::{MemoryDoor, MemoryKeeper, MemoryLink, MemorySink, MemorySource};
 use std::alloc::Global;
@@ -17,9 +20,21 @@ fn words(alloc: Global, given: &[&str]) -> Result<Vec<String>, Fail> {
     Ok(words)
 }
 
-fn link_of(alloc: Global, bytes: &[u8]) -> Result<MemoryLink, Fail> {
+fn link_of(alloc: Global, bytes: &[u8]) -> Result<MemoryLink, Fail>
+    ensures { IfOk result (λ l. l.calls.faults ≡ 0) }
+{
     let bytes = Vec::from_slice(alloc, bytes)?;
     Ok(MemoryLink::new(alloc, bytes, Vec::new(alloc)))
+}
+
+// Two connections, which have failed at no call yet.
+fn two_links(alloc: Global) -> Result<Vec<MemoryLink>, Fail>
+    ensures { IfOk result (λ links. All IsFresh links.items) }
+{
+    let mut links = Vec::new(alloc);
+    links.push(link_of(alloc, ROLL)?)?;
+    links.push(link_of(alloc, WORK)?)?;
+    Ok(links)
 }
 
 // The status of a server over no rows, for whom no line of input comes, and what it writes.
@@ -35,9 +50,7 @@ fn served(alloc: Global, given: &[&str], door: &mut MemoryDoor) -> Result<(u8, M
 #[test]
 fn connections_come_in_turn(rt: HostRuntime) -> Result<(), Fail> {
     let alloc = rt.alloc();
-    let mut links = Vec::new(alloc);
-    links.push(link_of(alloc, ROLL)?)?;
-    links.push(link_of(alloc, WORK)?)?;
+    let links = two_links(alloc)?;
     let mut door = MemoryDoor::new(alloc, links, Vec::new(alloc))?;
     let (status, output) = served(alloc, &["serve", "8080", "2"], &mut door)?;
     assert_eq!(rt; status, 0);
