@@ -5,6 +5,7 @@
 # and clients come that send nothing, a byte a second, half a head and a reset, 100 kB of head, two requests at once, and a
 # chunked body. Each gets its answer or is cut within the deadline, the next is served, each line says how its connection
 # ended, the rows are those of the requests that were answered 200, and each answer is one that docs/openapi.json describes.
+# Another server, whose output takes nothing for now, has closed its connection before the line of it is written.
 #
 #     tests/desk.sh
 top=$(cd "$(dirname "$0")/.." && pwd) || exit 1
@@ -271,6 +272,58 @@ def steps(work):
         yield "200", lambda desk: desk.ask("GET", "/accounts/h-1")
 
 
+def full_pipe():
+    """A pipe that takes no byte until it is read: its two ends."""
+    reader, writer = os.pipe()
+    os.set_blocking(writer, False)
+    for size in (4096, 1):
+        try:
+            while True:
+                os.write(writer, b"." * size)
+        except BlockingIOError:
+            pass
+    os.set_blocking(writer, True)
+    return reader, writer
+
+
+def connected(port):
+    for _ in range(200):
+        try:
+            return socket.create_connection(("127.0.0.1", port), 10)
+        except ConnectionRefusedError:
+            time.sleep(0.05)
+    fail("no server")
+
+
+def closed_before_its_line():
+    """The connection is at its end while its line can't be written yet, and then the line comes."""
+    with socket.socket() as free:
+        free.bind(("127.0.0.1", 0))
+        port = free.getsockname()[1]
+    reader, writer = full_pipe()
+    server = subprocess.Popen([PROGRAM, "-", "serve", str(port), "1"], stdin=subprocess.DEVNULL, stdout=writer)
+    os.close(writer)
+    try:
+        with connected(port) as client:
+            client.sendall(b"GET /work HTTP/1.1\r\n\r\n")
+            answer = b""
+            try:
+                while piece := client.recv(4096):
+                    answer += piece
+            except TimeoutError:
+                fail("a connection stays open until its line is written")
+        if not answer.startswith(b"HTTP/1.1 200 OK\r\n"):
+            fail(f"a server whose output is full answers {answer[:40]}")
+        if server.poll() is not None:
+            fail("a server whose output is full has ended")
+        with os.fdopen(reader, "rb") as output:
+            written = output.read().lstrip(b".")
+        if written != b"200\n" or server.wait(10) != 0:
+            fail(f"a server whose output was full writes {written}")
+    finally:
+        server.kill()
+
+
 def view_show(file):
     return "".join(line + "\n" for line in replies(file, ["show h-1"]))
 
@@ -302,7 +355,8 @@ def main():
             fail(f"line {at + 1} of {len(wanted)}: {lines[at:at + 1]}, wanted {wanted[at:at + 1]}")
         if rows_of(file) != rows_of(os.path.join(work, "lined.db")):
             fail("the rows aren't those of the requests that were answered 200")
-        print(f"desk: {len(todo)} connections, the answers, lines and rows that were wanted")
+        closed_before_its_line()
+        print(f"desk: {len(todo) + 1} connections, the answers, lines and rows that were wanted")
     finally:
         shutil.rmtree(work)
 
