@@ -6,6 +6,7 @@ pub mod Days
 pub mod Disputed
 pub mod EveryEntry
 pub mod FeeOrder
+pub mod Fronts
 pub mod GoingOn
 pub mod IssuedRows
 pub mod MarksGoOn
@@ -19,8 +20,10 @@ pub mod PenaltyFees
 pub mod QuietSpans
 pub mod RatesGoOn
 pub mod Renewing
+pub mod Rewinding
 pub mod Rewound
 pub mod Sheets
+pub mod StateParts
 pub mod StepCounts
 pub mod Steps
 pub mod Told

@@ -1,5 +1,6 @@
 // What is asked of a book.
-ghost use Rattle.std.specs.Prelude.{◌≡◌, IfOk, neg_ℤ, option_copied, pos, slice_index_or};
+ghost use Rattle.std.specs.Prelude.{◌≡◌, ◌≤◌, IfOk, length, nat_le, neg_ℤ, option_copied, pos, slice_index_or};
+ghost use Rattle.std.specs.List.{filter};
 ghost use Rattle.card_model.specs.Limits.{balance_limit};
 ghost use Rattle.card_model.specs.Payments.{sixty_days_late};
 ghost use Rattle.card_model.specs.Entries.{at_least_zero};
@@ -8,7 +9,8 @@ ghost use Rattle.card_segments.specs.Balances.{AreWithin};
 ghost use Rattle.card_model.specs.Refusals.{book_today, seen_today};
 
 use crate::Book;
-use card_daily::{Cycle, Entry, Fee, Present, is_sixty_days_late};
+use crate::statement::cycle_in;
+use card_daily::{Cycle, Entry, Fee, Present, Track, is_sixty_days_late};
 use card_days::Day;
 use card_grace::Accrual;
 use card_rates::RateBook;
@@ -68,6 +70,19 @@ fn copy_segments(segments: &Segments, alloc: Global) -> Result<Vec<Segment>, NoM
     Ok(copy)
 }
 
+/// How many penalty fees were charged up to a cycle.
+pub fn fees_up_to(fees: &[Fee], cycle: u32) -> usize
+    ensures { result ≡ length (filter (λ f. nat_le f.cycle cycle) fees.now) }
+{
+    let mut count = 0;
+    for fee in fees {
+        if fee.cycle <= cycle {
+            count += 1;
+        }
+    }
+    count
+}
+
 fn cycle_of(cycles: &[Cycle], number: u32) -> Option<&Cycle>
     ensures { option_copied result ≡ cycle_at number cycles.now }
 {
@@ -79,13 +94,16 @@ fn cycle_of(cycles: &[Cycle], number: u32) -> Option<&Cycle>
 }
 
 impl<'a> Folded<'a> {
-    ghost use Rattle.std.specs.Prelude.{◌≡◌, ◌<◌, IfOk, length, pos, option_copied};
+    ghost use Rattle.std.specs.Prelude.{◌≡◌, ◌<◌, ◌≤◌, ℕ, IfOk, length, pos, option_copied, Some};
     ghost use Rattle.std.specs.List.{All};
+    ghost use Rattle.card_model.specs.Cycles.{Cycle};
     ghost use Rattle.card_model.specs.Entries.{AreBalances, credit_balance, owed, owing};
     ghost use Rattle.card_model.specs.Limits.{balance_limit};
     ghost use Rattle.card_segments.specs.Balances.{AreWithin};
     ghost use Rattle.card_model.specs.Folds.{cycle_at};
-    ghost use Rattle.card_book.specs.Stands.{told};
+    ghost use Rattle.card_book.specs.Rewound.{AreFolded, AreFoldedBack, StandsBehind};
+    ghost use Rattle.card_book.specs.Stands.{IsFoldedTo, StandsFor, told};
+    ghost use Rattle.card_daily.specs.Given.{Given};
 
     // By its parts: the balances are the sums of the entries, and within their bounds.
     pub(crate) fn new(
@@ -104,6 +122,33 @@ impl<'a> Folded<'a> {
             cycles,
             fees,
         }
+    }
+
+    /// What a Book and its track tell of an account: at the end of the last day folded, the whole book of each account for which
+    /// they stand.
+    pub fn of(book: &'a Book, track: &'a Track) -> Folded<'a>
+        requires { AreFolded book.now track.now }
+        ensures { (g : Given) (day : ℕ) → StandsFor g book.now track.now → book.now.day ≡ Some day → IsFoldedTo g day result }
+    {
+        Folded::new(book, &track.entries, &track.cycles, &track.fees)
+    }
+
+    /// What a Book tells that was taken back to the closing of a closed cycle, with the front of the track up to that closing: the
+    /// whole book of that day.
+    pub fn at_closing(book: &'a Book, track: &'a Track, number: u32) -> Folded<'a>
+        requires first { 1 ≤ number }
+        requires closed { number ≤ length track.now.cycles.items }
+        requires back { AreFoldedBack number book.now track.now }
+        ensures { (g : Given) (c : Cycle) → StandsBehind g number c book.now track.now → IsFoldedTo g c.closing result }
+    {
+        let count = cycle_in(track, number).entries;
+        let fees = fees_up_to(&track.fees, number);
+        Folded::new(
+            book,
+            &track.entries[..count],
+            &track.cycles[..number as usize],
+            &track.fees[..fees],
+        )
     }
 
     /// What is owed in all, in cents; below 0 where a credit balance is left.

@@ -4,6 +4,9 @@ ghost use Rattle.card_model.specs.Entries.{credit_in};
 ghost use Rattle.card_book.specs.Stands.{since_after};
 
 use crate::copies::copy_state;
+use crate::earlier::{renewed_state, state_at};
+use crate::marks::{Accruing, push_accruing};
+use crate::statement::cycle_in;
 use card_daily::{Inputs, State, Track, is_sixty_days_late};
 use card_dayend::{next_span, opening_day, span_end, start};
 use card_days::Day;
@@ -68,11 +71,15 @@ impl Model for Book {
 }
 
 impl Book {
-    ghost use Rattle.std.specs.Prelude.{◌≡◌, ◌+◌, ◌-◌, ◌≤◌, ◌<◌, ℕ, [], true, false, length, IfOk, OnOk, OnErr, Some, None};
+    ghost use Rattle.std.specs.Prelude.{◌≡◌, ◌+◌, ◌-◌, ◌≤◌, ◌<◌, ◌++◌, ℕ, [], true, false, length, take, vec_capacity, IfOk, OnOk, OnErr, Some, None};
     ghost use Rattle.card_days.specs.Range.{last_request_day, last_calendar_day};
+    ghost use Rattle.card_book.specs.Marks.{accruing_on};
+    ghost use Rattle.card_book.specs.Renewed.{AwaitsPosts, HasNewPosts};
+    ghost use Rattle.card_book.specs.Rewound.{AreFolded, GoesBack};
     ghost use Rattle.card_book.specs.Stands.{IsRequestDay, StandsFor, book_through, day_to_fold, days_through, since_after, steps_over};
     ghost use Rattle.card_daily.specs.Given.{Given, book_on, opened_in, seen_in};
     ghost use Rattle.card_daily.specs.Stands.{AreBefore, Begins, IsBlank, KeepsRoom};
+    ghost use Rattle.card_model.specs.Cycles.{Cycle};
     ghost use Rattle.card_daily.specs.declared.track.Track.{Track};
     ghost use Rattle.card_model.specs.Entries.{AreBalances, balance, credit_in, owed};
     ghost use Rattle.card_model.specs.Folds.{cycle_at};
@@ -147,6 +154,77 @@ impl Book {
             credit_since: self.credit_since,
             whole: self.whole,
         })
+    }
+
+    /// Adds what each deferred plan that is in its period on the last day folded has accrued (12 CFR 1026.55(b)(1), comment
+    /// 55(b)(1)-3), as of the closing of a cycle. The Book and the track stand for the book of these inputs. After want of
+    /// memory the list begins with what it held.
+    pub fn mark(
+        &self,
+        _inputs: &Inputs,
+        _track: &Track,
+        cycle: u32,
+        list: &mut Vec<Accruing>,
+    ) -> Result<(), NoMemory>
+        requires stands { StandsFor _inputs.now self.now _track.now }
+        ensures items { OnOk result ((day : ℕ) → self.now.day ≡ Some day → list.new.items ≡ list.old.items ++ accruing_on cycle day self.now.state) }
+        ensures begins { take (length list.old.items) list.new.items ≡ list.old.items }
+        ensures capacity { vec_capacity list.old ≤ vec_capacity list.new }
+    {
+        let _count = self.state.segments.len();
+        match self.day {
+            Some(day) => push_accruing(list, &self.state, cycle, day),
+            None => Ok(()),
+        }
+    }
+
+    /// The Book at the end of the day on which a closed cycle closed, in memory of its own, by what was kept of that closing:
+    /// since when there was a credit balance, and what deferred plans had accrued. It costs what the entries behind the closing
+    /// cost. It stands beside the track cut behind that cycle.
+    pub fn rewound(
+        &self,
+        alloc: Global,
+        track: &Track,
+        number: u32,
+        since: Option<Day>,
+        accrued: &[Accruing],
+    ) -> Result<Book, NoMemory>
+        requires folded { AreFolded self.now track.now }
+        requires first { 1 ≤ number }
+        requires closed { number ≤ length track.now.cycles.items }
+        ensures stands { IfOk result (GoesBack number self.now track.now since accrued.now) }
+        ensures day { IfOk result (λ b. (c : Cycle) → cycle_at number track.now.cycles.items ≡ Some c → b.day ≡ Some c.closing) }
+        ensures whole { IfOk result (λ b. b.whole ≡ true) }
+    {
+        let _count = self.state.segments.len();
+        let cycle = cycle_in(track, number);
+        let behind = &track.entries[cycle.entries..];
+        Ok(Book {
+            state: state_at(alloc, &self.state, behind, cycle.closing, number, accrued)?,
+            day: Some(cycle.closing),
+            credit_since: since,
+            whole: true,
+        })
+    }
+
+    /// The same Book, at a closing, over inputs whose posts are more: with their segments and rates, in memory of its own. Up to
+    /// that day nothing that is folded has changed.
+    pub fn renewed(&self, alloc: Global, inputs: &Inputs) -> Result<Book, NoMemory>
+        requires posts { AwaitsPosts inputs.now self.now }
+        ensures stands { IfOk result (λ b. (old : Given) (day : ℕ) (t : Track) → HasNewPosts old inputs.now day self.now t → StandsFor inputs.now b t) }
+        ensures day { IfOk result (λ b. b.day ≡ self.now.day) }
+        ensures whole { IfOk result (λ b. b.whole ≡ true) }
+    {
+        let _count = self.state.segments.len();
+        match self.day {
+            Some(day) => Ok(Book {
+                state: renewed_state(alloc, inputs, &self.state, day.next())?,
+                day: self.day,
+                credit_since: self.credit_since,
+                whole: true,
+            }),
+            None => unreachable!(),
+        }
     }
 
     /// Whether no `advance` of it wanted memory.

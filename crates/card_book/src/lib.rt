@@ -2,6 +2,7 @@
 #![tactic(auto)]
 
 mod copies;
+mod earlier;
 mod folded;
 mod from_opening;
 mod kept_book;
@@ -14,7 +15,7 @@ pub use card_daily::{
     Amounts, Cycle, Entry, Fee, Fees, Inputs, Issued, Present, Statement, Track, row_for,
 };
 pub use card_statement::Sheet;
-pub use folded::Folded;
+pub use folded::{Folded, fees_up_to};
 pub use from_opening::{FromOpening, fold, fold_to};
 pub use kept_book::Book;
 pub use marks::Accruing;
