@@ -1,0 +1,337 @@
+-- Where an account is folded again after a post: the Book at the closing before the change, with the front of the past.
+use Rattle.std.proofs.Common.{◌≡◌, ℕ, zero, suc, ◌+◌, ◌-◌, ◌<◌, ◌≤◌, ◌⊎◌, inl, inr, false, true, nat_le, List, [], ◌∷◌, length, take, refl, sym, ap, ◌∙◌, subst, arith, Option, Some, None, get_or}
+use Rattle.std.specs.Prelude.{slice_get}
+use Rattle.std.specs.List.{filter}
+use Rattle.std.proofs.lemmas.Option.{slice_get_read}
+use Rattle.card_days.specs.Billing.{closing, cycle_of}
+use Rattle.card_days.specs.Civil.{day_of_month}
+use Rattle.card_days.specs.Range.{last_request_day}
+use Rattle.card_days.specs.declared.anchor.Anchor.{Anchor}
+use Rattle.card_events.specs.History.{anchor_of}
+use Rattle.card_events.specs.declared.post.Post.{Post}
+use Rattle.card_model.specs.CycleDays.{IsOpening}
+use Rattle.card_model.specs.Cycles.{Cycle}
+use Rattle.card_model.specs.Folds.{cycle_at}
+use Rattle.card_model.specs.declared.fee.Fee.{Fee}
+use Rattle.card_model.proofs.Calendar.{cycles_are_of_the_calendar}
+use Rattle.card_daily.proofs.ClosingDay.{grows-to}
+use Rattle.card_daily.specs.Given.{Given, book_on, opened_in}
+use Rattle.card_daily.specs.Stands.{IsBlank}
+use Rattle.card_daily.specs.declared.track.Track.{Track}
+use Rattle.card_book.proofs.Days.{book_is_the_fold}
+use Rattle.card_book.proofs.FeeOrder.{fees_stand_in_order}
+use Rattle.card_book.proofs.MarksGoOn.{marks_go_on}
+use Rattle.card_book.proofs.Passing.{few-pass}
+use Rattle.card_book.proofs.Rewinding.{behind}
+use Rattle.card_book.specs.GoingOn.{sets_rates}
+use Rattle.card_book.specs.Marks.{AreMarks, IsMark, accrued_to}
+use Rattle.card_book.specs.Renewed.{AwaitsPosts, HasNewPosts}
+use Rattle.card_book.specs.Rewound.{AreFolded, GoesBack, IsCutTrack}
+use Rattle.card_book.specs.Stands.{StandsFor, Summary, book_through, day_to_fold}
+use Rattle.card_book.specs.declared.marks.Accruing.{Accruing}
+use Rattle.card_replay.proofs.Changed.{anchor-stays, continues-before, plain-stands, terms-stay}
+use Rattle.card_replay.proofs.CycleBefore.{closed-before, closed-by-today, closed-then, cycle-read, cycle-there}
+use Rattle.card_replay.proofs.CutTrack.{cut-track}
+use Rattle.card_replay.proofs.FirstFees.{no-fees-before}
+use Rattle.card_replay.proofs.MarksFront.{among-front, marks-front}
+use Rattle.card_replay.proofs.NextClosing.{closing-dated, closing-none}
+use Rattle.card_replay.specs.Pasts.{AreEnds, AreWithin, IsFront}
+use Rattle.card_replay.specs.Refolds.{AreEndsOf, BeginsAgain, IsBeforeChange, cycle_before}
+use Rattle.card_replay.specs.Replays.{HasMarks, IsFoldedBefore}
+use Rattle.card_replay.specs.declared.past.Ends.{Ends}
+use Rattle.card_replay.specs.declared.past.Past.{Past}
+
+-- ---- where the lists ended
+pub number-is : (g : Given) (from : ℕ) {a : Anchor} {k : ℕ} → k ≡ cycle_of a from - 1 → a ≡ anchor_of g.history → k ≡ cycle_before g from
+number-is g from number anchor = number ∙ ap (λ (x : Anchor). cycle_of x from - 1) anchor
+
+pub ends-are : (g : Given) (from : ℕ) (p : Past) (e : Ends) {a : Anchor} {k : ℕ} → k ≡ cycle_of a from - 1 → a ≡ anchor_of g.history → e.cycles ≡ k → (k ≡ 0 → e.entries ≡ 0)
+    → ((d : Cycle) → 1 ≤ k → e.entries ≡ (get_or p.track.cycles.items (k - 1) d).entries) → e.fees ≡ length (filter (λ f. nat_le f.cycle k) p.track.fees.items)
+    → e.accrued ≡ length (filter (λ a. nat_le a.cycle k) p.accrued.items) → AreEndsOf g from p e
+ends-are g from p e {k = k} number anchor same none some fees accrued = record {
+  cycles = same ∙ number-is g from number anchor;
+  none = λ z. none (sym same ∙ z);
+  some = λ c at.
+      let read = cycle-read p.track.cycles.items k c (ap (λ n. cycle_at n p.track.cycles.items) (sym same) ∙ at) in
+      some c read.0 ∙ ap (λ (d : Cycle). d.entries) read.1;
+  fees = fees ∙ ap (λ n. length (filter (λ (f : Fee). nat_le f.cycle n) p.track.fees.items)) (sym same);
+  accrued = accrued ∙ ap (λ n. length (filter (λ (x : Accruing). nat_le x.cycle n) p.accrued.items)) (sym same);
+}
+
+pub start-first : (g : Given) (from : ℕ) (again : Summary) → IsOpening (anchor_of g.history) → cycle_before g from ≡ 0 → again.day ≡ None → day_to_fold g again.day ≡ closing (anchor_of g.history) (cycle_of (anchor_of g.history) from - 1) + 1
+start-first g from again open' none dated =
+    let a = anchor_of g.history in
+    let here : day_to_fold g again.day ≡ opened_in g = ap (day_to_fold g) dated in
+    let first : closing a (cycle_of a from - 1) ≡ a.opened - 1 = ap (closing a) none ∙ closing-none a in
+    let low = open'.first in
+    omega (arith, here, first, low)
+
+pub front-ends : (e : Ends) (past front : Past) → AreWithin e past → IsFront e past front → AreEnds e front
+front-ends e past front w is = record {
+  entries = sym (ap length is.entries ∙ long e.entries past.track.entries.items w.entries);
+  cycles = sym (ap length is.cycles ∙ long e.cycles past.track.cycles.items w.cycles);
+  fees = sym (ap length is.fees ∙ long e.fees past.track.fees.items w.fees);
+  since = sym (ap length is.since ∙ long e.cycles past.since.items w.since);
+  accrued = sym (ap length is.accrued ∙ long e.accrued past.accrued.items w.accrued);
+}
+  where
+    long : {A : Type 0} (n : ℕ) (xs : List A) → n ≤ length xs → length (take n xs) ≡ n
+    long zero xs l = refl
+    long (suc n) [] l = absurd (omega (arith, l))
+    long (suc n) (x ∷ xs) l = ap suc (long n xs (omega (arith, l)))
+
+-- the Book was taken back to the closing of the cycle before the change, by what was kept of it
+pub record IsEarlier (old : Given) (k : ℕ) (b : Summary) (past : Past) (c : Cycle) (earlier : Summary) : Type 0 where
+  pub there : cycle_at k past.track.cycles.items ≡ Some c
+  pub first : 1 ≤ k
+  pub day : earlier.day ≡ Some c.closing
+  pub whole : earlier.whole ≡ true
+  pub stands : (cut : Track) → IsCutTrack k c past.track cut → StandsFor old earlier cut
+
+-- ---- an account before a change
+module _ {old g : Given} {p : Post} {from today : ℕ} {b : Summary} {past : Past} (h : IsBeforeChange old g p from today b past) where
+  -- ---- the account before the change
+  pub folded-before : AreFolded b past.track
+  folded-before = record {
+    given = old;
+    sound = h.changes.more.sound_before;
+    last = λ day e. let same = same-day today day (sym h.folding.day ∙ e) in let l = h.changes.last in omega (arith, same, l);
+    stands = h.folding.stands;
+  }
+    where
+      same-day : (x y : ℕ) → Some x ≡ Some y → x ≡ y
+      same-day x y e = cc
+
+  opened-before-today : opened_in g ≤ today
+  opened-before-today =
+      let same = ap (λ (a : Anchor). a.opened) (anchor-stays old g p from h.changes.more) in
+      let low = h.folding.stands.opened today h.folding.day in
+      omega (arith, same, low)
+
+  -- the cycle before the change is closed by today
+  closed-of : cycle_before g from ≤ length past.track.cycles.items
+  closed-of =
+      let same = ap (λ (a : Anchor). cycle_of a from - 1) (anchor-stays old g p from h.changes.more) in
+      let closed = closed-then old b past.track from today h.folding.stands h.folding.day h.changes.within in
+      omega (arith, same, closed)
+
+  pub closed-at : {a : Anchor} {k : ℕ} → k ≡ cycle_of a from - 1 → a ≡ anchor_of g.history → k ≤ length past.track.cycles.items
+  closed-at number anchor =
+      let is = number-is g from number anchor in
+      let closed = closed-of in
+      omega (arith, is, closed)
+
+  -- a closed cycle has the closing of the calendar
+  closing-of : (k : ℕ) (c : Cycle) → cycle_at k past.track.cycles.items ≡ Some c
+      → c.closing ≡ closing (anchor_of g.history) k
+  closing-of k c at =
+      let l = h.changes.last in
+      let cycles = (book_is_the_fold old b past.track h.folding.stands).cycles ∙ ap (λ d. (book_through old d).cycles) h.folding.day in
+      let days = cycles_are_of_the_calendar.days old.history old.issued old.shared today k c h.changes.more.sound_before.opening (omega (arith, l)) (ap (cycle_at k) (sym cycles) ∙ at) in
+      days.closing ∙ ap (λ (a : Anchor). closing a k) (sym (anchor-stays old g p from h.changes.more))
+
+  -- one up to the cycle before the change closed before it
+  early-closing : (k : ℕ) (c : Cycle) → cycle_at k past.track.cycles.items ≡ Some c
+      → 1 ≤ k → k ≤ cycle_before g from → c.closing < from
+  early-closing k c at one l =
+      let a = anchor_of g.history in
+      let within = h.changes.within in
+      let last = h.changes.last in
+      let is = closing-of k c at in
+      let up = grows-to a k (cycle_before g from) l in
+      let before = closed-before a from h.changes.more.sound.opening (omega (arith, within, last)) (omega (arith, one, l)) in
+      omega (arith, is, up, before)
+
+  -- ---- the front of the past
+  pub within-past : (e : Ends) → AreEndsOf g from past e → AreWithin e past
+  within-past e ends =
+      let closed = closed-of in
+      let count = h.folding.marks.count in
+      let cycles = ends.cycles in
+      let fees = few-pass (λ (f : Fee). nat_le f.cycle e.cycles) past.track.fees.items in
+      let accrued = few-pass (λ (a : Accruing). nat_le a.cycle e.cycles) past.accrued.items in
+      record {
+        entries = entries-fit (cycle-there past.track.cycles.items e.cycles (omega (arith, cycles, closed)));
+        cycles = omega (arith, cycles, closed);
+        fees = omega (arith, fees, ends.fees);
+        since = omega (arith, cycles, closed, count);
+        accrued = omega (arith, accrued, ends.accrued);
+      }
+    where
+      entries-fit : (e.cycles ≡ 0) ⊎ ((c : Cycle) × (cycle_at e.cycles past.track.cycles.items ≡ Some c)) → e.entries ≤ length past.track.entries.items
+      entries-fit (inl z) = let none = ends.none z in omega (arith, none)
+      entries-fit (inr (c, at)) =
+          let same = ends.some c at in
+          let fit = (behind b past.track e.cycles c folded-before at).within in
+          omega (arith, same, fit)
+
+  -- its marks go on
+  front-marks : (front : Past) (e : Ends) → AreEndsOf g from past e → IsFront e past front → HasMarks g front
+  front-marks front e ends is =
+      let closed = closed-of in
+      let cycles = ends.cycles in
+      let count : e.cycles ≤ length past.track.cycles.items = omega (arith, cycles, closed) in
+      let marks = marks-front old past.track.cycles.items past.since.items past.accrued.items e.cycles h.folding.marks count in
+      let kept : front.accrued.items ≡ accrued_to e.cycles past.accrued.items = is.accrued ∙ (ap (λ n. take n past.accrued.items) ends.accrued ∙ h.folding.marks.ordered e.cycles) in
+      let on = marks_go_on old g (take e.cycles past.track.cycles.items) (take e.cycles past.since.items) (accrued_to e.cycles past.accrued.items)
+      (record {
+        new = h.changes.more.kept ∷ [];
+        history = h.changes.more.history;
+        anchor = anchor-stays old g p from h.changes.more;
+        terms = terms-stay old g p from h.changes.more;
+        continues = λ k c at.
+            let among = among-front past.track.cycles.items e.cycles k c at in
+            let last = among.last in
+            continues-before old g p from h.changes.more c.closing (early-closing k c among.there among.first (omega (arith, last, cycles)));
+      })
+      marks in
+      subst (λ cs. AreMarks g cs front.since.items front.accrued.items) (sym is.cycles)
+      (subst (λ ss. AreMarks g (take e.cycles past.track.cycles.items) ss front.accrued.items) (sym is.since)
+      (subst (λ xs. AreMarks g (take e.cycles past.track.cycles.items) (take e.cycles past.since.items) xs) (sym kept) on))
+
+  -- ---- before the opening
+  blank-front : (front : Past) (e : Ends) → AreEndsOf g from past e → IsFront e past front → e.cycles ≡ 0 → IsBlank front.track
+  blank-front front e ends is z =
+      let fees : past.track.fees.items ≡ (book_on old today).fees = (book_is_the_fold old b past.track h.folding.stands).fees ∙ ap (λ d. (book_through old d).fees) h.folding.day in
+      let none : filter (λ (f : Fee). nat_le f.cycle e.cycles) past.track.fees.items ≡ [] =
+      ap (λ k. filter (λ (f : Fee). nat_le f.cycle k) past.track.fees.items) z ∙ (ap (filter (λ (f : Fee). nat_le f.cycle 0)) fees ∙ no-fees-before old today) in
+      let count : e.fees ≡ 0 = ends.fees ∙ ap (λ (fs : List Fee). length fs) none in
+      record {
+        entries = is.entries ∙ ap (λ n. take n past.track.entries.items) (ends.none z);
+        cycles = is.cycles ∙ ap (λ n. take n past.track.cycles.items) z;
+        fees = is.fees ∙ ap (λ n. take n past.track.fees.items) count;
+      }
+
+  pub start-begins : (again : Summary) (e : Ends) → AreEndsOf g from past e → cycle_before g from ≡ 0
+      → again.whole ≡ true → ((t : Track) → IsBlank t → StandsFor g again t) → BeginsAgain g e past again
+  start-begins again e ends none whole stands = record {
+    within = within-past e ends;
+    whole = whole;
+    stands = λ front is. stands front.track (blank-front front e ends is (ends.cycles ∙ none));
+    marks = λ front is. front-marks front e ends is;
+  }
+
+  -- ---- at a closing
+  earlier-is : (k : ℕ) (c : Cycle) (since : Option ℕ) (earlier : Summary) → cycle_at k past.track.cycles.items ≡ Some c → slice_get past.since.items (k - 1) ≡ Some since → GoesBack k b past.track since past.accrued.items earlier → earlier.day ≡ Some c.closing → earlier.whole ≡ true
+      → IsEarlier old k b past c earlier
+  earlier-is k c since earlier at kept goes dated whole =
+      let mark : IsMark old k c since past.accrued.items = h.folding.marks.each k c since at kept in
+      record {
+        there = at;
+        first = (cycle-read past.track.cycles.items k c at).0;
+        day = dated;
+        whole = whole;
+        stands = λ cut is. goes old c cut h.changes.more.sound_before h.folding.stands at mark is;
+      }
+
+  cut-front : (front : Past) (e : Ends) (c : Cycle) → AreEndsOf g from past e → IsFront e past front
+      → cycle_at e.cycles past.track.cycles.items ≡ Some c → IsCutTrack e.cycles c past.track front.track
+  cut-front front e c ends is at = record {
+    entries = is.entries ∙ ap (λ n. take n past.track.entries.items) (ends.some c at);
+    cycles = is.cycles;
+    fees = is.fees ∙ (ap (λ n. take n past.track.fees.items) ends.fees ∙ fees_stand_in_order old b past.track e.cycles c h.folding.stands at);
+  }
+
+  front-stands : (front : Past) (e : Ends) (c : Cycle) (earlier : Summary) → AreEndsOf g from past e
+      → IsFront e past front → IsEarlier old (cycle_before g from) b past c earlier → StandsFor old earlier front.track
+  front-stands front e c earlier ends is back =
+      let at : cycle_at e.cycles past.track.cycles.items ≡ Some c = ap (λ k. cycle_at k past.track.cycles.items) ends.cycles ∙ back.there in
+      back.stands front.track (subst (λ k. IsCutTrack k c past.track front.track) ends.cycles (cut-front front e c ends is at))
+
+  earlier-closing : (c : Cycle) (earlier : Summary) → IsEarlier old (cycle_before g from) b past c earlier → c.closing < from
+  earlier-closing c earlier back = early-closing (cycle_before g from) c back.there back.first (omega arith)
+
+  pub earlier-first : (c : Cycle) (earlier again : Summary) → IsEarlier old (cycle_before g from) b past c earlier → again.day ≡ earlier.day → day_to_fold g again.day ≡ closing (anchor_of g.history) (cycle_of (anchor_of g.history) from - 1) + 1
+  earlier-first c earlier again back same =
+      ap (day_to_fold g) (same ∙ back.day) ∙ ap (λ d. d + 1) (closing-of (cycle_before g from) c back.there)
+
+  -- where the post sets no rate, it stands on
+  pub plain-begins : (e : Ends) (c : Cycle) (earlier : Summary) → AreEndsOf g from past e
+      → IsEarlier old (cycle_before g from) b past c earlier → sets_rates p ≡ false → BeginsAgain g e past earlier
+  plain-begins e c earlier ends back plain = record {
+    within = within-past e ends;
+    whole = back.whole;
+    stands = λ front is.
+        plain-stands old g p from c.closing earlier front.track h.changes.more plain back.day (earlier-closing c earlier back)
+        (front-stands front e c earlier ends is back);
+    marks = λ front is. front-marks front e ends is;
+  }
+
+  -- else with the segments and rates of all posts
+  new-posts : (c : Cycle) (earlier : Summary) (t : Track) → IsEarlier old (cycle_before g from) b past c earlier → StandsFor old earlier t → HasNewPosts old g c.closing earlier t
+  new-posts c earlier t back stands =
+      let a = anchor_of g.history in
+      let k = cycle_before g from in
+      let within = h.changes.within in
+      let last = h.changes.last in
+      let before = earlier-closing c earlier back in
+      let is = closing-of k c back.there in
+      let one = back.first in
+      let place : k - 1 + 1 ≡ k = omega (arith, one) in
+      let at : closing a (k - 1 + 1) ≡ c.closing = ap (closing a) place ∙ sym is in
+      let early : closing a (k - 1 + 1) ≤ last_request_day = omega (arith, at, before, within, last) in
+      let on : day_of_month c.closing ≡ a.close_day = ap day_of_month (sym at) ∙ closing-dated a (k - 1) h.changes.more.sound.opening early in
+      record {
+        sound = h.changes.more.sound_before;
+        stands = stands;
+        day = back.day;
+        last = omega (arith, before, within, last);
+        closing = on ∙ ap (λ (x : Anchor). x.close_day) (anchor-stays old g p from h.changes.more);
+        continues = continues-before old g p from h.changes.more c.closing before;
+        new = h.changes.more.kept ∷ [];
+        history = h.changes.more.history;
+      }
+
+  pub awaits-posts : (c : Cycle) (earlier : Summary) → IsEarlier old (cycle_before g from) b past c earlier → AwaitsPosts g earlier
+  awaits-posts c earlier back =
+      let cut = cut-track (cycle_before g from) c past.track in
+      record {
+        old = old;
+        day = c.closing;
+        track = cut.0;
+        posts = new-posts c earlier cut.0 back (back.stands cut.0 cut.1);
+      }
+
+  pub renewed-begins : (e : Ends) (c : Cycle) (earlier again : Summary) → AreEndsOf g from past e
+      → IsEarlier old (cycle_before g from) b past c earlier → again.whole ≡ true → ((was : Given) (day : ℕ) (t : Track) → HasNewPosts was g day earlier t → StandsFor g again t) → BeginsAgain g e past again
+  renewed-begins e c earlier again ends back whole stands = record {
+    within = within-past e ends;
+    whole = whole;
+    stands = λ front is.
+        stands old c.closing front.track
+        (new-posts c earlier front.track back (front-stands front e c earlier ends is back));
+    marks = λ front is. front-marks front e ends is;
+  }
+
+  -- ---- folding on behind the front
+  pub folded-again : (again : Summary) (front : Past) (e : Ends) → BeginsAgain g e past again → IsFront e past front
+      → day_to_fold g again.day ≡ closing (anchor_of g.history) (cycle_of (anchor_of g.history) from - 1) + 1 → IsFoldedBefore g again front today
+  folded-again again front e begins is first =
+      let a = anchor_of g.history in
+      let opened = opened-before-today in
+      let early = closed-by-today a from today h.changes.more.sound.opening h.changes.within h.changes.last opened in
+      record {
+        stands = begins.stands front is;
+        marks = begins.marks front is;
+        opened = opened;
+        later = omega (arith, first, early);
+        last = h.changes.last;
+      }
+
+  -- the Book that was taken back, where what was kept was read from the list
+  pub earlier-found : {a : Anchor} {k : ℕ} {since : Option ℕ} {kept : List Accruing} (earlier : Summary) → k ≡ cycle_of a from - 1 → a ≡ anchor_of g.history → (k ≡ 0 → ⊥)
+      → since ≡ get_or past.since.items (k - 1) since → kept ≡ past.accrued.items → GoesBack k b past.track since kept earlier
+      → ((c : Cycle) → cycle_at k past.track.cycles.items ≡ Some c → earlier.day ≡ Some c.closing) → earlier.whole ≡ true → (c : Cycle) × IsEarlier old (cycle_before g from) b past c earlier
+  earlier-found {k = k} {since = since} earlier number anchor some read same goes dated whole = by (cycle-there past.track.cycles.items k (closed-at number anchor))
+    where
+      there : slice_get past.since.items (k - 1) ≡ Some since
+      there =
+          let closed = closed-at number anchor in
+          let count = h.folding.marks.count in
+          slice_get_read past.since.items (length past.since.items) (k - 1) since refl (omega (arith, closed, count, some)) read
+
+      by : (k ≡ 0) ⊎ ((c : Cycle) × (cycle_at k past.track.cycles.items ≡ Some c)) → (c : Cycle) × IsEarlier old (cycle_before g from) b past c earlier
+      by (inl z) = absurd (some z)
+      by (inr (c, at)) =
+          let back = subst (λ xs. GoesBack k b past.track since xs earlier) same goes in
+          (c, subst (λ n. IsEarlier old n b past c earlier) (number-is g from number anchor) (earlier-is k c since earlier at there back (dated c at) whole))

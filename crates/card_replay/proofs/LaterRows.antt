@@ -1,0 +1,91 @@
+-- Shared rows of later days leave what was folded.
+use Rattle.std.proofs.Common.{◌≡◌, ℕ, ◌≤◌, Bool, true, false, cond, nat_le, List, [], ◌∷◌, append-nil, length, refl, sym, ap, ◌∙◌, subst, arith, Some}
+use Rattle.std.specs.List.{filter}
+use Rattle.std.proofs.lemmas.Bool.{leb-true, leb-false}
+use Rattle.std.proofs.lemmas.List.Elements.{All-nil}
+use Rattle.card_events.specs.History.{CorrectedPost, anchor_of}
+use Rattle.card_events.specs.SharedRows.{FeeRow, SharedRows}
+use Rattle.card_events.specs.declared.kept.Kept.{Kept}
+use Rattle.card_model.specs.CycleDays.{IsOpening}
+use Rattle.card_model.specs.Cycles.{Cycle}
+use Rattle.card_model.specs.Folds.{cycle_at}
+use Rattle.card_model.specs.Laws.{HistoriesAgree}
+use Rattle.card_posts.proofs.Holidays.{same-corrected}
+use Rattle.card_book.proofs.Agreement.{later_rows_agree}
+use Rattle.card_book.proofs.GoingOn.{agreement_goes_on, books_go_on}
+use Rattle.card_book.proofs.MarksGoOn.{marks_go_on}
+use Rattle.card_book.proofs.RatesGoOn.{rates_go_on}
+use Rattle.card_book.proofs.Closings.{closed-by}
+use Rattle.card_book.proofs.Days.{book_is_the_fold}
+use Rattle.card_book.specs.GoingOn.{Continues, HaveSameRates, sets_rates}
+use Rattle.card_book.specs.Stands.{book_through}
+use Rattle.card_replay.specs.Laws.{LaterRowsLeaveIt}
+use Rattle.card_replay.specs.Replays.{given_of}
+
+-- ---- agreement up to an earlier day
+module _ {A : Type 0} (day : A → ℕ) (x d : ℕ) where
+  abbrev up-to : ℕ → List A → List A
+  up-to n these = filter (λ a. nat_le (day a) n) these
+
+  one-more : (a : A) (these : List A) → x ≤ d → up-to x (up-to d these) ≡ up-to x these → (s : Bool) → nat_le (day a) d ≡ s → (t : Bool) → nat_le (day a) x ≡ t
+      → up-to x (cond s (a ∷ up-to d these) (up-to d these)) ≡ cond t (a ∷ up-to x these) (up-to x these)
+  one-more a these l h true e true f = rw f (ap (λ u. a ∷ u) h)
+  one-more a these l h true e false f = rw f h
+  one-more a these l h false e true f = let low = leb-true (day a) x f in let high = leb-false (day a) d e in absurd (omega (arith, low, high, l))
+  one-more a these l h false e false f = h
+
+  pub one-filter : x ≤ d → (these : List A) → filter (λ a. nat_le (day a) x) (filter (λ a. nat_le (day a) d) these) ≡ filter (λ a. nat_le (day a) x) these
+  one-filter l [] = refl
+  one-filter l (a ∷ these) = one-more a these l (one-filter l these) (nat_le (day a) d) refl (nat_le (day a) x) refl
+
+pub agree-earlier : (old new : SharedRows) (history later : List Kept) (x d : ℕ) → x ≤ d → HistoriesAgree d old new history later → HistoriesAgree x old new history later
+agree-earlier old new history later x d l h = record {
+  anchor = h.anchor;
+  terms = h.terms;
+  posts = sym (one-filter (λ (p : CorrectedPost). p.day) x d l _) ∙ (ap (filter (λ (p : CorrectedPost). nat_le p.day x)) h.posts ∙ one-filter (λ (p : CorrectedPost). p.day) x d l _);
+  fees = sym (one-filter (λ (r : FeeRow). r.day) x d l new.fees) ∙ (ap (filter (λ (r : FeeRow). nat_le r.day x)) h.fees ∙ one-filter (λ (r : FeeRow). r.day) x d l old.fees);
+}
+
+-- an account that is opened has a post
+pub some-posts : (history : List Kept) → IsOpening (anchor_of history) → 1 ≤ length history
+some-posts [] h = let first = h.first in absurd (omega (arith, first))
+some-posts (k ∷ ks) h = omega arith
+
+pub later_rows_leave_it : LaterRowsLeaveIt
+later_rows_leave_it old new r h rows sound =
+    let was = given_of r.lists old in
+    let now = given_of r.lists new in
+    let reached = r.folding.reached in
+    let agree = later_rows_agree r.lists.posts old new reached reached h.timely h.accepted rows.holidays rows.fees in
+    let continues : Continues was now (Some reached) = agreement_goes_on was now reached refl agree in
+    let some = some-posts r.lists.posts h.sound.opening in
+    let rates : HaveSameRates was now = rates_go_on was now [] (sym (append-nil r.lists.posts)) some (All-nil (λ (k : Kept). sets_rates k.post ≡ false)) in
+    let same = same-corrected (anchor_of r.lists.posts) old.holidays new.holidays r.lists.posts h.timely (λ x l. let last = h.accepted in rows.holidays x (omega (arith, l, last))) in
+    record {
+      corrected = h.corrected ∙ same;
+      sound = sound;
+      timely = h.timely;
+      accepted = h.accepted;
+      opened = h.opened;
+      dated = h.dated;
+      folding = record {
+        day = h.folding.day;
+        whole = h.folding.whole;
+        stands = books_go_on was now r.folding.book r.folding.past.track h.sound.opening h.folding.stands (subst (Continues was now) (sym h.folding.day) continues) rates;
+        marks = marks_go_on was now r.folding.past.track.cycles.items r.folding.past.since.items r.folding.past.accrued.items
+            (record {
+              new = [];
+              history = sym (append-nil r.lists.posts);
+              anchor = refl;
+              terms = refl;
+              continues = λ k c at. agreement_goes_on was now c.closing refl (agree-earlier old new r.lists.posts r.lists.posts c.closing reached (early k c at) agree);
+            })
+            h.folding.marks;
+      };
+    }
+  where
+    early : (k : ℕ) (c : Cycle) → cycle_at k r.folding.past.track.cycles.items ≡ Some c → c.closing ≤ r.folding.reached
+    early k c at =
+        let was = given_of r.lists old in
+        let cycles = (book_is_the_fold was r.folding.book r.folding.past.track h.folding.stands).cycles ∙ ap (λ d. (book_through was d).cycles) h.folding.day in
+        closed-by was r.folding.reached k c h.opened (ap (cycle_at k) (sym cycles) ∙ at)

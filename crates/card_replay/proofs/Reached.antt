@@ -1,0 +1,136 @@
+-- An account at the day that it has reached.
+use Rattle.std.proofs.Common.{◌≡◌, ℕ, ◌+◌, ◌≤◌, Bool, true, false, List, [], ◌∷◌, sym, ap, ◌∙◌, subst, arith, Some}
+use Rattle.card_days.specs.Range.{last_request_day}
+use Rattle.card_events.specs.History.{CorrectedPost, anchor_of, corrected, opening_in}
+use Rattle.card_events.specs.SharedRows.{SharedRows}
+use Rattle.card_events.specs.declared.post.Post.{Post}
+use Rattle.card_events.specs.declared.post.Post.TheVariants as post
+use Rattle.card_events.specs.declared.kept.Kept.{Kept}
+use Rattle.card_model.specs.Cycles.{IssuedRow}
+use Rattle.card_model.specs.Machine.{kept_as}
+use Rattle.card_model.proofs.Spans.{spans_are_steps}
+use Rattle.card_model.specs.Refusals.{Lists, book_today}
+use Rattle.card_posts.specs.Posted.{IsReceived, last_accepted, opens}
+use Rattle.card_posts.specs.Stored.{AreTimely}
+use Rattle.card_daily.specs.Given.{Given, IsSound}
+use Rattle.card_book.proofs.Days.{book_is_the_fold}
+use Rattle.card_book.specs.Stands.{Summary, book_through, breaks_of, steps_over}
+use Rattle.card_replay.proofs.Putback.{folding-same}
+use Rattle.card_replay.specs.Pasts.{AreSame}
+use Rattle.card_replay.specs.Replays.{Folding, FoldsOn, IsFolding, HasClosings, IsReplay, IsToday, MayReach, Replay, SameLists, given_of, opened_lists, present_of}
+use Rattle.card_replay.specs.declared.past.Past.{Past}
+
+-- no day lies behind the last
+pub no-steps : (g : Given) (to : ℕ) → steps_over g to (to + 1) ≡ 0
+no-steps g to = spans_are_steps.none (breaks_of g to) (to + 1) to (omega arith)
+
+-- the account by its parts
+abbrev pub seen : List Kept → List IssuedRow → List CorrectedPost → Bool → ℕ → Summary → Past → Replay
+seen posts rows corrected has_room reached book past =
+    record { lists = record { posts = posts; issued = rows }; corrected = corrected; has_room = has_room; folding = record { reached = reached; book = book; past = past } }
+
+-- with another folding of a day that isn't before the one reached
+pub later-replay : (shared : SharedRows) (r : Replay) (f : Folding) → IsReplay shared r → r.folding.reached ≤ f.reached → f.reached ≤ last_request_day → IsFolding (given_of r.lists shared) f → IsReplay shared (record r { folding = f })
+later-replay shared r f h later last folding =
+    let accepted = h.accepted in
+    let opened = h.opened in
+    record {
+      corrected = h.corrected;
+      sound = h.sound;
+      timely = h.timely;
+      accepted = omega (arith, accepted, later);
+      opened = omega (arith, opened, later);
+      dated = last;
+      folding = folding;
+    }
+
+-- and where its past was put back
+pub same-replay : (shared : SharedRows) (r : Replay) (p : Past) → AreSame r.folding.past p → IsReplay shared r → IsReplay shared (record r { folding = record { reached = r.folding.reached; book = r.folding.book; past = p } })
+same-replay shared r p same h = record {
+  corrected = h.corrected;
+  sound = h.sound;
+  timely = h.timely;
+  accepted = h.accepted;
+  opened = h.opened;
+  dated = h.dated;
+  folding = folding-same (given_of r.lists shared) r.folding.reached r.folding.book r.folding.past p same h.folding;
+}
+
+pub folds-on : (shared : SharedRows) (r : Replay) (today : ℕ) → IsReplay shared r → MayReach today r → FoldsOn (given_of r.lists shared) today r.folding.book r.folding.past
+folds-on shared r today h may = record { reached = r.folding.reached; folding = h.folding; opened = h.opened; later = may.later; last = may.last }
+
+-- ---- an account that was just opened
+-- its post asks for no day by which it came
+comes-anyway : (opened today : ℕ) (p : Post) → opens p ≡ true → IsReceived opened today p
+comes-anyway opened today (post.Open d t) o = tt
+comes-anyway opened today (post.Payment d m y c) o = let no : false ≡ true = o in absurd (cc)
+comes-anyway opened today (post.Amend t d c) o = let no : false ≡ true = o in absurd (cc)
+comes-anyway opened today (post.Charge d q c) o = tt
+comes-anyway opened today (post.Credit d q c) o = tt
+comes-anyway opened today (post.Return d t) o = tt
+comes-anyway opened today (post.Plan d k r w f) o = tt
+comes-anyway opened today (post.Notice d y r w) o = tt
+comes-anyway opened today (post.Lower d y r) o = tt
+comes-anyway opened today post.Penalty o = tt
+comes-anyway opened today (post.Review d f) o = tt
+comes-anyway opened today (post.Dispute d t c) o = tt
+comes-anyway opened today (post.Ack d t) o = tt
+comes-anyway opened today (post.Resolve d t c) o = tt
+comes-anyway opened today (post.AskRefund d) o = tt
+comes-anyway opened today (post.Refund c) o = tt
+comes-anyway opened today (post.Bill c) o = tt
+
+first-timely : (opened today : ℕ) (key : List ℕ) (p : Post) → opens p ≡ true → today ≤ last_request_day → AreTimely opened (kept_as 1 key today p ∷ [])
+unfolding AreTimely
+first-timely opened today key p o l = (record { dated = l; received = comes-anyway opened today p o }, tt)
+
+first-last : (today : ℕ) (key : List ℕ) (p : Post) → last_accepted (kept_as 1 key today p ∷ []) ≤ today
+unfolding last_accepted
+first-last today key p = omega arith
+
+pub started : (shared : SharedRows) (key : List ℕ) (today : ℕ) (p : Post) (cs : List CorrectedPost) (room : Bool) (f : Folding) → opens p ≡ true → opening_in p ≤ today → today ≤ last_request_day
+    → IsSound (given_of (opened_lists key today p) shared) → cs ≡ corrected (anchor_of (kept_as 1 key today p ∷ [])) shared.holidays (kept_as 1 key today p ∷ []) → f.reached ≡ today
+    → IsFolding (given_of (opened_lists key today p) shared) f → IsToday today shared (record { lists = opened_lists key today p; corrected = cs; has_room = room; folding = f })
+started shared key today p cs room f o opened l sound is reached folding = record {
+  replay = record {
+    corrected = is;
+    sound = sound;
+    timely = first-timely (opening_in p) today key p o l;
+    accepted = subst (λ d. last_accepted (kept_as 1 key today p ∷ []) ≤ d) (sym reached) (first-last today key p);
+    opened = subst (λ d. opening_in p ≤ d) (sym reached) opened;
+    dated = subst (λ d. d ≤ last_request_day) (sym reached) l;
+    folding = folding;
+  };
+  reached = reached;
+}
+
+-- ---- an account whose lists stay
+pub same-lists : (a b c : Replay) → SameLists a b → SameLists b c → SameLists a c
+same-lists a b c h k = record { lists = k.lists ∙ h.lists; corrected = k.corrected ∙ h.corrected; room = λ e. k.room (h.room e) }
+
+pub today-same : (shared : SharedRows) (today : ℕ) (old new : Replay) → SameLists old new → new.folding ≡ old.folding → IsToday today shared old → IsToday today shared new
+today-same shared today old new same folding h = record {
+  replay = by-parts shared old.lists new.lists old.corrected new.corrected old.folding new.folding old.has_room new.has_room (sym same.lists) (sym same.corrected) (sym folding) h.replay;
+  reached = ap (λ (f : Folding). f.reached) folding ∙ h.reached;
+}
+  where
+    by-parts : (shared : SharedRows) (l m : Lists) (cs ds : List CorrectedPost) (f g : Folding) (a b : Bool) → l ≡ m → cs ≡ ds → f ≡ g → IsReplay shared (record { lists = l; corrected = cs; has_room = a; folding = f }) → IsReplay shared (record { lists = m; corrected = ds; has_room = b; folding = g })
+    by-parts shared l m cs ds f g a b e i j k =
+        subst (λ (x : Lists). IsReplay shared (record { lists = x; corrected = ds; has_room = b; folding = g })) e
+        (subst (λ (x : List CorrectedPost). IsReplay shared (record { lists = l; corrected = x; has_room = b; folding = g })) i
+        (subst (λ (x : Folding). IsReplay shared (record { lists = l; corrected = cs; has_room = b; folding = x })) j (roomy shared l cs f a b k)))
+      where
+        roomy : (shared : SharedRows) (l : Lists) (cs : List CorrectedPost) (f : Folding) (a b : Bool) → IsReplay shared (record { lists = l; corrected = cs; has_room = a; folding = f }) → IsReplay shared (record { lists = l; corrected = cs; has_room = b; folding = f })
+        roomy shared l cs f a b h = record { corrected = h.corrected; sound = h.sound; timely = h.timely; accepted = h.accepted; opened = h.opened; dated = h.dated; folding = h.folding }
+
+-- ---- its closings, over inputs that are its lists
+pub has-closings : (g : Given) (shared : SharedRows) (r : Replay) → g ≡ given_of r.lists shared → IsReplay shared r → HasClosings g r.folding.book r.folding.past
+has-closings g shared r e h = subst (λ x. HasClosings x r.folding.book r.folding.past) (sym e) (record { stands = h.folding.stands; marks = h.folding.marks })
+
+-- its closed cycles are those of the book of today
+pub cycles-today : (shared : SharedRows) (today : ℕ) (r : Replay) → IsToday today shared r → r.folding.past.track.cycles.items ≡ (book_today (present_of today shared r.lists)).cycles
+unfolding book_today
+cycles-today shared today r h =
+    let g = given_of r.lists shared in
+    (book_is_the_fold g r.folding.book r.folding.past.track h.replay.folding.stands).cycles
+    ∙ ap (λ d. (book_through g d).cycles) (h.replay.folding.day ∙ ap Some h.reached)

@@ -1,0 +1,63 @@
+use Rattle.std.proofs.Common.{◌≡◌, ◌+◌, false, List, [], ◌∷◌, ◌++◌, length, refl, ap, sym, subst, ◌∙◌, arith}
+use Rattle.card_events.specs.History.{anchor_of, corrected}
+use Rattle.card_events.specs.declared.kept.Kept.{Kept}
+use Rattle.card_posts.specs.Posted.{IsReceived, StandsFor}
+use Rattle.card_model.specs.Cycles.{IssuedRow}
+use Rattle.card_model.specs.Machine.{kept_as}
+use Rattle.card_replay.proofs.Committing.{lists_by, taken-reached}
+use Rattle.card_replay.specs.Changes.{HasItsRoom, IsCommitted, IsTaken, issued_as}
+use Rattle.card_replay.specs.Replays.{Folding, Replay}
+use Rattle.card_replay.proofs.replay.Replay.commit.Goals as goal
+
+-- the conditions of `add` are those under which the post was prepared
+pub add-pushed-requires-clause-few : goal.add-pushed-requires-clause-few
+add-pushed-requires-clause-few c =
+    let same = ap (λ (r : Replay). length r.lists.posts) c.self.view_is in
+    omega (arith, c.requires.prepared.added.few, same)
+
+pub add-pushed-requires-clause-target : goal.add-pushed-requires-clause-target
+add-pushed-requires-clause-target c =
+    let same = ap (λ (r : Replay). length r.lists.posts) c.self.view_is in
+    omega (arith, c.requires.prepared.added.target, same)
+
+pub add-pushed-requires-clause-received : goal.add-pushed-requires-clause-received
+add-pushed-requires-clause-received c =
+    let same : c.self.inside.posts.history ≡ c.args.self.now.lists.posts = ap (λ (r : Replay). r.lists.posts) c.self.view_is in
+    subst (λ (h : List Kept). IsReceived (anchor_of h).opened c.args.change.today c.args.change.post) (sym same) c.requires.prepared.added.received
+
+pub add-pushed-requires-clause-room : goal.add-pushed-requires-clause-room
+add-pushed-requires-clause-room c = (c.self.invariant (ap (λ (r : Replay). r.has_room) c.self.view_is ∙ c.requires.prepared.added.room)).0
+
+pub add-pushed-requires-clause-stands : goal.add-pushed-requires-clause-stands
+add-pushed-requires-clause-stands c =
+    subst (λ holidays. StandsFor holidays c.self.inside.posts) (sym c.calendar.ensures)
+    (subst (λ (r : Replay). r.corrected ≡ corrected (anchor_of r.lists.posts) c.args.shared.now.holidays r.lists.posts) (sym c.self.view_is) c.requires.prepared.replay.corrected)
+
+pub push_issued-requires : goal.push_issued-requires
+push_issued-requires c = (c.self.invariant (ap (λ (r : Replay). r.has_room) c.self.view_is ∙ c.requires.prepared.added.room)).1
+
+pub take_if_any-requires : goal.take_if_any-requires
+take_if_any-requires c = subst (λ (r : Replay). HasItsRoom c.args.change.refolded r.folding.past) (sym c.self.view_is) c.requires.prepared.room
+
+pub returns : goal.returns
+returns c =
+    let change = c.args.change in
+    let old = c.args.self.now in
+    let history : c.self.inside.posts.history ≡ old.lists.posts = ap (λ (r : Replay). r.lists.posts) c.self.view_is in
+    let rows : c.self.inside.issued.items ≡ old.lists.issued = ap (λ (r : Replay). r.lists.issued) c.self.view_is in
+    let posts = c.add-pushed.ensures.history ∙ ap (λ (hs : List Kept). hs ++ kept_as (length hs + 1) change.key change.today change.post ∷ []) history in
+    let issued = c.push_issued.ensures ∙ ap (λ (is : List IssuedRow). is ++ issued_as change.issued) rows in
+    let folding : Folding = record { reached = c.self.inside.reached; book = c.take_if_any.new.book; past = c.take_if_any.new.past } in
+    let new : Replay = record { lists = lists_by c.add-pushed.new.self.history c.push_issued.new.list.items; corrected = c.add-pushed.new.self.corrected; has_room = false; folding = folding } in
+    let committed : IsCommitted c.args.shared.now change old new =
+    record {
+      lists = ap (λ hs. lists_by hs c.push_issued.new.list.items) posts ∙ ap (lists_by (old.lists.posts ++ kept_as (length old.lists.posts + 1) change.key change.today change.post ∷ [])) issued;
+      corrected = subst (λ holidays. StandsFor holidays c.add-pushed.new.self) c.calendar.ensures c.add-pushed.ensures.stands;
+      folding = subst (λ (f : Folding). IsTaken change.refolded f folding) (ap (λ (r : Replay). r.folding) c.self.view_is) (c.take_if_any.ensures c.self.inside.reached);
+    } in
+    record {
+      committed = committed;
+      today = record { replay = c.requires.prepared.next new committed; reached = taken-reached change.refolded old.folding folding committed.folding ∙ c.requires.prepared.reached };
+      room = refl;
+      number = c.add-pushed.ensures.number ∙ ap (λ (r : Replay). length r.lists.posts + 1) c.self.view_is;
+    }

@@ -1,0 +1,109 @@
+-- A post that was prepared for an account, and what taking it makes of the account. Days are day numbers.
+use Rattle.std.specs.Prelude.{◌≡◌, ℕ, ◌+◌, ◌<◌, ◌≤◌, true, List, [], ◌∷◌, ◌++◌, length, Option, Some, None}
+use Rattle.card_days.specs.Range.{last_request_day}
+use Rattle.card_events.specs.History.{anchor_of, corrected}
+use Rattle.card_events.specs.Limits.{post_limit}
+use Rattle.card_events.specs.SharedRows.{SharedRows}
+use Rattle.card_events.specs.declared.post.Post.{Post}
+use Rattle.card_events.specs.declared.post.Post.TheVariants as post
+use Rattle.card_model.specs.Cycles.{Cycle, IssuedRow, Sheet}
+use Rattle.card_model.specs.Folds.{cycle_at, row_of_cycle}
+use Rattle.card_model.specs.Machine.{accepted, issues, kept_as}
+use Rattle.card_model.specs.Refusals.{Lists}
+use Rattle.card_model.specs.Sheets.{sheet_of}
+use Rattle.card_daily.specs.Given.{Given}
+use Rattle.card_posts.specs.Posted.{IsReceived, target_of}
+use Rattle.card_replay.specs.Pasts.{AreSame, AreWithin, HasRoomFor, IsReplaced}
+use Rattle.card_replay.specs.Replays.{Folding, IsFolding, IsReplay, Replay, given_of, present_of}
+use Rattle.card_replay.specs.declared.change.Change.{Change}
+use Rattle.card_replay.specs.declared.change.Refolded.{Refolded}
+use Rattle.card_replay.specs.declared.past.Past.{Past}
+
+-- the row that was issued, if one was
+abbrev pub issued_as : Option IssuedRow → List IssuedRow
+issued_as None = []
+issued_as (Some row) = row ∷ []
+
+-- what a closed cycle's statement shows beside it, where it is issued on a day
+abbrev pub sheet_on : Given → ℕ → Cycle → Sheet
+sheet_on g day c = sheet_of g.history g.issued g.shared day c
+
+-- the row of a closed cycle that a Bill with a number issues on a day
+abbrev pub row_on : Given → ℕ → ℕ → ℕ → Cycle → IssuedRow
+row_on g cycle number day c = record { cycle = cycle; bill = number; day = day; statement = c; sheet = sheet_on g day c }
+
+-- what a post with a number issues on a day, where these cycles are closed
+abbrev pub issued_from : Given → List Cycle → ℕ → ℕ → Post → List IssuedRow
+issued_from g cycles number day (post.Bill cycle) = row_of_cycle cycle number day (sheet_on g day) (cycle_at cycle cycles)
+issued_from g cycles number day _ = []
+
+-- it is of this post, under this key, today
+pub record IsChangeOf (name : List ℕ) (day : ℕ) (p : Post) (c : Change) : Type 0 where
+  pub key : c.key ≡ name
+  pub today : c.today ≡ day
+  pub post : c.post ≡ p
+
+-- ---- taking it
+-- the lists with the post, and with the row that it issues
+abbrev pub lists_with : Change → Lists → Lists
+lists_with c l =
+    record {
+      posts = l.posts ++ kept_as (length l.posts + 1) c.key c.today c.post ∷ [];
+      issued = l.issued ++ issued_as c.issued;
+    }
+
+-- the folding stays where nothing was folded again; else the Book is the one that was, and its past stands behind the closing from
+-- which it was
+pub record IsUnfolded (old new : Folding) : Type 0 where
+  pub reached : new.reached ≡ old.reached
+  pub book : new.book ≡ old.book
+  pub past : AreSame old.past new.past
+
+pub record IsRefolded (r : Refolded) (old new : Folding) : Type 0 where
+  pub reached : new.reached ≡ old.reached
+  pub book : new.book ≡ r.book
+  pub past : IsReplaced r.ends old.past r.back new.past
+
+abbrev pub IsTaken : Option Refolded → Folding → Folding → Type 0
+IsTaken None old new = IsUnfolded old new
+IsTaken (Some r) old new = IsRefolded r old new
+
+-- The account after the post. That is all that is said of it, so where this post was prepared it follows that it stands
+pub record IsCommitted (shared : SharedRows) (c : Change) (old new : Replay) : Type 0 where
+  pub lists : new.lists ≡ lists_with c old.lists
+  pub corrected : new.corrected ≡ corrected (anchor_of new.lists.posts) shared.holidays new.lists.posts
+  pub folding : IsTaken c.refolded old.folding new.folding
+
+-- ---- preparing it
+-- the post may be added to the account's posts
+pub record MayBeAdded (c : Change) (r : Replay) : Type 0 where
+  pub room : r.has_room ≡ true
+  pub few : length r.lists.posts < post_limit
+  pub target : target_of c.post ≤ length r.lists.posts
+  pub dated : c.today ≤ last_request_day
+  pub received : IsReceived (anchor_of r.lists.posts).opened c.today c.post
+
+-- what was folded again has its place in the past, and room there
+pub record HasPlace (r : Refolded) (p : Past) : Type 0 where
+  pub within : AreWithin r.ends p
+  pub room : HasRoomFor r.ends r.back p
+
+abbrev pub HasItsRoom : Option Refolded → Past → Type 0
+HasItsRoom None p = Unit {0}
+HasItsRoom (Some r) p = HasPlace r p
+
+-- The post was prepared for this account: it has reached today, the row is the one that the post issues, and whatever it becomes by
+-- taking the post, it stands
+pub record IsPrepared (shared : SharedRows) (c : Change) (r : Replay) : Type 0 where
+  pub replay : IsReplay shared r
+  pub reached : r.folding.reached ≡ c.today
+  pub added : MayBeAdded c r
+  pub issued : issued_as c.issued ≡ issues (present_of c.today shared r.lists) c.post
+  pub room : HasItsRoom c.refolded r.folding.past
+  pub next : (new : Replay) → IsCommitted shared c r new → IsReplay shared new
+
+-- what was folded again for this post, if anything was: whatever the account becomes by taking it, it stands
+pub record IsRefoldedBy (shared : SharedRows) (today : ℕ) (key : List ℕ) (p : Post) (made : Option Refolded) (r : Replay) : Type 0 where
+  pub room : HasItsRoom made r.folding.past
+  pub next :
+      (f : Folding) → IsTaken made r.folding f → IsFolding (given_of (accepted (present_of today shared r.lists) key p) shared) f

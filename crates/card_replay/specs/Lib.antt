@@ -1,0 +1,6 @@
+pub mod Changes
+pub mod Laws
+pub mod Pasts
+pub mod Refolds
+pub mod Replays
+pub mod Steps

@@ -1,0 +1,74 @@
+-- Folding again from a closing on, after one more post. Days are day numbers.
+use Rattle.std.specs.Prelude.{◌≡◌, ℕ, ◌-◌, ◌≤◌, true, [], ◌∷◌, ◌++◌, length, nat_le, Some}
+use Rattle.std.specs.List.{filter}
+use Rattle.card_days.specs.Billing.{cycle_of}
+use Rattle.card_days.specs.Range.{last_request_day}
+use Rattle.card_events.specs.History.{anchor_of, corrected}
+use Rattle.card_events.specs.declared.kept.Kept.{Kept}
+use Rattle.card_events.specs.declared.post.Post.{Post}
+use Rattle.card_model.specs.Cycles.{Cycle}
+use Rattle.card_model.specs.Folds.{cycle_at}
+use Rattle.card_posts.specs.Change.{IsFirstChange}
+use Rattle.card_book.specs.Stands.{StandsFor, Summary}
+use Rattle.card_daily.specs.Given.{Given, IsSound}
+use Rattle.card_replay.specs.Pasts.{AreJoined, AreWithin, IsFront, IsReplaced}
+use Rattle.card_replay.specs.Replays.{HasMarks, IsFolding}
+use Rattle.card_replay.specs.declared.change.Refolded.{Refolded}
+use Rattle.card_replay.specs.declared.past.Ends.{Ends}
+use Rattle.card_replay.specs.declared.past.Past.{Past}
+
+-- the number of the last cycle that closed before the one that a day lies in, 0 before the first closing, and for a day before the
+-- opening
+abbrev pub cycle_before : Given → ℕ → ℕ
+cycle_before g day = cycle_of (anchor_of g.history) day - 1
+
+-- where the lists of a past ended at that closing
+pub record AreEndsOf (g : Given) (from : ℕ) (p : Past) (e : Ends) : Type 0 where
+  pub cycles : e.cycles ≡ cycle_before g from
+  pub none : e.cycles ≡ 0 → e.entries ≡ 0
+  pub some : (c : Cycle) → cycle_at e.cycles p.track.cycles.items ≡ Some c → e.entries ≡ c.entries
+  pub fees : e.fees ≡ length (filter (λ f. nat_le f.cycle e.cycles) p.track.fees.items)
+  pub accrued : e.accrued ≡ length (filter (λ a. nat_le a.cycle e.cycles) p.accrued.items)
+
+-- One post more, which issues nothing, and the first day that it changes
+pub record IsOneMore (old g : Given) (p : Post) (from : ℕ) : Type 0 where
+  pub kept : Kept
+  pub post : kept.post ≡ p
+  pub history : g.history ≡ old.history ++ kept ∷ []
+  pub issued : g.issued ≡ old.issued
+  pub shared : g.shared ≡ old.shared
+  pub sound_before : IsSound old
+  pub sound : IsSound g
+  pub first : IsFirstChange from (corrected (anchor_of old.history) old.shared.holidays old.history) (corrected (anchor_of g.history) g.shared.holidays g.history)
+
+-- and that day isn't after today
+pub record Changes (old g : Given) (p : Post) (from today : ℕ) : Type 0 where
+  pub more : IsOneMore old g p from
+  pub within : from ≤ today
+  pub last : today ≤ last_request_day
+
+-- a Book of today and its past stand for the account without the post
+pub record IsBeforeChange (old g : Given) (p : Post) (from today : ℕ) (b : Summary) (past : Past) : Type 0 where
+  pub changes : Changes old g p from today
+  pub folding : IsFolding old (record { reached = today; book = b; past = past })
+
+-- so they do for some account
+pub record MayRefold (g : Given) (p : Post) (from today : ℕ) (b : Summary) (past : Past) : Type 0 where
+  pub old : Given
+  pub before : IsBeforeChange old g p from today b past
+
+-- A Book with the front of the past up to a closing stands for the account with the post, and has the marks of its closings
+pub record BeginsAgain (g : Given) (e : Ends) (past : Past) (b : Summary) : Type 0 where
+  pub within : AreWithin e past
+  pub whole : b.whole ≡ true
+  pub stands : (front : Past) → IsFront e past front → StandsFor g b front.track
+  pub marks : (front : Past) → IsFront e past front → HasMarks g front
+
+-- What was folded again: with the front it stands for the account with the post, at the end of today
+pub record IsAgain (g : Given) (today : ℕ) (past : Past) (r : Refolded) : Type 0 where
+  pub within : AreWithin r.ends past
+  pub folding : (new : Past) → IsReplaced r.ends past r.back new → IsFolding g (record { reached = today; book = r.book; past = new })
+
+-- a Book of today, with a front and the back that was folded behind it
+abbrev pub IsFoldedBehind : Given → ℕ → Summary → Past → Past → Type 0
+IsFoldedBehind g today b front back = (new : Past) → AreJoined front back new → IsFolding g (record { reached = today; book = b; past = new })

@@ -1,0 +1,123 @@
+-- An account with its book folded to the day last reached. Days are day numbers.
+use Rattle.std.specs.Prelude.{◌≡◌, ℕ, ◌+◌, ◌≤◌, Bool, true, List, [], ◌∷◌, ◌++◌, Some}
+use Rattle.card_days.specs.Business.{AgreeUpTo}
+use Rattle.card_days.specs.Range.{last_request_day}
+use Rattle.card_events.specs.History.{CorrectedPost, anchor_of, corrected}
+use Rattle.card_events.specs.SharedRows.{SharedRows}
+use Rattle.card_events.specs.declared.post.Post.{Post}
+use Rattle.card_model.specs.Cycles.{Cycle}
+use Rattle.card_model.specs.Laws.{fees_up_to}
+use Rattle.card_model.specs.Machine.{kept_as}
+use Rattle.card_model.specs.Refusals.{Lists, Present}
+use Rattle.card_posts.specs.Posted.{Posted, last_accepted}
+use Rattle.card_posts.specs.Stored.{AreTimely}
+use Rattle.card_daily.specs.Given.{Given, IsSound, opened_in}
+use Rattle.card_book.specs.Marks.{AreMarks}
+use Rattle.card_book.specs.Stands.{StandsFor, Summary, day_to_fold}
+use Rattle.card_replay.specs.declared.past.Past.{Past}
+
+-- the day last reached, the Book at its end, and what is recorded up to it
+pub record Folding : Type 0 where
+  pub reached : ℕ
+  pub book : Summary
+  pub past : Past
+
+-- the account's posts and issued statements, the corrected list, whether there is room for one more post with its statement, and
+-- the folding
+pub record Replay : Type 0 where
+  pub lists : Lists
+  pub corrected : List CorrectedPost
+  pub has_room : Bool
+  pub folding : Folding
+
+-- what the fold of the account is given
+abbrev pub given_of : Lists → SharedRows → Given
+given_of lists shared = record { history = lists.posts; issued = lists.issued; shared = shared }
+
+-- what the account is judged and shown by today
+abbrev pub present_of : ℕ → SharedRows → Lists → Present
+present_of today shared lists = record { today = today; shared = shared; lists = lists }
+
+-- ---- a Book and its past
+-- each closing up to the last day folded has its mark
+abbrev pub HasMarks : Given → Past → Type 0
+HasMarks g p = AreMarks g p.track.cycles.items p.since.items p.accrued.items
+
+-- they stand for the book at the end of the last day folded, with the mark of each closing up to then
+pub record HasClosings (g : Given) (b : Summary) (p : Past) : Type 0 where
+  pub stands : StandsFor g b p.track
+  pub marks : HasMarks g p
+
+-- they stand for the book at the end of the last day folded, which comes before the day after this one
+pub record IsFoldedBefore (g : Given) (b : Summary) (p : Past) (to : ℕ) : Type 0 where
+  pub stands : StandsFor g b p.track
+  pub marks : HasMarks g p
+  pub opened : opened_in g ≤ to
+  pub later : day_to_fold g b.day ≤ to + 1
+  pub last : to ≤ last_request_day
+
+-- the last day folded closed the last cycle, and all closings before it have their marks
+pub record ClosesLast (g : Given) (b : Summary) (p : Past) : Type 0 where
+  pub before : List Cycle
+  pub last : Cycle
+  pub cycles : p.track.cycles.items ≡ before ++ last ∷ []
+  pub day : b.day ≡ Some last.closing
+  pub dated : last.closing ≤ last_request_day
+  pub marks : AreMarks g before p.since.items p.accrued.items
+
+-- ---- an account
+-- The folding stands for the account's book at the end of the day last reached, with the mark of each closing up to then
+pub record IsFolding (g : Given) (f : Folding) : Type 0 where
+  pub day : f.book.day ≡ Some f.reached
+  pub whole : f.book.whole ≡ true
+  pub stands : StandsFor g f.book f.past.track
+  pub marks : HasMarks g f.past
+
+-- What always holds of an account under these shared rows: the corrected list is that of its posts, it may be folded, no post was
+-- accepted after the day last reached, and what is kept of its book is the book
+pub record IsReplay (shared : SharedRows) (r : Replay) : Type 0 where
+  pub corrected : r.corrected ≡ corrected (anchor_of r.lists.posts) shared.holidays r.lists.posts
+  pub sound : IsSound (given_of r.lists shared)
+  pub timely : AreTimely (anchor_of r.lists.posts).opened r.lists.posts
+  pub accepted : last_accepted r.lists.posts ≤ r.folding.reached
+  pub opened : (anchor_of r.lists.posts).opened ≤ r.folding.reached
+  pub dated : r.folding.reached ≤ last_request_day
+  pub folding : IsFolding (given_of r.lists shared) r.folding
+
+-- the account has reached today
+pub record IsToday (today : ℕ) (shared : SharedRows) (r : Replay) : Type 0 where
+  pub replay : IsReplay shared r
+  pub reached : r.folding.reached ≡ today
+
+-- the lists of an account that a post opens today
+abbrev pub opened_lists : List ℕ → ℕ → Post → Lists
+opened_lists key today p = record { posts = kept_as 1 key today p ∷ []; issued = [] }
+
+-- the posts, as clauses on them see them
+abbrev pub posted_of : Replay → Posted
+posted_of r = record { history = r.lists.posts; corrected = r.corrected; has_room = r.has_room }
+
+-- a Book and its past, at the end of some day, may be folded on to the end of today
+pub record FoldsOn (g : Given) (today : ℕ) (b : Summary) (p : Past) : Type 0 where
+  pub reached : ℕ
+  pub folding : IsFolding g (record { reached = reached; book = b; past = p })
+  pub opened : opened_in g ≤ reached
+  pub later : reached ≤ today
+  pub last : today ≤ last_request_day
+
+-- today isn't before the day last reached, and may be folded
+pub record MayReach (today : ℕ) (r : Replay) : Type 0 where
+  pub later : r.folding.reached ≤ today
+  pub last : today ≤ last_request_day
+
+-- ---- what stays
+-- the lists, and the corrected list with them
+pub record SameLists (old new : Replay) : Type 0 where
+  pub lists : new.lists ≡ old.lists
+  pub corrected : new.corrected ≡ old.corrected
+  pub room : old.has_room ≡ true → new.has_room ≡ true
+
+-- shared rows that an account doesn't see before the day after the one last reached
+pub record AreLaterRows (reached : ℕ) (old new : SharedRows) : Type 0 where
+  pub holidays : AgreeUpTo reached old.holidays new.holidays
+  pub fees : fees_up_to reached new ≡ fees_up_to reached old

@@ -1,0 +1,105 @@
+// What a Bill issues.
+ghost use Rattle.std.specs.Prelude.{◌≡◌, ◌<◌, ◌≤◌, ℕ, ◌++◌, length, IfOk, None, Some, vec_len, vec_capacity};
+ghost use Rattle.card_days.specs.Range.{last_calendar_day};
+ghost use Rattle.card_events.specs.declared.post.Post.TheVariants as variants;
+ghost use Rattle.card_model.specs.Cycles.{Cycle};
+ghost use Rattle.card_model.specs.Folds.{cycle_at};
+ghost use Rattle.card_replay.specs.Changes.{issued_as, issued_from, row_on};
+ghost use Rattle.card_replay.specs.Replays.{HasClosings};
+
+use crate::past::Past;
+use crate::statement::statement_at;
+use card_book::{Book, Cycle, Inputs, Issued};
+use card_days::Day;
+use card_events::{Num, Post};
+use card_units::NoMemory;
+use std::alloc::Global;
+
+/// The number of a cycle, where it is closed.
+pub fn closed_number(cycles: &[Cycle], cycle: Num) -> Option<u32>
+    requires small { cycle ≤ last_calendar_day }
+    ensures some { (n : ℕ) → result ≡ Some n → (n ≡ cycle) × (1 ≤ n) × (n ≤ length cycles.now) }
+    ensures none { result ≡ None → cycle_at cycle cycles.now ≡ None }
+{
+    let number = cycle.get();
+    if number >= 1 && number <= cycles.len() as u64 {
+        Some(number as u32)
+    } else {
+        None
+    }
+}
+
+// The row of a closed cycle that a Bill with a number issues on a day.
+fn row_at(
+    alloc: Global,
+    inputs: &Inputs,
+    book: &Book,
+    past: &Past,
+    number: u32,
+    bill: u32,
+    day: Day,
+) -> Result<Issued, NoMemory>
+    requires closings { HasClosings inputs.now book.now past.now }
+    requires first { 1 ≤ number }
+    requires closed { number ≤ length past.now.track.cycles.items }
+    ensures { IfOk result (λ row. (c : Cycle) → cycle_at number past.now.track.cycles.items ≡ Some c → row ≡ row_on inputs.now number bill day c) }
+{
+    let statement = statement_at(alloc, inputs, book, past, number, day)?;
+    Ok(Issued {
+        cycle: number,
+        bill,
+        day: statement.issue,
+        statement,
+    })
+}
+
+// The row that a Bill with a number issues on a day, none where the cycle isn't closed.
+fn row_of(
+    alloc: Global,
+    inputs: &Inputs,
+    book: &Book,
+    past: &Past,
+    cycle: Num,
+    bill: u32,
+    day: Day,
+) -> Result<Option<Issued>, NoMemory>
+    requires closings { HasClosings inputs.now book.now past.now }
+    requires small { cycle ≤ last_calendar_day }
+    ensures { IfOk result (λ made. issued_as made ≡ issued_from inputs.now past.now.track.cycles.items bill day (variants.Bill cycle)) }
+{
+    match closed_number(&past.track.cycles, cycle) {
+        Some(number) => Ok(Some(row_at(alloc, inputs, book, past, number, bill, day)?)),
+        None => Ok(None),
+    }
+}
+
+/// The row that a post with a number issues on a day, where it is a Bill: its cycle as the past has it, with what the statement shows
+/// beside it.
+pub fn issued_by(
+    alloc: Global,
+    inputs: &Inputs,
+    book: &Book,
+    past: &Past,
+    post: &Post,
+    number: u32,
+    day: Day,
+) -> Result<Option<Issued>, NoMemory>
+    requires closings { HasClosings inputs.now book.now past.now }
+    requires small { (cycle : ℕ) → post.now ≡ variants.Bill cycle → cycle ≤ last_calendar_day }
+    ensures { IfOk result (λ made. issued_as made ≡ issued_from inputs.now past.now.track.cycles.items number day post.now) }
+{
+    match post {
+        Post::Bill { cycle } => row_of(alloc, inputs, book, past, *cycle, number, day),
+        _ => Ok(None),
+    }
+}
+
+/// Adds what was issued, with room for one more.
+pub fn push_issued(list: &mut Vec<Issued>, made: Option<Issued>)
+    requires { vec_len list.old < vec_capacity list.old }
+    ensures { list.new.items ≡ list.old.items ++ issued_as made }
+{
+    if let Some(row) = made {
+        let _ = list.push(row);
+    }
+}

@@ -1,0 +1,18 @@
+//! Laws of accounts with a folded book, for all accounts. Their functions do nothing; their clauses are what holds.
+ghost use Rattle.card_replay.specs.Laws.{KeptBookIsTheFold, KeptClosingsAreTheFold, LaterRowsLeaveIt};
+
+/// The Book at the day last reached and its track are the fold of the account from its opening day on.
+pub fn kept_book_is_the_fold()
+    ensures { KeptBookIsTheFold }
+{}
+
+/// For each closing up to the day last reached, the Book that is taken back to it, with the track cut behind that cycle, is the fold
+/// of the account from its opening day to the end of that closing.
+pub fn kept_closings_are_the_fold()
+    ensures { KeptClosingsAreTheFold }
+{}
+
+/// Holidays and fee rows of days after the one last reached leave what was folded.
+pub fn later_rows_leave_it()
+    ensures { LaterRowsLeaveIt }
+{}

@@ -1,0 +1,364 @@
+// An account with its book folded to the day last reached.
+ghost use Rattle.std.specs.Prelude.{◌≡◌, ◌+◌, ◌≤◌, ℕ, IfOk, OnOk, OnErr};
+ghost use Rattle.card_days.specs.Range.{last_request_day};
+ghost use Rattle.card_daily.specs.Given.{opened_in};
+ghost use Rattle.card_book.specs.Stands.{day_to_fold, steps_over};
+ghost use Rattle.card_replay.specs.Pasts.{AreSame, IsEmpty};
+ghost use Rattle.card_replay.specs.Replays.{FoldsOn, IsFolding};
+
+use crate::change::{Change, Refolded};
+use crate::folding::fold_on;
+use crate::issuing::{closed_number, issued_by, push_issued};
+use crate::past::{Past, cut, ends_of, nothing};
+use crate::refolding::{is_unread, refold_by_today};
+use crate::statement::statement_at;
+use crate::taking::take_if_any;
+use card_book::{Book, Folded, Inputs, Issued, Statement};
+use card_days::Day;
+use card_events::{Name, Num, Post};
+use card_fees::SharedRows;
+use card_posts::Posts;
+use card_steps::Steps;
+use card_units::NoMemory;
+use std::alloc::Global;
+use std::marker::Model;
+use std::sync::ledger::Ledger;
+
+/// The posts and the issued statements of an account, with its book folded to the day last reached, what is recorded up to then,
+/// and what has to be kept of each closing to go back to it. Clauses see it as a record of these.
+#[derive(Drop)]
+pub struct Replay {
+    posts: Posts,
+    issued: Vec<Issued>,
+    book: Book,
+    past: Past,
+    reached: Day,
+    has_room: bool,
+}
+
+impl Model for Replay {
+    ghost use Rattle.std.specs.Prelude.{◌≡◌, ◌<◌, true, vec_len, vec_capacity};
+    ghost use Rattle.card_replay.specs.Replays.{Replay};
+
+    ghost Value = { Replay };
+
+    ghost view = { λ r. record { lists = record { posts = r.posts.history; issued = r.issued.items }; corrected = r.posts.corrected; has_room = r.has_room; folding = record { reached = r.reached; book = r.book; past = r.past } } };
+
+    ghost invariant = { λ r. r.has_room ≡ true → (r.posts.has_room ≡ true) × (vec_len r.issued < vec_capacity r.issued) };
+}
+
+// The Book of an account that was just opened, at the end of today.
+fn first_book<L: Ledger>(
+    alloc: Global,
+    inputs: &Inputs,
+    past: &mut Past,
+    today: Day,
+    steps: &mut Steps<L>,
+) -> Result<Book, NoMemory>
+    requires empty { IsEmpty past.old }
+    requires opened { opened_in inputs.now ≤ today }
+    requires last { today ≤ last_request_day }
+    ensures folding { IfOk result (λ b. IsFolding inputs.now (record { reached = today; book = b; past = past.new })) }
+    ensures steps { OnOk result (steps.new ≡ steps.old + steps_over inputs.now today (opened_in inputs.now)) }
+    ensures most { steps.new ≤ steps.old + steps_over inputs.now today (opened_in inputs.now) }
+{
+    let mut book = Book::start(alloc, inputs)?;
+    fold_on(alloc, inputs, &mut book, past, today, steps)?;
+    Ok(book)
+}
+
+// Folds a copy of a Book to the end of today. After want of memory the past is as it was.
+fn reach<L: Ledger>(
+    alloc: Global,
+    inputs: &Inputs,
+    book: &Book,
+    past: &mut Past,
+    today: Day,
+    steps: &mut Steps<L>,
+) -> Result<Book, NoMemory>
+    requires folded { FoldsOn inputs.now today book.now past.old }
+    ensures folding { IfOk result (λ b. IsFolding inputs.now (record { reached = today; book = b; past = past.new })) }
+    ensures steps { OnOk result (steps.new ≡ steps.old + steps_over inputs.now today (day_to_fold inputs.now book.now.day)) }
+    ensures most { steps.new ≤ steps.old + steps_over inputs.now today (day_to_fold inputs.now book.now.day) }
+    ensures err { OnErr result (AreSame past.old past.new) }
+{
+    let ends = ends_of(past);
+    let mut later = book.copy(alloc)?;
+    match fold_on(alloc, inputs, &mut later, past, today, steps) {
+        Ok(()) => Ok(later),
+        Err(NoMemory) => {
+            cut(past, &ends);
+            Err(NoMemory)
+        }
+    }
+}
+
+impl Replay {
+    ghost use Rattle.std.specs.Prelude.{◌≡◌, ◌+◌, ◌≤◌, ◌<◌, ◌++◌, ℕ, [], ◌∷◌, true, false, length, None, IfOk, OnOk, OnErr, ◌⊎◌};
+    ghost use Rattle.card_days.specs.Billing.{IsCloseDay};
+    ghost use Rattle.card_days.specs.Range.{last_calendar_day, last_request_day};
+    ghost use Rattle.card_events.specs.Dated.{is_dated_post};
+    ghost use Rattle.card_events.specs.History.{anchor_of, opening_in, terms_in};
+    ghost use Rattle.card_events.specs.Keys.{with_key};
+    ghost use Rattle.card_model.specs.Machine.{accepted, is_open, issues};
+    ghost use Rattle.card_model.specs.Folds.{cycle_at};
+    ghost use Rattle.std.specs.Option.{option_map};
+    ghost use Rattle.card_book.specs.Statements.{statement_on};
+    ghost use Rattle.card_model.specs.Refusals.{book_today, reason_against};
+    ghost use Rattle.card_model.specs.Deadlines.{credit_since};
+    ghost use Rattle.card_posts.specs.Posted.{opens};
+    ghost use Rattle.card_slots.specs.Segments.{account_segments};
+    ghost use Rattle.card_daily.specs.Given.{IsSound};
+    ghost use Rattle.card_book.specs.Stands.{steps_over};
+    ghost use Rattle.card_replay.specs.Changes.{IsChangeOf, IsCommitted, IsPrepared, IsRefoldedBy, issued_as};
+    ghost use Rattle.card_replay.specs.Replays.{IsReplay, IsToday, MayReach, SameLists, given_of, opened_lists, present_of};
+    ghost use Rattle.card_replay.specs.Steps.{AreFewToPrepare, AreFewToRefold, steps_to};
+
+    /// The account that a post opens today, folded to the end of today. What every run leaves holds of its lists.
+    pub fn start<L: Ledger>(
+        alloc: Global,
+        key: &Name,
+        today: Day,
+        post: &Post,
+        shared: &SharedRows,
+        steps: &mut Steps<L>,
+    ) -> Result<Replay, NoMemory>
+        requires opens { opens post.now ≡ true }
+        requires close_day { IsCloseDay (terms_in post.now).close }
+        requires opened { opening_in post.now ≤ today }
+        requires dated { today ≤ last_request_day }
+        requires sound { IsSound (given_of (opened_lists key.now today post.now) shared.now) }
+        ensures lists { IfOk result (λ r. r.lists ≡ opened_lists key.now today post.now) }
+        ensures today { IfOk result (IsToday today shared.now) }
+        ensures room { IfOk result (λ r. r.has_room ≡ false) }
+        ensures most { steps.new ≤ steps.old + steps_over (given_of (opened_lists key.now today post.now) shared.now) today (opening_in post.now) }
+    {
+        let posts = Posts::start(alloc, key, today, post)?;
+        let issued = Vec::new(alloc);
+        let mut past = nothing(alloc);
+        let inputs = Inputs::new(&posts, &issued, shared);
+        let book = first_book(alloc, &inputs, &mut past, today, steps)?;
+        Ok(Replay {
+            posts,
+            issued,
+            book,
+            past,
+            reached: today,
+            has_room: false,
+        })
+    }
+
+    /// Folds to the end of today, which isn't before the day last reached. The posts and the issued statements stay. It takes one
+    /// step a break day after the day last reached, and one more where today is later and none. After want of memory the day last
+    /// reached is as before.
+    pub fn to_day<L: Ledger>(
+        &mut self,
+        alloc: Global,
+        today: Day,
+        shared: &SharedRows,
+        steps: &mut Steps<L>,
+    ) -> Result<(), NoMemory>
+        requires replay { IsReplay shared.now self.old }
+        requires reach { MayReach today self.old }
+        ensures same { SameLists self.old self.new }
+        ensures replay { IsReplay shared.now self.new }
+        ensures reached { OnOk result (self.new.folding.reached ≡ today) }
+        ensures err { OnErr result (self.new.folding.reached ≡ self.old.folding.reached) }
+        ensures steps { OnOk result (steps.new ≡ steps.old + steps_to today shared.now self.old) }
+        ensures most { steps.new ≤ steps.old + steps_to today shared.now self.old }
+    {
+        if self.reached == today {
+            return Ok(());
+        }
+        let inputs = Inputs::new(&self.posts, &self.issued, shared);
+        let book = reach(alloc, &inputs, &self.book, &mut self.past, today, steps)?;
+        self.book = book;
+        self.reached = today;
+        Ok(())
+    }
+
+    // Makes room for one more post with its statement.
+    fn make_room(&mut self) -> Result<(), NoMemory>
+        ensures same { SameLists self.old self.new }
+        ensures folding { self.new.folding ≡ self.old.folding }
+        ensures room { OnOk result (self.new.has_room ≡ true) }
+    {
+        self.posts.make_room()?;
+        self.issued.reserve(1)?;
+        self.has_room = true;
+        Ok(())
+    }
+
+    // The row that a post issues today, where it is a Bill.
+    fn issued_today(
+        &self,
+        alloc: Global,
+        post: &Post,
+        today: Day,
+        shared: &SharedRows,
+    ) -> Result<Option<Issued>, NoMemory>
+        requires today { IsToday today shared.now self.now }
+        requires no_reason { reason_against (present_of today shared.now self.now.lists) post.now ≡ None }
+        ensures { IfOk result (λ made. issued_as made ≡ issues (present_of today shared.now self.now.lists) post.now) }
+    {
+        let number = self.posts.len() + 1;
+        let inputs = Inputs::new(&self.posts, &self.issued, shared);
+        let made = issued_by(alloc, &inputs, &self.book, &self.past, post, number, today)?;
+        Ok(made)
+    }
+
+    // What a post changes of what was folded, where it changes something up to today. The account stays as it is.
+    fn refolded<L: Ledger>(
+        &mut self,
+        alloc: Global,
+        key: &Name,
+        post: &Post,
+        today: Day,
+        shared: &SharedRows,
+        steps: &mut Steps<L>,
+    ) -> Result<Option<Refolded>, NoMemory>
+        requires today { IsToday today shared.now self.old }
+        requires room { self.old.has_room ≡ true }
+        requires fresh { with_key key.now self.old.lists.posts ≡ None }
+        requires no_reason { reason_against (present_of today shared.now self.old.lists) post.now ≡ None }
+        requires sound { IsSound (given_of (accepted (present_of today shared.now self.old.lists) key.now post.now) shared.now) }
+        ensures same { SameLists self.old self.new }
+        ensures today { IsToday today shared.now self.new }
+        ensures refolded { IfOk result (λ made. IsRefoldedBy shared.now today key.now post.now made self.new) }
+        ensures most { AreFewToRefold today shared.now self.old.lists key.now post.now steps.old steps.new }
+    {
+        if is_unread(post) {
+            return Ok(None);
+        }
+        let key = key.copy(alloc)?;
+        let draft = self
+            .posts
+            .draft(alloc, key, today, post, shared.calendar())?;
+        let inputs = Inputs::new(&self.posts, &self.issued, shared);
+        let made = refold_by_today(
+            alloc,
+            &inputs,
+            post,
+            draft.from(),
+            today,
+            &self.book,
+            &mut self.past,
+            steps,
+        );
+        self.posts.withdraw(draft);
+        made
+    }
+
+    /// Prepares a post against which there is no reason, under a new key: the account reaches today, there is room for the post, and
+    /// what it changes of the book of today is folded again from the closing before the cycle in which the first changed day lies.
+    /// The posts and the issued statements stay as they are; with the post, they are as every run leaves them. After want of memory
+    /// the day last reached is as before, or today.
+    pub fn prepare<L: Ledger>(
+        &mut self,
+        alloc: Global,
+        key: Name,
+        post: &Post,
+        today: Day,
+        shared: &SharedRows,
+        steps: &mut Steps<L>,
+    ) -> Result<Change, NoMemory>
+        requires replay { IsReplay shared.now self.old }
+        requires reach { MayReach today self.old }
+        requires dated { is_dated_post post.now ≡ true }
+        requires not_open { is_open post.now ≡ false }
+        requires fresh { with_key key self.old.lists.posts ≡ None }
+        requires no_reason { reason_against (present_of today shared.now self.old.lists) post.now ≡ None }
+        requires sound { IsSound (given_of (accepted (present_of today shared.now self.old.lists) key post.now) shared.now) }
+        ensures same { SameLists self.old self.new }
+        ensures replay { IsReplay shared.now self.new }
+        ensures reached { OnOk result (self.new.folding.reached ≡ today) }
+        ensures err { OnErr result ((self.new.folding.reached ≡ self.old.folding.reached) ⊎ (self.new.folding.reached ≡ today)) }
+        ensures prepared { IfOk result (λ c. IsPrepared shared.now c self.new) }
+        ensures post { IfOk result (λ c. IsChangeOf key today post.now c) }
+        ensures most { AreFewToPrepare today shared.now self.old.lists self.old.folding.reached key post.now steps.old steps.new }
+    {
+        self.to_day(alloc, today, shared, steps)?;
+        let issued = self.issued_today(alloc, post, today, shared)?;
+        self.make_room()?;
+        let refolded = self.refolded(alloc, &key, post, today, shared, steps)?;
+        Ok(Change {
+            key,
+            post: *post,
+            today,
+            issued,
+            refolded,
+        })
+    }
+
+    /// Takes a post that was prepared for this account, and answers its number. It takes no memory and can't fail.
+    pub fn commit(&mut self, change: Change, shared: &SharedRows) -> u32
+        requires prepared { IsPrepared shared.now change self.old }
+        ensures committed { IsCommitted shared.now change self.old self.new }
+        ensures today { IsToday change.today shared.now self.new }
+        ensures room { self.new.has_room ≡ false }
+        ensures number { result ≡ length self.old.lists.posts + 1 }
+    {
+        push_issued(&mut self.issued, change.issued);
+        self.has_room = false;
+        take_if_any(&mut self.book, &mut self.past, change.refolded);
+        let pushed = self
+            .posts
+            .add(change.key, change.today, &change.post, shared.calendar());
+        pushed.number
+    }
+
+    /// The accepted posts.
+    pub fn posts(&self) -> &Posts
+        ensures history { result.now.history ≡ self.now.lists.posts }
+        ensures corrected { result.now.corrected ≡ self.now.corrected }
+    {
+        &self.posts
+    }
+
+    /// The issued statements.
+    pub fn issued(&self) -> &[Issued]
+        ensures { result.now ≡ self.now.lists.issued }
+    {
+        &self.issued
+    }
+
+    /// The day last reached.
+    pub fn reached(&self) -> Day
+        ensures { result ≡ self.now.folding.reached }
+    {
+        self.reached
+    }
+
+    /// What was folded, to be asked: the book at the end of today, which the account has reached.
+    pub fn folded<'a>(&'a self, _today: Day, _shared: &SharedRows) -> Folded<'a>
+        requires { IsToday _today _shared.now self.now }
+        ensures book { result.book ≡ book_today (present_of _today _shared.now self.now.lists) }
+        ensures since { result.since ≡ credit_since (book_today (present_of _today _shared.now self.now.lists)).entries (anchor_of self.now.lists.posts).opened _today }
+        ensures segments { result.segments ≡ account_segments _shared.now.holidays self.now.lists.posts }
+    {
+        Folded::of(&self.book, &self.past.track)
+    }
+
+    /// The statement of a cycle, as if it were issued on a day (12 CFR 1026.5(b)(2), .7(b)), by the book at the end of today, which the
+    /// account has reached; none where the cycle isn't closed. It costs what the entries behind its closing cost.
+    pub fn statement(
+        &self,
+        alloc: Global,
+        cycle: Num,
+        issue: Day,
+        _today: Day,
+        shared: &SharedRows,
+    ) -> Result<Option<Statement>, NoMemory>
+        requires today { IsToday _today shared.now self.now }
+        requires small { cycle ≤ last_calendar_day }
+        ensures { IfOk result (λ s. s ≡ option_map (statement_on (given_of self.now.lists shared.now) issue) (cycle_at cycle (book_today (present_of _today shared.now self.now.lists)).cycles)) }
+    {
+        let inputs = Inputs::new(&self.posts, &self.issued, shared);
+        match closed_number(&self.past.track.cycles, cycle) {
+            Some(number) => Ok(Some(statement_at(
+                alloc, &inputs, &self.book, &self.past, number, issue,
+            )?)),
+            None => Ok(None),
+        }
+    }
+}
