@@ -3,11 +3,22 @@
 #![tactic(auto)]
 
 use card_commands::billctl;
-use card_ports::{Keeper, MemoryKeeper, StdSink, StdSource, TcpDoor};
+use card_ports::{Asking, Keeper, Lent, MemoryKeeper, Replies, StdSink, StdSource, TcpDoor};
 use card_sqlite::SqliteKeeper;
 use card_units::NoMemory;
-use std::io;
+use std::cell::RefCell;
+use std::io::{self, Write};
 use std::process::ExitCode;
+
+// How many bytes of replies may wait until more is read, where the rows are in memory.
+const REPLY_ROOM: usize = 8192;
+
+// The statuses of a run that was refused something, whose output failed, and that wanted memory.
+const REFUSED: u8 = 1;
+
+const OUTPUT_FAILED: u8 = 4;
+
+const NO_MEMORY: u8 = 6;
 
 // The first word, which says where the rows are kept, and the words behind it. An empty list and words that aren't text give
 // no words, and no words are no command.
@@ -32,30 +43,48 @@ fn read_words(rt: &HostRuntime) -> Result<Words, NoMemory> {
     Ok(Words { place, command })
 }
 
-fn over<K: Keeper>(rt: &HostRuntime, words: &Vec<String>, keeper: &mut K) -> u8 {
-    let mut input = StdSource::new(rt.reader());
-    let mut output = StdSink::new(io::writer(rt));
+// A server waits for connections and not for more input, so its lines don't wait.
+fn reply_room(words: &Vec<String>) -> usize {
+    match words.first() {
+        Some(word) if word.as_str() == "serve" => 0,
+        _ => REPLY_ROOM,
+    }
+}
+
+// Runs the command. Where its last replies can't be written, that is its status, unless it has ended by something else.
+fn over<K: Keeper>(rt: &HostRuntime, words: &Vec<String>, room: usize, keeper: &mut K) -> u8 {
+    let Ok(replies) = Replies::new(rt.alloc(), io::writer(rt), room) else {
+        return NO_MEMORY;
+    };
+    let replies = RefCell::new(replies);
+    let mut input = StdSource::new(Asking::new(rt.reader(), &replies));
+    let mut output = StdSink::new(Lent::new(&replies));
     let mut door = TcpDoor::new(rt);
-    billctl(
+    let status = billctl(
         rt.alloc(),
         words,
         &mut input,
         &mut output,
         keeper,
         &mut door,
-    )
+    );
+    match Lent::new(&replies).flush() {
+        Err(_) if status <= REFUSED => OUTPUT_FAILED,
+        _ => status,
+    }
 }
 
 // Rows in memory, for this run alone.
 fn over_memory(rt: &HostRuntime, words: &Vec<String>) -> u8 {
     let mut keeper = MemoryKeeper::new(rt.alloc());
-    over(rt, words, &mut keeper)
+    over(rt, words, reply_room(words), &mut keeper)
 }
 
-// Rows in a file. What was answered stands in the file and its log, also where the close that joins them fails.
+// Rows in a file: a row is kept before its reply is written, and no reply waits. What was answered stands in the file and its
+// log, also where the close that joins them fails.
 fn over_file(rt: &HostRuntime, path: String, words: &Vec<String>) -> u8 {
     let mut keeper = SqliteKeeper::new(rt, path);
-    let status = over(rt, words, &mut keeper);
+    let status = over(rt, words, 0, &mut keeper);
     let _ = keeper.close();
     status
 }
@@ -63,7 +92,7 @@ fn over_file(rt: &HostRuntime, path: String, words: &Vec<String>) -> u8 {
 // The first word is `-`, or the file that keeps the rows.
 fn main(rt: HostRuntime) -> ExitCode {
     let Ok(Words { place, command }) = read_words(&rt) else {
-        return ExitCode::from(6);
+        return ExitCode::from(NO_MEMORY);
     };
     match place {
         Some(path) if path.as_str() != "-" => ExitCode::from(over_file(&rt, path, &command)),
