@@ -3,7 +3,8 @@ use Rattle.std.proofs.Common.{◌≡◌, ℕ, zero, suc, ◌+◌, ◌<◌, ◌�
 use Rattle.std.specs.Prelude.{IsSomeAnd, is_some, if◌then◌else◌, nat_lt, not, ◌==◌, slice_get}
 use Rattle.std.specs.Option.{option_map}
 use Rattle.std.proofs.lemmas.Bool.{and_parts, cases_lt, ltb-true}
-use Rattle.card_account.specs.Accounts.{is_closed, present_of, restated_as, restated_statement}
+use Rattle.card_account.specs.Accounts.{is_closed, restated_as, restated_statement}
+use Rattle.card_replay.specs.Replays.{present_of}
 use Rattle.card_account.specs.Closed.{ClosedCyclesAreInTheBook}
 use Rattle.card_days.specs.Billing.{closing}
 use Rattle.card_days.specs.Range.{last_request_day}

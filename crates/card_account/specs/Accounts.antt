@@ -1,35 +1,35 @@
 -- An account, as clauses see it, and what is read of it.
-use Rattle.std.specs.Prelude.{◌≡◌, ℕ, Bool, ◌&&◌, ◌==◌, not, nat_lt, if◌then◌else◌, pos, List, [], ◌∷◌, Option, Some, None}
+use Rattle.std.specs.Prelude.{◌≡◌, ◌≤◌, ◌<◌, ℕ, Bool, length, slice_index_or, ◌&&◌, ◌==◌, not, nat_lt, if◌then◌else◌, pos, List, Option, Some, None, ◌⊎◌}
 use Rattle.std.specs.Option.{option_map, option_map_or}
 use Rattle.card_account.specs.declared.owing.Owing.{Owing}
-use Rattle.card_daily.specs.Given.{Given, IsSound, ReachesToday, given_today}
+use Rattle.card_book.specs.Stands.{FoldedBook}
+use Rattle.card_book.specs.Statements.{statement_on}
+use Rattle.card_daily.specs.Given.{IsSound, ReachesToday, given_today}
 use Rattle.card_daily.specs.declared.track.Statement.{Statement}
 use Rattle.card_days.specs.Billing.{closing}
+use Rattle.card_days.specs.Range.{last_calendar_day}
 use Rattle.card_events.specs.History.{CorrectedPost, anchor_of, corrected}
 use Rattle.card_events.specs.SharedRows.{SharedRows}
 use Rattle.card_model.specs.Books.{Book}
 use Rattle.card_model.specs.Caps.{row_for}
 use Rattle.card_model.specs.Cycles.{Cycle, IssuedRow}
 use Rattle.card_model.specs.Entries.{credit_balance, owed, owing}
+use Rattle.card_model.specs.Deadlines.{credit_since}
 use Rattle.card_model.specs.Folds.{cycle_at}
 use Rattle.card_model.specs.Machine.{NamedAccount}
 use Rattle.card_model.specs.Refusals.{Lists, Present, book_today}
 use Rattle.card_model.specs.Sheets.{sheet_of}
+use Rattle.card_replay.specs.Replays.{Folding, IsReplay, MayReach, Replay, present_of}
+use Rattle.card_replay.specs.Steps.{steps_to}
+use Rattle.card_slots.specs.Segments.{account_segments}
 
--- the account as the machine has it, with the corrected list that is kept of it, and whether there is room for one more post
--- with its statement
+-- the account as the machine has it, with the corrected list that is kept of it, whether there is room for one more post with its
+-- statement, and what is kept of its book
 pub record OpenAccount : Type 0 where
   pub named : NamedAccount
   pub corrected : List CorrectedPost
   pub has_room : Bool
-
--- what the fold of the account is given
-abbrev pub given_of : Lists → SharedRows → Given
-given_of lists shared = record { history = lists.posts; issued = lists.issued; shared = shared }
-
--- what is judged and shown of the account today
-abbrev pub present_of : ℕ → SharedRows → Lists → Present
-present_of today shared lists = record { today = today; shared = shared; lists = lists }
+  pub folding : Folding
 
 -- the corrected list is that of the posts under these holidays
 abbrev pub IsCorrected : List ℕ → OpenAccount → Type 0
@@ -41,10 +41,42 @@ pub record MayBeFolded (today : ℕ) (shared : SharedRows) (a : OpenAccount) : T
   pub sound : IsSound (given_today (present_of today shared a.named.lists))
   pub reached : ReachesToday (present_of today shared a.named.lists)
 
--- the row that was issued, if one was
-abbrev pub issued_as : Option IssuedRow → List IssuedRow
-issued_as None = []
-issued_as (Some row) = row ∷ []
+-- ---- its folding
+-- the account without its name
+abbrev pub replay_of : OpenAccount → Replay
+replay_of a = record { lists = a.named.lists; corrected = a.corrected; has_room = a.has_room; folding = a.folding }
+
+-- What always holds of it, under these shared rows, on a day that isn't before the one last reached
+pub record IsAccount (today : ℕ) (shared : SharedRows) (a : OpenAccount) : Type 0 where
+  pub replay : IsReplay shared (replay_of a)
+  pub reach : MayReach today (replay_of a)
+
+-- after a call that tells of it, it is the same account, and has reached today or the day that it had reached
+pub record IsTold (today : ℕ) (shared : SharedRows) (old new : OpenAccount) : Type 0 where
+  pub named : new.named ≡ old.named
+  pub corrected : new.corrected ≡ old.corrected
+  pub account : IsAccount today shared new
+  pub reached : (new.folding.reached ≡ today) ⊎ (new.folding.reached ≡ old.folding.reached)
+
+-- and a call that answers has reached today
+pub record HasTold (today : ℕ) (shared : SharedRows) (old new : OpenAccount) : Type 0 where
+  pub told : IsTold today shared old new
+  pub reached : new.folding.reached ≡ today
+
+-- of many accounts, one by one
+pub record AreTold (today : ℕ) (shared : SharedRows) (old new : List OpenAccount) : Type 0 where
+  pub count : length new ≡ length old
+  pub each : (i : ℕ) (d : OpenAccount) → i < length old → IsTold today shared (slice_index_or old i d) (slice_index_or new i d)
+
+-- what was folded of it is its book of today
+pub record IsFoldedToday (today : ℕ) (shared : SharedRows) (lists : Lists) (f : FoldedBook) : Type 0 where
+  pub book : f.book ≡ book_today (present_of today shared lists)
+  pub since : f.since ≡ credit_since (book_today (present_of today shared lists)).entries (anchor_of lists.posts).opened today
+  pub segments : f.segments ≡ account_segments shared.holidays lists.posts
+
+-- the steps that bring it to today
+abbrev pub steps_of : ℕ → SharedRows → OpenAccount → ℕ
+steps_of today shared a = steps_to today shared (replay_of a)
 
 -- ---- what is read of it
 -- what is owed in all, the credit balance, and what is held in dispute (12 CFR 1026.11(a), .13)
@@ -77,3 +109,13 @@ unfoldable pub restated_statement : Present → ℕ → Option Statement
 restated_statement now cycle =
     let closed = option_map (restated_as now (row_for cycle now.lists.issued)) (cycle_at cycle (book_today now).cycles) in
     if is_closed now.today now.lists cycle then closed else None
+
+-- the statement is that of a cycle of the book of today, as if it were issued on a day
+pub record IsRestatedOn (now : Present) (cycle day : ℕ) : Type 0 where
+  pub small : cycle ≤ last_calendar_day
+  pub statement : restated_statement now cycle ≡ option_map (statement_on (given_today now) day) (cycle_at cycle (book_today now).cycles)
+
+-- the day as of which it is, where there is one
+abbrev pub IsIssueOf : Present → ℕ → Option ℕ → Type 0
+IsIssueOf now cycle None = restated_statement now cycle ≡ None
+IsIssueOf now cycle (Some day) = IsRestatedOn now cycle day

@@ -1,6 +1,7 @@
 -- Which cycles the book of today has.
 use Rattle.std.specs.Prelude.{◌≡◌, ℕ, true, IsSomeAnd, is_some}
-use Rattle.card_account.specs.Accounts.{MayBeFolded, OpenAccount, is_closed, present_of, restated_statement}
+use Rattle.card_account.specs.Accounts.{MayBeFolded, OpenAccount, is_closed, restated_statement}
+use Rattle.card_replay.specs.Replays.{present_of}
 use Rattle.card_events.specs.History.{anchor_of}
 use Rattle.card_events.specs.SharedRows.{SharedRows}
 use Rattle.card_model.specs.CycleDays.{HasItsDays}

@@ -1,7 +1,7 @@
 -- What every run leaves in an account.
 use Rattle.std.specs.Prelude.{◌≡◌, ◌≤◌, true, List}
 use Rattle.std.specs.List.{All}
-use Rattle.card_account.specs.Accounts.{given_of}
+use Rattle.card_replay.specs.Replays.{given_of}
 use Rattle.card_daily.specs.Given.{IsSound}
 use Rattle.card_days.specs.Range.{first_calendar_day}
 use Rattle.card_events.specs.Dated.{is_dated}

@@ -1,7 +1,8 @@
 -- The open tasks of accounts today.
 use Rattle.std.specs.Prelude.{ℕ, List}
 use Rattle.std.specs.List.{flat_map}
-use Rattle.card_account.specs.Accounts.{OpenAccount, present_of}
+use Rattle.card_account.specs.Accounts.{OpenAccount}
+use Rattle.card_replay.specs.Replays.{present_of}
 use Rattle.card_events.specs.SharedRows.{SharedRows}
 use Rattle.card_model.specs.Refusals.{book_today}
 use Rattle.card_model.specs.Work.{in_work_order, tasks_in}

@@ -1,115 +1,197 @@
 // One account.
-ghost use Rattle.std.specs.Prelude.{◌≡◌, ℕ, true, List, None, IfOk, OnErr};
-ghost use Rattle.card_account.specs.Verdicts.{verdict_of};
-ghost use Rattle.card_events.specs.Dated.{is_dated_post};
-ghost use Rattle.card_model.specs.Machine.{at_key, is_open};
-ghost use Rattle.card_reasons.specs.Reasons.{reads_book};
+ghost use Rattle.std.specs.Prelude.{◌≡◌, Some, None};
+ghost use Rattle.card_events.specs.declared.reply.Refusal.{Refusal};
+ghost use Rattle.card_model.specs.Machine.{is_open};
 
 use crate::entry_list::{EntryList, entries_today};
-use crate::issue::{issued_by, push_issued};
-use crate::judge::reason_today;
+use crate::judge::{reads_book, reason_by_book, reason_by_posts, refunds_no_amount};
 use crate::owing::Owing;
-use crate::statement::{issued_of, restated_today};
+use crate::statement::{issued_of, restated_issue};
 use crate::verdict::Verdict;
 use crate::work::tasks_today;
-use card_book::{Issued, Present, Statement, fold};
+use card_book::{Folded, Present, Statement};
 use card_days::Day;
 use card_disputes::Task;
 use card_events::{Name, Num, Post, Refusal};
 use card_fees::SharedRows;
-use card_posts::Posts;
+use card_replay::{Change, Replay};
+use card_steps::Steps;
 use card_units::NoMemory;
 use std::alloc::Global;
 use std::marker::Model;
+use std::sync::ledger::Ledger;
 
-/// An account: its name, its posts and its issued statements, and whether there is room for one more post with its statement.
+/// An account: its name, and its posts and issued statements with its book folded to the day last reached.
 #[derive(Drop)]
 pub struct Account {
     name: Name,
-    posts: Posts,
-    issued: Vec<Issued>,
-    has_room: bool,
+    replay: Replay,
 }
 
 impl Model for Account {
-    ghost use Rattle.std.specs.Prelude.{◌≡◌, ◌<◌, true, vec_len, vec_capacity};
     ghost use Rattle.card_account.specs.Accounts.{OpenAccount};
 
     ghost Value = { OpenAccount };
 
-    ghost view = { λ a. record { named = record { name = a.name; lists = record { posts = a.posts.history; issued = a.issued.items } }; corrected = a.posts.corrected; has_room = a.has_room } };
-
-    ghost invariant = { λ a. a.has_room ≡ true → (a.posts.has_room ≡ true) × (vec_len a.issued < vec_capacity a.issued) };
+    ghost view = { λ a. record { named = record { name = a.name; lists = a.replay.lists }; corrected = a.replay.corrected; has_room = a.replay.has_room; folding = a.replay.folding } };
 }
 
 impl Account {
-    ghost use Rattle.std.specs.Prelude.{◌≡◌, ◌≤◌, ◌+◌, [], ◌∷◌, true, false, length, IfOk, OnErr, OnOk, None, List, ℕ, if◌then◌else◌};
+    ghost use Rattle.std.specs.Prelude.{◌≡◌, ◌≤◌, ◌+◌, true, false, length, IfOk, OnErr, OnOk, None, List, ℕ, if◌then◌else◌};
+    ghost use Rattle.card_days.specs.Billing.{IsCloseDay};
     ghost use Rattle.card_days.specs.Range.{last_request_day};
-    ghost use Rattle.card_account.specs.Accounts.{IsCorrected, MayBeFolded, issued_as, issued_statement, owing_in, present_of, restated_statement};
+    ghost use Rattle.card_account.specs.Accounts.{HasTold, IsAccount, IsFoldedToday, IsIssueOf, IsTold, issued_statement, owing_in, replay_of, restated_statement, steps_of};
     ghost use Rattle.card_account.specs.Entries.{entries_today};
     ghost use Rattle.card_account.specs.Verdicts.{verdict_of};
-    ghost use Rattle.card_days.specs.Billing.{IsCloseDay};
-    ghost use Rattle.card_events.specs.Dated.{is_dated_post};
-    ghost use Rattle.card_events.specs.History.{at_number, terms_in};
-    ghost use Rattle.card_events.specs.Keys.{with_key};
-    ghost use Rattle.card_model.specs.Machine.{accepted, at_key, is_repeat_of, issues, kept_as};
-    ghost use Rattle.card_model.specs.Refusals.{book_today, reason_against};
     ghost use Rattle.card_account.specs.Works.{tasks_of};
+    ghost use Rattle.card_daily.specs.Given.{IsSound};
+    ghost use Rattle.card_book.specs.Stands.{steps_over};
+    ghost use Rattle.card_events.specs.Dated.{is_dated_post};
+    ghost use Rattle.card_events.specs.History.{at_number, opening_in, terms_in};
+    ghost use Rattle.card_events.specs.Keys.{with_key};
+    ghost use Rattle.card_model.specs.Machine.{accepted, at_key, is_open, is_repeat_of};
+    ghost use Rattle.card_model.specs.Refusals.{book_today, reason_against};
     ghost use Rattle.card_posts.specs.Posted.{opens};
     ghost use Rattle.card_reasons.specs.Reasons.{reads_book};
+    ghost use Rattle.card_replay.specs.Changes.{IsChangeOf, IsPrepared};
+    ghost use Rattle.card_replay.specs.Replays.{IsToday, given_of, opened_lists, present_of};
+    ghost use Rattle.card_replay.specs.Steps.{AreFewToPrepare};
 
-    /// The account that this post begins today. Its corrected list is that of the post under any calendar.
-    pub fn open(
+    /// The account that this post begins today, folded to the end of today. What every run leaves holds of its lists.
+    pub fn open<L: Ledger>(
         alloc: Global,
         name: Name,
         key: &Name,
         today: Day,
         post: &Post,
+        shared: &SharedRows,
+        steps: &mut Steps<L>,
     ) -> Result<Account, NoMemory>
         requires opens { opens post.now ≡ true }
         requires close_day { IsCloseDay (terms_in post.now).close }
+        requires opened { opening_in post.now ≤ today }
         requires dated { today ≤ last_request_day }
-        ensures lists { IfOk result (λ a. a.named ≡ record { name = name; lists = record { posts = kept_as 1 key.now today post.now ∷ []; issued = [] } }) }
-        ensures stands { IfOk result (λ a. (holidays : List ℕ) → IsCorrected holidays a) }
+        requires sound { IsSound (given_of (opened_lists key.now today post.now) shared.now) }
+        ensures named { IfOk result (λ a. a.named ≡ record { name = name; lists = opened_lists key.now today post.now }) }
+        ensures account { IfOk result (IsAccount today shared.now) }
+        ensures most { steps.new ≤ steps.old + steps_over (given_of (opened_lists key.now today post.now) shared.now) today (opening_in post.now) }
     {
-        let posts = Posts::start(alloc, key, today, post)?;
         Ok(Account {
             name,
-            posts,
-            issued: Vec::new(alloc),
-            has_room: false,
+            replay: Replay::start(alloc, key, today, post, shared, steps)?,
         })
     }
 
     // It as it is judged and shown today.
     fn present<'a>(&'a self, today: Day, shared: &'a SharedRows) -> Present<'a>
-        requires { MayBeFolded today shared.now self.now }
+        requires { IsAccount today shared.now self.now }
         ensures { result ≡ present_of today shared.now self.now.named.lists }
     {
-        Present::new(&self.posts, &self.issued, shared, today)
+        Present::new(self.replay.posts(), self.replay.issued(), shared, today)
     }
 
-    /// What a post comes to today, on this account. Its days are days of requests.
-    ///
-    /// `NoMemory` comes for a Penalty or a Refund under a new key alone, which are judged by the book of today.
-    pub fn judge(
-        &self,
+    // Its book of today, which it has reached.
+    fn folded<'a>(&'a self, today: Day, shared: &SharedRows) -> Folded<'a>
+        requires { IsToday today shared.now (replay_of self.now) }
+        ensures { IsFoldedToday today shared.now self.now.named.lists result }
+    {
+        self.replay.folded(today, shared)
+    }
+
+    // Folds it to the end of today.
+    fn to_day<L: Ledger>(
+        &mut self,
+        alloc: Global,
+        today: Day,
+        shared: &SharedRows,
+        steps: &mut Steps<L>,
+    ) -> Result<(), NoMemory>
+        requires account { IsAccount today shared.now self.old }
+        ensures told { IsTold today shared.now self.old self.new }
+        ensures today { OnOk result (HasTold today shared.now self.old self.new) }
+        ensures most { steps.new ≤ steps.old + steps_of today shared.now self.old }
+        ensures spent { OnOk result (steps.new + steps_of today shared.now self.new ≤ steps.old + steps_of today shared.now self.old) }
+    {
+        self.replay.to_day(alloc, today, shared, steps)
+    }
+
+    /// What a post comes to today, on this account. Its days are days of requests. For a Penalty or a Refund under a new key the
+    /// account reaches today, since they are judged by the book of today; for no other post is anything folded or memory wanted.
+    pub fn judge<L: Ledger>(
+        &mut self,
         alloc: Global,
         today: Day,
         key: &Name,
         post: &Post,
         shared: &SharedRows,
+        steps: &mut Steps<L>,
     ) -> Result<Verdict, NoMemory>
         requires dated { is_dated_post post.now ≡ true }
-        requires folded { MayBeFolded today shared.now self.now }
-        ensures value { IfOk result (λ v. v ≡ verdict_of (at_key (present_of today shared.now self.now.named.lists) key.now post.now (with_key key.now self.now.named.lists.posts))) }
+        requires account { IsAccount today shared.now self.old }
+        ensures told { IsTold today shared.now self.old self.new }
+        ensures value { IfOk result (λ v. v ≡ verdict_of (at_key (present_of today shared.now self.old.named.lists) key.now post.now (with_key key.now self.old.named.lists.posts))) }
         ensures memory { OnErr result (reads_book post.now ≡ true) }
-        ensures new_key { OnErr result (with_key key.now self.now.named.lists.posts ≡ None) }
+        ensures new_key { OnErr result (with_key key.now self.old.named.lists.posts ≡ None) }
+        ensures most { steps.new ≤ steps.old + steps_of today shared.now self.old }
+        ensures spent { OnOk result (steps.new + steps_of today shared.now self.new ≤ steps.old + steps_of today shared.now self.old) }
     {
-        match self.posts.with_key(key) {
+        match self.replay.posts().with_key(key) {
             Some(number) => Ok(self.compare(number, post)),
-            None => judge_new(alloc, &self.present(today, shared), post),
+            None => self.judge_new(alloc, today, post, shared, steps),
         }
+    }
+
+    // What a post comes to whose key is new.
+    fn judge_new<L: Ledger>(
+        &mut self,
+        alloc: Global,
+        today: Day,
+        post: &Post,
+        shared: &SharedRows,
+        steps: &mut Steps<L>,
+    ) -> Result<Verdict, NoMemory>
+        requires dated { is_dated_post post.now ≡ true }
+        requires account { IsAccount today shared.now self.old }
+        ensures told { IsTold today shared.now self.old self.new }
+        ensures value { IfOk result (λ v. (key : List ℕ) → v ≡ verdict_of (at_key (present_of today shared.now self.old.named.lists) key post.now None)) }
+        ensures memory { OnErr result (reads_book post.now ≡ true) }
+        ensures most { steps.new ≤ steps.old + steps_of today shared.now self.old }
+        ensures spent { OnOk result (steps.new + steps_of today shared.now self.new ≤ steps.old + steps_of today shared.now self.old) }
+    {
+        if is_open(post) {
+            return Ok(Verdict::Refused(Refusal::AccountExists));
+        }
+        if refunds_no_amount(post) {
+            return Ok(Verdict::Refused(Refusal::AmountRange));
+        }
+        if !reads_book(post) {
+            return Ok(self.judge_by_posts(today, post, shared));
+        }
+        self.to_day(alloc, today, shared, steps)?;
+        Ok(self.judge_by_book(today, post, shared))
+    }
+
+    // What a post comes to whose key is new, and for which no book is read.
+    fn judge_by_posts(&self, today: Day, post: &Post, shared: &SharedRows) -> Verdict
+        requires dated { is_dated_post post.now ≡ true }
+        requires account { IsAccount today shared.now self.now }
+        requires not_open { is_open post.now ≡ false }
+        requires no_book { reads_book post.now ≡ false }
+        ensures { (key : List ℕ) → result ≡ verdict_of (at_key (present_of today shared.now self.now.named.lists) key post.now None) }
+    {
+        verdict(reason_by_posts(&self.present(today, shared), post))
+    }
+
+    // What a Penalty or a Refund comes to whose key is new, by the book of today.
+    fn judge_by_book(&self, today: Day, post: &Post, shared: &SharedRows) -> Verdict
+        requires account { IsAccount today shared.now self.now }
+        requires today { self.now.folding.reached ≡ today }
+        requires not_open { is_open post.now ≡ false }
+        requires book { reads_book post.now ≡ true }
+        ensures { (key : List ℕ) → result ≡ verdict_of (at_key (present_of today shared.now self.now.named.lists) key post.now None) }
+    {
+        let folded = self.folded(today, shared);
+        verdict(reason_by_book(&self.present(today, shared), &folded, post))
     }
 
     // What a post comes to whose key is that of the post of this number.
@@ -126,67 +208,68 @@ impl Account {
     fn repeats(&self, number: u32, post: &Post) -> bool
         ensures { result ≡ is_repeat_of post.now (at_number number self.now.named.lists.posts) }
     {
-        match self.posts.get(number) {
+        match self.replay.posts().get(number) {
             Some(kept) => post.is_same_as(&kept.post),
             None => false,
         }
     }
 
-    /// Makes room for a post against which there is no reason, and answers the statement that it issues, where it is a Bill.
-    /// Nothing else moves. After want of memory the account is as it was.
-    pub fn prepare(
+    /// Prepares a post against which there is no reason, under a new key: the account reaches today, and there is room for the
+    /// post. Its posts and issued statements stay; with the post, they are as every run leaves them. After want of memory it is the
+    /// same account too.
+    pub fn prepare<L: Ledger>(
         &mut self,
         alloc: Global,
-        today: Day,
-        post: &Post,
-        shared: &SharedRows,
-    ) -> Result<Option<Issued>, NoMemory>
-        requires no_reason { reason_against (present_of today shared.now self.old.named.lists) post.now ≡ None }
-        requires folded { MayBeFolded today shared.now self.old }
-        ensures ok { OnOk result (self.new ≡ record self.old { has_room = true }) }
-        ensures issued { IfOk result (λ made. issued_as made ≡ issues (present_of today shared.now self.old.named.lists) post.now) }
-        ensures err { OnErr result (self.new ≡ self.old) }
-    {
-        let issued = issued_by(alloc, &self.present(today, shared), post)?;
-        self.posts.make_room()?;
-        self.issued.reserve(1)?;
-        self.has_room = true;
-        Ok(issued)
-    }
-
-    /// Takes a post against which there is no reason, with the statement that it issues, and answers its number. Room was made
-    /// for it, so this takes no memory and can't fail.
-    #[tactic(auto, unfolding(card_model::specs::Machine::accepted))]
-    pub fn commit(
-        &mut self,
         key: Name,
         today: Day,
         post: &Post,
-        issued: Option<Issued>,
         shared: &SharedRows,
-    ) -> u32
-        requires room { self.old.has_room ≡ true }
+        steps: &mut Steps<L>,
+    ) -> Result<Change, NoMemory>
+        requires account { IsAccount today shared.now self.old }
+        requires dated { is_dated_post post.now ≡ true }
+        requires not_open { is_open post.now ≡ false }
+        requires fresh { with_key key self.old.named.lists.posts ≡ None }
         requires no_reason { reason_against (present_of today shared.now self.old.named.lists) post.now ≡ None }
-        requires folded { MayBeFolded today shared.now self.old }
-        requires issued { issued_as issued ≡ issues (present_of today shared.now self.old.named.lists) post.now }
+        requires sound { IsSound (given_of (accepted (present_of today shared.now self.old.named.lists) key post.now) shared.now) }
+        ensures told { IsTold today shared.now self.old self.new }
+        ensures prepared { IfOk result (λ c. IsPrepared shared.now c (replay_of self.new)) }
+        ensures post { IfOk result (λ c. IsChangeOf key today post.now c) }
+        ensures most { AreFewToPrepare today shared.now self.old.named.lists self.old.folding.reached key post.now steps.old steps.new }
+    {
+        self.replay.prepare(alloc, key, post, today, shared, steps)
+    }
+
+    /// Takes a post that was prepared for this account, with the statement that it issues, and answers its number. It takes no
+    /// memory and can't fail.
+    #[tactic(auto, unfolding(card_model::specs::Machine::accepted))]
+    pub fn commit(&mut self, change: Change, shared: &SharedRows) -> u32
+        requires prepared { IsPrepared shared.now change (replay_of self.old) }
         ensures name { self.new.named.name ≡ self.old.named.name }
-        ensures lists { self.new.named.lists ≡ accepted (present_of today shared.now self.old.named.lists) key post.now }
-        ensures stands { IsCorrected shared.now.holidays self.new }
+        ensures lists { self.new.named.lists ≡ accepted (present_of change.today shared.now self.old.named.lists) change.key change.post }
+        ensures account { IsAccount change.today shared.now self.new }
         ensures number { result ≡ length self.old.named.lists.posts + 1 }
     {
-        push_issued(&mut self.issued, issued);
-        self.has_room = false;
-        let pushed = self.posts.add(key, today, post, shared.calendar());
-        pushed.number
+        self.replay.commit(change, shared)
     }
 
     /// What is owed on it today.
-    pub fn show(&self, alloc: Global, today: Day, shared: &SharedRows) -> Result<Owing, NoMemory>
-        requires { MayBeFolded today shared.now self.now }
-        ensures { IfOk result (λ o. o ≡ owing_in (book_today (present_of today shared.now self.now.named.lists))) }
+    pub fn show<L: Ledger>(
+        &mut self,
+        alloc: Global,
+        today: Day,
+        shared: &SharedRows,
+        steps: &mut Steps<L>,
+    ) -> Result<Owing, NoMemory>
+        requires { IsAccount today shared.now self.old }
+        ensures told { IsTold today shared.now self.old self.new }
+        ensures today { OnOk result (HasTold today shared.now self.old self.new) }
+        ensures value { IfOk result (λ o. o ≡ owing_in (book_today (present_of today shared.now self.old.named.lists))) }
+        ensures most { steps.new ≤ steps.old + steps_of today shared.now self.old }
+        ensures spent { OnOk result (steps.new + steps_of today shared.now self.new ≤ steps.old + steps_of today shared.now self.old) }
     {
-        let opened = fold(alloc, &self.present(today, shared))?;
-        let folded = opened.folded();
+        self.to_day(alloc, today, shared, steps)?;
+        let folded = self.folded(today, shared);
         Ok(Owing {
             owed: folded.owed(),
             credit: folded.credit(),
@@ -195,67 +278,111 @@ impl Account {
     }
 
     /// Its entries up to the end of today, in the order of the fold, with its segments.
-    pub fn entries(
-        &self,
+    pub fn entries<L: Ledger>(
+        &mut self,
         alloc: Global,
         today: Day,
         shared: &SharedRows,
+        steps: &mut Steps<L>,
     ) -> Result<EntryList, NoMemory>
-        requires { MayBeFolded today shared.now self.now }
-        ensures { IfOk result (λ list. list ≡ entries_today (present_of today shared.now self.now.named.lists)) }
+        requires { IsAccount today shared.now self.old }
+        ensures told { IsTold today shared.now self.old self.new }
+        ensures today { OnOk result (HasTold today shared.now self.old self.new) }
+        ensures value { IfOk result (λ list. list ≡ entries_today (present_of today shared.now self.old.named.lists)) }
+        ensures most { steps.new ≤ steps.old + steps_of today shared.now self.old }
+        ensures spent { OnOk result (steps.new + steps_of today shared.now self.new ≤ steps.old + steps_of today shared.now self.old) }
     {
-        entries_today(alloc, &self.present(today, shared))
+        self.to_day(alloc, today, shared, steps)?;
+        let folded = self.folded(today, shared);
+        entries_today(alloc, &self.present(today, shared), &folded)
     }
 
     /// The statement of a cycle as it was issued, none where no Bill has issued it.
     pub fn issued(&self, alloc: Global, cycle: Num) -> Result<Option<Statement>, NoMemory>
         ensures { IfOk result (λ s. s ≡ issued_statement cycle self.now.named.lists.issued) }
     {
-        issued_of(alloc, &self.issued, cycle)
+        issued_of(alloc, self.replay.issued(), cycle)
     }
 
     /// The statement of a cycle as the book of today has it, none where the cycle isn't closed before today. Its day of issue
     /// is that of the Bill that issued it; without one it is the due date, so that no payment is due.
-    pub fn restated(
+    pub fn restated<L: Ledger>(
+        &mut self,
+        alloc: Global,
+        today: Day,
+        cycle: Num,
+        shared: &SharedRows,
+        steps: &mut Steps<L>,
+    ) -> Result<Option<Statement>, NoMemory>
+        requires { IsAccount today shared.now self.old }
+        ensures told { IsTold today shared.now self.old self.new }
+        ensures today { OnOk result (HasTold today shared.now self.old self.new) }
+        ensures value { IfOk result (λ s. s ≡ restated_statement (present_of today shared.now self.old.named.lists) cycle) }
+        ensures most { steps.new ≤ steps.old + steps_of today shared.now self.old }
+        ensures spent { OnOk result (steps.new + steps_of today shared.now self.new ≤ steps.old + steps_of today shared.now self.old) }
+    {
+        self.to_day(alloc, today, shared, steps)?;
+        self.restated_today(alloc, today, cycle, shared)
+    }
+
+    // The same by its book of today, which it has reached.
+    fn restated_today(
         &self,
         alloc: Global,
         today: Day,
         cycle: Num,
         shared: &SharedRows,
     ) -> Result<Option<Statement>, NoMemory>
-        requires { MayBeFolded today shared.now self.now }
+        requires account { IsAccount today shared.now self.now }
+        requires today { self.now.folding.reached ≡ today }
         ensures { IfOk result (λ s. s ≡ restated_statement (present_of today shared.now self.now.named.lists) cycle) }
     {
-        restated_today(alloc, &self.present(today, shared), cycle)
+        match self.issue_today(today, cycle, shared) {
+            Some(issue) => self.replay.statement(alloc, cycle, issue, today, shared),
+            None => Ok(None),
+        }
+    }
+
+    // The day of issue of such a statement, none where there is no statement.
+    fn issue_today(&self, today: Day, cycle: Num, shared: &SharedRows) -> Option<Day>
+        requires account { IsAccount today shared.now self.now }
+        requires today { self.now.folding.reached ≡ today }
+        ensures { IsIssueOf (present_of today shared.now self.now.named.lists) cycle result }
+    {
+        let folded = self.folded(today, shared);
+        restated_issue(&self.present(today, shared), &folded, cycle)
     }
 
     /// Its open tasks today, by day, kind and post (12 CFR 1026.11(a), .13(c), .59).
-    pub fn tasks(
-        &self,
+    pub fn tasks<L: Ledger>(
+        &mut self,
         alloc: Global,
         today: Day,
         shared: &SharedRows,
+        steps: &mut Steps<L>,
     ) -> Result<Vec<Task>, NoMemory>
-        requires { MayBeFolded today shared.now self.now }
-        ensures { IfOk result (λ tasks. tasks.items ≡ tasks_of today shared.now self.now) }
+        requires { IsAccount today shared.now self.old }
+        ensures told { IsTold today shared.now self.old self.new }
+        ensures today { OnOk result (HasTold today shared.now self.old self.new) }
+        ensures value { IfOk result (λ tasks. tasks.items ≡ tasks_of today shared.now self.old) }
+        ensures most { steps.new ≤ steps.old + steps_of today shared.now self.old }
+        ensures spent { OnOk result (steps.new + steps_of today shared.now self.new ≤ steps.old + steps_of today shared.now self.old) }
     {
-        tasks_today(alloc, &self.name, &self.present(today, shared))
+        self.to_day(alloc, today, shared, steps)?;
+        let folded = self.folded(today, shared);
+        let now = self.present(today, shared);
+        tasks_today(alloc, &self.name, &now, &folded)
     }
 }
 
-// What a post comes to whose key is new.
-fn judge_new(alloc: Global, now: &Present, post: &Post) -> Result<Verdict, NoMemory>
-    requires dated { is_dated_post post.now ≡ true }
-    ensures value { IfOk result (λ v. (key : List ℕ) → v ≡ verdict_of (at_key now.now key post.now None)) }
-    ensures memory { OnErr result (reads_book post.now ≡ true) }
+// The verdict on a post under a new key that is no Open.
+fn verdict(reason: Option<Refusal>) -> Verdict
+    ensures none { reason ≡ None → result ≡ Verdict.New }
+    ensures some { (r : Refusal) → reason ≡ Some r → result ≡ Verdict.Refused r }
 {
-    if is_open(post) {
-        return Ok(Verdict::Refused(Refusal::AccountExists));
-    }
-    match reason_today(alloc, now, post) {
-        Ok(Some(refusal)) => Ok(Verdict::Refused(refusal)),
-        Ok(None) => Ok(Verdict::New),
-        Err(NoMemory) => Err(NoMemory),
+    match reason {
+        Some(refusal) => Verdict::Refused(refusal),
+        None => Verdict::New,
     }
 }
 

@@ -1,8 +1,10 @@
 // The entries of an account.
 ghost use Rattle.std.specs.Prelude.{◌≡◌, IfOk};
 ghost use Rattle.card_account.specs.Entries.{entries_today};
+ghost use Rattle.card_model.specs.Refusals.{book_today};
+ghost use Rattle.card_slots.specs.Segments.{account_segments};
 
-use card_book::{Entry, Present, fold};
+use card_book::{Entry, Folded, Present};
 use card_model::Segment;
 use card_units::NoMemory;
 use std::alloc::Global;
@@ -46,14 +48,14 @@ impl EntryList {
     }
 }
 
-/// The entries of an account up to the end of today.
-pub fn entries_today(alloc: Global, now: &Present) -> Result<EntryList, NoMemory>
+/// The entries of an account up to the end of today, in memory of their own.
+pub fn entries_today(alloc: Global, now: &Present, folded: &Folded) -> Result<EntryList, NoMemory>
+    requires book { folded.now.book ≡ book_today now.now }
+    requires segments { folded.now.segments ≡ account_segments now.now.shared.holidays now.now.lists.posts }
     ensures { IfOk result (λ list. list ≡ entries_today now.now) }
 {
     let _opening = now.anchor();
     let _last = now.today();
-    let opened = fold(alloc, now)?;
-    let folded = opened.folded();
     let segments = folded.segments(alloc)?;
     Ok(EntryList {
         entries: Vec::from_slice(alloc, folded.entries())?,

@@ -1,67 +1,70 @@
 // Why a post under a new key isn't accepted, by the posts and, of a Penalty or a Refund, by the book of today.
-ghost use Rattle.std.specs.Prelude.{◌≡◌, true, false, IfOk, OnErr, pos};
+ghost use Rattle.std.specs.Prelude.{◌≡◌, true, false, Some};
 ghost use Rattle.card_events.specs.Dated.{is_dated_post};
 ghost use Rattle.card_events.specs.declared.post.Post.TheVariants as post;
-ghost use Rattle.card_model.specs.Entries.{credit_balance};
 ghost use Rattle.card_model.specs.Machine.{is_open};
-ghost use Rattle.card_model.specs.Payments.{sixty_days_late};
-ghost use Rattle.card_model.specs.Refusals.{book_today, reason_against, seen_today};
+ghost use Rattle.card_model.specs.Refusals.{Present, book_today, reason_against};
 ghost use Rattle.card_reasons.specs.Reasons.{reads_book};
 
-use card_book::{Present, fold};
+use card_book::{Folded, Present};
 use card_events::{Num, Post, Refusal};
 use card_reasons::{is_no_amount, penalty_reason, post_reason, refund_reason};
-use card_units::{Cents, NoMemory};
-use std::alloc::Global;
 
-// The credit balance in the book of today, in cents, at least 0.
-fn credit_today(alloc: Global, now: &Present) -> Result<Cents, NoMemory>
-    ensures { IfOk result (λ credit. credit ≡ pos (credit_balance (book_today now.now).entries)) }
+/// Whether a post is judged by the book of today: a Penalty, or a Refund that is in its range.
+pub fn reads_book(post: &Post) -> bool
+    ensures { result ≡ reads_book post.now }
 {
-    let opened = fold(alloc, now)?;
-    let folded = opened.folded();
-    Ok(folded.credit())
+    matches!(post, Post::Penalty | Post::Refund { .. })
 }
 
-// Whether the account is sixty days late in the book of today (12 CFR 1026.55(b)(4)).
-fn is_late_today(alloc: Global, now: &Present) -> Result<bool, NoMemory>
-    ensures { IfOk result (λ late. late ≡ sixty_days_late (seen_today now.now) (book_today now.now).cycles) }
+/// Whether a post is a Refund of an amount that is out of its range, which needs no book to be refused.
+pub fn refunds_no_amount(post: &Post) -> bool
+    ensures { (now : Present) → result ≡ true → reason_against now post.now ≡ Some Refusal.AmountRange }
 {
-    let opened = fold(alloc, now)?;
-    let folded = opened.folded();
-    Ok(folded.late_today(now))
+    match post {
+        Post::Refund { cents } => is_no_amount(*cents),
+        _ => false,
+    }
 }
 
-// Why a Refund isn't accepted today. One that is out of its range asks for no book.
-fn refund_today(alloc: Global, now: &Present, cents: Num) -> Result<Option<Refusal>, NoMemory>
-    ensures { IfOk result (λ reason. reason ≡ reason_against now.now (post.Refund cents)) }
+// Why a Refund isn't accepted today.
+fn refund_today(now: &Present, folded: &Folded, cents: Num) -> Option<Refusal>
+    requires book { folded.now.book ≡ book_today now.now }
+    ensures { result ≡ reason_against now.now (post.Refund cents) }
 {
     if is_no_amount(cents) {
-        return Ok(Some(Refusal::AmountRange));
+        return Some(Refusal::AmountRange);
     }
-    let credit = credit_today(alloc, now)?;
-    Ok(refund_reason(now.posts(), cents, credit))
+    refund_reason(now.posts(), cents, folded.credit())
 }
 
 // Why a Penalty isn't accepted today.
-fn penalty_today(alloc: Global, now: &Present) -> Result<Option<Refusal>, NoMemory>
-    ensures { IfOk result (λ reason. reason ≡ reason_against now.now post.Penalty) }
+fn penalty_today(now: &Present, folded: &Folded) -> Option<Refusal>
+    requires book { folded.now.book ≡ book_today now.now }
+    ensures { result ≡ reason_against now.now post.Penalty }
 {
-    let late = is_late_today(alloc, now)?;
-    Ok(penalty_reason(now.posts(), late))
+    penalty_reason(now.posts(), folded.late_today(now))
 }
 
-/// Why a post isn't accepted today under a new key: the first reason, and None where it is accepted. Memory is wanted for a
-/// Penalty or a Refund alone.
-pub fn reason_today(alloc: Global, now: &Present, post: &Post) -> Result<Option<Refusal>, NoMemory>
-    requires not_open { is_open post.now ≡ false }
-    requires dated { is_dated_post post.now ≡ true }
-    ensures value { IfOk result (λ reason. reason ≡ reason_against now.now post.now) }
-    ensures memory { OnErr result (reads_book post.now ≡ true) }
+/// Why a Penalty or a Refund isn't accepted today under a new key, by the book of today: the first reason, and None where it is
+/// accepted. Of another post it says nothing.
+pub fn reason_by_book(now: &Present, folded: &Folded, post: &Post) -> Option<Refusal>
+    requires book { folded.now.book ≡ book_today now.now }
+    ensures { reads_book post.now ≡ true → result ≡ reason_against now.now post.now }
 {
     match post {
-        Post::Penalty => penalty_today(alloc, now),
-        Post::Refund { cents } => refund_today(alloc, now, *cents),
-        _ => Ok(post_reason(now.posts(), &now.anchor(), now.today(), post)),
+        Post::Penalty => penalty_today(now, folded),
+        Post::Refund { cents } => refund_today(now, folded, *cents),
+        _ => None,
     }
+}
+
+/// Why another post isn't accepted today under a new key, by the posts alone: the first reason, and None where it is accepted.
+pub fn reason_by_posts(now: &Present, post: &Post) -> Option<Refusal>
+    requires not_open { is_open post.now ≡ false }
+    requires no_book { reads_book post.now ≡ false }
+    requires dated { is_dated_post post.now ≡ true }
+    ensures { result ≡ reason_against now.now post.now }
+{
+    post_reason(now.posts(), &now.anchor(), now.today(), post)
 }

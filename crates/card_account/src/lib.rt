@@ -4,7 +4,6 @@
 mod account;
 mod cycles;
 mod entry_list;
-mod issue;
 mod judge;
 pub mod laws;
 mod owing;
@@ -17,6 +16,7 @@ pub use account::Account;
 pub use card_daily::{Issued, Statement};
 pub use card_disputes::{Task, TaskKind};
 pub use card_reasons::open_reason;
+pub use card_replay::Change;
 pub use entry_list::EntryList;
 pub use owing::Owing;
 pub use tasks::{Tasks, work_today};

@@ -2,18 +2,17 @@
 ghost use Rattle.std.specs.Prelude.{◌≡◌, ◌≤◌, IfOk};
 ghost use Rattle.card_days.specs.Range.{last_request_day};
 ghost use Rattle.card_book.specs.Stands.{IsFoldedTo};
-ghost use Rattle.card_daily.specs.Given.{IsDayOf, book_on, given_today, opened_in};
+ghost use Rattle.card_daily.specs.Given.{IsDayOf, book_on, opened_in};
 ghost use Rattle.card_daily.specs.Stands.{HaveAccrued};
 ghost use Rattle.card_model.specs.Deadlines.{credit_since};
 ghost use Rattle.card_model.specs.Entries.{AreBalances};
-ghost use Rattle.card_model.specs.Refusals.{book_today};
 ghost use Rattle.card_rates.specs.RateBooks.{rates_of};
 ghost use Rattle.card_slots.specs.Segments.{account_segments};
 ghost use Rattle.card_steps.specs.Blanks.{IsBlankOf};
 
 use crate::Book;
 use crate::folded::Folded;
-use card_daily::{Inputs, Present, Track};
+use card_daily::{Inputs, Track};
 use card_dayend::opening_day;
 use card_days::Day;
 use card_steps::Steps;
@@ -69,16 +68,6 @@ fn fold_counted<L: Ledger>(
     let mut steps = Steps::<L>::new(blank);
     book.advance(alloc, inputs, &mut track, to, &mut steps)?;
     Ok(FromOpening { book, track })
-}
-
-/// The book of an account at the end of today, folded from its opening day on.
-#[tactic(auto, unfolding(card_model::specs::Refusals::book_today))]
-pub fn fold(alloc: Global, now: &Present) -> Result<FromOpening, NoMemory>
-    ensures book { IfOk result (λ f. f.book ≡ book_today now.now) }
-    ensures since { IfOk result (λ f. f.since ≡ credit_since (book_today now.now).entries (opened_in (given_today now.now)) now.now.today) }
-    ensures segments { IfOk result (λ f. f.segments ≡ account_segments now.now.shared.holidays now.now.lists.posts) }
-{
-    fold_counted::<Brand>(alloc, now.inputs(), now.today(), Blank::new(1))
 }
 
 /// The book of an account at the end of a day, folded from its opening day on. The day isn't before the opening day and at most

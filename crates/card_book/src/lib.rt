@@ -16,8 +16,6 @@ pub use card_daily::{
 };
 pub use card_statement::Sheet;
 pub use folded::{Folded, fees_up_to};
-pub use from_opening::{FromOpening, fold, fold_to};
 pub use kept_book::Book;
 pub use marks::Accruing;
-pub use sheet::sheet_of;
 pub use statement::statement_of;

@@ -26,6 +26,10 @@ pub found_at : (index : List (List ℕ × ℕ)) (accounts : List NamedAccount) (
 found_at index accounts name given i is same found =
     is_place name accounts i (sym (is name) ∙ ap (λ (n : List ℕ). place_of n index) (sym same) ∙ sym found)
 
+-- as the first with that name
+pub placed_at : (index : List (List ℕ × ℕ)) (accounts : List NamedAccount) (name given : List ℕ) (i : ℕ) → IsIndex index accounts → given ≡ name → Some i ≡ place_of given index → place_from name 0 accounts ≡ Some i
+placed_at index accounts name given i is same found = sym (is name) ∙ ap (λ (n : List ℕ). place_of n index) (sym same) ∙ sym found
+
 -- none
 pub found_none : (index : List (List ℕ × ℕ)) (accounts : List NamedAccount) (name given : List ℕ) → IsIndex index accounts → given ≡ name → None ≡ place_of given index → place_from name 0 accounts ≡ None
 found_none index accounts name given is same found = sym (is name) ∙ ap (λ (n : List ℕ). place_of n index) (sym same) ∙ sym found
@@ -65,13 +69,6 @@ read_at xs ys i a d is same low =
 -- its lists are those of its name
 pub there_at : (xs : List OpenAccount) (name : List ℕ) (i : ℕ) (a : OpenAccount) → IsPlace name (named_all xs) i → a ≡ get_or xs i a → Some a.named.lists ≡ lists_of name (named_all xs)
 there_at xs name i a place is = ap (λ (x : NamedAccount). Some x.lists) (read_at xs (named_all xs) i a a.named is refl place.bound) ∙ sym (place.there a.named)
-
--- what a post of the account at a place comes to, by its verdict on the account that was read
-pub verdict_at : (s t : State) (key : List ℕ) (p : Post) (a b : NamedAccount) (v : Verdict) → t ≡ s → a ≡ b
-    → v ≡ verdict_of (at_key (now_of t a.lists) key p (with_key key a.lists.posts)) → v ≡ verdict_of (at_key (now_of s b.lists) key p (with_key key b.lists.posts))
-verdict_at s t key p a b v now same is =
-    is ∙ ap (λ (x : State). verdict_of (at_key (now_of x a.lists) key p (with_key key a.lists.posts))) now
-    ∙ ap (λ (x : NamedAccount). verdict_of (at_key (now_of s x.lists) key p (with_key key x.lists.posts))) same
 
 pub outcome_at : (s : State) (name key : List ℕ) (p : Post) (i : ℕ) (d : NamedAccount) (v : Verdict) → IsPlace name s.accounts i
     → v ≡ verdict_of (at_key (now_of s (get_or s.accounts i d).lists) key p (with_key key (get_or s.accounts i d).lists.posts))

@@ -1,23 +1,26 @@
 -- Each account of a desk may be folded to the end of today, and its book is that of the state.
-use Rattle.std.proofs.Common.{◌≡◌, ℕ, ◌<◌, ◌≤◌, Bool, true, false, Option, Some, List, [], ◌∷◌, length, get_or, refl, ap, sym, ◌∙◌, subst, arith}
+use Rattle.std.proofs.Common.{◌≡◌, ℕ, ◌<◌, ◌≤◌, Bool, true, false, Option, Some, List, [], ◌∷◌, append-nil, length, get_or, refl, ap, sym, ◌∙◌, subst, arith}
 use Rattle.std.proofs.lemmas.Bool.{and_from, and_parts, leb-true}
+use Rattle.std.proofs.lemmas.Bool.Decides.{nat_tests}
 use Rattle.std.proofs.lemmas.List.{get_or-map, length-map}
-use Rattle.std.proofs.lemmas.List.Elements.{All-cons, All-get_or, All-head, All-nil, All-tail}
+use Rattle.std.proofs.lemmas.List.Elements.{All-cons, All-get_or, All-head, All-nil, All-tail, filter-append}
 use Rattle.std.specs.List.{All, filter, list_all}
 use Rattle.std.specs.Prelude.{nat_le, nat_lt, ◌&&◌, ◌++◌, ◌+◌, ◌-◌, if◌then◌else◌, None}
 use Rattle.std.specs.Option.{option_map}
-use Rattle.card_account.specs.Accounts.{IsCorrected, MayBeFolded, OpenAccount, is_closed, issue_of, present_of, restated_as, restated_statement}
+use Rattle.card_account.specs.Accounts.{IsAccount, OpenAccount, is_closed, issue_of, replay_of, restated_as, restated_statement}
+use Rattle.card_replay.specs.Replays.{AreLaterRows, given_of, present_of}
+use Rattle.card_replay.proofs.LaterRows.{later_rows_leave_it}
 use Rattle.card_account.specs.Entries.{AccountEntries, entries_today}
 use Rattle.card_account.specs.Verdicts.{verdict_of}
 use Rattle.card_account.specs.declared.verdict.Verdict.{Verdict}
 use Rattle.card_account.specs.Runs.{AreRunning, IsTaken}
 use Rattle.card_account.proofs.Runs.{runs_may_be_folded}
-use Rattle.card_days.specs.Business.{AgreeUpTo, with_holiday}
+use Rattle.card_days.specs.Business.{with_holiday}
 use Rattle.card_days.proofs.Agree.{with_holiday-agrees}
-use Rattle.card_days.specs.Range.{first_calendar_day}
-use Rattle.card_desk.proofs.DeskLemmas.{read_at, verdict_at}
+use Rattle.card_days.specs.Range.{first_calendar_day, last_request_day}
+use Rattle.card_desk.proofs.DeskLemmas.{read_at}
 use Rattle.card_reasons.proofs.SameReasons.{AreAlike, same_reason}
-use Rattle.card_desk.specs.Desks.{AreCorrected, IsDesk, IsRun, named_all, now_at, now_of, state_of}
+use Rattle.card_desk.specs.Desks.{AreAccounts, AreSameHolidays, IsDesk, IsRun, named_all, now_at, now_of, state_of}
 use Rattle.card_events.specs.Dated.{is_dated, is_dated_post, is_dated_shared, is_request_day}
 use Rattle.card_events.specs.History.{CorrectedPost, anchor_of, at_number, corrected, is_folded, opening_in, terms_of}
 use Rattle.card_events.specs.Keys.{with_key}
@@ -34,6 +37,7 @@ use Rattle.card_events.specs.declared.request.Shared.TheVariants as shared
 use Rattle.card_model.specs.Accepted.{HasFewFees}
 use Rattle.card_model.specs.Books.{Book, account_of}
 use Rattle.card_model.specs.Caps.{row_for}
+use Rattle.card_daily.specs.Given.{IsSound}
 use Rattle.card_daily.specs.declared.track.Statement.{Statement}
 use Rattle.card_model.specs.Cycles.{Cycle, Seen, Sheet}
 use Rattle.card_model.specs.Folds.{book, book_after, cycle_at, row_of_cycle, rows_issued}
@@ -43,7 +47,7 @@ use Rattle.card_model.specs.Segments.{kept_segments}
 use Rattle.card_model.specs.Sheets.{issued_sheet_of, sheet_in, sheet_of}
 use Rattle.card_model.specs.declared.entry.Entry.{Entry}
 use Rattle.card_model.specs.declared.segment.Segment.{Segment}
-use Rattle.card_posts.specs.Posted.{last_accepted, opens}
+use Rattle.card_posts.specs.Posted.{opens}
 use Rattle.card_posts.proofs.Holidays.{same-corrected}
 use Rattle.card_rows.specs.Held.{are_terms, is_day, is_number, is_place, is_post, is_request, is_shared}
 use Rattle.card_slots.specs.Segments.{account_segments}
@@ -107,31 +111,9 @@ running_at s accounts i d low all =
     subst (λ (x : NamedAccount). AreRunning s x.lists) (get_or-map (λ (x : OpenAccount). x.named) accounts i d d.named low)
     (All-get_or (λ (x : NamedAccount). AreRunning s x.lists) (named_all accounts) i d.named (omega (arith, low, long)) all)
 
-pub may_be_folded : (places : List (List ℕ × ℕ)) (common : SharedRows) (count today : ℕ) (rows : List Shared) (accounts : List OpenAccount) (i : ℕ) (d : OpenAccount)
-    → IsDesk places common count today rows accounts → i < length accounts → MayBeFolded today common (get_or accounts i d)
-may_be_folded places common count today rows accounts i d desk low =
-    let one = running_at (state_of today rows accounts) accounts i d low (all_running (state_of today rows accounts) desk.ran) in
-    record {
-      stands = All-get_or (IsCorrected common.holidays) accounts i d low desk.corrected;
-      sound = record {
-        accepted = one.sound.accepted;
-        fees = subst (λ (f : List FeeRow). All HasFewFees f) (sym desk.table) one.sound.fees;
-        segments = one.sound.segments;
-        dated = one.sound.dated;
-        opening = one.sound.opening;
-        plans = one.sound.plans;
-        returns = one.sound.returns;
-      };
-      reached = record { opened = one.opened; accepted = one.last; dated = desk.dated };
-    }
-
--- one with room for a post more may be folded as well
-pub roomy : (today : ℕ) (common : SharedRows) (a b : OpenAccount) → a ≡ record b { has_room = true } → MayBeFolded today common b → MayBeFolded today common a
-roomy today common a b is may = subst (MayBeFolded today common) (sym is) (record { stands = may.stands; sound = may.sound; reached = may.reached })
-
 -- ---- books under the same holidays
 -- one corrected list gives one book
-one_book : (lists : Lists) (today : ℕ) (these those : SharedRows) → corrected (anchor_of lists.posts) these.holidays lists.posts ≡ corrected (anchor_of lists.posts) those.holidays lists.posts
+pub one_book : (lists : Lists) (today : ℕ) (these those : SharedRows) → corrected (anchor_of lists.posts) these.holidays lists.posts ≡ corrected (anchor_of lists.posts) those.holidays lists.posts
     → these.fees ≡ those.fees → book_today (present_of today these lists) ≡ book_today (present_of today those lists)
 unfolding book_today book
 one_book lists today these those same fees =
@@ -155,7 +137,7 @@ same_book places common count today rows accounts i d desk low =
     one_book lists today common (shared_rows rows) (same-corrected (anchor_of lists.posts) common.holidays (shared_rows rows).holidays lists.posts one.timely (λ x l. desk.holidays x)) desk.table
 
 -- so the account is judged alike
-alike_at : (places : List (List ℕ × ℕ)) (common : SharedRows) (count today : ℕ) (rows : List Shared) (accounts : List OpenAccount) (i : ℕ) (d : OpenAccount)
+pub alike_at : (places : List (List ℕ × ℕ)) (common : SharedRows) (count today : ℕ) (rows : List Shared) (accounts : List OpenAccount) (i : ℕ) (d : OpenAccount)
     → IsDesk places common count today rows accounts → i < length accounts → AreAlike today (get_or accounts i d).named.lists common (shared_rows rows)
 alike_at places common count today rows accounts i d desk low =
     let lists = (get_or accounts i d).named.lists in
@@ -166,6 +148,14 @@ alike_at places common count today rows accounts i d desk low =
       fees = desk.table;
     }
 
+-- so are any lists that a run leaves
+pub alike_run : (s : State) (lists : Lists) (common : SharedRows) → AreRunning s lists → AreSameHolidays common.holidays (shared_rows s.shared).holidays → common.fees ≡ (shared_rows s.shared).fees
+    → AreAlike s.today lists common (shared_rows s.shared)
+alike_run s lists common one holidays table =
+    let listed : corrected (anchor_of lists.posts) common.holidays lists.posts ≡ corrected (anchor_of lists.posts) (shared_rows s.shared).holidays lists.posts =
+    same-corrected (anchor_of lists.posts) common.holidays (shared_rows s.shared).holidays lists.posts one.timely (λ x l. holidays x) in
+    record { posts = listed; books = one_book lists s.today common (shared_rows s.shared) listed table; fees = table }
+
 pub same_reason_at : (places : List (List ℕ × ℕ)) (common : SharedRows) (count today : ℕ) (rows : List Shared) (accounts : List OpenAccount) (i : ℕ) (d : OpenAccount) (p : Post)
     → IsDesk places common count today rows accounts → i < length accounts
     → reason_against (present_of today common (get_or accounts i d).named.lists) p ≡ reason_against (now_of (state_of today rows accounts) (get_or accounts i d).named.lists) p
@@ -173,11 +163,9 @@ same_reason_at places common count today rows accounts i d p desk low =
     same_reason today (get_or accounts i d).named.lists common (shared_rows rows) p (alike_at places common count today rows accounts i d desk low)
 
 -- the account that is read at a place
-pub folded_at : (places : List (List ℕ × ℕ)) (common : SharedRows) (count today : ℕ) (rows : List Shared) (accounts : List OpenAccount) (i : ℕ) (b : OpenAccount) (s : State)
-    → IsDesk places common count today rows accounts → state_of today rows accounts ≡ s → i < length s.accounts → b ≡ get_or accounts i b → MayBeFolded today common b
-folded_at places common count today rows accounts i b s desk state low is =
-    let here : i < length accounts = omega (arith, low, ap (λ (x : State). length x.accounts) state, length-map accounts (λ (x : OpenAccount). x.named)) in
-    subst (MayBeFolded today common) (sym is) (may_be_folded places common count today rows accounts i b desk here)
+pub account_at : (places : List (List ℕ × ℕ)) (common : SharedRows) (count today : ℕ) (rows : List Shared) (accounts : List OpenAccount) (i : ℕ) (b : OpenAccount)
+    → IsDesk places common count today rows accounts → i < length accounts → b ≡ get_or accounts i b → IsAccount today common b
+account_at places common count today rows accounts i b desk low is = subst (IsAccount today common) (sym is) (All-get_or (IsAccount today common) accounts i b low desk.accounts)
 
 pub none_at : (places : List (List ℕ × ℕ)) (common : SharedRows) (count today : ℕ) (rows : List Shared) (accounts : List OpenAccount) (i : ℕ) (b : OpenAccount) (s : State) (p : Post)
     → IsDesk places common count today rows accounts → state_of today rows accounts ≡ s → i < length s.accounts → b ≡ get_or accounts i b → ((d : NamedAccount) → reason_against (now_at s i d) p ≡ None)
@@ -212,17 +200,6 @@ same_verdict places common count today rows accounts i a key p v desk low is fou
     found
     ∙ verdict_by (present_of today common a.named.lists) (now_of s a.named.lists) key p (with_key key a.named.lists.posts) refl
     (subst (λ (x : OpenAccount). reason_against (present_of today common x.named.lists) p ≡ reason_against (now_of s x.named.lists) p) (sym is) same)
-
--- by its verdict, what a post of the account at a place comes to
-pub judged_at : (places : List (List ℕ × ℕ)) (common : SharedRows) (count today : ℕ) (rows : List Shared) (accounts : List OpenAccount) (i : ℕ) (a : OpenAccount) (s : State) (d : NamedAccount) (key : List ℕ) (p : Post) (v : Verdict)
-    → IsDesk places common count today rows accounts → state_of today rows accounts ≡ s → i < length s.accounts → a ≡ get_or accounts i a
-    → v ≡ verdict_of (at_key (present_of today common a.named.lists) key p (with_key key a.named.lists.posts))
-    → v ≡ verdict_of (at_key (now_of s (get_or s.accounts i d).lists) key p (with_key key (get_or s.accounts i d).lists.posts))
-judged_at places common count today rows accounts i a s d key p v desk state low is found =
-    let listed = ap (λ (x : State). x.accounts) state in
-    let here : i < length accounts = omega (arith, low, ap (λ (l : List NamedAccount). length l) listed, length-map accounts (λ (x : OpenAccount). x.named)) in
-    verdict_at s (state_of today rows accounts) key p a.named (get_or s.accounts i d) v state (read_at accounts s.accounts i a d is listed low)
-    (same_verdict places common count today rows accounts i a key p v desk here is found)
 
 -- and so do its sheets
 pub same_sheet : (today : ℕ) (lists : Lists) (a b : SharedRows) (issue : ℕ) (c : Cycle) → AreAlike today lists a b → sheet_of lists.posts lists.issued a issue c ≡ sheet_of lists.posts lists.issued b issue c
@@ -321,13 +298,48 @@ entries_at places common count today rows accounts i a desk low is =
     subst (λ (x : OpenAccount). entries_today (present_of today common x.named.lists) ≡ entries_today (now_of (state_of today rows accounts) x.named.lists)) (sym is)
     (same_entries today (get_or accounts i a).named.lists common (shared_rows rows) (alike_at places common count today rows accounts i a desk low))
 
--- ---- a later holiday
-pub corrected_on : (s : State) (day : ℕ) (calendar : List ℕ) (accounts : List OpenAccount) → s.today < day → All (λ (x : NamedAccount). AreRunning s x.lists) (named_all accounts)
-    → AreCorrected calendar accounts → AreCorrected (with_holiday day calendar) accounts
-corrected_on s day calendar [] later all stand = All-nil (IsCorrected (with_holiday day calendar))
-corrected_on s day calendar (a ∷ rest) later all stand =
+-- ---- later rows
+-- an account that any run leaves is sound under other shared rows too, where their fees are within their range
+pub sound_under : (s : State) (l : Lists) (shared : SharedRows) → AreRunning s l → All HasFewFees shared.fees → IsSound (given_of l shared)
+sound_under s l shared one few = record {
+  accepted = one.sound.accepted;
+  fees = few;
+  segments = one.sound.segments;
+  dated = one.sound.dated;
+  opening = one.sound.opening;
+  plans = one.sound.plans;
+  returns = one.sound.returns;
+}
+
+-- holidays and fee rows of later days leave the accounts
+pub accounts_later : (s : State) (old new : SharedRows) (accounts : List OpenAccount) → All (λ (x : NamedAccount). AreRunning s x.lists) (named_all accounts) → All HasFewFees new.fees
+    → ((reached : ℕ) → reached ≤ s.today → AreLaterRows reached old new) → AreAccounts s.today old accounts → AreAccounts s.today new accounts
+accounts_later s old new [] all few later stand = All-nil (IsAccount s.today new)
+accounts_later s old new (a ∷ rest) all few later stand =
     let one = All-head (λ (x : NamedAccount). AreRunning s x.lists) a.named (named_all rest) all in
-    let agree : AgreeUpTo (last_accepted a.named.lists.posts) calendar (with_holiday day calendar) = λ x l. sym (with_holiday-agrees (last_accepted a.named.lists.posts) day calendar (omega (arith, one.last, later)) x l) in
-    All-cons (IsCorrected (with_holiday day calendar)) a rest
-    (All-head (IsCorrected calendar) a rest stand ∙ same-corrected (anchor_of a.named.lists.posts) calendar (with_holiday day calendar) a.named.lists.posts one.timely agree)
-    (corrected_on s day calendar rest later (All-tail (λ (x : NamedAccount). AreRunning s x.lists) a.named (named_all rest) all) (All-tail (IsCorrected calendar) a rest stand))
+    let h = All-head (IsAccount s.today old) a rest stand in
+    All-cons (IsAccount s.today new) a rest
+    (record { replay = later_rows_leave_it old new (replay_of a) h.replay (later a.folding.reached h.reach.later) (sound_under s a.named.lists new one few); reach = h.reach })
+    (accounts_later s old new rest (All-tail (λ (x : NamedAccount). AreRunning s x.lists) a.named (named_all rest) all) few later (All-tail (IsAccount s.today old) a rest stand))
+
+pub later_holidays : (today day : ℕ) (old : SharedRows) → today < day → (reached : ℕ) → reached ≤ today → AreLaterRows reached old (record old { holidays = with_holiday day old.holidays })
+later_holidays today day old later reached l = record { holidays = λ x low. sym (with_holiday-agrees reached day old.holidays (omega (arith, later, l)) x low); fees = refl }
+
+-- no row of a later day is among those up to a day
+none-later : (row : FeeRow) (reached : ℕ) → reached < row.day → filter (λ r. nat_le r.day reached) (row ∷ []) ≡ []
+none-later row reached l = let later : nat_le row.day reached ≡ false = grind (arith, nat_tests) in rw later refl
+
+pub later_fees : (today : ℕ) (row : FeeRow) (old : SharedRows) → today < row.day → (reached : ℕ) → reached ≤ today → AreLaterRows reached old (record old { fees = old.fees ++ row ∷ [] })
+later_fees today row old later reached l = record {
+  holidays = λ x low. refl;
+  fees = filter-append (λ r. nat_le r.day reached) old.fees (row ∷ []) ∙ (ap (λ rs. filter (λ r. nat_le r.day reached) old.fees ++ rs) (none-later row reached (omega (arith, later, l))) ∙ append-nil (filter (λ r. nat_le r.day reached) old.fees));
+}
+
+-- a later day is still not before the one last reached
+pub accounts_rolled : (today day : ℕ) (common : SharedRows) (accounts : List OpenAccount) → today ≤ day → day ≤ last_request_day → AreAccounts today common accounts → AreAccounts day common accounts
+accounts_rolled today day common [] later last stand = All-nil (IsAccount day common)
+accounts_rolled today day common (a ∷ rest) later last stand =
+    let h = All-head (IsAccount today common) a rest stand in
+    let low = h.reach.later in
+    All-cons (IsAccount day common) a rest (record { replay = h.replay; reach = record { later = omega (arith, low, later); last = last } })
+    (accounts_rolled today day common rest later last (All-tail (IsAccount today common) a rest stand))

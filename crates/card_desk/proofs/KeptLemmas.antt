@@ -3,18 +3,18 @@ use Rattle.std.proofs.Common.{◌≡◌, ℕ, ◌+◌, ◌<◌, ◌≤◌, true,
 use Rattle.std.proofs.lemmas.Bool.{and_from, leb-false, leb-true, ltb-false, or_parts}
 use Rattle.std.proofs.lemmas.List.{get_or-map, length-set, map-append, map-set}
 use Rattle.std.proofs.Math.Seq.{map-set_same}
-use Rattle.std.proofs.lemmas.List.Elements.{All-get_or, All-nil, All-push, All-set, filter_map-append}
+use Rattle.std.proofs.lemmas.List.Elements.{All-nil, All-push, All-set, filter_map-append}
 use Rattle.std.proofs.lemmas.List.Folds.{list_all-append}
 use Rattle.std.specs.List.{filter_map, list_all}
 use Rattle.std.specs.Prelude.{nat_le, nat_lt, ◌&&◌}
 use Rattle.card_days.specs.Range.{last_request_day, first_calendar_day}
 use Rattle.card_events.specs.Limits.{post_limit}
-use Rattle.card_reasons.proofs.ReasonLemmas.{none_head, where_none}
+use Rattle.card_reasons.proofs.ReasonLemmas.{none_head, none_tail, where_none}
 use Rattle.card_events.specs.declared.reply.Refusal.TheVariants as refusal
-use Rattle.card_account.specs.Accounts.{IsCorrected, OpenAccount}
+use Rattle.card_account.specs.Accounts.{IsAccount, OpenAccount}
 use Rattle.card_days.specs.Business.{is_holiday, with_holiday}
 use Rattle.card_days.proofs.Holidays.{with_holiday-is}
-use Rattle.card_desk.specs.Desks.{AreCorrected, AreSameHolidays, IsDesk, IsRun, named_all, state_of}
+use Rattle.card_desk.specs.Desks.{AreAccounts, AreSameHolidays, IsDesk, IsRun, named_all, state_of}
 use Rattle.card_desk.specs.Kept.{accepted_count, posts_in}
 use Rattle.card_desk.specs.IndexPlaces.{place_of}
 use Rattle.card_desk.specs.Applied.{are_short}
@@ -28,7 +28,6 @@ use Rattle.card_desk.proofs.StepLemmas.{post_step}
 use Rattle.card_desk.proofs.FoldLemmas.{shared_day}
 use Rattle.card_desk.proofs.RunLemmas.{run_more}
 use Rattle.card_events.specs.Dated.{is_dated_shared}
-use Rattle.card_events.specs.History.{anchor_of, corrected}
 use Rattle.card_events.specs.SharedRows.{FeeRow, SharedRows, fee_row_of, holiday_of, shared_rows}
 use Rattle.card_events.specs.declared.post.Post.{Post}
 use Rattle.card_events.specs.declared.reply.Reply.{Reply}
@@ -96,7 +95,7 @@ pub more_fees : (fees : List FeeRow) (rows : List Shared) (day first repeat : �
 more_fees fees rows day first repeat same = ap (λ (l : List FeeRow). l ++ record { day = day; first = first; repeat = repeat } ∷ []) same ∙ sym (fees_more rows (shared.FeeRow day first repeat))
 
 -- ---- a shared request
-rolled_by : (today : ℕ) (r : Shared) → is_shared r ≡ true → today ≤ last_request_day → rolled today r ≤ last_request_day
+pub rolled_by : (today : ℕ) (r : Shared) → is_shared r ≡ true → today ≤ last_request_day → rolled today r ≤ last_request_day
 unfolding is_dated_shared
 rolled_by today (shared.Roll day) held last = leb-true day last_request_day (shared_day (shared.Roll day) held)
 rolled_by today (shared.Holiday day) held last = last
@@ -108,10 +107,10 @@ shared_step s r none = ap (with_shared s r) none
 
 pub shared_desk : (places : List (List ℕ × ℕ)) (common more : SharedRows) (count today : ℕ) (rows : List Shared) (accounts : List OpenAccount) (r : Shared)
     → IsDesk places common count today rows accounts → is_request (request.Shared r) ≡ true → shared_reason today (has_accounts (state_of today rows accounts)) r ≡ None
-    → AreSameHolidays more.holidays (shared_rows (rows ++ r ∷ [])).holidays → more.fees ≡ (shared_rows (rows ++ r ∷ [])).fees → AreCorrected more.holidays accounts
+    → AreSameHolidays more.holidays (shared_rows (rows ++ r ∷ [])).holidays → more.fees ≡ (shared_rows (rows ++ r ∷ [])).fees → AreAccounts (rolled today r) more accounts
     → IsDesk places more (count + 1) (rolled today r) (rows ++ r ∷ []) accounts
 unfolding is_request
-shared_desk places common more count today rows accounts r desk held none holidays table corrected =
+shared_desk places common more count today rows accounts r desk held none holidays table stands =
     let s = state_of today rows accounts in
     let t = state_of (rolled today r) (rows ++ r ∷ []) accounts in
     record {
@@ -121,7 +120,7 @@ shared_desk places common more count today rows accounts r desk held none holida
       dated = rolled_by today r held desk.dated;
       holidays = holidays;
       table = table;
-      corrected = corrected;
+      accounts = stands;
       counted = ap (λ (n : ℕ). n + 1) desk.counted ∙ sym (count_shared s t r refl);
       ran = run_on s t (request.Shared r) (with_shared s r None).1 desk.ran held (sym (shared_step s r none));
     }
@@ -130,6 +129,20 @@ shared_desk places common more count today rows accounts r desk held none holida
 pub later_holiday : (today : ℕ) (any : Bool) (day : ℕ) → shared_reason today any (shared.Holiday day) ≡ None → today < day
 unfolding shared_reason
 later_holiday today any day none = leb-false day today (where_none (nat_le day today) (refusal.PastRow today) none)
+
+-- and a Roll is to a later one
+pub rolled_later : (today : ℕ) (any : Bool) (day : ℕ) → shared_reason today any (shared.Roll day) ≡ None → today ≤ day
+unfolding shared_reason
+rolled_later today any day none =
+    let first = where_none (nat_le day today) (refusal.RollBack today) (none_head (where_true (nat_le day today) (refusal.RollBack today)) (where_true (any && nat_lt (today + 366) day) refusal.RollTooFar ∷ []) none) in
+    let less = leb-false day today first in
+    omega (arith, less)
+
+pub later_row : (today : ℕ) (any : Bool) (day first repeat : ℕ) → shared_reason today any (shared.FeeRow day first repeat) ≡ None → today < day
+unfolding shared_reason
+later_row today any day first repeat none =
+    leb-false day today (where_none (nat_le day today) (refusal.PastRow today)
+    (none_head (where_true (nat_le day today) (refusal.PastRow today)) [] (none_tail (where_true (nat_lt 100000 first || nat_lt 100000 repeat || nat_lt repeat first) refusal.AmountRange) (where_true (nat_le day today) (refusal.PastRow today) ∷ []) none)))
 
 pub few_fees : (today : ℕ) (any : Bool) (day first repeat : ℕ) → shared_reason today any (shared.FeeRow day first repeat) ≡ None → (first ≤ 100000) × (repeat ≤ 100000)
 unfolding shared_reason
@@ -152,7 +165,7 @@ opened_is s name key p made absent opens_is none is =
 pub opened_desk : (places more : List (List ℕ × ℕ)) (common : SharedRows) (count today : ℕ) (rows : List Shared) (accounts : List OpenAccount) (made : OpenAccount) (name key : List ℕ) (p : Post)
     → IsDesk places common count today rows accounts → is_request (request.Post name key p) ≡ true → place_from name 0 (named_all accounts) ≡ None → is_open p ≡ true
     → reason_to_open today (length (named_all accounts)) p ≡ None → made.named ≡ record { name = name; lists = record { posts = kept_as 1 key today p ∷ []; issued = [] } }
-    → IsIndex more (named_all accounts ++ made.named ∷ []) → length accounts < 1000000 → IsCorrected common.holidays made → IsDesk more common (count + 1) today rows (accounts ++ made ∷ [])
+    → IsIndex more (named_all accounts ++ made.named ∷ []) → length accounts < 1000000 → IsAccount today common made → IsDesk more common (count + 1) today rows (accounts ++ made ∷ [])
 opened_desk places more common count today rows accounts made name key p desk taken absent opens_is none is index room stands =
     let s = state_of today rows accounts in
     let t = state_of today rows (accounts ++ made ∷ []) in
@@ -167,7 +180,7 @@ opened_desk places more common count today rows accounts made name key p desk ta
       dated = desk.dated;
       holidays = desk.holidays;
       table = desk.table;
-      corrected = All-push (IsCorrected common.holidays) accounts made desk.corrected stands;
+      accounts = All-push (IsAccount today common) accounts made desk.accounts stands;
       counted = ap (λ (n : ℕ). n + 1) desk.counted ∙ sym (count_opened s t made.named refl all one);
       ran = run_on s t (request.Post name key p) (reply.Accepted 1) desk.ran taken next;
     }
@@ -187,7 +200,7 @@ posted_is s name key p i a d place named accepts =
 pub posted_desk : (places : List (List ℕ × ℕ)) (common : SharedRows) (count today : ℕ) (rows : List Shared) (accounts : List OpenAccount) (i : ℕ) (a d : OpenAccount) (name key : List ℕ) (p : Post)
     → IsDesk places common count today rows accounts → is_request (request.Post name key p) ≡ true → IsPlace name (named_all accounts) i → i < length accounts
     → a.named.name ≡ (get_or accounts i d).named.name → outcome_in (state_of today rows accounts) name key p ≡ Accepts a.named.lists
-    → length a.named.lists.posts ≡ length (get_or accounts i d).named.lists.posts + 1 → length a.named.lists.posts ≤ post_limit → IsCorrected common.holidays a
+    → length a.named.lists.posts ≡ length (get_or accounts i d).named.lists.posts + 1 → length a.named.lists.posts ≤ post_limit → IsAccount today common a
     → IsDesk places common (count + 1) today rows (set accounts i a)
 posted_desk places common count today rows accounts i a d name key p desk taken place low named accepts longer few stands =
     let s = state_of today rows accounts in
@@ -206,20 +219,19 @@ posted_desk places common count today rows accounts i a d name key p desk taken 
       dated = desk.dated;
       holidays = desk.holidays;
       table = desk.table;
-      corrected = All-set (IsCorrected common.holidays) accounts i a stands desk.corrected;
+      accounts = All-set (IsAccount today common) accounts i a stands desk.accounts;
       counted = ap (λ (n : ℕ). n + 1) desk.counted ∙ sym (count_added s t i a.named d.named refl all place.bound more);
       ran = run_on s t (request.Post name key p) (reply.Accepted (length a.named.lists.posts)) desk.ran taken next;
     }
 
--- an account in which room was made
+-- an account that was told of, or in which room was made
 pub roomy_desk : (places : List (List ℕ × ℕ)) (common : SharedRows) (count today : ℕ) (rows : List Shared) (accounts : List OpenAccount) (i : ℕ) (a b : OpenAccount)
-    → IsDesk places common count today rows accounts → i < length accounts → b ≡ get_or accounts i b → a.named ≡ b.named → a.corrected ≡ b.corrected
+    → IsDesk places common count today rows accounts → i < length accounts → b ≡ get_or accounts i b → a.named ≡ b.named → IsAccount today common a
     → (named_all (set accounts i a) ≡ named_all accounts) × IsDesk places common count today rows (set accounts i a)
-roomy_desk places common count today rows accounts i a b desk low is named listed =
+roomy_desk places common count today rows accounts i a b desk low is named stands =
     let f : OpenAccount → NamedAccount = λ x. x.named in
     let all : named_all (set accounts i a) ≡ named_all accounts = map-set_same f accounts i a b (named ∙ ap f is) in
-    let state : List NamedAccount → State = λ l. record { today = today; shared = rows; accounts = l } in
-    let stands : IsCorrected common.holidays b = subst (IsCorrected common.holidays) (sym is) (All-get_or (IsCorrected common.holidays) accounts i b low desk.corrected) in (
+    let state : List NamedAccount → State = λ l. record { today = today; shared = rows; accounts = l } in (
       all,
       record {
         index = subst (λ (l : List NamedAccount). IsIndex places l) (sym all) desk.index;
@@ -228,7 +240,7 @@ roomy_desk places common count today rows accounts i a b desk low is named liste
         dated = desk.dated;
         holidays = desk.holidays;
         table = desk.table;
-        corrected = All-set (IsCorrected common.holidays) accounts i a (listed ∙ stands ∙ ap (λ (x : NamedAccount). corrected (anchor_of x.lists.posts) common.holidays x.lists.posts) (sym named)) desk.corrected;
+        accounts = All-set (IsAccount today common) accounts i a stands desk.accounts;
         counted = desk.counted ∙ ap (λ (l : List NamedAccount). accepted_count (state l)) (sym all);
         ran = subst (λ (l : List NamedAccount). IsRun (state l)) (sym all) desk.ran;
       },
@@ -244,7 +256,7 @@ first_desk = record {
   dated = omega arith;
   holidays = λ x. refl;
   table = refl;
-  corrected = All-nil (IsCorrected []);
+  accounts = All-nil (IsAccount first_calendar_day (record { holidays = []; fees = [] }));
   counted = refl;
   ran = record { requests = []; taken = refl; state_is = refl };
 }
@@ -259,7 +271,7 @@ index_desk places less common count today rows accounts desk index = record {
   dated = desk.dated;
   holidays = desk.holidays;
   table = desk.table;
-  corrected = desk.corrected;
+  accounts = desk.accounts;
   counted = desk.counted;
   ran = desk.ran;
 }

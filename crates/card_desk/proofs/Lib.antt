@@ -5,11 +5,14 @@ pub mod FoldLemmas
 pub mod IndexLemmas
 pub mod KeptLemmas
 pub mod LawLemmas
+pub mod Left
 pub mod LoadLemmas
 pub mod OutcomeLemmas
 pub mod PlaceLemmas
+pub mod Reading
 pub mod RowLemmas
 pub mod RunLemmas
+pub mod Running
 pub mod ShareLemmas
 pub mod SoundLemmas
 pub mod StepLemmas

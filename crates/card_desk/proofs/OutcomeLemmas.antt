@@ -20,9 +20,6 @@ unfolding outcome
 known_outcome s name key p lists is = ap (outcome s.today s.shared (length s.accounts) key p) is
 
 -- ---- accounts that aren't there
-unknown_by : (s : State) (key : List ℕ) (p : Post) → Outcome
-unknown_by s key p = outcome s.today s.shared (length s.accounts) key p None
-
 pub open_refused : (s : State) (name key : List ℕ) (day : ℕ) (t : Terms) (r : Refusal) → lists_of name s.accounts ≡ None → reason_to_open s.today (length s.accounts) (post.Open day t) ≡ Some r
     → outcome_in s name key (post.Open day t) ≡ Refuses r
 unfolding outcome
@@ -80,3 +77,20 @@ none_by_repeat n false o is = absurd (cc)
 pub none_against : (now : Present) (key : List ℕ) (p : Post) (k : Option ℕ) → verdict.New ≡ verdict_of (at_key now key p k) → reason_against now p ≡ None
 none_against now key p None is = none_by_open now key p (is_open p) is
 none_against now key p (Some n) is = none_by_repeat n (is_repeat_of p (at_number n now.lists.posts)) (reason_against now p) is
+
+-- ---- what is accepted has a new key and is no Open
+old_accepts : (n : ℕ) (b : Bool) (l : Lists) → (if b then Repeats n else Refuses (refusal.KeyReused n)) ≡ Accepts l → ⊥
+old_accepts n true l is = cc
+old_accepts n false l is = cc
+
+closed_by : (b : Bool) (o : Outcome) (l : Lists) → (if b then Refuses refusal.AccountExists else o) ≡ Accepts l → b ≡ false
+closed_by true o l is = absurd (cc)
+closed_by false o l is = refl
+
+pub fresh_of : (now : Present) (key : List ℕ) (p : Post) (k : Option ℕ) (l : Lists) → at_key now key p k ≡ Accepts l → k ≡ None
+fresh_of now key p None l is = refl
+fresh_of now key p (Some n) l is = absurd (old_accepts n (is_repeat_of p (at_number n now.lists.posts)) l is)
+
+pub closed_of : (now : Present) (key : List ℕ) (p : Post) (k : Option ℕ) (l : Lists) → at_key now key p k ≡ Accepts l → is_open p ≡ false
+closed_of now key p None l is = closed_by (is_open p) (judged now key p (reason_against now p)) l is
+closed_of now key p (Some n) l is = absurd (old_accepts n (is_repeat_of p (at_number n now.lists.posts)) l is)

@@ -1,5 +1,6 @@
 -- One step of the machine, by what it comes to.
-use Rattle.std.proofs.Common.{◌≡◌, ℕ, ◌+◌, true, false, List, [], ◌∷◌, ◌++◌, length, Option, Some, None, refl, ap, sym, ◌∙◌, subst, append-nil, not, is_some, Ok, arith}
+use Rattle.std.proofs.Common.{◌≡◌, ℕ, ◌+◌, true, false, List, [], ◌∷◌, ◌++◌, length, Option, Some, None, refl, ap, sym, ◌∙◌, subst, append-nil, not, is_some, Result, Ok, Err, arith}
+use Rattle.std.specs.Prelude.{IsErr, IsErrAnd}
 use Rattle.std.proofs.lemmas.Bool.{eq-eqb}
 use Rattle.card_events.specs.declared.post.Post.{Post}
 use Rattle.card_events.specs.declared.reply.Refusal.{Refusal}
@@ -8,11 +9,13 @@ use Rattle.card_events.specs.declared.reply.Reply.TheVariants as reply
 use Rattle.card_events.specs.declared.request.Request.{Request}
 use Rattle.card_events.specs.declared.request.Request.TheVariants as request
 use Rattle.card_events.specs.declared.request.Shared.{Shared}
-use Rattle.card_ports.specs.Rows.{AddsRows, GoOn, SameRowsTold, next_after, next_seq, are_from}
+use Rattle.card_ports.specs.Rows.{AddsRows, GoOn, KeepsRows, SameRowsTold, next_after, next_seq, are_from}
 use Rattle.card_ports.specs.declared.row.Row.{Row}
 use Rattle.card_model.specs.Machine.{State, Outcome, Refuses, Repeats, Accepts, step, is_new, outcome_in, with_outcome, shared_reason, has_accounts, rolled, with_shared, with_lists, accepts}
 use Rattle.card_model.specs.Refusals.{Lists}
-use Rattle.card_desk.specs.Applied.{Carried, Steps}
+use Rattle.card_desk.specs.Applied.{Carried, IsCounted, Steps}
+use Rattle.card_desk.specs.declared.fault.Fault.{Fault}
+use Rattle.card_desk.specs.declared.fault.Fault.TheVariants as fault
 use Rattle.card_desk.specs.Kept.{new_rows, row_of, Fits, accepted_count}
 use Rattle.card_account.specs.Verdicts.{verdict_of}
 use Rattle.card_account.specs.declared.verdict.Verdict.TheVariants as verdict
@@ -133,4 +136,40 @@ kept old new faults later s t r a told same steps = record {
   rows_stay = tt;
   told = told;
   counts = record { count = omega (arith, same); unfailed = same; cause = λ e. absurd (cc); wanted = λ e. absurd (cc) };
+}
+
+-- memory was wanted before anything was kept
+keeps_rows : (rows : Option (List Row)) → KeepsRows rows rows
+keeps_rows None = tt
+keeps_rows (Some rows) = refl
+
+pub out_of_memory : (rows : Option (List Row)) (faults : ℕ) (s new : State) (r : Request) → new ≡ s → Carried rows rows faults faults s r new (Err fault.Memory)
+out_of_memory rows faults s new r same = record {
+  ok = tt;
+  err = same;
+  rows_stay = keeps_rows rows;
+  told = refl;
+  counts = record { count = omega arith; unfailed = tt; cause = λ e. absurd (cc); wanted = λ e. refl };
+}
+
+pub wanted_memory : (rows : Option (List Row)) (faults : ℕ) (s new : State) (r : Request) (found : Result Reply Fault) → new ≡ s → IsErr found × IsErrAnd found (λ e. e ≡ fault.Memory) → Carried rows rows faults faults s r new found
+wanted_memory rows faults s new r (Ok a) same is = absurd (is.1)
+wanted_memory rows faults s new r (Err e) same is = subst (λ (x : Fault). Carried rows rows faults faults s r new (Err x)) (sym is.1) (out_of_memory rows faults s new r same)
+
+-- its row wasn't kept
+pub not_kept : (old new : Option (List Row)) (faults later : ℕ) (s : State) (r : Request) (f : Fault) (found : Result Reply Fault)
+    → KeepsRows old new → SameRowsTold old new → IsCounted {T = Unit {0}} fault.Keeper fault.Memory faults later (Err f) → IsErr found × IsErrAnd found (λ e. e ≡ f)
+    → Carried old new faults later s r s found
+not_kept old new faults later s r f (Ok a) stay told counts is = absurd (is.1)
+not_kept old new faults later s r f (Err e) stay told counts is = record {
+  ok = tt;
+  err = refl;
+  rows_stay = stay;
+  told = told;
+  counts = record {
+    count = counts.count;
+    unfailed = tt;
+    cause = λ k. counts.cause (let same : f ≡ fault.Keeper = cc in ap (λ (x : Fault). Err x) same);
+    wanted = λ k. counts.wanted (let same : f ≡ fault.Memory = cc in ap (λ (x : Fault). Err x) same);
+  };
 }

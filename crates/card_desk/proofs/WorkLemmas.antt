@@ -1,13 +1,16 @@
 -- The open tasks of all accounts are those of the state.
-use Rattle.std.proofs.Common.{◌≡◌, ℕ, suc, ◌<◌, List, [], ◌∷◌, ◌++◌, length, get_or, refl, ap, ◌∙◌, subst, arith}
+use Rattle.std.proofs.Common.{◌≡◌, ℕ, suc, ◌<◌, List, [], ◌∷◌, ◌++◌, length, get_or, refl, ap, sym, ◌∙◌, subst, arith}
 use Rattle.std.proofs.lemmas.List.{get_or-map, length-map}
 use Rattle.std.proofs.lemmas.List.Elements.{All-cons, All-get_or, All-nil}
 use Rattle.std.specs.List.{All, flat_map}
-use Rattle.card_account.specs.Accounts.{MayBeFolded, OpenAccount}
+use Rattle.card_account.specs.Accounts.{AreTold, IsAccount, OpenAccount}
 use Rattle.card_account.specs.Runs.{AreRunning}
 use Rattle.card_account.specs.Works.{tasks_of, work_of}
-use Rattle.card_desk.proofs.FoldLemmas.{all_running, may_be_folded, same_book}
-use Rattle.card_desk.specs.Desks.{IsDesk, named_all, state_of}
+use Rattle.card_desk.proofs.FoldLemmas.{all_running, same_book}
+use Rattle.card_desk.specs.Applied.{are_short}
+use Rattle.card_desk.specs.Desks.{AreAccounts, IsDesk, IsRun, named_all, state_of}
+use Rattle.card_desk.specs.Kept.{accepted_count}
+use Rattle.card_desk.specs.Places.{IsIndex}
 use Rattle.card_disputes.proofs.SameHolidays.{tasks-same}
 use Rattle.card_events.specs.History.{CorrectedPost, anchor_of, corrected}
 use Rattle.card_events.specs.SharedRows.{SharedRows, shared_rows}
@@ -21,15 +24,46 @@ use Rattle.card_model.specs.Work.{account_tasks, in_work_order, present_in, work
 use Rattle.card_model.specs.declared.task.Task.{Task}
 use Rattle.card_posts.proofs.Holidays.{same-corrected}
 
--- ---- all accounts may be folded
+-- ---- after all accounts were told of
 all-at : (P : OpenAccount → Type 0) (xs : List OpenAccount) → ((i : ℕ) (d : OpenAccount) → i < length xs → P (get_or xs i d)) → All P xs
 all-at P [] h = All-nil P
 all-at P (x ∷ xs) h = All-cons P x xs (h 0 x (omega arith)) (all-at P xs (λ i d l. h (suc i) d (omega (arith, l))))
 
-pub all_may_be_folded : (places : List (List ℕ × ℕ)) (common : SharedRows) (count today : ℕ) (rows : List Shared) (accounts : List OpenAccount)
-    → IsDesk places common count today rows accounts → All (MayBeFolded today common) accounts
-all_may_be_folded places common count today rows accounts desk =
-    all-at (MayBeFolded today common) accounts (λ i d l. may_be_folded places common count today rows accounts i d desk l)
+-- the same accounts, one by one
+named-same : (xs ys : List OpenAccount) → length ys ≡ length xs → ((i : ℕ) (d : OpenAccount) → i < length xs → (get_or ys i d).named ≡ (get_or xs i d).named) → named_all ys ≡ named_all xs
+named-same [] [] count h = refl
+named-same [] (y ∷ ys) count h = absurd (omega (arith, count))
+named-same (x ∷ xs) [] count h = absurd (omega (arith, count))
+named-same (x ∷ xs) (y ∷ ys) count h =
+    ap (λ (a : NamedAccount). a ∷ named_all ys) (h 0 x (omega arith)) ∙ ap (λ (l : List NamedAccount). x.named ∷ l) (named-same xs ys (omega (arith, count)) (λ i d l. h (suc i) d (omega (arith, l))))
+
+all-told : (today : ℕ) (common : SharedRows) (xs ys : List OpenAccount) → AreTold today common xs ys → AreAccounts today common ys
+all-told today common xs ys told = all-at (IsAccount today common) ys (λ i d l. let count = told.count in (told.each i d (omega (arith, l, count))).account)
+
+told-names : (today : ℕ) (common : SharedRows) (xs ys : List OpenAccount) → AreTold today common xs ys → named_all ys ≡ named_all xs
+told-names today common xs ys told = named-same xs ys told.count (λ i d l. (told.each i d l).named)
+
+pub worked_state : (today : ℕ) (common : SharedRows) (rows : List Shared) (xs ys : List OpenAccount) (s : State) → state_of today rows xs ≡ s → AreTold today common xs ys → state_of today rows ys ≡ s
+worked_state today common rows xs ys s state told =
+    ap (λ (l : List NamedAccount). record { today = today; shared = rows; accounts = l }) (told-names today common xs ys told) ∙ state
+
+pub worked_desk : (places : List (List ℕ × ℕ)) (common : SharedRows) (count today : ℕ) (rows : List Shared) (xs ys : List OpenAccount) → IsDesk places common count today rows xs → AreTold today common xs ys
+    → IsDesk places common count today rows ys
+worked_desk places common count today rows xs ys desk told =
+    let all = told-names today common xs ys told in
+    let state : List NamedAccount → State = λ l. record { today = today; shared = rows; accounts = l } in
+    let same = told.count in
+    record {
+      index = subst (λ (l : List NamedAccount). IsIndex places l) (sym all) desk.index;
+      few = omega (arith, same, desk.few);
+      short = ap are_short all ∙ desk.short;
+      dated = desk.dated;
+      holidays = desk.holidays;
+      table = desk.table;
+      accounts = all-told today common xs ys told;
+      counted = desk.counted ∙ ap (λ (l : List NamedAccount). accepted_count (state l)) (sym all);
+      ran = subst (λ (l : List NamedAccount). IsRun (state l)) (sym all) desk.ran;
+    }
 
 -- ---- the tasks of one account
 running_at : (s : State) (accounts : List OpenAccount) (i : ℕ) (d : OpenAccount) → i < length accounts → All (λ (x : NamedAccount). AreRunning s x.lists) (named_all accounts) → AreRunning s (get_or accounts i d).named.lists

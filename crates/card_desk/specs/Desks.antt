@@ -1,7 +1,7 @@
 -- A desk, by its parts.
 use Rattle.std.specs.Prelude.{◌≡◌, ◌≤◌, ℕ, true, map, length, slice_index_or, List}
 use Rattle.std.specs.List.{All, list_all}
-use Rattle.card_account.specs.Accounts.{IsCorrected, OpenAccount}
+use Rattle.card_account.specs.Accounts.{IsAccount, OpenAccount}
 use Rattle.card_days.specs.Business.{is_holiday}
 use Rattle.card_days.specs.Range.{last_request_day}
 use Rattle.card_rows.specs.Held.{is_request}
@@ -22,9 +22,14 @@ named_all accounts = map (λ a. a.named) accounts
 abbrev pub state_of : ℕ → List Shared → List OpenAccount → State
 state_of today rows accounts = record { today = today; shared = rows; accounts = named_all accounts }
 
--- a desk, as clauses see it
+-- a desk, as clauses see it: its state, and the day last reached of each account, in the order of their opening
 pub record OpenDesk : Type 0 where
   pub state : State
+  pub reached : List ℕ
+
+-- the days that accounts have reached
+abbrev pub reached_all : List OpenAccount → List ℕ
+reached_all accounts = map (λ a. a.folding.reached) accounts
 
 -- what an account with these lists is judged and shown by, in a state
 abbrev pub now_of : State → Lists → Present
@@ -44,18 +49,18 @@ pub record IsRun (s : State) : Type 0 where
 abbrev pub AreSameHolidays : List ℕ → List ℕ → Type 0
 AreSameHolidays these those = (x : ℕ) → is_holiday these x ≡ is_holiday those x
 
--- each corrected list is that of the account's posts under these holidays
-abbrev pub AreCorrected : List ℕ → List OpenAccount → Type 0
-AreCorrected holidays accounts = All (IsCorrected holidays) accounts
+-- what is kept of each account's book is its book, up to a day that isn't after today
+abbrev pub AreAccounts : ℕ → SharedRows → List OpenAccount → Type 0
+AreAccounts today common accounts = All (IsAccount today common) accounts
 
 -- what is kept stands for the state
-pub record IsDesk (places : List (List ℕ × ℕ)) (common : SharedRows) (count today : ℕ) (rows : List Shared) (accounts : List OpenAccount) : Type 0 where
-  pub index : IsIndex places (named_all accounts)
-  pub few : length accounts ≤ 1_000_000
-  pub short : are_short (named_all accounts) ≡ true
+pub record IsDesk (places : List (List ℕ × ℕ)) (common : SharedRows) (count today : ℕ) (rows : List Shared) (opened : List OpenAccount) : Type 0 where
+  pub index : IsIndex places (named_all opened)
+  pub few : length opened ≤ 1_000_000
+  pub short : are_short (named_all opened) ≡ true
   pub dated : today ≤ last_request_day
   pub holidays : AreSameHolidays common.holidays (shared_rows rows).holidays
   pub table : common.fees ≡ (shared_rows rows).fees
-  pub corrected : AreCorrected common.holidays accounts
-  pub counted : count ≡ accepted_count (state_of today rows accounts)
-  pub ran : IsRun (state_of today rows accounts)
+  pub accounts : AreAccounts today common opened
+  pub counted : count ≡ accepted_count (state_of today rows opened)
+  pub ran : IsRun (state_of today rows opened)

@@ -5,5 +5,6 @@ pub mod Kept
 pub mod Loads
 pub mod Places
 pub mod Shares
+pub mod Steps
 pub mod Views
 pub mod IndexPlaces

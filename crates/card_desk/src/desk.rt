@@ -10,17 +10,19 @@ use crate::keep::keep_row;
 use crate::row::row_of;
 use crate::share::{load, loaded, rolled, shared_reason};
 use crate::{Ask, Fault, View};
-use card_account::{Account, Owing, Statement, Verdict, open_reason, work_today};
+use card_account::{Account, EntryList, Owing, Statement, Tasks, Verdict, open_reason, work_today};
 use card_days::Day;
 use card_events::{Name, Num, Post, Refusal, Reply, Request, Shared};
 use card_fees::SharedRows;
 use card_ports::{Keeper, Row};
+use card_steps::Steps;
 use card_units::NoMemory;
 use std::alloc::Global;
 use std::marker::Model;
+use std::sync::ledger::Ledger;
 
 /// Today, the accepted shared requests with the holidays and the fee rows in them, and all accounts in the order of their
-/// opening. Clauses see it as a record of its state.
+/// opening, each folded to the day that it has reached. Clauses see it as a record of its state and these days.
 #[derive(Drop)]
 pub struct Desk {
     today: Day,
@@ -32,38 +34,45 @@ pub struct Desk {
 }
 
 impl Model for Desk {
-    ghost use Rattle.card_desk.specs.Desks.{IsDesk, OpenDesk, state_of};
+    ghost use Rattle.card_desk.specs.Desks.{IsDesk, OpenDesk, reached_all, state_of};
 
     ghost Value = { OpenDesk };
 
-    ghost view = { λ d. record { state = state_of d.today d.shared.items d.accounts.items } };
+    ghost view = { λ d. record { state = state_of d.today d.shared.items d.accounts.items; reached = reached_all d.accounts.items } };
 
     ghost invariant = { λ d. IsDesk d.index d.common d.count d.today d.shared.items d.accounts.items };
 }
 
 impl Desk {
     ghost use Rattle.std.specs.Prelude.{◌≡◌, ◌≤◌, ◌<◌, ◌+◌, ◌++◌, [], ◌∷◌, true, Some, None, length, IfOk, OnOk, OnErr, IsErrOf};
-    ghost use Rattle.card_account.specs.Accounts.{present_of};
+    ghost use Rattle.card_replay.specs.Replays.{present_of};
+    ghost use Rattle.card_desk.specs.Steps.{AreFewOn, AreFewToApply, AreFewToKeep, AreFewToOpen, AreFewToSee, AreFewToTell, most_for_all, reached_at, reached_of, steps_at};
+    ghost use Rattle.card_account.specs.Accounts.{owing_in, restated_statement};
+    ghost use Rattle.card_account.specs.Entries.{entries_today};
+    ghost use Rattle.card_account.specs.Verdicts.{verdict_of};
+    ghost use Rattle.card_events.specs.Keys.{with_key};
     ghost use Rattle.card_events.specs.SharedRows.{SharedRows};
     ghost use Rattle.card_rows.specs.Held.{is_request};
     ghost use Rattle.card_desk.specs.Desks.{now_at};
     ghost use Rattle.card_days.specs.Billing.{IsCloseDay};
-    ghost use Rattle.card_events.specs.Dated.{is_dated};
+    ghost use Rattle.card_events.specs.Dated.{is_dated, is_dated_post};
     ghost use Rattle.card_events.specs.History.{terms_in};
     ghost use Rattle.card_ports.specs.Rows.{KeepsRows, SameRowsTold};
-    ghost use Rattle.card_model.specs.Machine.{NamedAccount, start, lists_of, outcome_in, Accepts, accepted, shared_reason, has_accounts};
-    ghost use Rattle.card_model.specs.Refusals.{reason_against, reason_to_open};
+    ghost use Rattle.card_model.specs.Machine.{NamedAccount, start, lists_of, outcome_in, Accepts, accepted, at_key, shared_reason, has_accounts};
+    ghost use Rattle.card_model.specs.Refusals.{book_today, reason_against, reason_to_open};
     ghost use Rattle.card_model.specs.Work.{work};
     ghost use Rattle.card_posts.specs.Posted.{opens};
     ghost use Rattle.card_desk.specs.Apart.{IsApart};
-    ghost use Rattle.card_desk.specs.Applied.{Carried, IsAsked, IsCounted, Steps};
+    ghost use Rattle.card_desk.specs.Applied.{Carried, IsAsked, IsCounted};
+    ghost use Rattle.card_desk.specs.Applied as applied;
     ghost use Rattle.card_desk.specs.Kept.{Fits, accepted_count};
     ghost use Rattle.card_desk.specs.Places.{IsPlace, place_from};
     ghost use Rattle.card_desk.specs.Views.{issued, listed, restated, seen, shown};
 
     /// 2011-01-01 for today, and nothing else.
     pub fn new(alloc: Global) -> Desk
-        ensures { result.state ≡ start }
+        ensures state { result.state ≡ start }
+        ensures reached { result.reached ≡ [] }
     {
         Desk {
             today: Day::first(),
@@ -141,7 +150,7 @@ impl Desk {
     }
 
     // Keeps the row of an Open, and opens the account.
-    fn keep_open<K: Keeper>(
+    fn keep_open<K: Keeper, L: Ledger>(
         &mut self,
         alloc: Global,
         keeper: &mut K,
@@ -149,6 +158,7 @@ impl Desk {
         account: &Name,
         key: &Name,
         post: &Post,
+        steps: &mut Steps<L>,
     ) -> Result<Reply, Fault>
         requires request { request.now ≡ Request.Post account.now key.now post.now }
         requires open { opens post.now ≡ true }
@@ -157,11 +167,12 @@ impl Desk {
         requires absent { place_from account.now 0 self.old.state.accounts ≡ None }
         requires room { length self.old.state.accounts < 1_000_000 }
         requires no_reason { reason_to_open self.old.state.today (length self.old.state.accounts) post.now ≡ None }
-        ensures { Carried (K.rows keeper.old) (K.rows keeper.new) (K.faults keeper.old) (K.faults keeper.new) self.old.state request.now self.new.state result }
+        ensures carried { Carried (K.rows keeper.old) (K.rows keeper.new) (K.faults keeper.old) (K.faults keeper.new) self.old.state request.now self.new.state result }
+        ensures most { AreFewToOpen self.old.state post.now (outcome_in self.old.state account.now key.now post.now) steps.old steps.new }
     {
         let row = self.next_row(alloc, request)?;
         let name = account.copy(alloc)?;
-        let made = Account::open(alloc, name, key, self.today, post)?;
+        let made = Account::open(alloc, name, key, self.today, post, &self.common, steps)?;
         self.accounts.reserve(1)?;
         let place = self.accounts.len() as u32;
         self.index.insert(alloc, account.bytes(), place)?;
@@ -179,7 +190,7 @@ impl Desk {
     }
 
     // A post of an account that isn't there.
-    fn post_unknown<K: Keeper>(
+    fn post_unknown<K: Keeper, L: Ledger>(
         &mut self,
         alloc: Global,
         keeper: &mut K,
@@ -187,17 +198,19 @@ impl Desk {
         account: &Name,
         key: &Name,
         post: &Post,
+        steps: &mut Steps<L>,
     ) -> Result<Reply, Fault>
         requires request { request.now ≡ Request.Post account.now key.now post.now }
         requires asked { IsAsked (K.rows keeper.old) self.old.state request.now }
         requires absent { place_from account.now 0 self.old.state.accounts ≡ None }
-        ensures { Carried (K.rows keeper.old) (K.rows keeper.new) (K.faults keeper.old) (K.faults keeper.new) self.old.state request.now self.new.state result }
+        ensures carried { Carried (K.rows keeper.old) (K.rows keeper.new) (K.faults keeper.old) (K.faults keeper.new) self.old.state request.now self.new.state result }
+        ensures most { AreFewToOpen self.old.state post.now (outcome_in self.old.state account.now key.now post.now) steps.old steps.new }
     {
         match post {
             Post::Open { day, terms } => {
                 match open_reason(self.today, self.accounts.len(), *day, terms) {
                     Some(refusal) => Ok(Reply::Refused(refusal)),
-                    None => self.keep_open(alloc, keeper, request, account, key, post),
+                    None => self.keep_open(alloc, keeper, request, account, key, post, steps),
                 }
             }
             _ => Ok(Reply::Refused(Refusal::UnknownAccount)),
@@ -205,7 +218,7 @@ impl Desk {
     }
 
     // Keeps the row of a post, and adds the post to its account.
-    fn keep_post<K: Keeper>(
+    fn keep_post<K: Keeper, L: Ledger>(
         &mut self,
         alloc: Global,
         keeper: &mut K,
@@ -214,26 +227,48 @@ impl Desk {
         account: &Name,
         key: &Name,
         post: &Post,
+        steps: &mut Steps<L>,
     ) -> Result<Reply, Fault>
         requires request { request.now ≡ Request.Post account.now key.now post.now }
         requires asked { IsAsked (K.rows keeper.old) self.old.state request.now }
         requires place { IsPlace account.now self.old.state.accounts at }
         requires no_reason { (d : NamedAccount) → reason_against (now_at self.old.state at d) post.now ≡ None }
         requires accepted { (d : NamedAccount) → outcome_in self.old.state account.now key.now post.now ≡ Accepts (accepted (now_at self.old.state at d) key.now post.now) }
-        ensures { Carried (K.rows keeper.old) (K.rows keeper.new) (K.faults keeper.old) (K.faults keeper.new) self.old.state request.now self.new.state result }
+        ensures carried { Carried (K.rows keeper.old) (K.rows keeper.new) (K.faults keeper.old) (K.faults keeper.new) self.old.state request.now self.new.state result }
+        ensures most { AreFewToKeep self.old.state (reached_at self.old (Some at)) (outcome_in self.old.state account.now key.now post.now) steps.old steps.new }
     {
         let row = self.next_row(alloc, request)?;
         let key = key.copy(alloc)?;
         let account = &mut self.accounts[at];
-        let issued = account.prepare(alloc, self.today, post, &self.common)?;
+        let change = account.prepare(alloc, key, self.today, post, &self.common, steps)?;
         keep_row(alloc, keeper, row)?;
-        let number = account.commit(key, self.today, post, issued, &self.common);
+        let number = account.commit(change, &self.common);
         self.count += 1;
         Ok(Reply::Accepted(number))
     }
 
+    // What a post comes to on the account at a place.
+    fn judge_at<L: Ledger>(
+        &mut self,
+        alloc: Global,
+        at: usize,
+        key: &Name,
+        post: &Post,
+        steps: &mut Steps<L>,
+    ) -> Result<Verdict, NoMemory>
+        requires dated { is_dated_post post.now ≡ true }
+        requires place { at < length self.old.state.accounts }
+        ensures state { self.new.state ≡ self.old.state }
+        ensures value { IfOk result (λ v. (d : NamedAccount) → v ≡ verdict_of (at_key (now_at self.old.state at d) key.now post.now (with_key key.now (now_at self.old.state at d).lists.posts))) }
+        ensures most { steps.new ≤ steps.old + steps_at self.old at }
+        ensures spent { OnOk result (steps.new + steps_at self.new at ≤ steps.old + steps_at self.old at) }
+    {
+        let account = &mut self.accounts[at];
+        account.judge(alloc, self.today, key, post, &self.common, steps)
+    }
+
     // A post of the account at a place.
-    fn post_known<K: Keeper>(
+    fn post_known<K: Keeper, L: Ledger>(
         &mut self,
         alloc: Global,
         keeper: &mut K,
@@ -242,23 +277,26 @@ impl Desk {
         account: &Name,
         key: &Name,
         post: &Post,
+        steps: &mut Steps<L>,
     ) -> Result<Reply, Fault>
         requires request { request.now ≡ Request.Post account.now key.now post.now }
         requires asked { IsAsked (K.rows keeper.old) self.old.state request.now }
         requires place { IsPlace account.now self.old.state.accounts at }
-        ensures { Carried (K.rows keeper.old) (K.rows keeper.new) (K.faults keeper.old) (K.faults keeper.new) self.old.state request.now self.new.state result }
+        ensures carried { Carried (K.rows keeper.old) (K.rows keeper.new) (K.faults keeper.old) (K.faults keeper.new) self.old.state request.now self.new.state result }
+        ensures most { AreFewOn self.old.state post.now (reached_at self.old (Some at)) (outcome_in self.old.state account.now key.now post.now) steps.old steps.new }
     {
-        let known = &self.accounts[at];
-        match known.judge(alloc, self.today, key, post, &self.common) {
+        match self.judge_at(alloc, at, key, post, steps) {
             Ok(Verdict::Refused(refusal)) => Ok(Reply::Refused(refusal)),
             Ok(Verdict::Repeat(number)) => Ok(Reply::Accepted(number)),
-            Ok(Verdict::New) => self.keep_post(alloc, keeper, request, at, account, key, post),
+            Ok(Verdict::New) => {
+                self.keep_post(alloc, keeper, request, at, account, key, post, steps)
+            }
             Err(NoMemory) => Err(Fault::Memory),
         }
     }
 
     // A post of an account.
-    fn post<K: Keeper>(
+    fn post<K: Keeper, L: Ledger>(
         &mut self,
         alloc: Global,
         keeper: &mut K,
@@ -266,56 +304,130 @@ impl Desk {
         account: &Name,
         key: &Name,
         post: &Post,
+        steps: &mut Steps<L>,
     ) -> Result<Reply, Fault>
         requires request { request.now ≡ Request.Post account.now key.now post.now }
         requires asked { IsAsked (K.rows keeper.old) self.old.state request.now }
-        ensures { Carried (K.rows keeper.old) (K.rows keeper.new) (K.faults keeper.old) (K.faults keeper.new) self.old.state request.now self.new.state result }
+        ensures carried { Carried (K.rows keeper.old) (K.rows keeper.new) (K.faults keeper.old) (K.faults keeper.new) self.old.state request.now self.new.state result }
+        ensures most { AreFewToApply self.old request.now steps.old steps.new }
     {
         match self.index.find(account.bytes()) {
-            Some(at) => { self.post_known(alloc, keeper, request, at as usize, account, key, post) }
-            None => self.post_unknown(alloc, keeper, request, account, key, post),
+            Some(at) => {
+                self.post_known(
+                    alloc,
+                    keeper,
+                    request,
+                    at as usize,
+                    account,
+                    key,
+                    post,
+                    steps,
+                )
+            }
+            None => self.post_unknown(alloc, keeper, request, account, key, post, steps),
         }
     }
 
     /// One step of the machine. A newly accepted request is prepared, then its row is kept, then it is carried out without
     /// memory; a refusal or a repeat changes nothing. No account but the one that the request names is touched, and the reply
-    /// depends on no other. After a fault the desk and the rows are as they were.
+    /// depends on no other. After a fault the state and the rows are as they were. It takes at most two steps more than twice the
+    /// break days, before or after the request, from the first day of the cycle in which the first changed day lies, or from the day
+    /// last reached where that is earlier, to today; of a request that isn't accepted, from the day last reached on; of an Open, from
+    /// the opening day on. A shared request takes none.
     ///
     /// `Keeper`: the keeper failed, which alone raises its count. `Memory`: memory was wanted and isn't there.
-    #[tactic(auto, using(crate::proofs::Apart::apart_of_step))]
-    pub fn apply<K: Keeper>(
+    #[tactic(auto, using(crate::proofs::Apart::apart_of_step), unfolding(crate::specs::Steps::AreFewToApply))]
+    pub fn apply<K: Keeper, L: Ledger>(
         &mut self,
         alloc: Global,
         keeper: &mut K,
         request: &Request,
+        steps: &mut Steps<L>,
     ) -> Result<Reply, Fault>
         requires dated { is_dated request.now ≡ true }
         requires fits { Fits (K.rows keeper.old) self.old.state }
-        ensures ok { IfOk result (Steps (K.rows keeper.old) (K.rows keeper.new) self.old.state request.now self.new.state) }
+        ensures ok { IfOk result (applied.Steps (K.rows keeper.old) (K.rows keeper.new) self.old.state request.now self.new.state) }
         ensures apart { IfOk result (IsApart self.old.state request.now self.new.state) }
         ensures err { OnErr result (self.new.state ≡ self.old.state) }
         ensures rows_stay { OnErr result (KeepsRows (K.rows keeper.old) (K.rows keeper.new)) }
         ensures told { SameRowsTold (K.rows keeper.old) (K.rows keeper.new) }
         ensures counts { IsCounted Fault.Keeper Fault.Memory (K.faults keeper.old) (K.faults keeper.new) result }
+        ensures most { AreFewToApply self.old request.now steps.old steps.new }
     {
         match request {
             Request::Shared(shared) => self.share(alloc, keeper, request, shared),
             Request::Post { account, key, post } => {
-                self.post(alloc, keeper, request, account, key, post)
+                self.post(alloc, keeper, request, account, key, post, steps)
             }
         }
     }
 
-    /// What is owed on an account today, in cents, or that it isn't there.
-    pub fn show(&self, alloc: Global, account: &Name) -> Result<View, NoMemory>
-        ensures { IfOk result (λ view. view ≡ shown self.now.state (lists_of account.now self.now.state.accounts)) }
+    // What is owed on the account at a place. It reaches today.
+    fn owing_at<L: Ledger>(
+        &mut self,
+        alloc: Global,
+        at: usize,
+        steps: &mut Steps<L>,
+    ) -> Result<Owing, NoMemory>
+        requires place { at < length self.old.state.accounts }
+        ensures state { self.new.state ≡ self.old.state }
+        ensures value { IfOk result (λ x. (d : NamedAccount) → x ≡ owing_in (book_today (now_at self.old.state at d))) }
+        ensures most { steps.new ≤ steps.old + steps_at self.old at }
     {
+        let account = &mut self.accounts[at];
+        account.show(alloc, self.today, &self.common, steps)
+    }
+
+    // The statement of a cycle of the account at a place, as the book of today has it. It reaches today.
+    fn restated_at<L: Ledger>(
+        &mut self,
+        alloc: Global,
+        at: usize,
+        cycle: Num,
+        steps: &mut Steps<L>,
+    ) -> Result<Option<Statement>, NoMemory>
+        requires place { at < length self.old.state.accounts }
+        ensures state { self.new.state ≡ self.old.state }
+        ensures value { IfOk result (λ x. (d : NamedAccount) → x ≡ restated_statement (now_at self.old.state at d) cycle) }
+        ensures most { steps.new ≤ steps.old + steps_at self.old at }
+    {
+        let account = &mut self.accounts[at];
+        account.restated(alloc, self.today, cycle, &self.common, steps)
+    }
+
+    // The entries of the account at a place. It reaches today.
+    fn entries_at<L: Ledger>(
+        &mut self,
+        alloc: Global,
+        at: usize,
+        steps: &mut Steps<L>,
+    ) -> Result<EntryList, NoMemory>
+        requires place { at < length self.old.state.accounts }
+        ensures state { self.new.state ≡ self.old.state }
+        ensures value { IfOk result (λ x. (d : NamedAccount) → x ≡ entries_today (now_at self.old.state at d)) }
+        ensures most { steps.new ≤ steps.old + steps_at self.old at }
+    {
+        let account = &mut self.accounts[at];
+        account.entries(alloc, self.today, &self.common, steps)
+    }
+
+    /// What is owed on an account today, in cents, or that it isn't there. The account reaches today.
+    pub fn show<L: Ledger>(
+        &mut self,
+        alloc: Global,
+        account: &Name,
+        steps: &mut Steps<L>,
+    ) -> Result<View, NoMemory>
+        ensures state { self.new.state ≡ self.old.state }
+        ensures view { IfOk result (λ view. view ≡ shown self.old.state (lists_of account.now self.old.state.accounts)) }
+        ensures most { AreFewToTell self.old.state (reached_of account.now self.old) steps.old steps.new }
+    {
+        let today = self.today();
         match self.index.find(account.bytes()) {
             None => Ok(View::NoAccount),
             Some(at) => {
-                let account = &self.accounts[at as usize];
-                let owing = account.show(alloc, self.today, &self.common)?;
-                Ok(shown(self.today, owing))
+                let owing = self.owing_at(alloc, at as usize, steps)?;
+                Ok(shown(today, owing))
             }
         }
     }
@@ -335,52 +447,89 @@ impl Desk {
     }
 
     // The statement of a cycle of an account as the book of today has it.
-    fn restated(&self, alloc: Global, account: &Name, cycle: Num) -> Result<View, NoMemory>
-        ensures { IfOk result (λ view. view ≡ restated self.now.state cycle (lists_of account.now self.now.state.accounts)) }
+    fn restated<L: Ledger>(
+        &mut self,
+        alloc: Global,
+        account: &Name,
+        cycle: Num,
+        steps: &mut Steps<L>,
+    ) -> Result<View, NoMemory>
+        ensures state { self.new.state ≡ self.old.state }
+        ensures view { IfOk result (λ view. view ≡ restated self.old.state cycle (lists_of account.now self.old.state.accounts)) }
+        ensures most { AreFewToTell self.old.state (reached_of account.now self.old) steps.old steps.new }
     {
         match self.index.find(account.bytes()) {
             None => Ok(View::NoAccount),
             Some(at) => {
-                let account = &self.accounts[at as usize];
-                let statement = account.restated(alloc, self.today, cycle, &self.common)?;
+                let statement = self.restated_at(alloc, at as usize, cycle, steps)?;
                 Ok(stated(statement))
             }
         }
     }
 
     // The entries of an account up to the end of today.
-    fn entries(&self, alloc: Global, account: &Name) -> Result<View, NoMemory>
-        ensures { IfOk result (λ view. view ≡ listed self.now.state (lists_of account.now self.now.state.accounts)) }
+    fn entries<L: Ledger>(
+        &mut self,
+        alloc: Global,
+        account: &Name,
+        steps: &mut Steps<L>,
+    ) -> Result<View, NoMemory>
+        ensures state { self.new.state ≡ self.old.state }
+        ensures view { IfOk result (λ view. view ≡ listed self.old.state (lists_of account.now self.old.state.accounts)) }
+        ensures most { AreFewToTell self.old.state (reached_of account.now self.old) steps.old steps.new }
     {
         match self.index.find(account.bytes()) {
             None => Ok(View::NoAccount),
             Some(at) => {
-                let found = &self.accounts[at as usize];
-                let entries = found.entries(alloc, self.today, &self.common)?;
+                let entries = self.entries_at(alloc, at as usize, steps)?;
                 Ok(View::Entries(entries))
             }
         }
     }
 
-    // The open tasks of all accounts.
-    fn work(&self, alloc: Global) -> Result<View, NoMemory>
-        ensures { IfOk result (λ view. view ≡ View.Work (work self.now.state)) }
+    // The open tasks of all accounts. Each reaches today.
+    fn all_tasks<L: Ledger>(
+        &mut self,
+        alloc: Global,
+        steps: &mut Steps<L>,
+    ) -> Result<Tasks, NoMemory>
+        ensures state { self.new.state ≡ self.old.state }
+        ensures tasks { IfOk result (λ tasks. tasks ≡ work self.old.state) }
+        ensures most { steps.new ≤ steps.old + most_for_all self.old }
     {
-        let tasks = work_today(alloc, &self.accounts, self.today, &self.common)?;
+        work_today(alloc, &mut self.accounts, self.today, &self.common, steps)
+    }
+
+    // The open tasks of all accounts, to be shown.
+    fn work<L: Ledger>(&mut self, alloc: Global, steps: &mut Steps<L>) -> Result<View, NoMemory>
+        ensures state { self.new.state ≡ self.old.state }
+        ensures view { IfOk result (λ view. view ≡ View.Work (work self.old.state)) }
+        ensures most { steps.new ≤ steps.old + most_for_all self.old }
+    {
+        let tasks = self.all_tasks(alloc, steps)?;
         Ok(View::Work(tasks))
     }
 
-    /// The answer to what is asked, or want of memory.
-    #[tactic(auto, unfolding(crate::specs::Views::seen))]
-    pub fn see(&self, alloc: Global, ask: &Ask) -> Result<View, NoMemory>
-        ensures { IfOk result (λ view. view ≡ seen self.now.state ask.now) }
+    /// The answer to what is asked, or want of memory. The state stays; the accounts that the answer is of reach today, and after want
+    /// of memory some may have. It takes at most one step more than there are break days from the day last reached to today, none
+    /// where the account isn't there or for what was issued, and for `Work` at most the sum of these over all accounts.
+    #[tactic(auto, unfolding(crate::specs::Views::seen, crate::specs::Steps::AreFewToSee))]
+    pub fn see<L: Ledger>(
+        &mut self,
+        alloc: Global,
+        ask: &Ask,
+        steps: &mut Steps<L>,
+    ) -> Result<View, NoMemory>
+        ensures state { self.new.state ≡ self.old.state }
+        ensures view { IfOk result (λ view. view ≡ seen self.old.state ask.now) }
+        ensures most { AreFewToSee self.old ask.now steps.old steps.new }
     {
         match ask {
-            Ask::Show(account) => self.show(alloc, account),
+            Ask::Show(account) => self.show(alloc, account, steps),
             Ask::Issued(account, cycle) => self.issued(alloc, account, *cycle),
-            Ask::Restated(account, cycle) => self.restated(alloc, account, *cycle),
-            Ask::Entries(account) => self.entries(alloc, account),
-            Ask::Work => self.work(alloc),
+            Ask::Restated(account, cycle) => self.restated(alloc, account, *cycle, steps),
+            Ask::Entries(account) => self.entries(alloc, account, steps),
+            Ask::Work => self.work(alloc, steps),
         }
     }
 }

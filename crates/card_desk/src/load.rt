@@ -13,8 +13,10 @@ use crate::{Desk, Fault};
 use card_events::Request;
 use card_ports::{Keeper, KeeperFault, Row};
 use card_rows::decode;
+use card_steps::Steps;
 use card_units::NoMemory;
 use std::alloc::Global;
+use std::sync::ledger::Ledger;
 
 // Keeps nothing, tells nothing and never fails: rows that are loaded aren't kept again.
 #[derive(Drop)]
@@ -42,12 +44,17 @@ impl Desk {
     ghost use Rattle.card_desk.specs.Applied.{IsCounted};
     ghost use Rattle.card_desk.specs.Kept.{AreDamagedAt, IsLoadedOf, Fits};
 
-    /// The desk that the kept rows give: that of a run of their requests. The rows stay, whatever is answered.
+    /// The desk that the kept rows give: that of a run of their requests. The rows stay, whatever is answered. Nothing is said of the
+    /// steps.
     ///
     /// `Damaged(n)`: row n, counted from 1, is the first whose number isn't n, whose body is no spelling, or whose request
     /// is refused or a repeat in its place; it never comes for rows that a desk wrote.
     /// `Keeper`: the keeper failed, which alone raises its count. `Memory`: memory was wanted and isn't there.
-    pub fn load<K: Keeper>(alloc: Global, keeper: &mut K) -> Result<Desk, LoadFault>
+    pub fn load<K: Keeper, L: Ledger>(
+        alloc: Global,
+        keeper: &mut K,
+        steps: &mut Steps<L>,
+    ) -> Result<Desk, LoadFault>
         ensures ok { IfOk result (λ d. IsLoadedOf (K.rows keeper.old) d.state) }
         ensures fits { IfOk result (λ d. Fits (K.rows keeper.new) d.state) }
         ensures damaged { (n : ℕ) → result ≡ Err (LoadFault.Damaged n) → AreDamagedAt (K.rows keeper.old) n }
@@ -57,7 +64,7 @@ impl Desk {
         ensures damaged_count { (n : ℕ) → result ≡ Err (LoadFault.Damaged n) → K.faults keeper.new ≡ K.faults keeper.old }
     {
         let rows = kept_rows(alloc, keeper)?;
-        run_rows(alloc, &rows)
+        run_rows(alloc, &rows, steps)
     }
 }
 
@@ -77,7 +84,7 @@ fn kept_rows<K: Keeper>(alloc: Global, keeper: &mut K) -> Result<Vec<Row>, LoadF
 }
 
 // Carries out the requests of rows, from the first day on.
-fn run_rows(alloc: Global, rows: &[Row]) -> Result<Desk, LoadFault>
+fn run_rows<L: Ledger>(alloc: Global, rows: &[Row], steps: &mut Steps<L>) -> Result<Desk, LoadFault>
     ensures ok { IfOk result (λ d. IsRunOf rows.now d.state) }
     ensures damaged { (n : ℕ) → IsErrOf result (LoadFault.Damaged n) → AreDamaged rows.now n }
     ensures never { IsErrOf result LoadFault.Keeper → ⊥ }
@@ -85,7 +92,7 @@ fn run_rows(alloc: Global, rows: &[Row]) -> Result<Desk, LoadFault>
     let mut desk = Desk::new(alloc);
     for (i, row) in rows.iter().enumerate() {
         let number = i as u64 + 1;
-        if !run_row(alloc, &mut desk, number, row)? {
+        if !run_row(alloc, &mut desk, number, row, steps)? {
             return Err(LoadFault::Damaged(number));
         }
     }
@@ -93,7 +100,13 @@ fn run_rows(alloc: Global, rows: &[Row]) -> Result<Desk, LoadFault>
 }
 
 // Carries out the request of the row that has this place, and says whether it is one that is newly accepted.
-fn run_row(alloc: Global, desk: &mut Desk, number: u64, row: &Row) -> Result<bool, NoMemory>
+fn run_row<L: Ledger>(
+    alloc: Global,
+    desk: &mut Desk,
+    number: u64,
+    row: &Row,
+    steps: &mut Steps<L>,
+) -> Result<bool, NoMemory>
     ensures new { IfOk result (λ new. new ≡ true → GoesOn desk.old.state number row.now desk.new.state) }
     ensures bad { IfOk result (λ new. new ≡ false → (r : Request) → IsNewRow desk.old.state number row.now r → ⊥) }
 {
@@ -101,20 +114,25 @@ fn run_row(alloc: Global, desk: &mut Desk, number: u64, row: &Row) -> Result<boo
         return Ok(false);
     }
     match decode(alloc, row.body.bytes())? {
-        Some(request) => run_request(alloc, desk, &request),
+        Some(request) => run_request(alloc, desk, &request, steps),
         None => Ok(false),
     }
 }
 
 // Carries out a request, and says whether it was newly accepted.
-fn run_request(alloc: Global, desk: &mut Desk, request: &Request) -> Result<bool, NoMemory>
+fn run_request<L: Ledger>(
+    alloc: Global,
+    desk: &mut Desk,
+    request: &Request,
+    steps: &mut Steps<L>,
+) -> Result<bool, NoMemory>
     requires dated { is_dated request.now ≡ true }
     ensures new { IfOk result (λ new. new ≡ is_new desk.old.state request.now) }
     ensures step { OnOk result (desk.new.state ≡ (step desk.old.state request.now).0) }
 {
     let count = desk.count();
     let mut keeper = Untold {};
-    match desk.apply(alloc, &mut keeper, request) {
+    match desk.apply(alloc, &mut keeper, request, steps) {
         Ok(_) => Ok(desk.count() > count),
         Err(Fault::Memory) => Err(NoMemory),
         Err(Fault::Keeper) => unreachable!(),

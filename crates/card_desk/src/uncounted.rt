@@ -1,18 +1,44 @@
 //! Calls on a desk that is lent to who asks. Nobody counts the steps of these calls.
 ghost use Rattle.std.specs.Prelude.{◌≡◌, ℕ, true, Err, IfOk, OnErr};
 ghost use Rattle.card_desk.specs.Apart.{IsApart};
-ghost use Rattle.card_desk.specs.Applied.{IsCounted, Steps};
+ghost use Rattle.card_desk.specs.Applied.{IsCounted};
+ghost use Rattle.card_desk.specs.Applied as applied;
 ghost use Rattle.card_desk.specs.Kept.{AreDamagedAt, Fits, IsLoadedOf};
 ghost use Rattle.card_desk.specs.Views.{seen, shown};
 ghost use Rattle.card_events.specs.Dated.{is_dated};
 ghost use Rattle.card_ports.specs.Rows.{KeepsRows, SameRowsTold};
 ghost use Rattle.card_model.specs.Machine.{lists_of};
+ghost use Rattle.card_steps.specs.Blanks.{IsBlankOf};
 
 use crate::{Ask, Desk, Fault, LoadFault, View};
 use card_events::{Name, Reply, Request};
 use card_ports::Keeper;
+use card_steps::Steps;
 use card_units::NoMemory;
 use std::alloc::Global;
+use std::marker::Brand;
+use std::sync::ledger::{Blank, Ledger};
+
+fn apply_counted<K: Keeper, L: Ledger>(
+    alloc: Global,
+    desk: &mut Desk,
+    keeper: &mut K,
+    request: &Request,
+    blank: Blank,
+) -> Result<Reply, Fault>
+    requires own { IsBlankOf L.name L.parts blank.name blank.parts }
+    requires dated { is_dated request.now ≡ true }
+    requires fits { Fits (K.rows keeper.old) desk.old.state }
+    ensures ok { IfOk result (applied.Steps (K.rows keeper.old) (K.rows keeper.new) desk.old.state request.now desk.new.state) }
+    ensures apart { IfOk result (IsApart desk.old.state request.now desk.new.state) }
+    ensures err { OnErr result (desk.new.state ≡ desk.old.state) }
+    ensures rows_stay { OnErr result (KeepsRows (K.rows keeper.old) (K.rows keeper.new)) }
+    ensures told { SameRowsTold (K.rows keeper.old) (K.rows keeper.new) }
+    ensures counts { IsCounted Fault.Keeper Fault.Memory (K.faults keeper.old) (K.faults keeper.new) result }
+{
+    let mut steps = Steps::<L>::new(blank);
+    desk.apply(alloc, keeper, request, &mut steps)
+}
 
 /// Carries out a request, as `Desk::apply` does: one step of the machine, and the row of a newly accepted request is kept. The
 /// request has days of requests, and the keeper's rows go on from the desk's state.
@@ -27,14 +53,28 @@ pub fn apply<K: Keeper>(
 ) -> Result<Reply, Fault>
     requires dated { is_dated request.now ≡ true }
     requires fits { Fits (K.rows keeper.old) desk.old.state }
-    ensures ok { IfOk result (Steps (K.rows keeper.old) (K.rows keeper.new) desk.old.state request.now desk.new.state) }
+    ensures ok { IfOk result (applied.Steps (K.rows keeper.old) (K.rows keeper.new) desk.old.state request.now desk.new.state) }
     ensures apart { IfOk result (IsApart desk.old.state request.now desk.new.state) }
     ensures err { OnErr result (desk.new.state ≡ desk.old.state) }
     ensures rows_stay { OnErr result (KeepsRows (K.rows keeper.old) (K.rows keeper.new)) }
     ensures told { SameRowsTold (K.rows keeper.old) (K.rows keeper.new) }
     ensures counts { IsCounted Fault.Keeper Fault.Memory (K.faults keeper.old) (K.faults keeper.new) result }
 {
-    desk.apply(alloc, keeper, request)
+    apply_counted::<K, Brand>(alloc, desk, keeper, request, Blank::new(1))
+}
+
+fn see_counted<L: Ledger>(
+    alloc: Global,
+    desk: &mut Desk,
+    ask: &Ask,
+    blank: Blank,
+) -> Result<View, NoMemory>
+    requires own { IsBlankOf L.name L.parts blank.name blank.parts }
+    ensures state { desk.new.state ≡ desk.old.state }
+    ensures view { IfOk result (λ view. view ≡ seen desk.old.state ask.now) }
+{
+    let mut steps = Steps::<L>::new(blank);
+    desk.see(alloc, ask, &mut steps)
 }
 
 /// The answer to what is asked, as `Desk::see` gives it, or want of memory. The state stays, whatever is answered.
@@ -42,7 +82,21 @@ pub fn see(alloc: Global, desk: &mut Desk, ask: &Ask) -> Result<View, NoMemory>
     ensures state { desk.new.state ≡ desk.old.state }
     ensures view { IfOk result (λ view. view ≡ seen desk.old.state ask.now) }
 {
-    desk.see(alloc, ask)
+    see_counted::<Brand>(alloc, desk, ask, Blank::new(1))
+}
+
+fn show_counted<L: Ledger>(
+    alloc: Global,
+    desk: &mut Desk,
+    account: &Name,
+    blank: Blank,
+) -> Result<View, NoMemory>
+    requires own { IsBlankOf L.name L.parts blank.name blank.parts }
+    ensures state { desk.new.state ≡ desk.old.state }
+    ensures view { IfOk result (λ view. view ≡ shown desk.old.state (lists_of account.now desk.old.state.accounts)) }
+{
+    let mut steps = Steps::<L>::new(blank);
+    desk.show(alloc, account, &mut steps)
 }
 
 /// What is owed on an account today, in cents, or that it isn't there, as `Desk::show` gives it; or want of memory. The state
@@ -51,7 +105,25 @@ pub fn show(alloc: Global, desk: &mut Desk, account: &Name) -> Result<View, NoMe
     ensures state { desk.new.state ≡ desk.old.state }
     ensures view { IfOk result (λ view. view ≡ shown desk.old.state (lists_of account.now desk.old.state.accounts)) }
 {
-    desk.show(alloc, account)
+    show_counted::<Brand>(alloc, desk, account, Blank::new(1))
+}
+
+fn load_counted<K: Keeper, L: Ledger>(
+    alloc: Global,
+    keeper: &mut K,
+    blank: Blank,
+) -> Result<Desk, LoadFault>
+    requires own { IsBlankOf L.name L.parts blank.name blank.parts }
+    ensures ok { IfOk result (λ d. IsLoadedOf (K.rows keeper.old) d.state) }
+    ensures fits { IfOk result (λ d. Fits (K.rows keeper.new) d.state) }
+    ensures damaged { (n : ℕ) → result ≡ Err (LoadFault.Damaged n) → AreDamagedAt (K.rows keeper.old) n }
+    ensures rows_stay { KeepsRows (K.rows keeper.old) (K.rows keeper.new) }
+    ensures told { SameRowsTold (K.rows keeper.old) (K.rows keeper.new) }
+    ensures counts { IsCounted LoadFault.Keeper LoadFault.Memory (K.faults keeper.old) (K.faults keeper.new) result }
+    ensures damaged_count { (n : ℕ) → result ≡ Err (LoadFault.Damaged n) → K.faults keeper.new ≡ K.faults keeper.old }
+{
+    let mut steps = Steps::<L>::new(blank);
+    Desk::load(alloc, keeper, &mut steps)
 }
 
 /// The desk that the kept rows give, as `Desk::load` gives it. The rows stay, whatever is answered.
@@ -68,5 +140,5 @@ pub fn load<K: Keeper>(alloc: Global, keeper: &mut K) -> Result<Desk, LoadFault>
     ensures counts { IsCounted LoadFault.Keeper LoadFault.Memory (K.faults keeper.old) (K.faults keeper.new) result }
     ensures damaged_count { (n : ℕ) → result ≡ Err (LoadFault.Damaged n) → K.faults keeper.new ≡ K.faults keeper.old }
 {
-    Desk::load(alloc, keeper)
+    load_counted::<K, Brand>(alloc, keeper, Blank::new(1))
 }

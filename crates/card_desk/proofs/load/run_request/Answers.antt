@@ -7,7 +7,7 @@ use Rattle.card_desk.proofs.LoadLemmas.{rises}
 use Rattle.card_desk.proofs.load.run_request.Goals as goal
 
 pub returns-in-Ok-clause-new : goal.returns-in-Ok-clause-new
-returns-in-Ok-clause-new c =
+returns-in-Ok-clause-new g c =
     let s = c.args.desk.now.state in
     let r = c.args.request.now in
     let next : c.apply.new.self.state ≡ (step s r).0 = ap (λ (x : State × Reply). x.0) c.in-Ok.ensures.ok.step_is in

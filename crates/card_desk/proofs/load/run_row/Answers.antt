@@ -6,11 +6,11 @@ use Rattle.card_desk.proofs.RowLemmas.{not_new, not_spelled}
 use Rattle.card_desk.proofs.load.run_row.Goals as goal
 
 pub returns-in-Some-clause-bad : goal.returns-in-Some-clause-bad
-returns-in-Some-clause-bad c =
+returns-in-Some-clause-bad g c =
     let spelled : IsSpelling c.bytes.result.now c.in-Some.request = subst (λ (o : Option Request). IfSome o (IsSpelling c.bytes.result.now)) c.in-Some.is c.in_ok-request.ensures.some in
     not_new c.run_request.result c.args.desk.now.state c.args.number c.args.row.now c.bytes.result.now c.in-Some.request c.bytes.ensures spelled c.run_request.ensures.new
 
 pub returns-in-None-clause-bad : goal.returns-in-None-clause-bad
-returns-in-None-clause-bad c = λ _ r fresh.
+returns-in-None-clause-bad g c = λ _ r fresh.
     let none = subst (λ (o : Option Request). IfNone o ((x : Request) → IsSpelling c.bytes.result.now x → ⊥)) c.in-None.is c.in_ok-request.ensures.none in
     not_spelled c.args.desk.now.state c.args.number c.args.row.now c.bytes.result.now r c.bytes.ensures none fresh

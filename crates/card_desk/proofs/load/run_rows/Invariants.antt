@@ -3,4 +3,4 @@ use Rattle.card_desk.specs.Kept.{IsRunOf}
 use Rattle.card_desk.proofs.load.run_rows.Given as goal
 
 abbrev pub invariant-loop-i : goal.invariant-loop-i
-invariant-loop-i l = IsRunOf (take l.i l.rows) l.desk.state
+invariant-loop-i g l = IsRunOf (take l.i l.rows) l.desk.state

@@ -1,28 +1,36 @@
-use Rattle.std.proofs.Common.{◌≡◌, List, length, ap, sym, subst, arith}
-use Rattle.card_account.specs.Accounts.{OpenAccount, present_of}
-use Rattle.card_reasons.proofs.Accepted.{few, received, target_there}
-use Rattle.card_events.specs.History.{anchor_of}
-use Rattle.card_events.specs.declared.kept.Kept.{Kept}
-use Rattle.card_posts.specs.Posted.{IsReceived}
+use Rattle.std.proofs.Common.{◌≡◌, ◌+◌, [], ◌∷◌, ◌++◌, List, length, sym, ap, subst, ◌∙◌, arith}
+use Rattle.card_account.specs.Accounts.{OpenAccount, replay_of}
+use Rattle.card_events.specs.SharedRows.{SharedRows}
+use Rattle.card_model.specs.Cycles.{IssuedRow}
+use Rattle.card_model.specs.Machine.{accepted, issues, kept_as}
+use Rattle.card_model.specs.Refusals.{Lists}
+use Rattle.card_replay.specs.Changes.{IsPrepared, issued_as, lists_with}
+use Rattle.card_replay.specs.Replays.{present_of}
+use Rattle.card_replay.specs.declared.change.Change.{Change}
 use Rattle.card_account.proofs.account.Account.commit.Goals as goal
 
-pub add-pushed-requires-clause-few : goal.add-pushed-requires-clause-few
-add-pushed-requires-clause-few c =
-    let now = present_of c.args.today c.args.shared.now c.args.self.now.named.lists in
-    let same : c.self.inside.posts.history ≡ c.args.self.now.named.lists.posts =
-    ap (λ (a : OpenAccount). a.named.lists.posts) c.self.view_is in
-    omega (arith, few now c.args.post.now c.requires.no_reason, ap (λ (h : List Kept). length h) same)
+-- with the row that the post issues, the lists are those that the machine gives
+with-row : (shared : SharedRows) (x : Change) (l : Lists) → issued_as x.issued ≡ issues (present_of x.today shared l) x.post → lists_with x l ≡ accepted (present_of x.today shared l) x.key x.post
+unfolding accepted
+with-row shared x l e = ap (λ (more : List IssuedRow). record { posts = l.posts ++ kept_as (length l.posts + 1) x.key x.today x.post ∷ []; issued = l.issued ++ more }) e
 
-pub add-pushed-requires-clause-target : goal.add-pushed-requires-clause-target
-add-pushed-requires-clause-target c =
-    let now = present_of c.args.today c.args.shared.now c.args.self.now.named.lists in
-    let same : c.self.inside.posts.history ≡ c.args.self.now.named.lists.posts =
-    ap (λ (a : OpenAccount). a.named.lists.posts) c.self.view_is in
-    omega (arith, target_there now c.args.post.now c.requires.no_reason, ap (λ (h : List Kept). length h) same)
+pub commit-requires : goal.commit-requires
+commit-requires c = record { prepared = subst (λ (a : OpenAccount). IsPrepared c.args.shared.now c.args.change (replay_of a)) (sym c.self.view_is) c.requires.prepared }
 
-pub add-pushed-requires-clause-received : goal.add-pushed-requires-clause-received
-add-pushed-requires-clause-received c =
-    let now = present_of c.args.today c.args.shared.now c.args.self.now.named.lists in
-    let same : c.self.inside.posts.history ≡ c.args.self.now.named.lists.posts =
-    ap (λ (a : OpenAccount). a.named.lists.posts) c.self.view_is in
-    subst (λ (h : List Kept). IsReceived (anchor_of h).opened c.args.today c.args.post.now) (sym same) (received now c.args.post.now c.requires.no_reason)
+pub returns-clause-lists : goal.returns-clause-lists
+returns-clause-lists c =
+    let shared = c.args.shared.now in
+    let change = c.args.change in
+    let lists = ap (λ (a : OpenAccount). a.named.lists) c.self.view_is in
+    c.commit.ensures.committed.lists
+    ∙ (ap (lists_with change) lists ∙ with-row shared change c.args.self.now.named.lists c.requires.prepared.issued)
+
+pub returns-clause-account : goal.returns-clause-account
+returns-clause-account c =
+    let h = c.commit.ensures.today in
+    let reached = h.reached in
+    let dated = h.replay.dated in
+    record { replay = h.replay; reach = record { later = omega (arith, reached); last = omega (arith, reached, dated) } }
+
+pub returns-clause-number : goal.returns-clause-number
+returns-clause-number c = c.commit.ensures.number ∙ ap (λ (a : OpenAccount). length a.named.lists.posts + 1) c.self.view_is

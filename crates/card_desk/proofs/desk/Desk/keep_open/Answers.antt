@@ -4,7 +4,7 @@ use Rattle.card_account.specs.Accounts.{OpenAccount}
 use Rattle.card_events.specs.declared.reply.Reply.TheVariants as reply
 use Rattle.card_events.specs.declared.request.Request.{Request}
 use Rattle.card_events.specs.declared.request.Request.TheVariants as request
-use Rattle.card_model.specs.Machine.{State, NamedAccount, kept_as}
+use Rattle.card_model.specs.Machine.{State, NamedAccount, kept_as, outcome_in}
 use Rattle.card_model.specs.Refusals.{Lists, reason_to_open}
 use Rattle.card_desk.specs.Applied.{Steps}
 use Rattle.card_desk.specs.Desks.{IsDesk, named_all, state_of}
@@ -14,9 +14,12 @@ use Rattle.card_desk.proofs.DeskLemmas.{count_opened, opened_state, state_by}
 use Rattle.card_desk.proofs.IndexLemmas.{index_back, index_pushed}
 use Rattle.card_desk.specs.IndexPlaces.{Places}
 use Rattle.card_desk.proofs.KeptLemmas.{index_desk, opened_desk}
+use Rattle.card_desk.proofs.Left.{none_to_open}
 use Rattle.card_desk.proofs.OutcomeLemmas.{open_accepted}
+use Rattle.card_desk.proofs.Running.{few_opened, opened_is_running, opened_sound}
+use Rattle.card_replay.specs.Replays.{opened_lists}
 use Rattle.card_desk.proofs.PlaceLemmas.{no_place}
-use Rattle.card_desk.proofs.StepLemmas.{goes_on, kept, post_accepted}
+use Rattle.card_desk.proofs.StepLemmas.{goes_on, kept, post_accepted, wanted_memory}
 use Rattle.card_rows.specs.Held.{is_request}
 use Rattle.card_desk.proofs.desk.Desk.keep_open.Goals as goal
 
@@ -33,7 +36,7 @@ invariant_of-self-in-Ok g c =
     let p = c.args.post.now in
     let accounts : c.push_account.new.list.items ≡ items ++ made ∷ [] = c.push_account.ensures ∙ ap (λ l. l ++ made ∷ []) c.in_ok-reserve.ensures.items in
     let made_is : made.named ≡ record { name = name; lists = record { posts = kept_as 1 key d.today p ∷ []; issued = [] } } =
-    c.in_ok-made.ensures.lists ∙ ap (λ (n : List ℕ). record { name = n; lists = record { posts = kept_as 1 key d.today p ∷ []; issued = [] } }) c.in_ok-name.ensures in
+    c.in_ok-made.ensures.named ∙ ap (λ (n : List ℕ). record { name = n; lists = record { posts = kept_as 1 key d.today p ∷ []; issued = [] } }) c.in_ok-name.ensures in
     let name_is : made.named.name ≡ name = ap (λ (a : NamedAccount). a.name) made_is in
     let absent : place_from name 0 (named_all items) ≡ None = ap (λ (x : State). place_from name 0 x.accounts) (state_by _ _ c.self.view_is) ∙ c.requires.absent in
     let none = ap (λ (x : State). reason_to_open x.today (length x.accounts) p) (state_by _ _ c.self.view_is) ∙ c.requires.no_reason in
@@ -46,10 +49,10 @@ invariant_of-self-in-Ok g c =
     let taken : is_request (request.Post name key p) ≡ true = held in
     subst (λ (l : List OpenAccount). IsDesk c.insert.new.self d.common (d.count + 1) d.today d.shared.items l) (sym accounts)
     (opened_desk d.index c.insert.new.self d.common d.count d.today d.shared.items items made name key p c.self.invariant taken absent c.requires.open none made_is index room
-    (c.in_ok-made.ensures.stands d.common.holidays))
+    c.in_ok-made.ensures.account)
 
-pub returns-in-Ok : goal.returns-in-Ok
-returns-in-Ok g c =
+pub returns-in-Ok-clause-carried : goal.returns-in-Ok-clause-carried
+returns-in-Ok-clause-carried g c =
     let s = c.args.self.now.state in
     let d = c.self.inside in
     let name = c.args.account.now in
@@ -65,7 +68,7 @@ returns-in-Ok g c =
     let accounts : t.accounts ≡ s.accounts ++ made.named ∷ [] =
     ap named_all items ∙ map-append (λ (x : OpenAccount). x.named) d.accounts.items (made ∷ []) ∙ ap (λ (x : State). x.accounts ++ made.named ∷ []) (state_by _ _ c.self.view_is) in
     let made_is : made.named ≡ record { name = name; lists = l } =
-    c.in_ok-made.ensures.lists ∙ ap (λ (n : List ℕ). record { name = n; lists = record { posts = kept_as 1 key d.today p ∷ []; issued = [] } }) c.in_ok-name.ensures
+    c.in_ok-made.ensures.named ∙ ap (λ (n : List ℕ). record { name = n; lists = record { posts = kept_as 1 key d.today p ∷ []; issued = [] } }) c.in_ok-name.ensures
     ∙ ap (λ (n : ℕ). record { name = name; lists = record { posts = kept_as 1 key n p ∷ []; issued = [] } }) today in
     let state = opened_state s t name l made.named today (ap (λ (x : State). x.shared) (state_by _ _ c.self.view_is)) accounts made_is c.requires.absent in
     let one : length made.named.lists.posts ≡ 1 = ap (λ (a : NamedAccount). length a.lists.posts) made_is in
@@ -86,3 +89,86 @@ invariant_of-self-in-Err-1 g c =
     let index = index_back d.index c.insert.new.self c.remove.new.self (named_all items) name c.len-place.result c.self.invariant.index c.in_ok-insert.ensures.ok lost absent in
     subst (λ (l : List OpenAccount). IsDesk c.remove.new.self d.common d.count d.today d.shared.items l) (sym c.in_ok-reserve.ensures.items)
     (index_desk d.index c.remove.new.self d.common d.count d.today d.shared.items items c.self.invariant index)
+
+-- ---- where memory is wanted
+pub returns-in_err-reserve-clause-carried : goal.returns-in_err-reserve-clause-carried
+returns-in_err-reserve-clause-carried g c =
+    let d = c.self.inside in
+    let state = ap (λ (l : List OpenAccount). state_of d.today d.shared.items l) c.reserve.ensures.items ∙ state_by _ _ c.self.view_is in
+    wanted_memory (g.K.Keeper.rows c.args.keeper.now) (g.K.Keeper.faults c.args.keeper.now) c.args.self.now.state (state_of d.today d.shared.items c.reserve.new.self.items) c.args.request.now
+    c.from_residual-in_err-reserve.result state c.from_residual-in_err-reserve.ensures
+
+pub returns-in_err-insert-clause-carried : goal.returns-in_err-insert-clause-carried
+returns-in_err-insert-clause-carried g c =
+    let d = c.self.inside in
+    let state = ap (λ (l : List OpenAccount). state_of d.today d.shared.items l) c.reserve.ensures.items ∙ state_by _ _ c.self.view_is in
+    wanted_memory (g.K.Keeper.rows c.args.keeper.now) (g.K.Keeper.faults c.args.keeper.now) c.args.self.now.state (state_of d.today d.shared.items c.reserve.new.self.items) c.args.request.now
+    c.from_residual-in_err-insert.result state c.from_residual-in_err-insert.ensures
+
+-- ---- the account that is opened
+pub open-requires-clause-opened : goal.open-requires-clause-opened
+open-requires-clause-opened g c =
+    let d = c.self.inside in
+    let s = c.args.self.now.state in
+    let state = state_by _ _ c.self.view_is in
+    let taken : is_request (request.Post c.args.account.now c.args.key.now c.args.post.now) ≡ true = ap is_request (sym c.requires.request) ∙ c.in_ok-row.ensures.held in
+    (opened_is_running d.index d.common d.count d.today d.shared.items d.accounts.items s c.args.account.now c.args.key.now c.args.post.now c.self.invariant state taken c.requires.absent c.requires.open c.requires.no_reason).opened
+
+pub open-requires-clause-dated : goal.open-requires-clause-dated
+open-requires-clause-dated g c = c.self.invariant.dated
+
+pub open-requires-clause-sound : goal.open-requires-clause-sound
+open-requires-clause-sound g c =
+    let d = c.self.inside in
+    let s = c.args.self.now.state in
+    let state = state_by _ _ c.self.view_is in
+    let taken : is_request (request.Post c.args.account.now c.args.key.now c.args.post.now) ≡ true = ap is_request (sym c.requires.request) ∙ c.in_ok-row.ensures.held in
+    opened_sound d.index d.common d.count d.today d.shared.items d.accounts.items (opened_lists c.args.key.now d.today c.args.post.now) c.self.invariant
+    (opened_is_running d.index d.common d.count d.today d.shared.items d.accounts.items s c.args.account.now c.args.key.now c.args.post.now c.self.invariant state taken c.requires.absent c.requires.open c.requires.no_reason)
+
+-- ---- its steps
+pub returns-in_err-row-clause-most : goal.returns-in_err-row-clause-most
+returns-in_err-row-clause-most g c = none_to_open c.args.self.now.state c.args.post.now (outcome_in c.args.self.now.state c.args.account.now c.args.key.now c.args.post.now) c.args.steps.now
+
+pub returns-in_err-name-clause-most : goal.returns-in_err-name-clause-most
+returns-in_err-name-clause-most g c = none_to_open c.args.self.now.state c.args.post.now (outcome_in c.args.self.now.state c.args.account.now c.args.key.now c.args.post.now) c.args.steps.now
+
+pub returns-in_err-made-clause-most : goal.returns-in_err-made-clause-most
+returns-in_err-made-clause-most g c =
+    let d = c.self.inside in
+    let s = c.args.self.now.state in
+    let state = state_by _ _ c.self.view_is in
+    let taken : is_request (request.Post c.args.account.now c.args.key.now c.args.post.now) ≡ true = ap is_request (sym c.requires.request) ∙ c.in_ok-row.ensures.held in
+    few_opened d.index d.common d.count d.today d.shared.items d.accounts.items s c.args.account.now c.args.key.now c.args.post.now c.args.steps.now c.open.new.steps c.self.invariant state taken c.requires.absent c.requires.open c.requires.no_reason c.open.ensures.most
+
+pub returns-in_err-reserve-clause-most : goal.returns-in_err-reserve-clause-most
+returns-in_err-reserve-clause-most g c =
+    let d = c.self.inside in
+    let s = c.args.self.now.state in
+    let state = state_by _ _ c.self.view_is in
+    let taken : is_request (request.Post c.args.account.now c.args.key.now c.args.post.now) ≡ true = ap is_request (sym c.requires.request) ∙ c.in_ok-row.ensures.held in
+    few_opened d.index d.common d.count d.today d.shared.items d.accounts.items s c.args.account.now c.args.key.now c.args.post.now c.args.steps.now c.open.new.steps c.self.invariant state taken c.requires.absent c.requires.open c.requires.no_reason c.open.ensures.most
+
+pub returns-in_err-insert-clause-most : goal.returns-in_err-insert-clause-most
+returns-in_err-insert-clause-most g c =
+    let d = c.self.inside in
+    let s = c.args.self.now.state in
+    let state = state_by _ _ c.self.view_is in
+    let taken : is_request (request.Post c.args.account.now c.args.key.now c.args.post.now) ≡ true = ap is_request (sym c.requires.request) ∙ c.in_ok-row.ensures.held in
+    few_opened d.index d.common d.count d.today d.shared.items d.accounts.items s c.args.account.now c.args.key.now c.args.post.now c.args.steps.now c.open.new.steps c.self.invariant state taken c.requires.absent c.requires.open c.requires.no_reason c.open.ensures.most
+
+pub returns-in-Ok-clause-most : goal.returns-in-Ok-clause-most
+returns-in-Ok-clause-most g c =
+    let d = c.self.inside in
+    let s = c.args.self.now.state in
+    let state = state_by _ _ c.self.view_is in
+    let taken : is_request (request.Post c.args.account.now c.args.key.now c.args.post.now) ≡ true = ap is_request (sym c.requires.request) ∙ c.in_ok-row.ensures.held in
+    few_opened d.index d.common d.count d.today d.shared.items d.accounts.items s c.args.account.now c.args.key.now c.args.post.now c.args.steps.now c.open.new.steps c.self.invariant state taken c.requires.absent c.requires.open c.requires.no_reason c.open.ensures.most
+
+pub returns-in-Err-clause-most : goal.returns-in-Err-clause-most
+returns-in-Err-clause-most g c =
+    let d = c.self.inside in
+    let s = c.args.self.now.state in
+    let state = state_by _ _ c.self.view_is in
+    let taken : is_request (request.Post c.args.account.now c.args.key.now c.args.post.now) ≡ true = ap is_request (sym c.requires.request) ∙ c.in_ok-row.ensures.held in
+    few_opened d.index d.common d.count d.today d.shared.items d.accounts.items s c.args.account.now c.args.key.now c.args.post.now c.args.steps.now c.open.new.steps c.self.invariant state taken c.requires.absent c.requires.open c.requires.no_reason c.open.ensures.most

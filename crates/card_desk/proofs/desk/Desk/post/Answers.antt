@@ -2,7 +2,10 @@ use Rattle.std.proofs.Common.{ap, subst, sym, ◌∙◌}
 use Rattle.card_model.specs.Machine.{State}
 use Rattle.card_desk.specs.Desks.{named_all}
 use Rattle.card_desk.specs.Places.{IsPlace, place_from}
-use Rattle.card_desk.proofs.DeskLemmas.{found_at, found_none, state_by}
+use Rattle.card_desk.proofs.DeskLemmas.{found_at, found_none, placed_at, state_by}
+use Rattle.card_desk.proofs.Left.{few_on_absent, few_on_there}
+use Rattle.card_desk.specs.Steps.{AreFewToApply}
+use Rattle.card_events.specs.declared.request.Request.{Request}
 use Rattle.card_desk.proofs.desk.Desk.post.Goals as goal
 
 pub post_known-requires-clause-place : goal.post_known-requires-clause-place
@@ -14,3 +17,17 @@ pub post_unknown-requires-clause-absent : goal.post_unknown-requires-clause-abse
 post_unknown-requires-clause-absent g c =
     ap (λ (s : State). place_from c.args.account.now 0 s.accounts) (sym (state_by _ _ c.self.view_is))
     ∙ found_none c.self.inside.index (named_all c.self.inside.accounts.items) c.args.account.now c.bytes.result.now c.self.invariant.index c.bytes.ensures.value c.in-None.ensures
+
+pub returns-in-Some-clause-most : goal.returns-in-Some-clause-most
+returns-in-Some-clause-most g c =
+    let there = ap (λ (s : State). place_from c.args.account.now 0 s.accounts) (sym (state_by _ _ c.self.view_is))
+    ∙ placed_at c.self.inside.index (named_all c.self.inside.accounts.items) c.args.account.now c.bytes.result.now c.in-Some.at c.self.invariant.index c.bytes.ensures.value c.in-Some.ensures in
+    subst (λ (r : Request). AreFewToApply c.args.self.now r c.args.steps.now c.post_known.new.steps) (sym c.requires.request)
+    (few_on_there c.args.self.now c.args.account.now c.args.key.now c.args.post.now c.in-Some.at c.args.steps.now c.post_known.new.steps there c.post_known.ensures.most)
+
+pub returns-in-None-clause-most : goal.returns-in-None-clause-most
+returns-in-None-clause-most g c =
+    let absent = ap (λ (s : State). place_from c.args.account.now 0 s.accounts) (sym (state_by _ _ c.self.view_is))
+    ∙ found_none c.self.inside.index (named_all c.self.inside.accounts.items) c.args.account.now c.bytes.result.now c.self.invariant.index c.bytes.ensures.value c.in-None.ensures in
+    subst (λ (r : Request). AreFewToApply c.args.self.now r c.args.steps.now c.post_unknown.new.steps) (sym c.requires.request)
+    (few_on_absent c.args.self.now c.args.account.now c.args.key.now c.args.post.now c.args.steps.now c.post_unknown.new.steps absent c.post_unknown.ensures.most)

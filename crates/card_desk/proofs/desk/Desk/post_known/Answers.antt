@@ -1,78 +1,116 @@
-use Rattle.std.proofs.Common.{◌≡◌, ◌<◌, true, length, sym, ap, subst, ◌∙◌, arith}
-use Rattle.std.proofs.lemmas.List.{length-map}
-use Rattle.card_account.specs.Accounts.{MayBeFolded, OpenAccount}
+use Rattle.std.proofs.Common.{◌≡◌, [], true, Ok, None, get_or, sym, ap, subst, ◌∙◌}
 use Rattle.card_account.specs.Verdicts.{verdict_of}
 use Rattle.card_account.specs.declared.verdict.Verdict.TheVariants as verdict
 use Rattle.card_events.specs.Dated.{is_dated}
 use Rattle.card_events.specs.Keys.{with_key}
 use Rattle.card_events.specs.declared.reply.Reply.TheVariants as reply
 use Rattle.card_events.specs.declared.request.Request.{Request}
-use Rattle.card_model.specs.Machine.{State, outcome_in}
-use Rattle.card_desk.specs.Applied.{Steps}
-use Rattle.card_desk.specs.Desks.{now_of}
-use Rattle.card_desk.proofs.DeskLemmas.{outcome_at, state_by}
-use Rattle.card_desk.proofs.FoldLemmas.{judged_at, may_be_folded}
+use Rattle.card_model.specs.Machine.{Accepts, NamedAccount, State, accepted, outcome_in}
+use Rattle.card_model.specs.Refusals.{reason_against}
+use Rattle.card_desk.specs.Applied.{Carried, IsAsked, Steps}
+use Rattle.card_desk.specs.Desks.{now_at, now_of}
+use Rattle.card_desk.specs.Places.{IsPlace}
+use Rattle.card_desk.specs.Steps.{reached_there}
+use Rattle.card_desk.proofs.DeskLemmas.{outcome_at}
+use Rattle.card_desk.proofs.Left.{few_judged, few_left}
 use Rattle.card_desk.proofs.OutcomeLemmas.{new_at_key, none_against}
-use Rattle.card_desk.proofs.StepLemmas.{answered, post_refused, post_repeated, refused_by, repeated_by}
+use Rattle.card_desk.proofs.StepLemmas.{answered, out_of_memory, post_refused, post_repeated, refused_by, repeated_by}
 use Rattle.card_desk.proofs.desk.Desk.post_known.Goals as goal
-use Rattle.std.proofs.Common.{get_or}
 
-pub judge-requires-clause-dated : goal.judge-requires-clause-dated
+-- what stands for no account
+no_account : NamedAccount
+no_account = record { name = []; lists = record { posts = []; issued = [] } }
+
+pub judge_at-requires-clause-dated : goal.judge_at-requires-clause-dated
 unfolding is_dated
-judge-requires-clause-dated g c = subst (λ (x : Request). is_dated x ≡ true) c.requires.request c.requires.asked.dated
+judge_at-requires-clause-dated g c = subst (λ (x : Request). is_dated x ≡ true) c.requires.request c.requires.asked.dated
 
-pub judge-requires-clause-folded : goal.judge-requires-clause-folded
-judge-requires-clause-folded g c =
-    let x = c.self.inside in
-    let items = x.accounts.items in
-    let a = c.index-known.result.now in
-    let low : c.args.at < length items = omega (arith, c.requires.place.bound, ap (λ (x : State). length x.accounts) (state_by _ _ c.self.view_is), length-map items (λ (x : OpenAccount). x.named)) in
-    subst (λ (y : OpenAccount). MayBeFolded x.today x.common y) (sym c.index-known.ensures) (may_be_folded x.index x.common x.count x.today x.shared.items items c.args.at a c.self.invariant low)
+pub judge_at-requires-clause-place : goal.judge_at-requires-clause-place
+judge_at-requires-clause-place g c = c.requires.place.bound
+
+-- ---- its conditions to be kept, in the state that stayed
+pub keep_post-requires-clause-asked : goal.keep_post-requires-clause-asked
+keep_post-requires-clause-asked g c = subst (λ (x : State). IsAsked (g.K.Keeper.rows c.args.keeper.now) x c.args.request.now) (sym c.judge_at.ensures.state) c.requires.asked
+
+pub keep_post-requires-clause-place : goal.keep_post-requires-clause-place
+keep_post-requires-clause-place g c = subst (λ (x : State). IsPlace c.args.account.now x.accounts c.args.at) (sym c.judge_at.ensures.state) c.requires.place
 
 pub keep_post-requires-clause-no_reason : goal.keep_post-requires-clause-no_reason
-keep_post-requires-clause-no_reason g c d =
+keep_post-requires-clause-no_reason g c =
     let s = c.args.self.now.state in
-    let x = c.self.inside in
-    let a = c.index-known.result.now in
     let key = c.args.key.now in
     let p = c.args.post.now in
-    let judged = judged_at x.index x.common x.count x.today x.shared.items x.accounts.items c.args.at a s d key p verdict.New c.self.invariant (state_by _ _ c.self.view_is) c.requires.place.bound c.index-known.ensures (sym c.in-Ok-New.field-0-is ∙ c.in-Ok-New.ensures.value) in
-    none_against (now_of s (get_or s.accounts c.args.at d).lists) key p (with_key key (get_or s.accounts c.args.at d).lists.posts) judged
+    subst (λ (x : State). (d : NamedAccount) → reason_against (now_at x c.args.at d) p ≡ None) (sym c.judge_at.ensures.state)
+    (λ d. none_against (now_of s (get_or s.accounts c.args.at d).lists) key p (with_key key (get_or s.accounts c.args.at d).lists.posts) (sym c.in-Ok-New.field-0-is ∙ c.in-Ok-New.ensures.value d))
 
 pub keep_post-requires-clause-accepted : goal.keep_post-requires-clause-accepted
-keep_post-requires-clause-accepted g c d =
+keep_post-requires-clause-accepted g c =
     let s = c.args.self.now.state in
-    let x = c.self.inside in
-    let a = c.index-known.result.now in
+    let name = c.args.account.now in
     let key = c.args.key.now in
     let p = c.args.post.now in
-    let judged = judged_at x.index x.common x.count x.today x.shared.items x.accounts.items c.args.at a s d key p verdict.New c.self.invariant (state_by _ _ c.self.view_is) c.requires.place.bound c.index-known.ensures (sym c.in-Ok-New.field-0-is ∙ c.in-Ok-New.ensures.value) in
-    let b = get_or s.accounts c.args.at d in
-    let both = outcome_at s c.args.account.now key p c.args.at d verdict.New c.requires.place judged in
-    both.1 ∙ new_at_key (now_of s b.lists) key p (with_key key b.lists.posts) (both.0 ∙ ap verdict_of both.1)
+    subst (λ (x : State). (d : NamedAccount) → outcome_in x name key p ≡ Accepts (accepted (now_at x c.args.at d) key p)) (sym c.judge_at.ensures.state)
+    (λ d.
+    let a = get_or s.accounts c.args.at d in
+    let both = outcome_at s name key p c.args.at d verdict.New c.requires.place (sym c.in-Ok-New.field-0-is ∙ c.in-Ok-New.ensures.value d) in
+    both.1 ∙ new_at_key (now_of s a.lists) key p (with_key key a.lists.posts) (both.0 ∙ ap verdict_of both.1))
 
-pub returns-in-Ok-Refused : goal.returns-in-Ok-Refused
-returns-in-Ok-Refused g c =
+-- ---- what is left
+pub returns-in-Ok-Refused-clause-carried : goal.returns-in-Ok-Refused-clause-carried
+returns-in-Ok-Refused-clause-carried g c =
     let s = c.args.self.now.state in
-    let x = c.self.inside in
-    let a = c.index-known.result.now in
     let key = c.args.key.now in
     let p = c.args.post.now in
-    let judged = judged_at x.index x.common x.count x.today x.shared.items x.accounts.items c.args.at a s a.named key p (verdict.Refused c.in-Ok-Refused.refusal) c.self.invariant (state_by _ _ c.self.view_is) c.requires.place.bound c.index-known.ensures (sym c.in-Ok-Refused.field-0-is ∙ c.in-Ok-Refused.ensures.value) in
-    let both = outcome_at s c.args.account.now key p c.args.at a.named (verdict.Refused c.in-Ok-Refused.refusal) c.requires.place judged in
-    answered (g.K.Keeper.rows c.args.keeper.now) (g.K.Keeper.faults c.args.keeper.now) s c.args.request.now (reply.Refused c.in-Ok-Refused.refusal)
+    let e = no_account in
+    let judged = sym c.in-Ok-Refused.field-0-is ∙ c.in-Ok-Refused.ensures.value e in
+    let both = outcome_at s c.args.account.now key p c.args.at e (verdict.Refused c.in-Ok-Refused.refusal) c.requires.place judged in
+    subst (λ (x : State). Carried (g.K.Keeper.rows c.args.keeper.now) (g.K.Keeper.rows c.args.keeper.now) (g.K.Keeper.faults c.args.keeper.now) (g.K.Keeper.faults c.args.keeper.now) s c.args.request.now x (Ok (reply.Refused c.in-Ok-Refused.refusal))) (sym c.judge_at.ensures.state)
+    (answered (g.K.Keeper.rows c.args.keeper.now) (g.K.Keeper.faults c.args.keeper.now) s c.args.request.now (reply.Refused c.in-Ok-Refused.refusal)
     (subst (λ (x : Request). Steps (g.K.Keeper.rows c.args.keeper.now) (g.K.Keeper.rows c.args.keeper.now) s x s (reply.Refused c.in-Ok-Refused.refusal)) (sym c.requires.request)
-    (post_refused (g.K.Keeper.rows c.args.keeper.now) s c.args.account.now key p c.in-Ok-Refused.refusal c.requires.asked.fits (refused_by (outcome_in s c.args.account.now key p) c.in-Ok-Refused.refusal both.0)))
+    (post_refused (g.K.Keeper.rows c.args.keeper.now) s c.args.account.now key p c.in-Ok-Refused.refusal c.requires.asked.fits (refused_by (outcome_in s c.args.account.now key p) c.in-Ok-Refused.refusal both.0))))
 
-pub returns-in-Ok-Repeat : goal.returns-in-Ok-Repeat
-returns-in-Ok-Repeat g c =
+pub returns-in-Ok-Refused-clause-most : goal.returns-in-Ok-Refused-clause-most
+returns-in-Ok-Refused-clause-most g c =
+    few_left c.args.self.now.state (reached_there c.args.self.now c.args.at) (outcome_in c.args.self.now.state c.args.account.now c.args.key.now c.args.post.now) c.args.steps.now c.judge_at.new.steps c.judge_at.ensures.most
+
+pub returns-in-Ok-Repeat-clause-carried : goal.returns-in-Ok-Repeat-clause-carried
+returns-in-Ok-Repeat-clause-carried g c =
     let s = c.args.self.now.state in
-    let x = c.self.inside in
-    let a = c.index-known.result.now in
     let key = c.args.key.now in
     let p = c.args.post.now in
-    let judged = judged_at x.index x.common x.count x.today x.shared.items x.accounts.items c.args.at a s a.named key p (verdict.Repeat c.in-Ok-Repeat.number) c.self.invariant (state_by _ _ c.self.view_is) c.requires.place.bound c.index-known.ensures (sym c.in-Ok-Repeat.field-0-is ∙ c.in-Ok-Repeat.ensures.value) in
-    let both = outcome_at s c.args.account.now key p c.args.at a.named (verdict.Repeat c.in-Ok-Repeat.number) c.requires.place judged in
-    answered (g.K.Keeper.rows c.args.keeper.now) (g.K.Keeper.faults c.args.keeper.now) s c.args.request.now (reply.Accepted c.in-Ok-Repeat.number)
+    let e = no_account in
+    let judged = sym c.in-Ok-Repeat.field-0-is ∙ c.in-Ok-Repeat.ensures.value e in
+    let both = outcome_at s c.args.account.now key p c.args.at e (verdict.Repeat c.in-Ok-Repeat.number) c.requires.place judged in
+    subst (λ (x : State). Carried (g.K.Keeper.rows c.args.keeper.now) (g.K.Keeper.rows c.args.keeper.now) (g.K.Keeper.faults c.args.keeper.now) (g.K.Keeper.faults c.args.keeper.now) s c.args.request.now x (Ok (reply.Accepted c.in-Ok-Repeat.number))) (sym c.judge_at.ensures.state)
+    (answered (g.K.Keeper.rows c.args.keeper.now) (g.K.Keeper.faults c.args.keeper.now) s c.args.request.now (reply.Accepted c.in-Ok-Repeat.number)
     (subst (λ (x : Request). Steps (g.K.Keeper.rows c.args.keeper.now) (g.K.Keeper.rows c.args.keeper.now) s x s (reply.Accepted c.in-Ok-Repeat.number)) (sym c.requires.request)
-    (post_repeated (g.K.Keeper.rows c.args.keeper.now) s c.args.account.now key p c.in-Ok-Repeat.number c.requires.asked.fits (repeated_by (outcome_in s c.args.account.now key p) c.in-Ok-Repeat.number both.0)))
+    (post_repeated (g.K.Keeper.rows c.args.keeper.now) s c.args.account.now key p c.in-Ok-Repeat.number c.requires.asked.fits (repeated_by (outcome_in s c.args.account.now key p) c.in-Ok-Repeat.number both.0))))
+
+pub returns-in-Ok-Repeat-clause-most : goal.returns-in-Ok-Repeat-clause-most
+returns-in-Ok-Repeat-clause-most g c =
+    few_left c.args.self.now.state (reached_there c.args.self.now c.args.at) (outcome_in c.args.self.now.state c.args.account.now c.args.key.now c.args.post.now) c.args.steps.now c.judge_at.new.steps c.judge_at.ensures.most
+
+pub returns-in-Ok-New-clause-carried : goal.returns-in-Ok-New-clause-carried
+returns-in-Ok-New-clause-carried g c =
+    subst (λ (x : State). Carried (g.K.Keeper.rows c.args.keeper.now) (g.K.Keeper.rows c.keep_post.new.keeper) (g.K.Keeper.faults c.args.keeper.now) (g.K.Keeper.faults c.keep_post.new.keeper) x c.args.request.now c.keep_post.new.self.state c.keep_post.result) c.judge_at.ensures.state
+    c.keep_post.ensures.carried
+
+pub returns-in-Ok-New-clause-most : goal.returns-in-Ok-New-clause-most
+returns-in-Ok-New-clause-most g c =
+    let s = c.args.self.now.state in
+    let key = c.args.key.now in
+    let p = c.args.post.now in
+    let e = no_account in
+    let judged = sym c.in-Ok-New.field-0-is ∙ c.in-Ok-New.ensures.value e in
+    let a = get_or s.accounts c.args.at e in
+    let both = outcome_at s c.args.account.now key p c.args.at e verdict.New c.requires.place judged in
+    let accepts = both.1 ∙ new_at_key (now_of s a.lists) key p (with_key key a.lists.posts) (both.0 ∙ ap verdict_of both.1) in
+    few_judged c.args.self.now c.judge_at.new.self c.args.account.now key p c.args.at (accepted (now_of s a.lists) key p) c.args.steps.now c.judge_at.new.steps c.keep_post.new.steps
+    c.judge_at.ensures.state accepts c.in-Ok-New.ensures.spent c.keep_post.ensures.most
+
+pub returns-in-Err-clause-carried : goal.returns-in-Err-clause-carried
+returns-in-Err-clause-carried g c = out_of_memory (g.K.Keeper.rows c.args.keeper.now) (g.K.Keeper.faults c.args.keeper.now) c.args.self.now.state c.judge_at.new.self.state c.args.request.now c.judge_at.ensures.state
+
+pub returns-in-Err-clause-most : goal.returns-in-Err-clause-most
+returns-in-Err-clause-most g c =
+    few_left c.args.self.now.state (reached_there c.args.self.now c.args.at) (outcome_in c.args.self.now.state c.args.account.now c.args.key.now c.args.post.now) c.args.steps.now c.judge_at.new.steps c.judge_at.ensures.most

@@ -9,6 +9,7 @@ use Rattle.card_events.specs.declared.post.Post.TheVariants as post
 use Rattle.card_model.specs.Machine.{State, outcome_in}
 use Rattle.card_model.specs.Refusals.{reason_to_open}
 use Rattle.card_desk.specs.Applied.{Steps}
+use Rattle.card_desk.proofs.Left.{none_to_open}
 use Rattle.card_desk.proofs.OutcomeLemmas.{open_refused, unknown_refused}
 use Rattle.card_desk.proofs.PlaceLemmas.{no_place}
 use Rattle.card_desk.proofs.StepLemmas.{answered, post_refused}
@@ -21,8 +22,8 @@ keep_open-requires-clause-room g c =
     let many = ap (λ (x : State). length x.accounts) (state_by _ _ c.self.view_is) in
     omega (arith, room, many, c.len.ensures, c.self.inside.accounts.ok.0, length-map c.self.inside.accounts.items (λ (x : OpenAccount). x.named))
 
-pub returns-in-Some : goal.returns-in-Some
-returns-in-Some g c =
+pub returns-in-Some-clause-carried : goal.returns-in-Some-clause-carried
+returns-in-Some-clause-carried g c =
     let s = c.args.self.now.state in
     let name = c.args.account.now in
     let key = c.args.key.now in
@@ -35,8 +36,8 @@ returns-in-Some g c =
     answered (g.K.Keeper.rows c.args.keeper.now) (g.K.Keeper.faults c.args.keeper.now) s c.args.request.now (reply.Refused c.in-Some.refusal)
     (subst (λ (x : Request). Steps rows rows s x s (reply.Refused c.in-Some.refusal)) (sym c.requires.request) (post_refused rows s name key c.args.post.now c.in-Some.refusal c.requires.asked.fits outcome))
 
-pub returns-in_default : goal.returns-in_default
-returns-in_default g c =
+pub returns-in_default-clause-carried : goal.returns-in_default-clause-carried
+returns-in_default-clause-carried g c =
     let s = c.args.self.now.state in
     let name = c.args.account.now in
     let key = c.args.key.now in
@@ -54,3 +55,9 @@ keep_open-requires-clause-no_reason g c =
     let many : length s.accounts ≡ c.len.result = ap (λ (x : State). length x.accounts) (sym (state_by _ _ c.self.view_is)) ∙ length-map c.self.inside.accounts.items (λ (x : OpenAccount). x.named) ∙ sym (c.len.ensures ∙ c.self.inside.accounts.ok.0) in
     ap (λ (q : Post). reason_to_open s.today (length s.accounts) q) c.in-Open.is
     ∙ ap (λ (n : ℕ). reason_to_open s.today n p) many ∙ ap (λ (x : State). reason_to_open x.today c.len.result p) (sym (state_by _ _ c.self.view_is)) ∙ sym c.open_reason.ensures.value ∙ c.in-None.is
+
+pub returns-in-Some-clause-most : goal.returns-in-Some-clause-most
+returns-in-Some-clause-most g c = none_to_open c.args.self.now.state c.args.post.now (outcome_in c.args.self.now.state c.args.account.now c.args.key.now c.args.post.now) c.args.steps.now
+
+pub returns-in_default-clause-most : goal.returns-in_default-clause-most
+returns-in_default-clause-most g c = none_to_open c.args.self.now.state c.args.post.now (outcome_in c.args.self.now.state c.args.account.now c.args.key.now c.args.post.now) c.args.steps.now

@@ -1,49 +1,47 @@
-use Rattle.std.proofs.Common.{◌<◌, Option, length, ap, sym, subst, ◌∙◌, arith}
-use Rattle.std.proofs.lemmas.List.{length-map}
-use Rattle.card_account.specs.Accounts.{MayBeFolded, OpenAccount}
+use Rattle.std.proofs.Common.{◌<◌, [], Option, length, ap, sym, subst, ◌∙◌}
 use Rattle.card_daily.specs.declared.track.Statement.{Statement}
-use Rattle.card_events.specs.SharedRows.{shared_rows}
-use Rattle.card_model.specs.Machine.{State, lists_of}
-use Rattle.card_model.specs.Refusals.{Lists}
-use Rattle.card_desk.specs.Desks.{named_all, state_of}
 use Rattle.card_desk.specs.Views.{restated, stated}
-use Rattle.card_desk.proofs.DeskLemmas.{found_at, found_none, state_by, there_at}
-use Rattle.card_desk.proofs.FoldLemmas.{alike_seen, may_be_folded, same_restated}
+use Rattle.card_desk.proofs.DeskLemmas.{found_at, found_none, placed_at, state_by}
+use Rattle.card_desk.proofs.Left.{few_to_tell, none_to_tell}
 use Rattle.card_desk.proofs.PlaceLemmas.{no_place}
+use Rattle.card_desk.specs.Desks.{named_all, state_of}
+use Rattle.card_desk.specs.Places.{IsPlace, place_from}
+use Rattle.card_model.specs.Machine.{NamedAccount, State, lists_of}
+use Rattle.card_model.specs.Refusals.{Lists}
 use Rattle.card_desk.proofs.desk.Desk.restated.Goals as goal
 
-pub index-account-requires : goal.index-account-requires
-index-account-requires c =
+pub restated_at-requires : goal.restated_at-requires
+restated_at-requires g c =
     let place = found_at c.self.inside.index (named_all c.self.inside.accounts.items) c.args.account.now c.bytes.result.now c.in-Some.at c.self.invariant.index c.bytes.ensures.value c.in-Some.ensures in
-    omega (arith, place.bound, c.self.inside.accounts.ok.0, length-map c.self.inside.accounts.items (λ (x : OpenAccount). x.named))
+    record { place = subst (λ (s : State). c.in-Some.at < length s.accounts) (state_by _ _ c.self.view_is) place.bound }
 
-pub restated-requires : goal.restated-requires
-restated-requires c =
-    let d = c.self.inside in
-    let items = d.accounts.items in
-    let a = c.index-account.result.now in
-    let place = found_at d.index (named_all items) c.args.account.now c.bytes.result.now c.in-Some.at c.self.invariant.index c.bytes.ensures.value c.in-Some.ensures in
-    let low : c.in-Some.at < length items = omega (arith, place.bound, length-map items (λ (x : OpenAccount). x.named)) in
-    subst (λ (x : OpenAccount). MayBeFolded d.today d.common x) (sym c.index-account.ensures)
-    (may_be_folded d.index d.common d.count d.today d.shared.items items c.in-Some.at a c.self.invariant low)
-
-pub returns-in-None : goal.returns-in-None
-returns-in-None c =
+pub returns-in-None-clause-view : goal.returns-in-None-clause-view
+returns-in-None-clause-view g c =
     let d = c.self.inside in
     let absent = found_none d.index (named_all d.accounts.items) c.args.account.now c.bytes.result.now c.self.invariant.index c.bytes.ensures.value c.in-None.ensures in
     ap (λ (o : Option Lists). restated (state_of d.today d.shared.items d.accounts.items) c.args.cycle o) (sym (no_place c.args.account.now 0 (named_all d.accounts.items) absent).0)
     ∙ ap (λ (s : State). restated s c.args.cycle (lists_of c.args.account.now s.accounts)) (state_by _ _ c.self.view_is)
 
-pub returns-in_ok-statement-in-Some : goal.returns-in_ok-statement-in-Some
-returns-in_ok-statement-in-Some c =
+pub returns-in-None-clause-most : goal.returns-in-None-clause-most
+returns-in-None-clause-most g c =
     let d = c.self.inside in
-    let items = d.accounts.items in
+    let absent = found_none d.index (named_all d.accounts.items) c.args.account.now c.bytes.result.now c.self.invariant.index c.bytes.ensures.value c.in-None.ensures in
+    none_to_tell c.args.self.now c.args.account.now c.args.steps.now (ap (λ (s : State). place_from c.args.account.now 0 s.accounts) (sym (state_by _ _ c.self.view_is)) ∙ absent)
+
+pub returns-in_err-statement-in-Some-clause-most : goal.returns-in_err-statement-in-Some-clause-most
+returns-in_err-statement-in-Some-clause-most g c =
+    let place = placed_at c.self.inside.index (named_all c.self.inside.accounts.items) c.args.account.now c.bytes.result.now c.in-Some.at c.self.invariant.index c.bytes.ensures.value c.in-Some.ensures in
+    few_to_tell c.args.self.now c.args.account.now c.in-Some.at c.args.steps.now c.restated_at.new.steps (ap (λ (s : State). place_from c.args.account.now 0 s.accounts) (sym (state_by _ _ c.self.view_is)) ∙ place) c.restated_at.ensures.most
+
+pub returns-in_ok-statement-in-Some-clause-most : goal.returns-in_ok-statement-in-Some-clause-most
+returns-in_ok-statement-in-Some-clause-most g c =
+    let place = placed_at c.self.inside.index (named_all c.self.inside.accounts.items) c.args.account.now c.bytes.result.now c.in-Some.at c.self.invariant.index c.bytes.ensures.value c.in-Some.ensures in
+    few_to_tell c.args.self.now c.args.account.now c.in-Some.at c.args.steps.now c.restated_at.new.steps (ap (λ (s : State). place_from c.args.account.now 0 s.accounts) (sym (state_by _ _ c.self.view_is)) ∙ place) c.restated_at.ensures.most
+
+pub returns-in_ok-statement-in-Some-clause-view : goal.returns-in_ok-statement-in-Some-clause-view
+returns-in_ok-statement-in-Some-clause-view g c =
+    let s = c.args.self.now.state in
     let name = c.args.account.now in
-    let a = c.index-account.result.now in
-    let place = found_at d.index (named_all items) name c.bytes.result.now c.in-Some.at c.self.invariant.index c.bytes.ensures.value c.in-Some.ensures in
-    let low : c.in-Some.at < length items = omega (arith, place.bound, length-map items (λ (x : OpenAccount). x.named)) in
-    let here = there_at items name c.in-Some.at a place c.index-account.ensures in
-    let s = state_of d.today d.shared.items items in
-    let same = alike_seen d.index d.common d.count d.today d.shared.items items c.in-Some.at a c.self.invariant low c.index-account.ensures in
-    c.stated.ensures ∙ ap (λ (o : Option Statement). stated o) (c.in_ok-statement-in-Some.ensures ∙ same_restated d.today a.named.lists d.common (shared_rows d.shared.items) c.args.cycle same)
-    ∙ ap (λ (o : Option Lists). restated s c.args.cycle o) here ∙ ap (λ (x : State). restated x c.args.cycle (lists_of name x.accounts)) (state_by _ _ c.self.view_is)
+    let none : NamedAccount = record { name = []; lists = record { posts = []; issued = [] } } in
+    let place : IsPlace name s.accounts c.in-Some.at = subst (λ (x : State). IsPlace name x.accounts c.in-Some.at) (state_by _ _ c.self.view_is) (found_at c.self.inside.index (named_all c.self.inside.accounts.items) c.args.account.now c.bytes.result.now c.in-Some.at c.self.invariant.index c.bytes.ensures.value c.in-Some.ensures) in
+    c.stated.ensures ∙ (ap (λ (o : Option Statement). stated o) (c.in_ok-statement-in-Some.ensures.value none) ∙ ap (λ (l : Option Lists). restated s c.args.cycle l) (sym (place.there none)))

@@ -1,4 +1,4 @@
-use Rattle.std.proofs.Common.{◌∙◌, sym, ap}
+use Rattle.std.proofs.Common.{◌∙◌, ap}
 use Rattle.card_desk.specs.IndexPlaces.{place_of}
 use Rattle.card_desk.proofs.MapLemmas.{found}
 use Rattle.card_desk.proofs.index.NameIndex.find.Goals as goal

@@ -1,0 +1,69 @@
+use Rattle.std.proofs.Common.{◌≡◌, ◌+◌, ◌≤◌, subst, ◌∙◌, arith}
+use Rattle.std.proofs.lemmas.Result.{IfOk-weaker}
+use Rattle.card_account.specs.Entries.{AccountEntries, entries_today}
+use Rattle.card_desk.proofs.DeskLemmas.{state_by}
+use Rattle.card_desk.proofs.FoldLemmas.{account_at}
+use Rattle.card_desk.proofs.Left.{steps_there}
+use Rattle.card_desk.proofs.Reading.{entries_read, low_in, told_desk, told_state}
+use Rattle.card_model.specs.Machine.{NamedAccount}
+use Rattle.card_replay.specs.Replays.{present_of}
+use Rattle.card_desk.specs.Desks.{now_at}
+use Rattle.card_desk.proofs.desk.Desk.entries_at.Goals as goal
+
+pub entries-requires : goal.entries-requires
+entries-requires g c =
+    let d = c.self.inside in
+    let items = d.accounts.items in
+    let b = c.index_mut-account.result.now in
+    let s = c.args.self.now.state in
+    let state = state_by _ _ c.self.view_is in
+    let is = c.index_mut-account.ensures.value in
+    account_at d.index d.common d.count d.today d.shared.items items c.args.at b c.self.invariant (low_in d.shared.items d.today items s c.args.at state c.requires.place) is
+
+pub index_mut-account-requires : goal.index_mut-account-requires
+index_mut-account-requires g c =
+    let d = c.self.inside in
+    let low = low_in d.shared.items d.today d.accounts.items c.args.self.now.state c.args.at (state_by _ _ c.self.view_is) c.requires.place in
+    omega (arith, low, d.accounts.ok.0)
+
+pub invariant_of-self : goal.invariant_of-self
+invariant_of-self g c =
+    let d = c.self.inside in
+    let items = d.accounts.items in
+    let b = c.index_mut-account.result.now in
+    let s = c.args.self.now.state in
+    let state = state_by _ _ c.self.view_is in
+    let is = c.index_mut-account.ensures.value in
+    told_desk d.index d.common d.count d.today d.shared.items items c.args.at c.entries.new.self b s c.self.invariant state c.requires.place is c.entries.ensures.told
+
+pub returns-clause-state : goal.returns-clause-state
+returns-clause-state g c =
+    let d = c.self.inside in
+    let items = d.accounts.items in
+    let b = c.index_mut-account.result.now in
+    let s = c.args.self.now.state in
+    let state = state_by _ _ c.self.view_is in
+    let is = c.index_mut-account.ensures.value in
+    told_state d.index d.common d.count d.today d.shared.items items c.args.at c.entries.new.self b s c.self.invariant state c.requires.place is c.entries.ensures.told
+
+pub returns-clause-value : goal.returns-clause-value
+returns-clause-value g c =
+    let d = c.self.inside in
+    let items = d.accounts.items in
+    let b = c.index_mut-account.result.now in
+    let s = c.args.self.now.state in
+    let state = state_by _ _ c.self.view_is in
+    let is = c.index_mut-account.ensures.value in
+    IfOk-weaker c.entries.result (λ (x : AccountEntries). x ≡ entries_today (present_of d.today d.common b.named.lists)) (λ (x : AccountEntries). (e : NamedAccount) → x ≡ entries_today (now_at s c.args.at e))
+    (λ x same e. same ∙ entries_read d.index d.common d.count d.today d.shared.items items c.args.at b s e c.self.invariant state c.requires.place is) c.entries.ensures.value
+
+pub returns-clause-most : goal.returns-clause-most
+returns-clause-most g c =
+    let d = c.self.inside in
+    let items = d.accounts.items in
+    let b = c.index_mut-account.result.now in
+    let s = c.args.self.now.state in
+    let state = state_by _ _ c.self.view_is in
+    let is = c.index_mut-account.ensures.value in
+    let left = steps_there d.index d.common d.count d.today d.shared.items items c.args.at b c.args.self.now c.self.invariant c.self.view_is (low_in d.shared.items d.today items s c.args.at state c.requires.place) is in
+    subst (λ n. c.entries.new.steps ≤ c.args.steps.now + n) left c.entries.ensures.most
