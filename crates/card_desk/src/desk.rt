@@ -183,6 +183,7 @@ impl Desk {
                 Ok(Reply::Accepted(1))
             }
             Err(fault) => {
+                drop(made);
                 self.index.remove(account.bytes());
                 Err(fault)
             }

@@ -1,6 +1,6 @@
 -- Where an account is folded again after a post: the Book at the closing before the change, with the front of the past.
 use Rattle.std.proofs.Common.{◌≡◌, ℕ, zero, suc, ◌+◌, ◌-◌, ◌<◌, ◌≤◌, ◌⊎◌, inl, inr, false, true, nat_le, List, [], ◌∷◌, length, take, refl, sym, ap, ◌∙◌, subst, arith, Option, Some, None, get_or}
-use Rattle.std.specs.Prelude.{slice_get}
+use Rattle.std.specs.Prelude.{IfSome, slice_get}
 use Rattle.std.specs.List.{filter}
 use Rattle.std.proofs.lemmas.Option.{slice_get_read}
 use Rattle.card_days.specs.Billing.{closing, cycle_of}
@@ -35,9 +35,12 @@ use Rattle.card_replay.proofs.CutTrack.{cut-track}
 use Rattle.card_replay.proofs.FirstFees.{no-fees-before}
 use Rattle.card_replay.proofs.MarksFront.{among-front, marks-front}
 use Rattle.card_replay.proofs.NextClosing.{closing-dated, closing-none}
-use Rattle.card_replay.specs.Pasts.{AreEnds, AreWithin, IsFront}
-use Rattle.card_replay.specs.Refolds.{AreEndsOf, BeginsAgain, IsBeforeChange, cycle_before}
-use Rattle.card_replay.specs.Replays.{HasMarks, IsFoldedBefore}
+use Rattle.card_replay.specs.Pasts.{AreEnds, AreWithin, IsFront, IsReplaced}
+use Rattle.card_replay.proofs.Parts.{replaced-front, replaced-within}
+use Rattle.card_replay.proofs.Unread.{eve-on}
+use Rattle.card_replay.specs.Refolds.{AreEndsOf, IsBeforeChange, IsBegun, MayBegin, StandsOn, cycle_before}
+use Rattle.card_replay.specs.Replays.{BeginsAgain, HasMarks, IsEve, IsFoldedBefore}
+use Rattle.card_replay.specs.declared.eve.Eve.{Eve}
 use Rattle.card_replay.specs.declared.past.Ends.{Ends}
 use Rattle.card_replay.specs.declared.past.Past.{Past}
 
@@ -80,6 +83,28 @@ front-ends e past front w is = record {
     long (suc n) [] l = absurd (omega (arith, l))
     long (suc n) (x ∷ xs) l = ap suc (long n xs (omega (arith, l)))
 
+-- behind another back the eve stands on
+pub eve-behind : (g : Given) (today : ℕ) (e : Ends) (past back new : Past) (eve : Option Eve) → IsReplaced e past back new → IfSome eve (StandsOn g today e past) → IfSome eve (IsEve g today new)
+eve-behind g today e past back new None r h = tt
+eve-behind g today e past back new (Some v) r h =
+    let s = h.stands in
+    let same = subst (λ u. IsReplaced u past back new) h.ends r in
+    record {
+      day = s.day;
+      folded = s.folded;
+      opened = s.opened;
+      earlier = s.earlier;
+      begins = record {
+        within = replaced-within v.ends past back new s.begins.within same;
+        whole = s.begins.whole;
+        stands = λ front is. s.begins.stands front (replaced-front v.ends past back new front s.begins.within same is);
+        marks = λ front is. s.begins.marks front (replaced-front v.ends past back new front s.begins.within same is);
+      };
+    }
+
+same-day : (x y : ℕ) → Some x ≡ Some y → x ≡ y
+same-day x y e = cc
+
 -- the Book was taken back to the closing of the cycle before the change, by what was kept of it
 pub record IsEarlier (old : Given) (k : ℕ) (b : Summary) (past : Past) (c : Cycle) (earlier : Summary) : Type 0 where
   pub there : cycle_at k past.track.cycles.items ≡ Some c
@@ -98,9 +123,6 @@ module _ {old g : Given} {p : Post} {from today : ℕ} {b : Summary} {past : Pas
     last = λ day e. let same = same-day today day (sym h.folding.day ∙ e) in let l = h.changes.last in omega (arith, same, l);
     stands = h.folding.stands;
   }
-    where
-      same-day : (x y : ℕ) → Some x ≡ Some y → x ≡ y
-      same-day x y e = cc
 
   opened-before-today : opened_in g ≤ today
   opened-before-today =
@@ -143,7 +165,7 @@ module _ {old g : Given} {p : Post} {from today : ℕ} {b : Summary} {past : Pas
       omega (arith, is, up, before)
 
   -- ---- the front of the past
-  pub within-past : (e : Ends) → AreEndsOf g from past e → AreWithin e past
+  within-past : (e : Ends) → AreEndsOf g from past e → AreWithin e past
   within-past e ends =
       let closed = closed-of in
       let count = h.folding.marks.count in
@@ -304,19 +326,70 @@ module _ {old g : Given} {p : Post} {from today : ℕ} {b : Summary} {past : Pas
   }
 
   -- ---- folding on behind the front
-  pub folded-again : (again : Summary) (front : Past) (e : Ends) → BeginsAgain g e past again → IsFront e past front
-      → day_to_fold g again.day ≡ closing (anchor_of g.history) (cycle_of (anchor_of g.history) from - 1) + 1 → IsFoldedBefore g again front today
-  folded-again again front e begins is first =
-      let a = anchor_of g.history in
-      let opened = opened-before-today in
-      let early = closed-by-today a from today h.changes.more.sound.opening h.changes.within h.changes.last opened in
-      record {
-        stands = begins.stands front is;
-        marks = begins.marks front is;
-        opened = opened;
-        later = omega (arith, first, early);
-        last = h.changes.last;
-      }
+  pub closing-begins : (again : Summary) (e : Ends) → BeginsAgain g e past again
+      → day_to_fold g again.day ≡ closing (anchor_of g.history) (cycle_of (anchor_of g.history) from - 1) + 1 → IsBegun g from today past e again
+  closing-begins again e begins first =
+      let early = closed-by-today (anchor_of g.history) from today h.changes.more.sound.opening h.changes.within h.changes.last opened-before-today in
+      record { begins = begins; first = omega (arith, first); later = omega (arith, first, early) }
+
+  pub folded-again : (again : Summary) (front : Past) (e : Ends) → IsBegun g from today past e again → IsFront e past front → IsFoldedBefore g again front today
+  folded-again again front e begun is = record {
+    stands = begun.begins.stands front is;
+    marks = begun.begins.marks front is;
+    opened = opened-before-today;
+    later = begun.later;
+    last = h.changes.last;
+  }
+
+  -- ---- from the eve
+  module _ (e : Eve) (m : MayBegin past p from (cycle_before g from) e) (s : IsEve old today past e) where
+    -- it stands for the account with the post
+    pub eve-stands : IsEve g today past e
+    eve-stands =
+        let more = h.changes.more in
+        let before = m.earlier in
+        eve-on old g today past e more.kept more.sound_before more.sound more.history (ap sets_rates more.post ∙ m.plain)
+        (λ x dated y l. let same = same-day x m.day (sym dated ∙ m.folded) in continues-before old g p from more y (omega (arith, l, same, before))) s
+
+    within-eve : opened_in g ≤ m.day
+    within-eve =
+        let on = eve-stands in
+        let same = same-day m.day on.day (sym m.folded ∙ on.folded) in
+        let low = on.opened in
+        omega (arith, same, low)
+
+    first-by-eve : closing (anchor_of g.history) (cycle_before g from) ≤ m.day
+    first-by-eve = by (cycle-there past.track.cycles.items (cycle_before g from) closed-of)
+      where
+        by : (cycle_before g from ≡ 0) ⊎ ((c : Cycle) × (cycle_at (cycle_before g from) past.track.cycles.items ≡ Some c)) → closing (anchor_of g.history) (cycle_before g from) ≤ m.day
+        by (inl z) =
+            let a = anchor_of g.history in
+            let none : closing a (cycle_before g from) ≡ a.opened - 1 = ap (closing a) z ∙ closing-none a in
+            let low = within-eve in
+            omega (arith, none, low)
+        by (inr (c, at)) =
+            let closed = m.closed c at in
+            let is = closing-of (cycle_before g from) c at in
+            omega (arith, closed, is)
+
+    -- and so does a copy of its Book
+    pub eve-begins : (copy : Summary) → copy.day ≡ e.book.day → copy.whole ≡ e.book.whole → ((t : Track) → StandsFor g e.book t → StandsFor g copy t) → IsBegun g from today past e.ends copy
+    eve-begins copy dated whole stands =
+        let on = eve-stands in
+        let here : day_to_fold g copy.day ≡ m.day + 1 = ap (day_to_fold g) (dated ∙ m.folded) in
+        let first = first-by-eve in
+        let same = same-day m.day on.day (sym m.folded ∙ on.folded) in
+        let earlier = on.earlier in
+        record {
+          begins = record {
+            within = on.begins.within;
+            whole = whole ∙ on.begins.whole;
+            stands = λ front is. stands front.track (on.begins.stands front is);
+            marks = on.begins.marks;
+          };
+          first = omega (arith, here, first);
+          later = omega (arith, here, same, earlier);
+        }
 
   -- the Book that was taken back, where what was kept was read from the list
   pub earlier-found : {a : Anchor} {k : ℕ} {since : Option ℕ} {kept : List Accruing} (earlier : Summary) → k ≡ cycle_of a from - 1 → a ≡ anchor_of g.history → (k ≡ 0 → ⊥)

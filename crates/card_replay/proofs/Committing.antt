@@ -1,5 +1,6 @@
 -- A prepared post, and the account that takes it.
-use Rattle.std.proofs.Common.{◌≡◌, ℕ, ◌+◌, ◌≤◌, true, false, List, [], ◌∷◌, ◌++◌, append-nil, length, take, sym, ap, ◌∙◌, subst, arith, Option, Some, None}
+use Rattle.std.proofs.Common.{◌≡◌, ℕ, ◌+◌, ◌≤◌, Bool, true, false, List, [], ◌∷◌, ◌++◌, append-nil, length, take, refl, sym, ap, ◌∙◌, subst, arith, Option, Some, None}
+use Rattle.std.specs.Prelude.{IfSome, if◌then◌else◌}
 use Rattle.card_days.specs.declared.anchor.Anchor.{Anchor}
 use Rattle.card_events.specs.History.{anchor_of}
 use Rattle.card_events.specs.SharedRows.{SharedRows}
@@ -22,9 +23,10 @@ use Rattle.card_replay.proofs.Unread.{issues-nothing, unread-stands}
 use Rattle.card_replay.specs.Changes.{HasItsRoom, IsChangeOf, IsCommitted, IsPrepared, IsRefoldedBy, IsTaken, IsUnfolded, issued_as, lists_with}
 use Rattle.card_replay.specs.Pasts.{AreSame, AreWithin, IsReplaced}
 use Rattle.card_replay.specs.Refolds.{IsAgain}
-use Rattle.card_replay.specs.Replays.{Folding, IsFolding, IsReplay, IsToday, Replay, given_of, present_of}
+use Rattle.card_replay.specs.Replays.{Folding, IsEve, IsFolding, IsReplay, IsToday, Replay, given_of, present_of}
 use Rattle.card_replay.specs.declared.change.Change.{Change}
 use Rattle.card_replay.specs.declared.change.Refolded.{Refolded}
+use Rattle.card_replay.specs.declared.eve.Eve.{Eve}
 use Rattle.card_replay.specs.declared.past.Ends.{Ends}
 use Rattle.card_replay.specs.declared.past.Past.{Past}
 
@@ -36,14 +38,21 @@ unfolded-folding g old new u h = record {
   stands = subst (λ (b : Summary). StandsFor g b new.past.track) (sym u.book)
       (stands-same g old.book old.past.track new.past.track (record { entries = u.past.entries; cycles = u.past.cycles; fees = u.past.fees }) h.stands);
   marks = marks-same g old.past new.past u.past h.marks;
+  eve = subst (λ o. IfSome o (IsEve g new.reached new.past)) (sym u.eve) tt;
 }
 
-refolded-folding : (g : Given) (today : ℕ) (b : Summary) (new : Folding) → new.reached ≡ today → new.book ≡ b → IsFolding g (record { reached = today; book = b; past = new.past }) → IsFolding g new
-refolded-folding g today b new reached book h = record {
+-- the eve stands on where it was the day from which was folded
+eve-taken : (g : Given) (today : ℕ) (past : Past) (on : Bool) (old new : Option Eve) → new ≡ (if on then old else None) → (on ≡ true → IfSome old (IsEve g today past)) → IfSome new (IsEve g today past)
+eve-taken g today past true old new is stood = subst (λ o. IfSome o (IsEve g today past)) (sym is) (stood refl)
+eve-taken g today past false old new is stood = subst (λ o. IfSome o (IsEve g today past)) (sym is) tt
+
+refolded-folding : (g : Given) (today : ℕ) (b : Summary) (new : Folding) → new.reached ≡ today → new.book ≡ b → IfSome new.eve (IsEve g today new.past) → IsFolding g (record { reached = today; book = b; past = new.past; eve = None }) → IsFolding g new
+refolded-folding g today b new reached book stood h = record {
   day = ap (λ (s : Summary). s.day) book ∙ (h.day ∙ ap Some (sym reached));
   whole = ap (λ (s : Summary). s.whole) book ∙ h.whole;
   stands = subst (λ (s : Summary). StandsFor g s new.past.track) (sym book) h.stands;
   marks = h.marks;
+  eve = subst (λ d. IfSome new.eve (IsEve g d new.past)) (sym reached) stood;
 }
 
 replaced-same : (e : Ends) (p q back new : Past) → AreSame p q → IsReplaced e q back new → IsReplaced e p back new
@@ -97,12 +106,13 @@ pub late-refolded : (shared : SharedRows) (today : ℕ) (key : List ℕ) (p : Po
 late-refolded shared today key p r u h = not-refolded shared today key p r (subst (λ g. IsFolding g r.folding) (sym (with-post shared today key p r.lists u)) h)
 
 pub again-refolded : (shared : SharedRows) (today : ℕ) (key : List ℕ) (p : Post) (r : Replay) (past : Past) (x : Refolded) → is_unread p ≡ false → r.folding.reached ≡ today → AreSame past r.folding.past
-    → HasItsRoom (Some x) r.folding.past → IsAgain (with_post r.lists key today p shared) today past x → IsRefoldedBy shared today key p (Some x) r
+    → HasItsRoom (Some x) r.folding.past → IsAgain (with_post r.lists key today p shared) today past r.folding.eve x → IsRefoldedBy shared today key p (Some x) r
 again-refolded shared today key p r past x u reached same room again = record {
   room = room;
   next = λ f taken.
       subst (λ g. IsFolding g f) (sym (with-post shared today key p r.lists u))
       (refolded-folding (with_post r.lists key today p shared) today x.book f (taken.reached ∙ reached) taken.book
+      (eve-taken (with_post r.lists key today p shared) today f.past x.on_eve r.folding.eve f.eve taken.eve (λ on. again.stands on f.past (replaced-same x.ends past r.folding.past x.back f.past same taken.past)))
       (again.folding f.past (replaced-same x.ends past r.folding.past x.back f.past same taken.past)));
 }
 

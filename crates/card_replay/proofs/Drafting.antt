@@ -20,11 +20,11 @@ use Rattle.card_book.specs.Stands.{steps_over}
 use Rattle.card_book.specs.StepCounts.{breaks_with}
 use Rattle.card_replay.proofs.Committing.{again-refolded, given_with, late-refolded, with-post, with_post}
 use Rattle.card_replay.proofs.LateChange.{late-stands}
-use Rattle.card_replay.proofs.Putback.{folding-same}
+use Rattle.card_replay.proofs.Reached.{folding-back, past_back}
 use Rattle.card_replay.specs.Changes.{HasItsRoom, IsRefoldedBy}
 use Rattle.card_replay.specs.Pasts.{AreSame}
-use Rattle.card_replay.specs.Refolds.{IsAgain, IsOneMore, MayRefold}
-use Rattle.card_replay.specs.Replays.{IsReplay, IsToday, Replay, given_of, present_of}
+use Rattle.card_replay.specs.Refolds.{IsAgain, IsOneMore, MayRefoldOn}
+use Rattle.card_replay.specs.Replays.{IsEve, IsReplay, IsToday, Replay, given_of, present_of}
 use Rattle.card_replay.specs.Steps.{AreFewToRefold, first_in_cycle}
 use Rattle.card_replay.specs.declared.change.Refolded.{Refolded}
 use Rattle.card_replay.specs.declared.past.Past.{Past}
@@ -63,7 +63,7 @@ drafted shared today key name p r old new rows d h u sound posts kept issued nam
     }
 
 pub may-refold : (shared : SharedRows) (today : ℕ) (key : List ℕ) (p : Post) (r : Replay) (from : ℕ) → IsToday today shared r → IsOneMore (given_of r.lists shared) (with_post r.lists key today p shared) p from → from ≤ today
-    → MayRefold (with_post r.lists key today p shared) p from today r.folding.book r.folding.past
+    → MayRefoldOn (with_post r.lists key today p shared) p from today r.folding.book r.folding.past r.folding.eve
 may-refold shared today key p r from h more l =
     let dated = h.replay.dated in
     let reached = h.reached in
@@ -72,27 +72,28 @@ may-refold shared today key p r from h more l =
       old = given_of r.lists shared;
       before = record {
         changes = record { more = more; within = l; last = omega (arith, dated, reached) };
-        folding = record { day = folding.day ∙ ap Some reached; whole = folding.whole; stands = folding.stands; marks = folding.marks };
+        folding = record { day = folding.day ∙ ap Some reached; whole = folding.whole; stands = folding.stands; marks = folding.marks; eve = tt };
       };
+      stood = subst (λ d. IfSome r.folding.eve (IsEve (given_of r.lists shared) d r.folding.past)) reached folding.eve;
     }
 
 -- ---- what was folded again
 -- the account with its past put back
 abbrev pub with_past : Replay → Past → Replay
-with_past r p = record r { folding = record { reached = r.folding.reached; book = r.folding.book; past = p } }
+with_past r p = record r { folding = past_back r.folding p }
 
 pub made-refolded : (shared : SharedRows) (today : ℕ) (key : List ℕ) (p : Post) (r : Replay) (q : Past) (from : ℕ) (made : Option Refolded) → is_unread p ≡ false → reason_against (present_of today shared r.lists) p ≡ None
     → IsToday today shared r → AreSame r.folding.past q → IsOneMore (given_of r.lists shared) (with_post r.lists key today p shared) p from → (made ≡ None → today < from)
-    → IfSome made (IsAgain (with_post r.lists key today p shared) today r.folding.past) → HasItsRoom made q → IsRefoldedBy shared today key p made (with_past r q)
+    → IfSome made (IsAgain (with_post r.lists key today p shared) today r.folding.past r.folding.eve) → HasItsRoom made q → IsRefoldedBy shared today key p made (with_past r q)
 made-refolded shared today key p r q from None u none h same more late again room =
     late-refolded shared today key p (with_past r q) u
     (late-stands (present_of today shared r.lists) (given_of r.lists shared) (with_post r.lists key today p shared) p from (with_past r q).folding none (late refl) h.reached more
-    (folding-same (given_of r.lists shared) r.folding.reached r.folding.book r.folding.past q same h.replay.folding))
+    (folding-back (given_of r.lists shared) r.folding q same h.replay.folding))
 made-refolded shared today key p r q from (Some x) u none h same more late again room = again-refolded shared today key p (with_past r q) r.folding.past x u h.reached same room again
 
 pub result-refolded : {E : Type 0} (shared : SharedRows) (today : ℕ) (key : List ℕ) (p : Post) (r : Replay) (q : Past) (from : ℕ) (result : Result (Option Refolded) E) → is_unread p ≡ false → reason_against (present_of today shared r.lists) p ≡ None
     → IsToday today shared r → AreSame r.folding.past q → IsOneMore (given_of r.lists shared) (with_post r.lists key today p shared) p from → IfOk result (λ made. made ≡ None → today < from)
-    → IfOk result (λ made. IfSome made (IsAgain (with_post r.lists key today p shared) today r.folding.past)) → IfOk result (λ made. HasItsRoom made q) → IfOk result (λ made. IsRefoldedBy shared today key p made (with_past r q))
+    → IfOk result (λ made. IfSome made (IsAgain (with_post r.lists key today p shared) today r.folding.past r.folding.eve)) → IfOk result (λ made. HasItsRoom made q) → IfOk result (λ made. IsRefoldedBy shared today key p made (with_past r q))
 result-refolded shared today key p r q from (Ok made) u none h same more late again room = made-refolded shared today key p r q from made u none h same more late again room
 result-refolded shared today key p r q from (Err e) u none h same more late again room = tt
 

@@ -1,5 +1,6 @@
 -- Shared rows of later days leave what was folded.
 use Rattle.std.proofs.Common.{◌≡◌, ℕ, ◌≤◌, Bool, true, false, cond, nat_le, List, [], ◌∷◌, append-nil, length, refl, sym, ap, ◌∙◌, subst, arith, Some}
+use Rattle.std.specs.Prelude.{IfSome}
 use Rattle.std.specs.List.{filter}
 use Rattle.std.proofs.lemmas.Bool.{leb-true, leb-false}
 use Rattle.std.proofs.lemmas.List.Elements.{All-nil}
@@ -19,8 +20,9 @@ use Rattle.card_book.proofs.Closings.{closed-by}
 use Rattle.card_book.proofs.Days.{book_is_the_fold}
 use Rattle.card_book.specs.GoingOn.{Continues, HaveSameRates, sets_rates}
 use Rattle.card_book.specs.Stands.{book_through}
+use Rattle.card_replay.proofs.Eves.{eve-goes-on, eve_folding, if-some}
 use Rattle.card_replay.specs.Laws.{LaterRowsLeaveIt}
-use Rattle.card_replay.specs.Replays.{given_of}
+use Rattle.card_replay.specs.Replays.{AreLaterRows, Folding, IsEve, IsFolding, IsReplay, Replay, given_of}
 
 -- ---- agreement up to an earlier day
 module _ {A : Type 0} (day : A → ℕ) (x d : ℕ) where
@@ -51,41 +53,52 @@ pub some-posts : (history : List Kept) → IsOpening (anchor_of history) → 1 �
 some-posts [] h = let first = h.first in absurd (omega (arith, first))
 some-posts (k ∷ ks) h = omega arith
 
+-- a folding of a day up to the one last reached
+rows-on : (old new : SharedRows) (r : Replay) (f : Folding) → IsReplay old r → AreLaterRows r.folding.reached old new → f.reached ≤ r.folding.reached → IfSome f.eve (IsEve (given_of r.lists new) f.reached f.past)
+    → IsFolding (given_of r.lists old) f → IsFolding (given_of r.lists new) f
+rows-on old new r f h rows within stood folding =
+    let was = given_of r.lists old in
+    let now = given_of r.lists new in
+    let agree = later_rows_agree r.lists.posts old new r.folding.reached r.folding.reached h.timely h.accepted rows.holidays rows.fees in
+    let there = agree-earlier old new r.lists.posts r.lists.posts f.reached r.folding.reached within agree in
+    let continues : Continues was now (Some f.reached) = agreement_goes_on was now f.reached refl there in
+    let rates : HaveSameRates was now = rates_go_on was now [] (sym (append-nil r.lists.posts)) (some-posts r.lists.posts h.sound.opening) (All-nil (λ (k : Kept). sets_rates k.post ≡ false)) in
+    record {
+      day = folding.day;
+      whole = folding.whole;
+      stands = books_go_on was now f.book f.past.track h.sound.opening folding.stands (subst (Continues was now) (sym folding.day) continues) rates;
+      marks = marks_go_on was now f.past.track.cycles.items f.past.since.items f.past.accrued.items
+          (record {
+            new = [];
+            history = sym (append-nil r.lists.posts);
+            anchor = refl;
+            terms = refl;
+            continues = λ k c at. agreement_goes_on was now c.closing refl (agree-earlier old new r.lists.posts r.lists.posts c.closing f.reached (early k c at) there);
+          })
+          folding.marks;
+      eve = stood;
+    }
+  where
+    early : (k : ℕ) (c : Cycle) → cycle_at k f.past.track.cycles.items ≡ Some c → c.closing ≤ f.reached
+    early k c at =
+        let was = given_of r.lists old in
+        let cycles = (book_is_the_fold was f.book f.past.track folding.stands).cycles ∙ ap (λ d. (book_through was d).cycles) folding.day in
+        closed-by was f.reached k c (folding.stands.opened f.reached folding.day) (ap (cycle_at k) (sym cycles) ∙ at)
+
 pub later_rows_leave_it : LaterRowsLeaveIt
 later_rows_leave_it old new r h rows sound =
     let was = given_of r.lists old in
     let now = given_of r.lists new in
-    let reached = r.folding.reached in
-    let agree = later_rows_agree r.lists.posts old new reached reached h.timely h.accepted rows.holidays rows.fees in
-    let continues : Continues was now (Some reached) = agreement_goes_on was now reached refl agree in
-    let some = some-posts r.lists.posts h.sound.opening in
-    let rates : HaveSameRates was now = rates_go_on was now [] (sym (append-nil r.lists.posts)) some (All-nil (λ (k : Kept). sets_rates k.post ≡ false)) in
-    let same = same-corrected (anchor_of r.lists.posts) old.holidays new.holidays r.lists.posts h.timely (λ x l. let last = h.accepted in rows.holidays x (omega (arith, l, last))) in
+    let f = r.folding in
     record {
-      corrected = h.corrected ∙ same;
+      corrected = h.corrected ∙ same-corrected (anchor_of r.lists.posts) old.holidays new.holidays r.lists.posts h.timely (λ x l. let last = h.accepted in rows.holidays x (omega (arith, l, last)));
       sound = sound;
       timely = h.timely;
       accepted = h.accepted;
       opened = h.opened;
       dated = h.dated;
-      folding = record {
-        day = h.folding.day;
-        whole = h.folding.whole;
-        stands = books_go_on was now r.folding.book r.folding.past.track h.sound.opening h.folding.stands (subst (Continues was now) (sym h.folding.day) continues) rates;
-        marks = marks_go_on was now r.folding.past.track.cycles.items r.folding.past.since.items r.folding.past.accrued.items
-            (record {
-              new = [];
-              history = sym (append-nil r.lists.posts);
-              anchor = refl;
-              terms = refl;
-              continues = λ k c at. agreement_goes_on was now c.closing refl (agree-earlier old new r.lists.posts r.lists.posts c.closing reached (early k c at) agree);
-            })
-            h.folding.marks;
-      };
+      folding = rows-on old new r f h rows (omega arith)
+          (if-some f.eve (IsEve was f.reached f.past) (IsEve now f.reached f.past)
+          (λ e stood. eve-goes-on was now f.reached f.past e stood refl (λ front is stands. rows-on old new r (eve_folding stood.day e front) h rows stood.earlier tt stands)) h.folding.eve)
+          h.folding;
     }
-  where
-    early : (k : ℕ) (c : Cycle) → cycle_at k r.folding.past.track.cycles.items ≡ Some c → c.closing ≤ r.folding.reached
-    early k c at =
-        let was = given_of r.lists old in
-        let cycles = (book_is_the_fold was r.folding.book r.folding.past.track h.folding.stands).cycles ∙ ap (λ d. (book_through was d).cycles) h.folding.day in
-        closed-by was r.folding.reached k c h.opened (ap (cycle_at k) (sym cycles) ∙ at)

@@ -13,9 +13,11 @@ pub mod MarksFront
 pub mod NextClosing
 pub mod CutTrack
 pub mod Parts
+pub mod LaterSteps
 pub mod Unread
 pub mod LateChange
 pub mod Committing
 pub mod Grown
 pub mod Reached
 pub mod Drafting
+pub mod Eves

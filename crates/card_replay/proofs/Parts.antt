@@ -1,6 +1,6 @@
 -- The front of a past and what lies behind it.
-use Rattle.std.proofs.Common.{◌≡◌, ℕ, ◌+◌, ◌≤◌, List, ◌++◌, length, length-drop, take, drop, sym, ap, ◌∙◌, arith}
-use Rattle.std.proofs.lemmas.List.{take-append-drop}
+use Rattle.std.proofs.Common.{◌≡◌, ℕ, ◌+◌, ◌≤◌, List, ◌++◌, length, length-append, length-drop, take, drop, sym, ap, ◌∙◌, arith}
+use Rattle.std.proofs.lemmas.List.{length-take-le, take-append-drop, take-append-le, take-take}
 use Rattle.card_daily.proofs.Standing.{room-then}
 use Rattle.card_daily.specs.Stands.{KeepsRoom}
 use Rattle.card_daily.specs.declared.track.Track.{Track}
@@ -24,6 +24,18 @@ behind-long n xs back l e =
     let count = ap (λ u. length u) e in
     let long = length-drop n xs in
     omega (arith, count, long, l)
+
+replaced-long : {A : Type 0} (n : ℕ) (xs ys new : List A) → n ≤ length xs → new ≡ take n xs ++ ys → n ≤ length new
+replaced-long n xs ys new l e =
+    let count = ap (λ u. length u) e in
+    let both = length-append (take n xs) ys in
+    let long = length-take-le n xs l in
+    omega (arith, count, both, long)
+
+replaced-take : {A : Type 0} (n : ℕ) (xs ys new : List A) → n ≤ length xs → new ≡ take n xs ++ ys → take n new ≡ take n xs
+replaced-take n xs ys new l e =
+    let long = length-take-le n xs l in
+    ap (take n) e ∙ (take-append-le n (take n xs) ys (omega (arith, long)) ∙ take-take n n xs (omega arith))
 
 -- ---- a past that grew
 pub begins-within : (e : Ends) (p q : Past) → AreEnds e p → PastBegins p q → AreWithin e q
@@ -86,6 +98,25 @@ replaced-joined e p front back new is r = record {
   fees = r.fees ∙ ap (λ l. l ++ back.track.fees.items) (sym is.fees);
   since = r.since ∙ ap (λ l. l ++ back.since.items) (sym is.since);
   accrued = r.accrued ∙ ap (λ l. l ++ back.accrued.items) (sym is.accrued);
+}
+
+pub replaced-within : (e : Ends) (p back new : Past) → AreWithin e p → IsReplaced e p back new → AreWithin e new
+replaced-within e p back new w r = record {
+  entries = replaced-long e.entries p.track.entries.items back.track.entries.items new.track.entries.items w.entries r.entries;
+  cycles = replaced-long e.cycles p.track.cycles.items back.track.cycles.items new.track.cycles.items w.cycles r.cycles;
+  fees = replaced-long e.fees p.track.fees.items back.track.fees.items new.track.fees.items w.fees r.fees;
+  since = replaced-long e.cycles p.since.items back.since.items new.since.items w.since r.since;
+  accrued = replaced-long e.accrued p.accrued.items back.accrued.items new.accrued.items w.accrued r.accrued;
+}
+
+-- and the front stays
+pub replaced-front : (e : Ends) (p back new front : Past) → AreWithin e p → IsReplaced e p back new → IsFront e new front → IsFront e p front
+replaced-front e p back new front w r is = record {
+  entries = is.entries ∙ replaced-take e.entries p.track.entries.items back.track.entries.items new.track.entries.items w.entries r.entries;
+  cycles = is.cycles ∙ replaced-take e.cycles p.track.cycles.items back.track.cycles.items new.track.cycles.items w.cycles r.cycles;
+  fees = is.fees ∙ replaced-take e.fees p.track.fees.items back.track.fees.items new.track.fees.items w.fees r.fees;
+  since = is.since ∙ replaced-take e.cycles p.since.items back.since.items new.since.items w.since r.since;
+  accrued = is.accrued ∙ replaced-take e.accrued p.accrued.items back.accrued.items new.accrued.items w.accrued r.accrued;
 }
 
 -- ---- room

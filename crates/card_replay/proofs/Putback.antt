@@ -1,5 +1,5 @@
 -- What stands for a past stands for one with the same lists.
-use Rattle.std.proofs.Common.{◌≡◌, ℕ, sym, ◌∙◌, subst}
+use Rattle.std.proofs.Common.{◌≡◌, ℕ, sym, ◌∙◌, subst, None}
 use Rattle.card_daily.specs.Given.{Given}
 use Rattle.card_daily.specs.declared.track.Track.{Track}
 use Rattle.card_book.specs.Marks.{AreMarks}
@@ -41,10 +41,11 @@ marks-same g p q e h =
     (subst (λ since. AreMarks g p.track.cycles.items since q.accrued.items) (sym e.since) (subst (λ kept. AreMarks g p.track.cycles.items p.since.items kept) (sym e.accrued) h))
 
 -- the folding of an account whose past was put back
-pub folding-same : (g : Given) (reached : ℕ) (b : Summary) (p q : Past) → AreSame p q → IsFolding g (record { reached = reached; book = b; past = p }) → IsFolding g (record { reached = reached; book = b; past = q })
+pub folding-same : (g : Given) (reached : ℕ) (b : Summary) (p q : Past) → AreSame p q → IsFolding g (record { reached = reached; book = b; past = p; eve = None }) → IsFolding g (record { reached = reached; book = b; past = q; eve = None })
 folding-same g reached b p q e h = record {
   day = h.day;
   whole = h.whole;
   stands = stands-same g b p.track q.track (record { entries = e.entries; cycles = e.cycles; fees = e.fees }) h.stands;
   marks = marks-same g p q e h.marks;
+  eve = tt;
 }

@@ -1,5 +1,5 @@
 -- An account at the day that it has reached.
-use Rattle.std.proofs.Common.{◌≡◌, ℕ, ◌+◌, ◌≤◌, Bool, true, false, List, [], ◌∷◌, sym, ap, ◌∙◌, subst, arith, Some}
+use Rattle.std.proofs.Common.{◌≡◌, ℕ, ◌+◌, ◌≤◌, Bool, true, false, List, [], ◌∷◌, sym, ap, ◌∙◌, subst, arith, Some, None}
 use Rattle.card_days.specs.Range.{last_request_day}
 use Rattle.card_events.specs.History.{CorrectedPost, anchor_of, corrected, opening_in}
 use Rattle.card_events.specs.SharedRows.{SharedRows}
@@ -15,9 +15,14 @@ use Rattle.card_posts.specs.Stored.{AreTimely}
 use Rattle.card_daily.specs.Given.{Given, IsSound}
 use Rattle.card_book.proofs.Days.{book_is_the_fold}
 use Rattle.card_book.specs.Stands.{Summary, book_through, breaks_of, steps_over}
-use Rattle.card_replay.proofs.Putback.{folding-same}
-use Rattle.card_replay.specs.Pasts.{AreSame}
-use Rattle.card_replay.specs.Replays.{Folding, FoldsOn, IsFolding, HasClosings, IsReplay, IsToday, MayReach, Replay, SameLists, given_of, opened_lists, present_of}
+use Rattle.card_replay.proofs.Committing.{within-same}
+use Rattle.card_replay.proofs.Eves.{if-some}
+use Rattle.card_replay.proofs.Parts.{begins-same, begins-within, same-front}
+use Rattle.card_replay.proofs.Putback.{marks-same, stands-same}
+use Rattle.card_replay.specs.Pasts.{AreEnds, AreSame, PastBegins}
+use Rattle.card_replay.specs.Replays.{Folding, FoldsOn, IsEve, IsFolding, HasClosings, IsReplay, IsToday, MayReach, Replay, SameLists, given_of, opened_lists, present_of}
+use Rattle.card_replay.specs.declared.eve.Eve.{Eve}
+use Rattle.card_replay.specs.declared.past.Ends.{Ends}
 use Rattle.card_replay.specs.declared.past.Past.{Past}
 
 -- no day lies behind the last
@@ -25,9 +30,8 @@ pub no-steps : (g : Given) (to : ℕ) → steps_over g to (to + 1) ≡ 0
 no-steps g to = spans_are_steps.none (breaks_of g to) (to + 1) to (omega arith)
 
 -- the account by its parts
-abbrev pub seen : List Kept → List IssuedRow → List CorrectedPost → Bool → ℕ → Summary → Past → Replay
-seen posts rows corrected has_room reached book past =
-    record { lists = record { posts = posts; issued = rows }; corrected = corrected; has_room = has_room; folding = record { reached = reached; book = book; past = past } }
+abbrev pub seen : List Kept → List IssuedRow → List CorrectedPost → Bool → Folding → Replay
+seen posts rows corrected has_room f = record { lists = record { posts = posts; issued = rows }; corrected = corrected; has_room = has_room; folding = f }
 
 -- with another folding of a day that isn't before the one reached
 pub later-replay : (shared : SharedRows) (r : Replay) (f : Folding) → IsReplay shared r → r.folding.reached ≤ f.reached → f.reached ≤ last_request_day → IsFolding (given_of r.lists shared) f → IsReplay shared (record r { folding = f })
@@ -44,8 +48,34 @@ later-replay shared r f h later last folding =
       folding = folding;
     }
 
--- and where its past was put back
-pub same-replay : (shared : SharedRows) (r : Replay) (p : Past) → AreSame r.folding.past p → IsReplay shared r → IsReplay shared (record r { folding = record { reached = r.folding.reached; book = r.folding.book; past = p } })
+-- where its past was put back
+abbrev pub past_back : Folding → Past → Folding
+past_back f p = record { reached = f.reached; book = f.book; past = p; eve = f.eve }
+
+pub folding-back : (g : Given) (f : Folding) (p : Past) → AreSame f.past p → IsFolding g f → IsFolding g (past_back f p)
+folding-back g f p same h = record {
+  day = h.day;
+  whole = h.whole;
+  stands = stands-same g f.book f.past.track p.track (record { entries = same.entries; cycles = same.cycles; fees = same.fees }) h.stands;
+  marks = marks-same g f.past p same h.marks;
+  eve = if-some f.eve (IsEve g f.reached f.past) (IsEve g f.reached p) (λ e stood. back e stood) h.eve;
+}
+  where
+    back : (e : Eve) → IsEve g f.reached f.past e → IsEve g f.reached p e
+    back e stood = record {
+      day = stood.day;
+      folded = stood.folded;
+      opened = stood.opened;
+      earlier = stood.earlier;
+      begins = record {
+        within = within-same e.ends f.past p same stood.begins.within;
+        whole = stood.begins.whole;
+        stands = λ front is. stood.begins.stands front (same-front e.ends f.past p front same is);
+        marks = λ front is. stood.begins.marks front (same-front e.ends f.past p front same is);
+      };
+    }
+
+pub same-replay : (shared : SharedRows) (r : Replay) (p : Past) → AreSame r.folding.past p → IsReplay shared r → IsReplay shared (record r { folding = past_back r.folding p })
 same-replay shared r p same h = record {
   corrected = h.corrected;
   sound = h.sound;
@@ -53,11 +83,37 @@ same-replay shared r p same h = record {
   accepted = h.accepted;
   opened = h.opened;
   dated = h.dated;
-  folding = folding-same (given_of r.lists shared) r.folding.reached r.folding.book r.folding.past p same h.folding;
+  folding = folding-back (given_of r.lists shared) r.folding p same h.folding;
 }
 
 pub folds-on : (shared : SharedRows) (r : Replay) (today : ℕ) → IsReplay shared r → MayReach today r → FoldsOn (given_of r.lists shared) today r.folding.book r.folding.past
-folds-on shared r today h may = record { reached = r.folding.reached; folding = h.folding; opened = h.opened; later = may.later; last = may.last }
+folds-on shared r today h may = record {
+  reached = r.folding.reached;
+  folding = record { day = h.folding.day; whole = h.folding.whole; stands = h.folding.stands; marks = h.folding.marks; eve = tt };
+  opened = h.opened;
+  later = may.later;
+  last = may.last;
+}
+
+-- the Book that it had before it was folded on is the eve
+pub last-eve : (shared : SharedRows) (r : Replay) (today : ℕ) (p : Past) (e : Ends) → IsReplay shared r → MayReach today r → AreEnds e r.folding.past → PastBegins r.folding.past p
+    → IsEve (given_of r.lists shared) today p (record { book = r.folding.book; ends = e })
+last-eve shared r today p e h may ends begins = record {
+  day = r.folding.reached;
+  folded = h.folding.day;
+  opened = h.opened;
+  earlier = may.later;
+  begins = record {
+    within = begins-within e r.folding.past p ends begins;
+    whole = h.folding.whole;
+    stands = λ front is. let same = begins-same e r.folding.past p front ends begins is in stands-same (given_of r.lists shared) r.folding.book r.folding.past.track front.track (record { entries = same.entries; cycles = same.cycles; fees = same.fees }) h.folding.stands;
+    marks = λ front is. marks-same (given_of r.lists shared) r.folding.past front (begins-same e r.folding.past p front ends begins is) h.folding.marks;
+  };
+}
+
+-- it has it as its eve
+pub with-eve : (g : Given) (today : ℕ) (b : Summary) (p : Past) (e : Eve) → IsEve g today p e → IsFolding g (record { reached = today; book = b; past = p; eve = None }) → IsFolding g (record { reached = today; book = b; past = p; eve = Some e })
+with-eve g today b p e stood h = record { day = h.day; whole = h.whole; stands = h.stands; marks = h.marks; eve = stood }
 
 -- ---- an account that was just opened
 -- its post asks for no day by which it came

@@ -1,6 +1,8 @@
 -- A post that no fold reads leaves what was folded.
 use Rattle.std.proofs.Common.{◌≡◌, ℕ, ◌+◌, ◌≤◌, true, false, List, [], ◌∷◌, ◌++◌, append-nil, length, refl, sym, ap, ◌∙◌, subst, arith, Some}
 use Rattle.std.proofs.lemmas.List.Elements.{All-cons, All-nil}
+use Rattle.std.specs.Prelude.{IfSome}
+use Rattle.card_days.specs.declared.anchor.Anchor.{Anchor}
 use Rattle.card_events.specs.History.{anchor_of}
 use Rattle.card_events.specs.SharedRows.{SharedRows}
 use Rattle.card_events.specs.declared.kept.Kept.{Kept}
@@ -13,7 +15,7 @@ use Rattle.card_model.specs.Refusals.{Lists, book_today}
 use Rattle.card_model.specs.Sheets.{issued_sheet_of}
 use Rattle.card_model.specs.Unread.{is_unread}
 use Rattle.card_model.proofs.Unread.{unfolded_posts_agree}
-use Rattle.card_daily.specs.Given.{Given, IsSound}
+use Rattle.card_daily.specs.Given.{Given, IsSound, opened_in}
 use Rattle.card_book.proofs.Closings.{closed-by}
 use Rattle.card_book.proofs.Days.{book_is_the_fold}
 use Rattle.card_book.proofs.GoingOn.{agreement_goes_on, bills_go_on, books_go_on}
@@ -22,8 +24,11 @@ use Rattle.card_book.proofs.RatesGoOn.{rates_go_on}
 use Rattle.card_book.specs.GoingOn.{Continues, HaveSameRates, sets_rates}
 use Rattle.card_book.specs.Stands.{book_through}
 use Rattle.card_replay.proofs.Changed.{same-anchor}
+use Rattle.card_replay.proofs.Eves.{eve-goes-on, eve_folding, if-some}
 use Rattle.card_replay.proofs.LaterRows.{some-posts}
-use Rattle.card_replay.specs.Replays.{Folding, IsFolding, given_of, present_of}
+use Rattle.card_replay.specs.Replays.{Folding, IsEve, IsFolding, given_of, present_of}
+use Rattle.card_replay.specs.declared.eve.Eve.{Eve}
+use Rattle.card_replay.specs.declared.past.Past.{Past}
 
 -- ---- it changes no book up to today
 continues-plain : (today : ℕ) (shared : SharedRows) (lists : Lists) (key : List ℕ) (p : Post) (x : ℕ) → issues (present_of today shared lists) p ≡ [] → is_unread p ≡ true
@@ -100,10 +105,10 @@ closed-in g f k c h at =
     let cycles = (book_is_the_fold g f.book f.past.track h.stands).cycles ∙ ap (λ d. (book_through g d).cycles) h.day in
     closed-by g f.reached k c (h.stands.opened f.reached h.day) (ap (cycle_at k) (sym cycles) ∙ at)
 
--- where the account goes on up to each closing and the day last reached
-pub folding-on : (old g : Given) (f : Folding) (k : Kept) → IsSound old → IsSound g → g.history ≡ old.history ++ k ∷ [] → sets_rates k.post ≡ false
-    → ((x : ℕ) → x ≤ f.reached → Continues old g (Some x)) → IsFolding old f → IsFolding g f
-folding-on old g f k before sound history plain continues h =
+-- where the account goes on up to each closing and the day last reached, and the eve stands
+book-on : (old g : Given) (f : Folding) (k : Kept) → IsSound old → IsSound g → g.history ≡ old.history ++ k ∷ [] → sets_rates k.post ≡ false
+    → ((x : ℕ) → x ≤ f.reached → Continues old g (Some x)) → IfSome f.eve (IsEve g f.reached f.past) → IsFolding old f → IsFolding g f
+book-on old g f k before sound history plain continues stood h =
     let some = some-posts old.history before.opening in
     let all = All-cons (λ (x : Kept). sets_rates x.post ≡ false) k [] plain (All-nil (λ (x : Kept). sets_rates x.post ≡ false)) in
     let rates : HaveSameRates old g = rates_go_on old g (k ∷ []) history some all in
@@ -120,7 +125,26 @@ folding-on old g f k before sound history plain continues h =
             continues = λ n c at. continues c.closing (closed-in old f n c h at);
           })
           h.marks;
+      eve = stood;
     }
+
+-- the eve does where the account goes on up to its day
+pub eve-on : (old g : Given) (reached : ℕ) (past : Past) (e : Eve) (k : Kept) → IsSound old → IsSound g → g.history ≡ old.history ++ k ∷ [] → sets_rates k.post ≡ false
+    → ((x : ℕ) → e.book.day ≡ Some x → (y : ℕ) → y ≤ x → Continues old g (Some y)) → IsEve old reached past e → IsEve g reached past e
+eve-on old g reached past e k before sound history plain continues h =
+    let opened : opened_in g ≡ opened_in old = ap (λ (a : Anchor). a.opened) (ap anchor_of history ∙ same-anchor old.history k (some-posts old.history before.opening)) in
+    eve-goes-on old g reached past e h opened (λ front is stands. book-on old g (eve_folding h.day e front) k before sound history plain (continues h.day h.folded) tt stands)
+
+pub folding-on : (old g : Given) (f : Folding) (k : Kept) → IsSound old → IsSound g → g.history ≡ old.history ++ k ∷ [] → sets_rates k.post ≡ false
+    → ((x : ℕ) → x ≤ f.reached → Continues old g (Some x)) → IsFolding old f → IsFolding g f
+folding-on old g f k before sound history plain continues h =
+    book-on old g f k before sound history plain continues
+    (if-some f.eve (IsEve old f.reached f.past) (IsEve g f.reached f.past)
+    (λ e was. eve-on old g f.reached f.past e k before sound history plain (λ x dated y l. let same = same-day x was.day (sym dated ∙ was.folded) in let earlier = was.earlier in continues y (omega (arith, l, same, earlier))) was) h.eve)
+    h
+  where
+    same-day : (x y : ℕ) → Some x ≡ Some y → x ≡ y
+    same-day x y e = cc
 
 pub unread-stands : (today : ℕ) (shared : SharedRows) (lists : Lists) (key : List ℕ) (p : Post) (f : Folding) → is_unread p ≡ true → f.reached ≡ today → IsSound (given_of lists shared)
     → IsSound (given_of (accepted (present_of today shared lists) key p) shared) → IsFolding (given_of lists shared) f → IsFolding (given_of (accepted (present_of today shared lists) key p) shared) f

@@ -1,5 +1,5 @@
 -- A post that was prepared for an account, and what taking it makes of the account. Days are day numbers.
-use Rattle.std.specs.Prelude.{◌≡◌, ℕ, ◌+◌, ◌<◌, ◌≤◌, true, List, [], ◌∷◌, ◌++◌, length, Option, Some, None}
+use Rattle.std.specs.Prelude.{◌≡◌, ℕ, ◌+◌, ◌<◌, ◌≤◌, true, List, [], ◌∷◌, ◌++◌, length, Option, Some, None, Bool, false, if◌then◌else◌}
 use Rattle.card_days.specs.Range.{last_request_day}
 use Rattle.card_events.specs.History.{anchor_of, corrected}
 use Rattle.card_events.specs.Limits.{post_limit}
@@ -52,17 +52,24 @@ lists_with c l =
       issued = l.issued ++ issued_as c.issued;
     }
 
--- the folding stays where nothing was folded again; else the Book is the one that was, and its past stands behind the closing from
--- which it was
+-- whether it was folded again from the eve
+abbrev pub is_on_eve : Option Refolded → Bool
+is_on_eve None = false
+is_on_eve (Some r) = r.on_eve
+
+-- The folding stays where nothing was folded again, but for the eve; else the Book is the one that was, and its past stands behind
+-- the day from which it was. The eve stands on where that was its day
 pub record IsUnfolded (old new : Folding) : Type 0 where
   pub reached : new.reached ≡ old.reached
   pub book : new.book ≡ old.book
   pub past : AreSame old.past new.past
+  pub eve : new.eve ≡ None
 
 pub record IsRefolded (r : Refolded) (old new : Folding) : Type 0 where
   pub reached : new.reached ≡ old.reached
   pub book : new.book ≡ r.book
   pub past : IsReplaced r.ends old.past r.back new.past
+  pub eve : new.eve ≡ (if r.on_eve then old.eve else None)
 
 abbrev pub IsTaken : Option Refolded → Folding → Folding → Type 0
 IsTaken None old new = IsUnfolded old new

@@ -1,5 +1,5 @@
 -- An account with its book folded to the day last reached. Days are day numbers.
-use Rattle.std.specs.Prelude.{◌≡◌, ℕ, ◌+◌, ◌≤◌, Bool, true, List, [], ◌∷◌, ◌++◌, Some}
+use Rattle.std.specs.Prelude.{◌≡◌, ℕ, ◌+◌, ◌≤◌, Bool, true, List, [], ◌∷◌, ◌++◌, Some, Option, None, IfSome}
 use Rattle.card_days.specs.Business.{AgreeUpTo}
 use Rattle.card_days.specs.Range.{last_request_day}
 use Rattle.card_events.specs.History.{CorrectedPost, anchor_of, corrected}
@@ -14,13 +14,17 @@ use Rattle.card_posts.specs.Stored.{AreTimely}
 use Rattle.card_daily.specs.Given.{Given, IsSound, opened_in}
 use Rattle.card_book.specs.Marks.{AreMarks}
 use Rattle.card_book.specs.Stands.{StandsFor, Summary, day_to_fold}
+use Rattle.card_replay.specs.Pasts.{AreWithin, IsFront}
+use Rattle.card_replay.specs.declared.eve.Eve.{Eve}
+use Rattle.card_replay.specs.declared.past.Ends.{Ends}
 use Rattle.card_replay.specs.declared.past.Past.{Past}
 
--- the day last reached, the Book at its end, and what is recorded up to it
+-- the day last reached, the Book at its end, what is recorded up to it, and, where there is one, the Book of an earlier day
 pub record Folding : Type 0 where
   pub reached : ℕ
   pub book : Summary
   pub past : Past
+  pub eve : Option Eve
 
 -- the account's posts and issued statements, the corrected list, whether there is room for one more post with its statement, and
 -- the folding
@@ -66,12 +70,28 @@ pub record ClosesLast (g : Given) (b : Summary) (p : Past) : Type 0 where
   pub marks : AreMarks g before p.since.items p.accrued.items
 
 -- ---- an account
+-- A Book with the front of the past up to some day stands for the account, and has the marks of its closings
+pub record BeginsAgain (g : Given) (e : Ends) (past : Past) (b : Summary) : Type 0 where
+  pub within : AreWithin e past
+  pub whole : b.whole ≡ true
+  pub stands : (front : Past) → IsFront e past front → StandsFor g b front.track
+  pub marks : (front : Past) → IsFront e past front → HasMarks g front
+
+-- so does the Book of a day that isn't after the one last reached
+pub record IsEve (g : Given) (reached : ℕ) (past : Past) (e : Eve) : Type 0 where
+  pub day : ℕ
+  pub folded : e.book.day ≡ Some day
+  pub opened : opened_in g ≤ day
+  pub earlier : day ≤ reached
+  pub begins : BeginsAgain g e.ends past e.book
+
 -- The folding stands for the account's book at the end of the day last reached, with the mark of each closing up to then
 pub record IsFolding (g : Given) (f : Folding) : Type 0 where
   pub day : f.book.day ≡ Some f.reached
   pub whole : f.book.whole ≡ true
   pub stands : StandsFor g f.book f.past.track
   pub marks : HasMarks g f.past
+  pub eve : IfSome f.eve (IsEve g f.reached f.past)
 
 -- What always holds of an account under these shared rows: the corrected list is that of its posts, it may be folded, no post was
 -- accepted after the day last reached, and what is kept of its book is the book
@@ -100,7 +120,7 @@ posted_of r = record { history = r.lists.posts; corrected = r.corrected; has_roo
 -- a Book and its past, at the end of some day, may be folded on to the end of today
 pub record FoldsOn (g : Given) (today : ℕ) (b : Summary) (p : Past) : Type 0 where
   pub reached : ℕ
-  pub folding : IsFolding g (record { reached = reached; book = b; past = p })
+  pub folding : IsFolding g (record { reached = reached; book = b; past = p; eve = None })
   pub opened : opened_in g ≤ reached
   pub later : reached ≤ today
   pub last : today ≤ last_request_day

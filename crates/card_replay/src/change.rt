@@ -5,13 +5,14 @@ use card_book::{Book, Issued};
 use card_days::Day;
 use card_events::{Name, Post};
 
-/// What a post changes of what was folded: the Book of today, and, behind the closing from which it was folded again, what is
-/// recorded.
+/// What a post changes of what was folded: the Book of today, and, behind the day from which it was folded again, what is
+/// recorded; and whether that day was the eve, which then stands on.
 #[derive(Drop)]
 pub struct Refolded {
     pub ends: Ends,
     pub book: Book,
     pub back: Past,
+    pub on_eve: bool,
 }
 
 /// A post that was prepared for an account: its key, the day on which it is accepted, the statement that it issues, and what it

@@ -2,6 +2,7 @@
 #![tactic(auto)]
 
 mod change;
+mod eve;
 mod folding;
 mod issuing;
 pub mod laws;

@@ -1,20 +1,23 @@
 // Folding again what a post changes, on the account's own past, which is put back.
-ghost use Rattle.std.specs.Prelude.{◌≡◌, ◌+◌, ◌-◌, ◌<◌, ◌≤◌, ℕ, true, IfOk, IfSome, None};
+ghost use Rattle.std.specs.Prelude.{◌≡◌, ◌+◌, ◌-◌, ◌<◌, ◌≤◌, ℕ, true, false, length, IfOk, IfSome, None, Some};
 ghost use Rattle.card_days.specs.Billing.{cycle_of};
 ghost use Rattle.card_days.specs.Range.{last_request_day};
 ghost use Rattle.card_events.specs.History.{anchor_of};
 ghost use Rattle.card_model.specs.CycleDays.{IsOpening};
 ghost use Rattle.card_model.specs.Unread as unread;
+ghost use Rattle.card_model.specs.Cycles.{Cycle};
+ghost use Rattle.card_model.specs.Folds.{cycle_at};
 ghost use Rattle.card_book.specs.GoingOn as going;
 ghost use Rattle.card_book.specs.Stands.{day_to_fold, steps_over};
 ghost use Rattle.card_replay.specs.Changes.{HasItsRoom};
 ghost use Rattle.card_replay.specs.Pasts.{AreEnds, AreSame, AreWithin, HasRoomFor, IsBack, IsFront, KeepsRooms};
-ghost use Rattle.card_replay.specs.Refolds.{AreEndsOf, BeginsAgain, IsAgain, IsFoldedBehind, MayRefold};
-ghost use Rattle.card_replay.specs.Replays.{IsFoldedBefore};
+ghost use Rattle.card_replay.specs.Refolds.{AreEndsOf, IsAgain, IsBegun, IsFoldedBehind, MayBegin, MayRefold, MayRefoldOn, StandsOn};
+ghost use Rattle.card_replay.specs.Replays.{BeginsAgain, IsFoldedBefore};
 ghost use Rattle.card_replay.specs.Steps.{first_in_cycle};
 ghost use Rattle.card_replay.specs.declared.past.Ends.{Ends};
 
 use crate::change::Refolded;
+use crate::eve::Eve;
 use crate::folding::fold_on;
 use crate::past::{Ends, Past, cut, cut_off, ends_at, join};
 use card_book::{Book, Inputs};
@@ -134,9 +137,90 @@ fn cut_or_drop(alloc: Global, past: &mut Past, ends: &Ends) -> Result<Past, NoMe
     }
 }
 
-/// Folds again from the closing before the cycle in which the first changed day lies, over inputs with one more post. The Book of
-/// today and the past stand for the account without that post. The past is put back, whatever is answered; what was folded again
-/// takes its place in `commit`, for which there is room.
+// What a change is folded again from: a Book of a day before it, where the lists of the past ended then, and whether it is the eve.
+#[derive(Drop)]
+struct Begun {
+    book: Book,
+    ends: Ends,
+    on_eve: bool,
+}
+
+// Whether the cycle with a number, 0 for none, was closed by a day.
+fn is_closed_by(past: &Past, cycle: u32, day: Day) -> bool
+    requires closed { cycle ≤ length past.now.track.cycles.items }
+    ensures { (c : Cycle) → result ≡ true → cycle_at cycle past.now.track.cycles.items ≡ Some c → c.closing ≤ day }
+{
+    if cycle == 0 {
+        return true;
+    }
+    past.track.cycles[cycle as usize - 1].closing <= day
+}
+
+// Whether a change may be folded again from the eve: it sets no rate, it comes later, and the cycles that closed before its own
+// were closed by then.
+fn may_begin(eve: &Eve, past: &Past, post: &Post, from: Day, cycle: u32) -> bool
+    requires closed { cycle ≤ length past.now.track.cycles.items }
+    ensures { result ≡ true → MayBegin past.now post.now from cycle eve.now }
+{
+    match eve.book.day() {
+        Some(day) => !sets_rates(post) && day < from && is_closed_by(past, cycle, day),
+        None => false,
+    }
+}
+
+// The Book of the last closing before a change, with where the lists ended then.
+fn begin_at_closing(
+    alloc: Global,
+    inputs: &Inputs,
+    post: &Post,
+    from: Day,
+    today: Day,
+    book: &Book,
+    past: &Past,
+) -> Result<Begun, NoMemory>
+    requires change { MayRefold inputs.now post.now from today book.now past.now }
+    ensures begun { IfOk result (λ b. IsBegun inputs.now from today past.now b.ends b.book) }
+    ensures eve { IfOk result (λ b. b.on_eve ≡ false) }
+{
+    let cycle = cycles_before(&inputs.anchor(), from);
+    let ends = ends_at(past, cycle);
+    let book = begin_again(alloc, inputs, post, from, today, book, past)?;
+    Ok(Begun {
+        book,
+        ends,
+        on_eve: false,
+    })
+}
+
+// The Book from which a change is folded again: that of the eve where that may be, else that of the last closing before it.
+fn begin(
+    alloc: Global,
+    inputs: &Inputs,
+    post: &Post,
+    from: Day,
+    today: Day,
+    book: &Book,
+    past: &Past,
+    eve: &Option<Eve>,
+) -> Result<Begun, NoMemory>
+    requires change { MayRefoldOn inputs.now post.now from today book.now past.now eve.now }
+    ensures begun { IfOk result (λ b. IsBegun inputs.now from today past.now b.ends b.book) }
+    ensures eve { IfOk result (λ b. b.on_eve ≡ true → IfSome eve.now (StandsOn inputs.now today b.ends past.now)) }
+{
+    let cycle = cycles_before(&inputs.anchor(), from);
+    match eve {
+        Some(eve) if may_begin(eve, past, post, from, cycle) => Ok(Begun {
+            book: eve.book.copy(alloc)?,
+            ends: eve.ends,
+            on_eve: true,
+        }),
+        _ => begin_at_closing(alloc, inputs, post, from, today, book, past),
+    }
+}
+
+/// Folds again what one more post changes, from the eve or from the closing before the cycle in which the first changed day lies,
+/// over inputs with that post. The Book of today, the past and the eve stand for the account without it. The past is put back,
+/// whatever is answered; what was folded again takes its place in `commit`, for which there is room.
 pub fn refold<L: Ledger>(
     alloc: Global,
     inputs: &Inputs,
@@ -145,25 +229,26 @@ pub fn refold<L: Ledger>(
     today: Day,
     book: &Book,
     past: &mut Past,
+    eve: &Option<Eve>,
     steps: &mut Steps<L>,
 ) -> Result<Refolded, NoMemory>
-    requires change { MayRefold inputs.now post.now from today book.now past.old }
-    ensures again { IfOk result (IsAgain inputs.now today past.old) }
+    requires change { MayRefoldOn inputs.now post.now from today book.now past.old eve.now }
+    ensures again { IfOk result (IsAgain inputs.now today past.old eve.now) }
     ensures room { IfOk result (λ r. HasRoomFor r.ends r.back past.new) }
     ensures same { AreSame past.old past.new }
     ensures most { steps.new ≤ steps.old + steps_over inputs.now today (first_in_cycle (anchor_of inputs.now.history) from) }
 {
-    let cycle = cycles_before(&inputs.anchor(), from);
-    let ends = ends_at(past, cycle);
-    let mut again = begin_again(alloc, inputs, post, from, today, book, past)?;
+    let mut begun = begin(alloc, inputs, post, from, today, book, past, eve)?;
+    let ends = begun.ends;
     let mut behind = cut_off(alloc, past, &ends)?;
-    let folded = fold_behind(alloc, inputs, &mut again, past, &ends, today, steps);
+    let folded = fold_behind(alloc, inputs, &mut begun.book, past, &ends, today, steps);
     join(past, &mut behind, &ends);
     match folded {
         Ok(back) => Ok(Refolded {
             ends,
-            book: again,
+            book: begun.book,
             back,
+            on_eve: begun.on_eve,
         }),
         Err(NoMemory) => Err(NoMemory),
     }
@@ -178,11 +263,12 @@ pub fn refold_by_today<L: Ledger>(
     today: Day,
     book: &Book,
     past: &mut Past,
+    eve: &Option<Eve>,
     steps: &mut Steps<L>,
 ) -> Result<Option<Refolded>, NoMemory>
-    requires change { from ≤ today → MayRefold inputs.now post.now from today book.now past.old }
+    requires change { from ≤ today → MayRefoldOn inputs.now post.now from today book.now past.old eve.now }
     ensures later { IfOk result (λ made. made ≡ None → today < from) }
-    ensures again { IfOk result (λ made. IfSome made (IsAgain inputs.now today past.old)) }
+    ensures again { IfOk result (λ made. IfSome made (IsAgain inputs.now today past.old eve.now)) }
     ensures room { IfOk result (λ made. HasItsRoom made past.new) }
     ensures same { AreSame past.old past.new }
     ensures none { today < from → steps.new ≡ steps.old }
@@ -191,6 +277,6 @@ pub fn refold_by_today<L: Ledger>(
     if today < from {
         return Ok(None);
     }
-    let made = refold(alloc, inputs, post, from, today, book, past, steps)?;
+    let made = refold(alloc, inputs, post, from, today, book, past, eve, steps)?;
     Ok(Some(made))
 }

@@ -1,12 +1,13 @@
 // An account with its book folded to the day last reached.
-ghost use Rattle.std.specs.Prelude.{◌≡◌, ◌+◌, ◌≤◌, ℕ, IfOk, OnOk, OnErr};
+ghost use Rattle.std.specs.Prelude.{◌≡◌, ◌+◌, ◌≤◌, ℕ, IfOk, OnOk, OnErr, None};
 ghost use Rattle.card_days.specs.Range.{last_request_day};
 ghost use Rattle.card_daily.specs.Given.{opened_in};
 ghost use Rattle.card_book.specs.Stands.{day_to_fold, steps_over};
-ghost use Rattle.card_replay.specs.Pasts.{AreSame, IsEmpty};
+ghost use Rattle.card_replay.specs.Pasts.{AreSame, IsEmpty, PastBegins};
 ghost use Rattle.card_replay.specs.Replays.{FoldsOn, IsFolding};
 
 use crate::change::{Change, Refolded};
+use crate::eve::Eve;
 use crate::folding::fold_on;
 use crate::issuing::{closed_number, issued_by, push_issued};
 use crate::past::{Past, cut, ends_of, nothing};
@@ -22,16 +23,19 @@ use card_steps::Steps;
 use card_units::NoMemory;
 use std::alloc::Global;
 use std::marker::Model;
+use std::mem::replace;
 use std::sync::ledger::Ledger;
 
 /// The posts and the issued statements of an account, with its book folded to the day last reached, what is recorded up to then,
-/// and what has to be kept of each closing to go back to it. Clauses see it as a record of these.
+/// and what has to be kept of each closing to go back to it; and, where there is one, the Book of an earlier day. Clauses see it as
+/// a record of these.
 #[derive(Drop)]
 pub struct Replay {
     posts: Posts,
     issued: Vec<Issued>,
     book: Book,
     past: Past,
+    eve: Option<Eve>,
     reached: Day,
     has_room: bool,
 }
@@ -42,7 +46,7 @@ impl Model for Replay {
 
     ghost Value = { Replay };
 
-    ghost view = { λ r. record { lists = record { posts = r.posts.history; issued = r.issued.items }; corrected = r.posts.corrected; has_room = r.has_room; folding = record { reached = r.reached; book = r.book; past = r.past } } };
+    ghost view = { λ r. record { lists = record { posts = r.posts.history; issued = r.issued.items }; corrected = r.posts.corrected; has_room = r.has_room; folding = record { reached = r.reached; book = r.book; past = r.past; eve = r.eve } } };
 
     ghost invariant = { λ r. r.has_room ≡ true → (r.posts.has_room ≡ true) × (vec_len r.issued < vec_capacity r.issued) };
 }
@@ -58,7 +62,7 @@ fn first_book<L: Ledger>(
     requires empty { IsEmpty past.old }
     requires opened { opened_in inputs.now ≤ today }
     requires last { today ≤ last_request_day }
-    ensures folding { IfOk result (λ b. IsFolding inputs.now (record { reached = today; book = b; past = past.new })) }
+    ensures folding { IfOk result (λ b. IsFolding inputs.now (record { reached = today; book = b; past = past.new; eve = None })) }
     ensures steps { OnOk result (steps.new ≡ steps.old + steps_over inputs.now today (opened_in inputs.now)) }
     ensures most { steps.new ≤ steps.old + steps_over inputs.now today (opened_in inputs.now) }
 {
@@ -77,9 +81,10 @@ fn reach<L: Ledger>(
     steps: &mut Steps<L>,
 ) -> Result<Book, NoMemory>
     requires folded { FoldsOn inputs.now today book.now past.old }
-    ensures folding { IfOk result (λ b. IsFolding inputs.now (record { reached = today; book = b; past = past.new })) }
+    ensures folding { IfOk result (λ b. IsFolding inputs.now (record { reached = today; book = b; past = past.new; eve = None })) }
     ensures steps { OnOk result (steps.new ≡ steps.old + steps_over inputs.now today (day_to_fold inputs.now book.now.day)) }
     ensures most { steps.new ≤ steps.old + steps_over inputs.now today (day_to_fold inputs.now book.now.day) }
+    ensures begins { OnOk result (PastBegins past.old past.new) }
     ensures err { OnErr result (AreSame past.old past.new) }
 {
     let ends = ends_of(past);
@@ -143,6 +148,7 @@ impl Replay {
             issued,
             book,
             past,
+            eve: None,
             reached: today,
             has_room: false,
         })
@@ -170,9 +176,11 @@ impl Replay {
         if self.reached == today {
             return Ok(());
         }
+        let ends = ends_of(&self.past);
         let inputs = Inputs::new(&self.posts, &self.issued, shared);
-        let book = reach(alloc, &inputs, &self.book, &mut self.past, today, steps)?;
-        self.book = book;
+        let later = reach(alloc, &inputs, &self.book, &mut self.past, today, steps)?;
+        let book = replace(&mut self.book, later);
+        self.eve = Some(Eve { book, ends });
         self.reached = today;
         Ok(())
     }
@@ -243,6 +251,7 @@ impl Replay {
             today,
             &self.book,
             &mut self.past,
+            &self.eve,
             steps,
         );
         self.posts.withdraw(draft);
@@ -250,7 +259,8 @@ impl Replay {
     }
 
     /// Prepares a post against which there is no reason, under a new key: the account reaches today, there is room for the post, and
-    /// what it changes of the book of today is folded again from the closing before the cycle in which the first changed day lies.
+    /// what it changes of the book of today is folded again, from the closing before the cycle in which the first changed day lies
+    /// or from a later day before it.
     /// The posts and the issued statements stay as they are; with the post, they are as every run leaves them. After want of memory
     /// the day last reached is as before, or today.
     pub fn prepare<L: Ledger>(
@@ -300,7 +310,12 @@ impl Replay {
     {
         push_issued(&mut self.issued, change.issued);
         self.has_room = false;
-        take_if_any(&mut self.book, &mut self.past, change.refolded);
+        take_if_any(
+            &mut self.book,
+            &mut self.past,
+            &mut self.eve,
+            change.refolded,
+        );
         let pushed = self
             .posts
             .add(change.key, change.today, &change.post, shared.calendar());

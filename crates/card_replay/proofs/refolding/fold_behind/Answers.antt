@@ -10,7 +10,7 @@ returns-in_ok-back-in-Ok-clause-folded g c = λ new joined.
     let q = c.fold_on.new.past in
     let did = c.in-Ok.ensures in
     folding-same c.args.inputs.now c.args.today c.fold_on.new.book q new (joined-same c.args.ends.now c.args.past.now q c.in_ok-back-in-Ok.back new c.requires.ends c.fold_on.ensures.begins c.in_ok-back-in-Ok.ensures.back joined)
-    (record { day = did.day; whole = did.whole; stands = did.stands; marks = did.marked })
+    (record { day = did.day; whole = did.whole; stands = did.stands; marks = did.marked; eve = tt })
 
 pub returns-in_ok-back-in-Ok-clause-same : goal.returns-in_ok-back-in-Ok-clause-same
 returns-in_ok-back-in-Ok-clause-same g c = begins-same c.args.ends.now c.args.past.now c.fold_on.new.past c.cut_or_drop.new.past c.requires.ends c.fold_on.ensures.begins c.cut_or_drop.ensures.front

@@ -18,7 +18,7 @@ fold_on-requires-clause-folded g c =
     }
 
 pub returns-clause-folding : goal.returns-clause-folding
-returns-clause-folding g c = let did = c.in_ok-fold_on.ensures in record { day = did.day; whole = did.whole; stands = did.stands; marks = did.marked }
+returns-clause-folding g c = let did = c.in_ok-fold_on.ensures in record { day = did.day; whole = did.whole; stands = did.stands; marks = did.marked; eve = tt }
 
 pub returns-clause-steps : goal.returns-clause-steps
 returns-clause-steps g c =

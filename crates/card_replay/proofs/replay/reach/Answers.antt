@@ -25,7 +25,7 @@ fold_on-requires-clause-folded g c =
     }
 
 pub returns-in-Ok-clause-folding : goal.returns-in-Ok-clause-folding
-returns-in-Ok-clause-folding g c = let did = c.in-Ok.ensures in record { day = did.day; whole = did.whole; stands = did.stands; marks = did.marked }
+returns-in-Ok-clause-folding g c = let did = c.in-Ok.ensures in record { day = did.day; whole = did.whole; stands = did.stands; marks = did.marked; eve = tt }
 
 pub returns-in-Ok-clause-steps : goal.returns-in-Ok-clause-steps
 returns-in-Ok-clause-steps g c =

@@ -78,8 +78,8 @@ returns-in-Ok-clause-carried g c =
     (post_accepted rows grown s t name key p l 1 c.in_ok-row.row c.keep_row.ensures.told c.in-Ok.ensures.ok (c.in_ok-row.ensures.value ∙ ap (λ (x : Request). row_of (accepted_count s + 1) x) c.requires.request)
     outcome state refl (count_opened s t made.named (ap (λ (x : State). x.shared) (state_by _ _ c.self.view_is)) accounts one)))
 
-pub invariant_of-self-in-Err-1 : goal.invariant_of-self-in-Err-1
-invariant_of-self-in-Err-1 g c =
+pub invariant_of-self-in-Err : goal.invariant_of-self-in-Err
+invariant_of-self-in-Err g c =
     let d = c.self.inside in
     let items = d.accounts.items in
     let name = c.bytes.result.now in

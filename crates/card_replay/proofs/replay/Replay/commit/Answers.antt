@@ -47,7 +47,7 @@ returns c =
     let rows : c.self.inside.issued.items ≡ old.lists.issued = ap (λ (r : Replay). r.lists.issued) c.self.view_is in
     let posts = c.add-pushed.ensures.history ∙ ap (λ (hs : List Kept). hs ++ kept_as (length hs + 1) change.key change.today change.post ∷ []) history in
     let issued = c.push_issued.ensures ∙ ap (λ (is : List IssuedRow). is ++ issued_as change.issued) rows in
-    let folding : Folding = record { reached = c.self.inside.reached; book = c.take_if_any.new.book; past = c.take_if_any.new.past } in
+    let folding : Folding = record { reached = c.self.inside.reached; book = c.take_if_any.new.book; past = c.take_if_any.new.past; eve = c.take_if_any.new.eve } in
     let new : Replay = record { lists = lists_by c.add-pushed.new.self.history c.push_issued.new.list.items; corrected = c.add-pushed.new.self.corrected; has_room = false; folding = folding } in
     let committed : IsCommitted c.args.shared.now change old new =
     record {

@@ -13,7 +13,7 @@ use Rattle.card_replay.proofs.Drafting.{drafted, either-few, few-to-refold, may-
 use Rattle.card_replay.proofs.Reached.{same-replay, seen}
 use Rattle.card_replay.specs.Changes.{IsRefoldedBy}
 use Rattle.card_replay.specs.Pasts.{AreSame}
-use Rattle.card_replay.specs.Refolds.{IsAgain, IsOneMore, MayRefold}
+use Rattle.card_replay.specs.Refolds.{IsAgain, IsOneMore, MayRefoldOn}
 use Rattle.card_replay.specs.Replays.{IsToday, Replay, given_of, present_of}
 use Rattle.card_replay.specs.Steps.{first_in_cycle}
 use Rattle.card_replay.proofs.replay.Replay.refolded.Goals as goal
@@ -93,8 +93,8 @@ refold_by_today-made-requires g c =
     let inputs = c.new-inputs.ensures ∙ h.inputs in
     record {
       change = λ l.
-          subst (λ given. MayRefold given p c.from.result today c.self.inside.book c.self.inside.past) (sym inputs)
-          (subst (λ (x : Replay). MayRefold (with_post r.lists key today p shared) p c.from.result today x.folding.book x.folding.past) (sym c.self.view_is) (may-refold shared today key p r c.from.result c.requires.today at l));
+          subst (λ given. MayRefoldOn given p c.from.result today c.self.inside.book c.self.inside.past c.self.inside.eve) (sym inputs)
+          (subst (λ (x : Replay). MayRefoldOn (with_post r.lists key today p shared) p c.from.result today x.folding.book x.folding.past x.folding.eve) (sym c.self.view_is) (may-refold shared today key p r c.from.result c.requires.today at l));
     }
 
 pub withdraw-requires : goal.withdraw-requires
@@ -130,8 +130,8 @@ returns g c =
     let q = c.refold_by_today-made.new.past in
     let back = c.withdraw.ensures (kept_as (length r.lists.posts + 1) key today p) posts h.draft in
     let same = subst (λ (x : Replay). AreSame x.folding.past q) c.self.view_is did.same in
-    let again = subst (λ (x : Replay). IfOk c.refold_by_today-made.result (λ made. IfSome made (IsAgain (with_post r.lists key today p shared) today x.folding.past))) c.self.view_is
-    (subst (λ given. IfOk c.refold_by_today-made.result (λ made. IfSome made (IsAgain given today c.self.inside.past))) inputs did.again) in
+    let again = subst (λ (x : Replay). IfOk c.refold_by_today-made.result (λ made. IfSome made (IsAgain (with_post r.lists key today p shared) today x.folding.past x.folding.eve))) c.self.view_is
+    (subst (λ given. IfOk c.refold_by_today-made.result (λ made. IfSome made (IsAgain given today c.self.inside.past c.self.inside.eve))) inputs did.again) in
     let anchor = anchor-stays (given_of r.lists shared) (with_post r.lists key today p shared) p c.from.result at in
     let begun = ap (λ given. steps_over given today (first_in_cycle (anchor_of given.history) c.from.result)) inputs
     ∙ ap (λ a. steps_over (with_post r.lists key today p shared) today (first_in_cycle a c.from.result)) anchor in
@@ -142,9 +142,9 @@ returns g c =
         corrected = ap (λ (w : Posted). w.corrected) back ∙ ap (λ (x : Replay). x.corrected) c.self.view_is;
         room = λ e. ap (λ (x : Replay). x.has_room) c.self.view_is ∙ e;
       };
-      today = subst (λ (w : Posted). IsToday today shared (seen w.history c.self.inside.issued.items w.corrected c.self.inside.has_room c.self.inside.reached c.self.inside.book q)) (sym back)
+      today = subst (λ (w : Posted). IsToday today shared (seen w.history c.self.inside.issued.items w.corrected c.self.inside.has_room (record { reached = c.self.inside.reached; book = c.self.inside.book; past = q; eve = c.self.inside.eve }))) (sym back)
           (subst (λ (x : Replay). IsToday today shared (with_past x q)) (sym c.self.view_is) (record { replay = same-replay shared r q same c.requires.today.replay; reached = c.requires.today.reached }));
-      refolded = subst (λ (w : Posted). IfOk c.refold_by_today-made.result (λ made. IsRefoldedBy shared today key p made (seen w.history c.self.inside.issued.items w.corrected c.self.inside.has_room c.self.inside.reached c.self.inside.book q))) (sym back)
+      refolded = subst (λ (w : Posted). IfOk c.refold_by_today-made.result (λ made. IsRefoldedBy shared today key p made (seen w.history c.self.inside.issued.items w.corrected c.self.inside.has_room (record { reached = c.self.inside.reached; book = c.self.inside.book; past = q; eve = c.self.inside.eve })))) (sym back)
           (subst (λ (x : Replay). IfOk c.refold_by_today-made.result (λ made. IsRefoldedBy shared today key p made (with_past x q))) (sym c.self.view_is)
           (result-refolded shared today key p r q c.from.result c.refold_by_today-made.result u c.requires.no_reason c.requires.today same at did.later again did.room));
       most = few-to-refold shared today key p r c.from.result c.args.steps.now c.refold_by_today-made.new.steps u at (omega (arith, few, begun));

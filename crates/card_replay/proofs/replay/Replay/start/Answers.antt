@@ -1,4 +1,4 @@
-use Rattle.std.proofs.Common.{◌≤◌, false, List, [], ◌∷◌, refl, sym, ap, subst, ◌∙◌, arith}
+use Rattle.std.proofs.Common.{◌≤◌, false, List, [], ◌∷◌, refl, sym, ap, subst, ◌∙◌, arith, None}
 use Rattle.card_events.specs.History.{anchor_of, corrected}
 use Rattle.card_events.specs.declared.kept.Kept.{Kept}
 use Rattle.card_model.specs.Machine.{kept_as}
@@ -39,7 +39,7 @@ returns-clause-today g c =
     let p = c.args.post.now in
     let parts = ap (λ hs. given_with hs c.deref.result.now shared) c.in_ok-posts.ensures.history
     ∙ ap (λ rows. given_with (kept_as 1 key today p ∷ []) rows shared) (c.deref.ensures.value ∙ c.new-issued.ensures.items) in
-    let f : Folding = record { reached = today; book = c.in_ok-book.book; past = c.first_book.new.past } in
+    let f : Folding = record { reached = today; book = c.in_ok-book.book; past = c.first_book.new.past; eve = None } in
     let folding = subst (λ given. IsFolding given f) (c.new-inputs.ensures ∙ parts) c.in_ok-book.ensures.folding in
     let lists = ap (λ hs. lists_by hs c.new-issued.result.items) c.in_ok-posts.ensures.history ∙ ap (lists_by (kept_as 1 key today p ∷ [])) c.new-issued.ensures.items in
     let stands = c.in_ok-posts.ensures.stands shared.holidays ∙ ap (λ (hs : List Kept). corrected (anchor_of hs) shared.holidays hs) c.in_ok-posts.ensures.history in
