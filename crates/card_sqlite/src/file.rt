@@ -2,14 +2,16 @@ ghost use Rattle.std.specs.Prelude.{◌≡◌};
 
 use crate::StoreKeeper;
 use crate::fault::fault_of;
-use crate::store::counted;
+use crate::store::{close, counted};
 use card_ports::{Keeper, KeeperFault, Row};
-use sqlite::{Alter, Connection, File, FileStore};
+use sqlite::{Alter, Connection, Error, File, FileStore};
 use sqlite_disk::Disk;
 use std::alloc::Global;
 use std::rt::HostRuntime;
 
-type Store = StoreKeeper<FileStore<File>>;
+type Store<D> = StoreKeeper<FileStore<D>>;
+
+type Made<S> = Result<Option<Connection<S>>, Error>;
 
 /// Rows in the table `kept` of a SQLite file, which is opened at the first call and made where it is missing. It tells no rows:
 /// what a file held before it was opened isn't known. Each call is one of a `StoreKeeper` over the file, whose clauses say what
@@ -22,78 +24,96 @@ type Store = StoreKeeper<FileStore<File>>;
 pub struct SqliteKeeper {
     rt: HostRuntime,
     path: String,
-    store: Option<Store>,
+    store: Option<Store<File>>,
     faults: u64,
 }
 
-// Whether the file was opened. This and the next ones are over any store, so that no clause of a file's is read for them.
-fn is_open<S: Alter>(store: &Option<StoreKeeper<S>>) -> bool {
-    store.is_some()
+// A connection to the file, where none was made before.
+fn connect(store: &Option<Store<File>>, rt: &HostRuntime, path: &str) -> Made<FileStore<File>> {
+    match store {
+        Some(_) => Ok(None),
+        None => match Connection::open(rt, path) {
+            Ok(conn) => Ok(Some(conn)),
+            Err(error) => Err(error),
+        },
+    }
 }
 
-fn put<S: Alter + Drop>(store: &mut Option<StoreKeeper<S>>, conn: Connection<S>) {
-    *store = Some(StoreKeeper::adopt(conn));
-}
-
-fn load_rows<S: Alter>(
+// Takes the connection that was made. This and the next two are over any store: what is proved of a call of one of them over
+// a file takes long, so a keeper makes one a call.
+fn take<S: Alter + Drop>(
     store: &mut Option<StoreKeeper<S>>,
+    made: Made<S>,
+) -> Result<(), KeeperFault> {
+    match made {
+        Ok(Some(conn)) => {
+            *store = Some(StoreKeeper::adopt(conn));
+            Ok(())
+        }
+        Ok(None) => Ok(()),
+        Err(error) => Err(fault_of(error)),
+    }
+}
+
+fn load_over<S: Alter + Drop>(
+    store: &mut Option<StoreKeeper<S>>,
+    made: Made<S>,
     alloc: Global,
 ) -> Result<Vec<Row>, KeeperFault> {
+    take(store, made)?;
     match store {
         Some(store) => store.load_rows(alloc),
         None => Err(KeeperFault::Failed),
     }
 }
 
-fn append_rows<S: Alter>(
+fn append_over<S: Alter + Drop>(
     store: &mut Option<StoreKeeper<S>>,
+    made: Made<S>,
     rows: &[Row],
 ) -> Result<(), KeeperFault> {
+    take(store, made)?;
     match store {
         Some(store) => store.append_rows(rows),
         None => Err(KeeperFault::Failed),
     }
 }
 
-fn close<D: Disk + Drop>(store: StoreKeeper<FileStore<D>>) -> Result<(), KeeperFault> {
-    match store.give_back().close() {
-        Ok(()) => Ok(()),
-        Err(error) => Err(fault_of(error)),
-    }
+// The same over files on any disk.
+fn load_rows<D: Disk + Drop>(
+    store: &mut Option<Store<D>>,
+    made: Made<FileStore<D>>,
+    alloc: Global,
+) -> Result<Vec<Row>, KeeperFault> {
+    load_over(store, made, alloc)
 }
 
-// Opens the file, where no call has opened it before.
-fn open(store: &mut Option<Store>, rt: &HostRuntime, path: &str) -> Result<(), KeeperFault> {
-    if is_open(store) {
-        return Ok(());
-    }
-    match Connection::open(rt, path) {
-        Ok(conn) => {
-            put(store, conn);
-            Ok(())
-        }
-        Err(error) => Err(fault_of(error)),
-    }
+fn append_rows<D: Disk + Drop>(
+    store: &mut Option<Store<D>>,
+    made: Made<FileStore<D>>,
+    rows: &[Row],
+) -> Result<(), KeeperFault> {
+    append_over(store, made, rows)
 }
 
 fn load(
-    store: &mut Option<Store>,
+    store: &mut Option<Store<File>>,
     rt: &HostRuntime,
     path: &str,
     alloc: Global,
 ) -> Result<Vec<Row>, KeeperFault> {
-    open(store, rt, path)?;
-    load_rows(store, alloc)
+    let made = connect(store, rt, path);
+    load_rows(store, made, alloc)
 }
 
 fn append(
-    store: &mut Option<Store>,
+    store: &mut Option<Store<File>>,
     rt: &HostRuntime,
     path: &str,
     rows: &[Row],
 ) -> Result<(), KeeperFault> {
-    open(store, rt, path)?;
-    append_rows(store, rows)
+    let made = connect(store, rt, path);
+    append_rows(store, made, rows)
 }
 
 impl SqliteKeeper {

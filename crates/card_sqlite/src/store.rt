@@ -9,7 +9,8 @@ use crate::fault::fault_of;
 use crate::fits::{fits, is_kept_alone};
 use crate::load::load;
 use card_ports::{KeeperFault, Row};
-use sqlite::{Alter, Connection};
+use sqlite::{Alter, Connection, FileStore};
+use sqlite_disk::Disk;
 use sqlite_schema::schema::Schema;
 use std::alloc::Global;
 
@@ -63,6 +64,15 @@ fn append_if_fit<S: Alter>(conn: &mut Connection<S>, rows: &[Row]) -> Result<(),
         return Err(KeeperFault::Failed);
     }
     match append(conn, rows) {
+        Ok(()) => Ok(()),
+        Err(error) => Err(fault_of(error)),
+    }
+}
+
+// Copies the log of a keeper over files into its file and closes both.
+pub(crate) fn close<D: Disk + Drop>(store: StoreKeeper<FileStore<D>>) -> Result<(), KeeperFault> {
+    let StoreKeeper { conn, faults: _ } = store;
+    match conn.close() {
         Ok(()) => Ok(()),
         Err(error) => Err(fault_of(error)),
     }
