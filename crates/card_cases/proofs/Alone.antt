@@ -1,5 +1,5 @@
 -- The account of the cases with its opening alone may be folded, and its fold to 2024-03-10 takes five steps.
-use Rattle.std.proofs.Common.{◌≡◌, ℕ, ◌+◌, ◌≤◌, List, [], ◌∷◌, refl, sym, ap, ◌∙◌, subst, arith, true, Option, Some, None}
+use Rattle.std.proofs.Common.{◌≡◌, ℕ, List, [], refl, sym, ap, ◌∙◌, subst, arith, true, Option, Some, None}
 use Rattle.std.proofs.lemmas.List.Elements.{All-cons, All-nil}
 use Rattle.std.specs.List.{All, count_by}
 use Rattle.card_events.specs.Dated.{is_dated_post}
@@ -18,7 +18,7 @@ use Rattle.card_book.specs.Stands.{steps_over}
 use Rattle.card_cases.specs.Account.{opening}
 use Rattle.card_cases.specs.Alone.{IsAlone, alone, given_alone}
 
-no-days : (days : ℕ × ℕ) (o : Option (ℕ × ℕ)) → o ≡ None → o ≡ Some days → ⊥
+pub no-days : (days : ℕ × ℕ) (o : Option (ℕ × ℕ)) → o ≡ None → o ≡ Some days → ⊥
 no-days days o e f = cc
 
 abbrev kept : ℕ → List ℕ → ℕ → Kept
@@ -32,7 +32,7 @@ names-none : (n : ℕ) (key : List ℕ) (accepted : ℕ) → NamePayments (alone
 unfolding NamePayments
 names-none n key accepted = (tt, tt)
 
-sound : (n : ℕ) (key : List ℕ) (accepted : ℕ) → IsSound (given_alone (alone n key accepted))
+pub sound : (n : ℕ) (key : List ℕ) (accepted : ℕ) → IsSound (given_alone (alone n key accepted))
 sound n key accepted =
     let k = kept n key accepted in
     let ks = alone n key accepted in
@@ -56,20 +56,27 @@ sound n key accepted =
 pub sound-of : (history : List Kept) → IsAlone history → IsSound (given_alone history)
 sound-of history h = subst (λ ks. IsSound (given_alone ks)) (sym h.is) (sound h.number h.key h.accepted)
 
--- ---- five steps
+-- ---- how many steps its fold takes
 no-penalties : (n : ℕ) (key : List ℕ) (accepted : ℕ) → (book_on (given_alone (alone n key accepted)) 19792).penalties ≡ []
 unfolding everything
 no-penalties n key accepted = refl
 
-abbrev steps_with : Given → List Interval → ℕ
-steps_with g penalties = steps_among (is_break (account_in g) (corrected (anchor_of g.history) g.shared.holidays g.history) g.issued penalties) 19728 19792
+abbrev steps_with : ℕ → Given → List Interval → ℕ
+steps_with first g penalties = steps_among (is_break (account_in g) (corrected (anchor_of g.history) g.shared.holidays g.history) g.issued penalties) first 19792
 
-counted : (n : ℕ) (key : List ℕ) (accepted : ℕ) → steps_with (given_alone (alone n key accepted)) [] ≡ 5
+from-opening : (n : ℕ) (key : List ℕ) (accepted : ℕ) → steps_with 19728 (given_alone (alone n key accepted)) [] ≡ 5
 unfolding everything
-counted n key accepted = refl
+from-opening n key accepted = refl
+
+behind-opening : (n : ℕ) (key : List ℕ) (accepted : ℕ) → steps_with 19729 (given_alone (alone n key accepted)) [] ≡ 4
+unfolding everything
+behind-opening n key accepted = refl
 
 five : (n : ℕ) (key : List ℕ) (accepted : ℕ) → steps_over (given_alone (alone n key accepted)) 19792 19728 ≡ 5
-five n key accepted = ap (steps_with (given_alone (alone n key accepted))) (no-penalties n key accepted) ∙ counted n key accepted
+five n key accepted = ap (steps_with 19728 (given_alone (alone n key accepted))) (no-penalties n key accepted) ∙ from-opening n key accepted
+
+pub four : (n : ℕ) (key : List ℕ) (accepted : ℕ) → steps_over (given_alone (alone n key accepted)) 19792 19729 ≡ 4
+four n key accepted = ap (steps_with 19729 (given_alone (alone n key accepted))) (no-penalties n key accepted) ∙ behind-opening n key accepted
 
 pub five-steps : (g : Given) (history : List Kept) → IsAlone history → g ≡ given_alone history → steps_over g 19792 19728 ≡ 5
 five-steps g history h e = ap (λ x. steps_over x 19792 19728) e ∙ subst (λ ks. steps_over (given_alone ks) 19792 19728 ≡ 5) (sym h.is) (five h.number h.key h.accepted)

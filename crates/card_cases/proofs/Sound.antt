@@ -1,29 +1,13 @@
 -- The posts of the account of the cases are dated, and accepted by the last of its days.
-use Rattle.std.proofs.Common.{◌≡◌, ℕ, suc, ◌+◌, ◌≤◌, Bool, true, false, cond, max, List, [], ◌∷◌, ◌++◌, length, map, refl, sym, ap, ◌∙◌, subst, arith, Option, Some, None}
-use Rattle.std.proofs.lemmas.List.{length-map}
+use Rattle.std.proofs.Common.{◌≡◌, ◌≤◌, true, List, [], ◌∷◌, ◌++◌, map, refl, sym, subst, arith}
 use Rattle.std.proofs.lemmas.List.Elements.{All-cons, All-head, All-nil, All-tail}
-use Rattle.std.specs.List.{All, count_by}
-use Rattle.card_days.specs.Civil.{date_in, date_of, day_of_month, days_before_year, year_of}
-use Rattle.card_days.specs.declared.anchor.Anchor.{Anchor}
+use Rattle.std.specs.List.{All}
 use Rattle.card_events.specs.Dated.{is_dated_post}
-use Rattle.card_events.specs.History.{adds_segment, anchor_of, opening_in, terms_in, terms_of}
-use Rattle.card_events.specs.SharedRows.{SharedRows}
 use Rattle.card_events.specs.declared.kept.Kept.{Kept}
-use Rattle.card_events.specs.declared.post.PlanKind.{PlanKind}
 use Rattle.card_events.specs.declared.post.PlanKind.TheVariants as kind
 use Rattle.card_events.specs.declared.post.Post.{Post}
 use Rattle.std.proofs.Math.Nat.{le-max_left, le-max_right, max-le}
 use Rattle.card_posts.specs.Posted.{last_accepted}
-use Rattle.card_model.specs.Accepted.{AreInRange, HasFewCents, HasFewFees, HasFewRates, HasFewSegments, posted_cents, posted_rate}
-use Rattle.card_bounds.specs.Bounds.{moved}
-use Rattle.card_model.specs.Caps.{row_for}
-use Rattle.card_model.specs.declared.entry.Entry.{Entry}
-use Rattle.card_model.specs.Cycles.{IssuedRow}
-use Rattle.card_model.specs.CycleDays.{IsOpening}
-use Rattle.card_model.specs.Deadlines.{resolves}
-use Rattle.card_model.specs.Refusals.{plan_days}
-use Rattle.card_daily.specs.Given.{ArePlanned, IsSound, NamePayments, NamesAPayment}
-use Rattle.card_grace.proofs.Days.{sum_by-map}
 use Rattle.card_slots.specs.Segments.{ArePostsDated}
 use Rattle.card_cases.specs.Account.{IsOfAccount, asked, bill, cash, dispute, notice, opening, plan, posts, purchase}
 

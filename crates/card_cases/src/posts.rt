@@ -4,10 +4,10 @@ ghost use Rattle.card_days.specs.Billing.{IsCloseDay};
 ghost use Rattle.card_events.specs.History.{anchor_of, terms_in};
 ghost use Rattle.card_posts.specs.Posted.{IsReceived, StandsFor, opens, target_of};
 
-use crate::lines::request;
 use crate::values::{day, name};
 use card_days::{Calendar, Day};
 use card_events::{Name, Post, Request};
+use card_lines::{Line, read_line};
 use card_posts::Posts;
 use std::alloc::Global;
 use std::process::Abort;
@@ -41,9 +41,9 @@ static ORDER: [(u32, i32, i64); 9] = [
 
 // The key and the post of a line.
 fn post_of(alloc: Global, line: &str) -> Result<(Name, Post), Fail> {
-    match request(alloc, line)? {
-        Request::Post { key, post, .. } => Ok((key, post)),
-        Request::Shared(_) => Err(Fail::from("no post")),
+    match read_line(alloc, line.as_bytes())? {
+        Line::Request(Request::Post { key, post, .. }) => Ok((key, post)),
+        _ => Err(Fail::from("no post")),
     }
 }
 

@@ -1,6 +1,6 @@
 // The steps of a Book: the account of the cases with its opening alone, folded to 2024-03-10.
 ghost use Rattle.std.specs.Prelude.{◌≡◌, ◌+◌, [], IfOk, OnOk};
-ghost use Rattle.card_cases.specs.Alone.{IsAlone, given_alone};
+ghost use Rattle.card_cases.specs.Alone.{IsAlone, given_alone, no_rows};
 ghost use Rattle.card_book.specs.Stands as kept;
 ghost use Rattle.card_daily.specs.Given.{opened_in};
 ghost use Rattle.card_daily.specs.Stands.{IsBlank};
@@ -32,27 +32,10 @@ fn opened(rt: &impl Abort, alloc: Global) -> Result<Posts, Fail>
 fn inputs<'a>(posts: &'a Posts, shared: &'a SharedRows) -> Inputs<'a>
     requires stands { StandsFor [] posts.now }
     requires alone { IsAlone posts.now.history }
-    requires nothing { shared.now ≡ record { holidays = []; fees = [] } }
+    requires nothing { shared.now ≡ no_rows }
     ensures { result ≡ given_alone posts.now.history }
 {
     Inputs::new(posts, &[], shared)
-}
-
-// Nothing is owed at the opening, by a copy of the Book.
-fn copied(
-    rt: &impl Abort,
-    alloc: Global,
-    posts: &Posts,
-    shared: &SharedRows,
-) -> Result<(), NoMemory>
-    requires stands { StandsFor [] posts.now }
-    requires alone { IsAlone posts.now.history }
-    requires nothing { shared.now ≡ record { holidays = []; fees = [] } }
-{
-    let inputs = inputs(posts, shared);
-    let book = Book::start(alloc, &inputs)?;
-    assert_eq!(rt; book.copy(alloc)?.owed(), 0);
-    Ok(())
 }
 
 // A step for the opening day, 2024-02-05 and 2024-03-05, which close cycles, 2024-03-02, the day after a due date, and the last
@@ -67,7 +50,7 @@ fn advance<L: Ledger>(
 ) -> Result<(), NoMemory>
     requires stands { StandsFor [] posts.now }
     requires alone { IsAlone posts.now.history }
-    requires nothing { shared.now ≡ record { holidays = []; fees = [] } }
+    requires nothing { shared.now ≡ no_rows }
     requires blank { IsBlank track.old }
     ensures five { OnOk result (steps.new ≡ steps.old + 5) }
 {
@@ -87,7 +70,6 @@ fn advance_alone<L: Ledger>(rt: &impl Abort, alloc: Global, blank: Blank) -> Res
         cycles: Vec::new(alloc),
         fees: Vec::new(alloc),
     };
-    copied(rt, alloc, &posts, &shared)?;
     let mut steps = Steps::<L>::new(blank);
     advance(rt, alloc, &posts, &shared, &mut track, &mut steps)?;
     Ok(track.cycles.len())

@@ -2,8 +2,7 @@
 ghost use Rattle.std.specs.Prelude.{OnOk, ◌≡◌};
 ghost use Rattle.card_desk.specs.Kept.{Fits};
 
-use crate::lines::{digits, request};
-use crate::values::{day, name};
+use crate::lines::{day, digits, name, request};
 use card_desk::{Ask, Desk, Fault, LoadFault, Statement, View, uncounted};
 use card_events::{Num, Refusal, Reply};
 use card_ports::{Body, FailingKeeper, Keeper, MemoryKeeper, Row};

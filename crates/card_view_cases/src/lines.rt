@@ -2,8 +2,8 @@
 ghost use Rattle.std.specs.Prelude.{◌≡◌, true, IfOk};
 ghost use Rattle.card_events.specs.Dated.{is_dated};
 
-use crate::values::{day, name};
-use card_events::{Refusal, Reply, Request};
+use card_days::Day;
+use card_events::{Name, Refusal, Reply, Request};
 use card_import::{Item, Records};
 use card_lines::{Line, bad_text, read_line, reply_text, show_text};
 use card_model::{Entry, EntryKind, Segment, Sort};
@@ -76,6 +76,14 @@ static ROWS: [(&str, &str); 20] = [
     ),
     ("bill a k 3", "01140161016b0000000000000003"),
 ];
+
+pub fn day(rt: &impl Abort, n: u16) -> Day {
+    Day::from_number(i32::from(n)).expect(rt, "a day")
+}
+
+pub fn name(rt: &impl Abort, alloc: Global, text: &str) -> Result<Name, Fail> {
+    Ok(Name::read(alloc, text.as_bytes())?.expect(rt, "a name"))
+}
 
 // The request of a line.
 pub fn request(alloc: Global, line: &str) -> Result<Request, Fail>

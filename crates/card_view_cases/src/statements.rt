@@ -1,7 +1,7 @@
 // The statements of a cycle as text. Requests are told as lines; the texts are those of the independent model.
 
 use crate::desks::{accept_all, seen};
-use crate::values::name;
+use crate::lines::name;
 use card_desk::{Ask, View};
 use card_events::Num;
 use card_ports::MemoryKeeper;

@@ -1,0 +1,18 @@
+use Rattle.card_cases.proofs.Reached.{charge-dated, no-reason, sound-with, three-steps}
+use Rattle.card_cases.proofs.replays.accept.Goals as goal
+
+pub prepare-requires-clause-dated : goal.prepare-requires-clause-dated
+prepare-requires-clause-dated g c = charge-dated c.charge.result c.charge.ensures
+
+pub prepare-requires-clause-no_reason : goal.prepare-requires-clause-no_reason
+prepare-requires-clause-no_reason g c = no-reason c.day-today.result c.args.shared.now c.args.account.now.lists c.charge.result c.day-today.ensures c.requires.nothing c.requires.alone c.charge.ensures
+
+pub prepare-requires-clause-sound : goal.prepare-requires-clause-sound
+prepare-requires-clause-sound g c = sound-with c.day-today.result c.args.shared.now c.args.account.now.lists c.in_ok-key.key c.charge.result c.day-today.ensures c.requires.nothing c.requires.alone c.charge.ensures
+
+pub returns : goal.returns
+returns g c =
+    record {
+      three = three-steps c.day-today.result c.args.shared.now c.args.account.now.lists c.args.account.now.folding.reached c.in_ok-key.key c.charge.result c.args.steps.now c.prepare.new.steps
+          c.day-today.ensures c.requires.nothing c.requires.alone c.requires.today.reached c.charge.ensures c.prepare.ensures.most;
+    }
