@@ -1,5 +1,5 @@
 -- An account that is told of: what its fold asks for, what it has after its replay was folded on, and the steps that are left.
-use Rattle.std.proofs.Common.{◌≡◌, ℕ, ◌+◌, ◌≤◌, ◌⊎◌, inl, inr, List, Result, Ok, Err, refl, ap, sym, ◌∙◌, arith}
+use Rattle.std.proofs.Common.{◌≡◌, ℕ, ◌+◌, ◌≤◌, ◌⊎◌, inl, inr, List, Result, Ok, Err, refl, ap, sym, subst, ◌∙◌, arith}
 use Rattle.std.specs.Prelude.{OnOk, OnErr}
 use Rattle.card_account.specs.Accounts.{HasTold, IsAccount, IsTold, MayBeFolded, OpenAccount, replay_of, steps_of}
 use Rattle.card_book.specs.Stands.{breaks_of}
@@ -9,18 +9,17 @@ use Rattle.card_events.specs.declared.kept.Kept.{Kept}
 use Rattle.card_model.proofs.Spans.{spans_are_steps}
 use Rattle.card_model.specs.Cycles.{IssuedRow}
 use Rattle.card_model.specs.Refusals.{Lists}
-use Rattle.card_posts.specs.Posted.{Posted, StandsFor}
+use Rattle.card_posts.specs.Posted.{Posted, StandsFor, last_accepted}
 use Rattle.card_replay.specs.Replays.{IsReplay, IsToday, MayReach, Replay, SameLists, given_of}
 
 pub may-be-folded : (today : ℕ) (shared : SharedRows) (a : OpenAccount) → IsAccount today shared a → MayBeFolded today shared a
 may-be-folded today shared a h =
     let later = h.reach.later in
     let opened = h.replay.opened in
-    let accepted = h.replay.accepted in
     record {
       stands = h.replay.corrected;
       sound = h.replay.sound;
-      reached = record { opened = omega (arith, opened, later); accepted = omega (arith, accepted, later); dated = h.reach.last };
+      reached = record { opened = omega (arith, opened, later); accepted = h.reach.accepted; dated = h.reach.last };
     }
 
 -- ---- results
@@ -66,7 +65,7 @@ pub told-by : (today : ℕ) (shared : SharedRows) (name : List ℕ) (old new : R
 told-by today shared name old new reach same replay reached = record {
   named = ap (λ (l : Lists). record { name = name; lists = l }) same.lists;
   corrected = same.corrected;
-  account = record { replay = replay; reach = record { later = later reached; last = reach.last } };
+  account = record { replay = replay; reach = record { later = later reached; accepted = subst (λ (l : Lists). last_accepted l.posts ≤ today) (sym same.lists) reach.accepted; last = reach.last } };
   reached = reached;
 }
   where

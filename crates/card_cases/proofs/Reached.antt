@@ -15,19 +15,33 @@ use Rattle.card_model.specs.Deadlines.{resolves}
 use Rattle.card_model.specs.Everything.{everything}
 use Rattle.card_model.specs.Machine.{accepted}
 use Rattle.card_model.specs.Refusals.{Lists, reason_against}
+use Rattle.card_days.specs.Range.{last_request_day}
 use Rattle.card_posts.specs.Change.{IsFirstChange, on, up_to}
+use Rattle.card_posts.specs.Posted.{last_accepted}
 use Rattle.card_daily.specs.Given.{EndsWithAClosing, Given, IsSound, NamePayments}
 use Rattle.card_book.specs.Stands.{steps_over}
 use Rattle.card_book.specs.StepCounts.{breaks_with}
-use Rattle.card_replay.specs.Replays.{Replay, given_of, opened_lists, present_of}
+use Rattle.card_replay.specs.Replays.{MayReach, Replay, given_of, opened_lists, present_of}
 use Rattle.card_replay.specs.Steps.{AreFewToPrepare, IsFirstBetween, first_in_cycle, steps_to}
 use Rattle.card_cases.proofs.Alone.{four, no-days, sound}
 use Rattle.card_cases.specs.Account.{opening}
 use Rattle.card_cases.specs.Alone.{HasOpeningAlone, alone, charge, given_alone, lists_alone, no_rows}
 
 -- ---- on its opening day
-pub opened-alone : (key : List ℕ) (day : ℕ) (p : Post) → p ≡ opening → HasOpeningAlone (opened_lists key day p)
-opened-alone key day p e = record { number = 1; key = key; accepted = day; is = ap (opened_lists key day) e }
+pub opened-alone : (key : List ℕ) (day : ℕ) (p : Post) → day ≡ 19728 → p ≡ opening → HasOpeningAlone (opened_lists key day p)
+opened-alone key day p first e = record { number = 1; key = key; accepted = day; early = omega (arith, first); is = ap (opened_lists key day) e }
+
+-- it may be brought to a later day
+accepted-early : (n : ℕ) (key : List ℕ) (since today : ℕ) → since ≤ 19728 → 19728 ≤ today → last_accepted (alone n key since) ≤ today
+unfolding last_accepted
+accepted-early n key since today early later = omega (arith, early, later)
+
+pub may-reach : (today : ℕ) (r : Replay) → HasOpeningAlone r.lists → r.folding.reached ≤ today → 19728 ≤ today → today ≤ last_request_day → MayReach today r
+may-reach today r h reached later last = record {
+  later = reached;
+  accepted = subst (λ (l : Lists). last_accepted l.posts ≤ today) (sym h.is) (accepted-early h.number h.key h.accepted today h.early later);
+  last = last;
+}
 
 -- what holds of what its fold is given holds of these lists
 from-lists : (P : Given → Type 0) (lists : Lists) (shared : SharedRows) → HasOpeningAlone lists → shared ≡ no_rows → ((n : ℕ) (key : List ℕ) (accepted : ℕ) → P (given_alone (alone n key accepted))) → P (given_of lists shared)

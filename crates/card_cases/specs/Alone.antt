@@ -1,5 +1,5 @@
 -- The account of the cases with its opening alone.
-use Rattle.std.specs.Prelude.{ℕ, ◌≡◌, List, [], ◌∷◌}
+use Rattle.std.specs.Prelude.{ℕ, ◌≡◌, ◌≤◌, List, [], ◌∷◌}
 use Rattle.card_events.specs.SharedRows.{SharedRows}
 use Rattle.card_events.specs.declared.kept.Kept.{Kept}
 use Rattle.card_events.specs.declared.post.Place.TheVariants as place
@@ -31,10 +31,12 @@ given_alone history = record { history = history; issued = []; shared = no_rows 
 abbrev pub lists_alone : ℕ → List ℕ → ℕ → Lists
 lists_alone number key accepted = record { posts = alone number key accepted; issued = [] }
 
+-- they are so of a post that was accepted by the opening day
 pub record HasOpeningAlone (lists : Lists) : Type 0 where
   pub number : ℕ
   pub key : List ℕ
   pub accepted : ℕ
+  pub early : accepted ≤ 19728
   pub is : lists ≡ lists_alone number key accepted
 
 -- a charge of 2024-03-12

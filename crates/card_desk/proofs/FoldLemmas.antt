@@ -319,7 +319,7 @@ accounts_later s old new (a ∷ rest) all few later stand =
     let one = All-head (λ (x : NamedAccount). AreRunning s x.lists) a.named (named_all rest) all in
     let h = All-head (IsAccount s.today old) a rest stand in
     All-cons (IsAccount s.today new) a rest
-    (record { replay = later_rows_leave_it old new (replay_of a) h.replay (later a.folding.reached h.reach.later) (sound_under s a.named.lists new one few); reach = h.reach })
+    (record { replay = later_rows_leave_it old new (replay_of a) s.today h.replay h.reach.later h.reach.accepted (later s.today (omega arith)) (sound_under s a.named.lists new one few); reach = h.reach })
     (accounts_later s old new rest (All-tail (λ (x : NamedAccount). AreRunning s x.lists) a.named (named_all rest) all) few later (All-tail (IsAccount s.today old) a rest stand))
 
 pub later_holidays : (today day : ℕ) (old : SharedRows) → today < day → (reached : ℕ) → reached ≤ today → AreLaterRows reached old (record old { holidays = with_holiday day old.holidays })
@@ -341,5 +341,6 @@ accounts_rolled today day common [] later last stand = All-nil (IsAccount day co
 accounts_rolled today day common (a ∷ rest) later last stand =
     let h = All-head (IsAccount today common) a rest stand in
     let low = h.reach.later in
-    All-cons (IsAccount day common) a rest (record { replay = h.replay; reach = record { later = omega (arith, low, later); last = last } })
+    let accepted = h.reach.accepted in
+    All-cons (IsAccount day common) a rest (record { replay = h.replay; reach = record { later = omega (arith, low, later); accepted = omega (arith, accepted, later); last = last } })
     (accounts_rolled today day common rest later last (All-tail (IsAccount today common) a rest stand))

@@ -1,6 +1,6 @@
--- Where an account is folded again after a post: the Book at the closing before the change, with the front of the past.
-use Rattle.std.proofs.Common.{◌≡◌, ℕ, zero, suc, ◌+◌, ◌-◌, ◌<◌, ◌≤◌, ◌⊎◌, inl, inr, false, true, nat_le, List, [], ◌∷◌, length, take, refl, sym, ap, ◌∙◌, subst, arith, Option, Some, None, get_or}
-use Rattle.std.specs.Prelude.{IfSome, slice_get}
+-- Where an account is taken back after a post: the Book at the closing before the change, with the front of the past.
+use Rattle.std.proofs.Common.{◌≡◌, ℕ, ◌+◌, ◌-◌, ◌<◌, ◌≤◌, ◌⊎◌, inl, inr, false, true, nat_le, List, [], ◌∷◌, length, take, refl, sym, ap, ◌∙◌, subst, arith, Option, Some, get_or}
+use Rattle.std.specs.Prelude.{slice_get}
 use Rattle.std.specs.List.{filter}
 use Rattle.std.proofs.lemmas.Option.{slice_get_read}
 use Rattle.card_days.specs.Billing.{closing, cycle_of}
@@ -9,14 +9,12 @@ use Rattle.card_days.specs.Range.{last_request_day}
 use Rattle.card_days.specs.declared.anchor.Anchor.{Anchor}
 use Rattle.card_events.specs.History.{anchor_of}
 use Rattle.card_events.specs.declared.post.Post.{Post}
-use Rattle.card_model.specs.CycleDays.{IsOpening}
 use Rattle.card_model.specs.Cycles.{Cycle}
 use Rattle.card_model.specs.Folds.{cycle_at}
 use Rattle.card_model.specs.declared.fee.Fee.{Fee}
 use Rattle.card_model.proofs.Calendar.{cycles_are_of_the_calendar}
 use Rattle.card_daily.proofs.ClosingDay.{grows-to}
-use Rattle.card_daily.specs.Given.{Given, book_on, opened_in}
-use Rattle.card_daily.specs.Stands.{IsBlank}
+use Rattle.card_daily.specs.Given.{Given, opened_in}
 use Rattle.card_daily.specs.declared.track.Track.{Track}
 use Rattle.card_book.proofs.Days.{book_is_the_fold}
 use Rattle.card_book.proofs.FeeOrder.{fees_stand_in_order}
@@ -27,19 +25,20 @@ use Rattle.card_book.specs.GoingOn.{sets_rates}
 use Rattle.card_book.specs.Marks.{AreMarks, IsMark, accrued_to}
 use Rattle.card_book.specs.Renewed.{AwaitsPosts, HasNewPosts}
 use Rattle.card_book.specs.Rewound.{AreFolded, GoesBack, IsCutTrack}
-use Rattle.card_book.specs.Stands.{StandsFor, Summary, book_through, day_to_fold}
+use Rattle.card_book.specs.Stands.{StandsFor, Summary, book_through}
 use Rattle.card_book.specs.declared.marks.Accruing.{Accruing}
 use Rattle.card_replay.proofs.Changed.{anchor-stays, continues-before, plain-stands, terms-stay}
-use Rattle.card_replay.proofs.CycleBefore.{closed-before, closed-by-today, closed-then, cycle-read, cycle-there}
+use Rattle.card_replay.proofs.CycleBefore.{closed-before, closed-then, cycle-read, cycle-there}
 use Rattle.card_replay.proofs.CutTrack.{cut-track}
-use Rattle.card_replay.proofs.FirstFees.{no-fees-before}
 use Rattle.card_replay.proofs.MarksFront.{among-front, marks-front}
 use Rattle.card_replay.proofs.NextClosing.{closing-dated, closing-none}
-use Rattle.card_replay.specs.Pasts.{AreEnds, AreWithin, IsFront, IsReplaced}
-use Rattle.card_replay.proofs.Parts.{replaced-front, replaced-within}
+use Rattle.card_replay.specs.Pasts.{AreWithin, IsFront}
 use Rattle.card_replay.proofs.Unread.{eve-on}
-use Rattle.card_replay.specs.Refolds.{AreEndsOf, IsBeforeChange, IsBegun, MayBegin, StandsOn, cycle_before}
-use Rattle.card_replay.specs.Replays.{BeginsAgain, HasMarks, IsEve, IsFoldedBefore}
+use Rattle.card_replay.specs.Refolds.{AreEndsOf, IsAgain, IsAtOpening, IsBeforeChange, MayBegin, cycle_before}
+use Rattle.card_replay.specs.Replays.{BeginsAgain, HasMarks, IsEve}
+use Rattle.card_replay.specs.Steps.{first_in_cycle}
+use Rattle.card_replay.specs.declared.change.Recorded.TheVariants as recorded
+use Rattle.card_replay.specs.declared.change.Refolded.{Refolded}
 use Rattle.card_replay.specs.declared.eve.Eve.{Eve}
 use Rattle.card_replay.specs.declared.past.Ends.{Ends}
 use Rattle.card_replay.specs.declared.past.Past.{Past}
@@ -48,11 +47,11 @@ use Rattle.card_replay.specs.declared.past.Past.{Past}
 pub number-is : (g : Given) (from : ℕ) {a : Anchor} {k : ℕ} → k ≡ cycle_of a from - 1 → a ≡ anchor_of g.history → k ≡ cycle_before g from
 number-is g from number anchor = number ∙ ap (λ (x : Anchor). cycle_of x from - 1) anchor
 
-pub ends-are : (g : Given) (from : ℕ) (p : Past) (e : Ends) {a : Anchor} {k : ℕ} → k ≡ cycle_of a from - 1 → a ≡ anchor_of g.history → e.cycles ≡ k → (k ≡ 0 → e.entries ≡ 0)
+pub ends-are : (g : Given) (from : ℕ) (p : Past) (e : Ends) {k : ℕ} → k ≡ cycle_before g from → e.cycles ≡ k → (k ≡ 0 → e.entries ≡ 0)
     → ((d : Cycle) → 1 ≤ k → e.entries ≡ (get_or p.track.cycles.items (k - 1) d).entries) → e.fees ≡ length (filter (λ f. nat_le f.cycle k) p.track.fees.items)
     → e.accrued ≡ length (filter (λ a. nat_le a.cycle k) p.accrued.items) → AreEndsOf g from p e
-ends-are g from p e {k = k} number anchor same none some fees accrued = record {
-  cycles = same ∙ number-is g from number anchor;
+ends-are g from p e {k = k} number same none some fees accrued = record {
+  cycles = same ∙ number;
   none = λ z. none (sym same ∙ z);
   some = λ c at.
       let read = cycle-read p.track.cycles.items k c (ap (λ n. cycle_at n p.track.cycles.items) (sym same) ∙ at) in
@@ -60,47 +59,6 @@ ends-are g from p e {k = k} number anchor same none some fees accrued = record {
   fees = fees ∙ ap (λ n. length (filter (λ (f : Fee). nat_le f.cycle n) p.track.fees.items)) (sym same);
   accrued = accrued ∙ ap (λ n. length (filter (λ (x : Accruing). nat_le x.cycle n) p.accrued.items)) (sym same);
 }
-
-pub start-first : (g : Given) (from : ℕ) (again : Summary) → IsOpening (anchor_of g.history) → cycle_before g from ≡ 0 → again.day ≡ None → day_to_fold g again.day ≡ closing (anchor_of g.history) (cycle_of (anchor_of g.history) from - 1) + 1
-start-first g from again open' none dated =
-    let a = anchor_of g.history in
-    let here : day_to_fold g again.day ≡ opened_in g = ap (day_to_fold g) dated in
-    let first : closing a (cycle_of a from - 1) ≡ a.opened - 1 = ap (closing a) none ∙ closing-none a in
-    let low = open'.first in
-    omega (arith, here, first, low)
-
-pub front-ends : (e : Ends) (past front : Past) → AreWithin e past → IsFront e past front → AreEnds e front
-front-ends e past front w is = record {
-  entries = sym (ap length is.entries ∙ long e.entries past.track.entries.items w.entries);
-  cycles = sym (ap length is.cycles ∙ long e.cycles past.track.cycles.items w.cycles);
-  fees = sym (ap length is.fees ∙ long e.fees past.track.fees.items w.fees);
-  since = sym (ap length is.since ∙ long e.cycles past.since.items w.since);
-  accrued = sym (ap length is.accrued ∙ long e.accrued past.accrued.items w.accrued);
-}
-  where
-    long : {A : Type 0} (n : ℕ) (xs : List A) → n ≤ length xs → length (take n xs) ≡ n
-    long zero xs l = refl
-    long (suc n) [] l = absurd (omega (arith, l))
-    long (suc n) (x ∷ xs) l = ap suc (long n xs (omega (arith, l)))
-
--- behind another back the eve stands on
-pub eve-behind : (g : Given) (today : ℕ) (e : Ends) (past back new : Past) (eve : Option Eve) → IsReplaced e past back new → IfSome eve (StandsOn g today e past) → IfSome eve (IsEve g today new)
-eve-behind g today e past back new None r h = tt
-eve-behind g today e past back new (Some v) r h =
-    let s = h.stands in
-    let same = subst (λ u. IsReplaced u past back new) h.ends r in
-    record {
-      day = s.day;
-      folded = s.folded;
-      opened = s.opened;
-      earlier = s.earlier;
-      begins = record {
-        within = replaced-within v.ends past back new s.begins.within same;
-        whole = s.begins.whole;
-        stands = λ front is. s.begins.stands front (replaced-front v.ends past back new front s.begins.within same is);
-        marks = λ front is. s.begins.marks front (replaced-front v.ends past back new front s.begins.within same is);
-      };
-    }
 
 same-day : (x y : ℕ) → Some x ≡ Some y → x ≡ y
 same-day x y e = cc
@@ -114,34 +72,31 @@ pub record IsEarlier (old : Given) (k : ℕ) (b : Summary) (past : Past) (c : Cy
   pub stands : (cut : Track) → IsCutTrack k c past.track cut → StandsFor old earlier cut
 
 -- ---- an account before a change
-module _ {old g : Given} {p : Post} {from today : ℕ} {b : Summary} {past : Past} (h : IsBeforeChange old g p from today b past) where
+module _ {old g : Given} {p : Post} {from reached : ℕ} {b : Summary} {past : Past} (h : IsBeforeChange old g p from reached b past) where
   -- ---- the account before the change
   pub folded-before : AreFolded b past.track
   folded-before = record {
     given = old;
     sound = h.changes.more.sound_before;
-    last = λ day e. let same = same-day today day (sym h.folding.day ∙ e) in let l = h.changes.last in omega (arith, same, l);
+    last = λ day e. let same = same-day reached day (sym h.folding.day ∙ e) in let l = h.changes.last in omega (arith, same, l);
     stands = h.folding.stands;
   }
 
-  opened-before-today : opened_in g ≤ today
-  opened-before-today =
+  pub opened-before-reached : opened_in g ≤ reached
+  opened-before-reached =
       let same = ap (λ (a : Anchor). a.opened) (anchor-stays old g p from h.changes.more) in
-      let low = h.folding.stands.opened today h.folding.day in
+      let low = h.folding.stands.opened reached h.folding.day in
       omega (arith, same, low)
 
-  -- the cycle before the change is closed by today
+  -- the cycle before the change is closed by the day reached
   closed-of : cycle_before g from ≤ length past.track.cycles.items
   closed-of =
       let same = ap (λ (a : Anchor). cycle_of a from - 1) (anchor-stays old g p from h.changes.more) in
-      let closed = closed-then old b past.track from today h.folding.stands h.folding.day h.changes.within in
+      let closed = closed-then old b past.track from reached h.folding.stands h.folding.day h.changes.within in
       omega (arith, same, closed)
 
-  pub closed-at : {a : Anchor} {k : ℕ} → k ≡ cycle_of a from - 1 → a ≡ anchor_of g.history → k ≤ length past.track.cycles.items
-  closed-at number anchor =
-      let is = number-is g from number anchor in
-      let closed = closed-of in
-      omega (arith, is, closed)
+  pub closed-at : {k : ℕ} → k ≡ cycle_before g from → k ≤ length past.track.cycles.items
+  closed-at number = let closed = closed-of in omega (arith, number, closed)
 
   -- a closed cycle has the closing of the calendar
   closing-of : (k : ℕ) (c : Cycle) → cycle_at k past.track.cycles.items ≡ Some c
@@ -149,7 +104,7 @@ module _ {old g : Given} {p : Post} {from today : ℕ} {b : Summary} {past : Pas
   closing-of k c at =
       let l = h.changes.last in
       let cycles = (book_is_the_fold old b past.track h.folding.stands).cycles ∙ ap (λ d. (book_through old d).cycles) h.folding.day in
-      let days = cycles_are_of_the_calendar.days old.history old.issued old.shared today k c h.changes.more.sound_before.opening (omega (arith, l)) (ap (cycle_at k) (sym cycles) ∙ at) in
+      let days = cycles_are_of_the_calendar.days old.history old.issued old.shared reached k c h.changes.more.sound_before.opening (omega (arith, l)) (ap (cycle_at k) (sym cycles) ∙ at) in
       days.closing ∙ ap (λ (a : Anchor). closing a k) (sym (anchor-stays old g p from h.changes.more))
 
   -- one up to the cycle before the change closed before it
@@ -211,28 +166,6 @@ module _ {old g : Given} {p : Post} {from today : ℕ} {b : Summary} {past : Pas
       (subst (λ ss. AreMarks g (take e.cycles past.track.cycles.items) ss front.accrued.items) (sym is.since)
       (subst (λ xs. AreMarks g (take e.cycles past.track.cycles.items) (take e.cycles past.since.items) xs) (sym kept) on))
 
-  -- ---- before the opening
-  blank-front : (front : Past) (e : Ends) → AreEndsOf g from past e → IsFront e past front → e.cycles ≡ 0 → IsBlank front.track
-  blank-front front e ends is z =
-      let fees : past.track.fees.items ≡ (book_on old today).fees = (book_is_the_fold old b past.track h.folding.stands).fees ∙ ap (λ d. (book_through old d).fees) h.folding.day in
-      let none : filter (λ (f : Fee). nat_le f.cycle e.cycles) past.track.fees.items ≡ [] =
-      ap (λ k. filter (λ (f : Fee). nat_le f.cycle k) past.track.fees.items) z ∙ (ap (filter (λ (f : Fee). nat_le f.cycle 0)) fees ∙ no-fees-before old today) in
-      let count : e.fees ≡ 0 = ends.fees ∙ ap (λ (fs : List Fee). length fs) none in
-      record {
-        entries = is.entries ∙ ap (λ n. take n past.track.entries.items) (ends.none z);
-        cycles = is.cycles ∙ ap (λ n. take n past.track.cycles.items) z;
-        fees = is.fees ∙ ap (λ n. take n past.track.fees.items) count;
-      }
-
-  pub start-begins : (again : Summary) (e : Ends) → AreEndsOf g from past e → cycle_before g from ≡ 0
-      → again.whole ≡ true → ((t : Track) → IsBlank t → StandsFor g again t) → BeginsAgain g e past again
-  start-begins again e ends none whole stands = record {
-    within = within-past e ends;
-    whole = whole;
-    stands = λ front is. stands front.track (blank-front front e ends is (ends.cycles ∙ none));
-    marks = λ front is. front-marks front e ends is;
-  }
-
   -- ---- at a closing
   earlier-is : (k : ℕ) (c : Cycle) (since : Option ℕ) (earlier : Summary) → cycle_at k past.track.cycles.items ≡ Some c → slice_get past.since.items (k - 1) ≡ Some since → GoesBack k b past.track since past.accrued.items earlier → earlier.day ≡ Some c.closing → earlier.whole ≡ true
       → IsEarlier old k b past c earlier
@@ -262,10 +195,6 @@ module _ {old g : Given} {p : Post} {from today : ℕ} {b : Summary} {past : Pas
 
   earlier-closing : (c : Cycle) (earlier : Summary) → IsEarlier old (cycle_before g from) b past c earlier → c.closing < from
   earlier-closing c earlier back = early-closing (cycle_before g from) c back.there back.first (omega arith)
-
-  pub earlier-first : (c : Cycle) (earlier again : Summary) → IsEarlier old (cycle_before g from) b past c earlier → again.day ≡ earlier.day → day_to_fold g again.day ≡ closing (anchor_of g.history) (cycle_of (anchor_of g.history) from - 1) + 1
-  earlier-first c earlier again back same =
-      ap (day_to_fold g) (same ∙ back.day) ∙ ap (λ d. d + 1) (closing-of (cycle_before g from) c back.there)
 
   -- where the post sets no rate, it stands on
   pub plain-begins : (e : Ends) (c : Cycle) (earlier : Summary) → AreEndsOf g from past e
@@ -325,47 +254,65 @@ module _ {old g : Given} {p : Post} {from today : ℕ} {b : Summary} {past : Pas
     marks = λ front is. front-marks front e ends is;
   }
 
-  -- ---- folding on behind the front
-  pub closing-begins : (again : Summary) (e : Ends) → BeginsAgain g e past again
-      → day_to_fold g again.day ≡ closing (anchor_of g.history) (cycle_of (anchor_of g.history) from - 1) + 1 → IsBegun g from today past e again
-  closing-begins again e begins first =
-      let early = closed-by-today (anchor_of g.history) from today h.changes.more.sound.opening h.changes.within h.changes.last opened-before-today in
-      record { begins = begins; first = omega (arith, first); later = omega (arith, first, early) }
+  -- ---- what the account is taken back to
+  -- the closing before the change
+  first-closing : (c : Cycle) → cycle_at (cycle_before g from) past.track.cycles.items ≡ Some c → first_in_cycle (anchor_of g.history) from ≡ c.closing + 1
+  first-closing c at = ap (λ d. d + 1) (sym (closing-of (cycle_before g from) c at))
 
-  pub folded-again : (again : Summary) (front : Past) (e : Ends) → IsBegun g from today past e again → IsFront e past front → IsFoldedBefore g again front today
-  folded-again again front e begun is = record {
-    stands = begun.begins.stands front is;
-    marks = begun.begins.marks front is;
-    opened = opened-before-today;
-    later = begun.later;
-    last = h.changes.last;
-  }
+  pub closing-again : {k : ℕ} (day : ℕ) (again : Summary) (e : Ends) → k ≡ cycle_before g from → 1 ≤ k → BeginsAgain g e past again
+      → ((c : Cycle) → cycle_at k past.track.cycles.items ≡ Some c → again.day ≡ Some c.closing)
+      → ((c : Cycle) → cycle_at k past.track.cycles.items ≡ Some c → day ≡ c.closing)
+      → IsAgain g from reached past (record { book = again; reached = day; recorded = recorded.Front e })
+  closing-again {k = k} day again e number some begins dated is = by (cycle-there past.track.cycles.items k (closed-at number))
+    where
+      by : (k ≡ 0) ⊎ ((c : Cycle) × (cycle_at k past.track.cycles.items ≡ Some c)) → IsAgain g from reached past (record { book = again; reached = day; recorded = recorded.Front e })
+      by (inl z) = absurd (omega (arith, some, z))
+      by (inr (c, at)) =
+          let there : cycle_at (cycle_before g from) past.track.cycles.items ≡ Some c = ap (λ n. cycle_at n past.track.cycles.items) (sym number) ∙ at in
+          let early = early-closing (cycle_before g from) c there (omega (arith, some, number)) (omega arith) in
+          let first = first-closing c there in
+          let same = is c at in
+          let within = h.changes.within in
+          record {
+            near = omega (arith, first, same);
+            earlier = omega (arith, same, early, within);
+            folding = λ new front. record {
+              day = dated c at ∙ ap Some (sym same);
+              whole = begins.whole;
+              stands = begins.stands new front;
+              marks = begins.marks new front;
+              eve = tt;
+            };
+          }
 
-  -- ---- from the eve
-  module _ (e : Eve) (m : MayBegin past p from (cycle_before g from) e) (s : IsEve old today past e) where
+  -- the opening day, where none closed before it
+  pub opening-again : (r : Refolded) → cycle_before g from ≡ 0 → IsAtOpening g r → IsAgain g from reached past r
+  opening-again r none is =
+      let a = anchor_of g.history in
+      let first : closing a (cycle_before g from) ≡ a.opened - 1 = ap (closing a) none ∙ closing-none a in
+      let low = opened-before-reached in
+      let day = is.day in
+      record { near = omega (arith, first, day); earlier = omega (arith, low, day); folding = λ new rec. is.folding past new rec }
+
+  -- the eve
+  module _ (e : Eve) (m : MayBegin past p from (cycle_before g from) e) (s : IsEve old reached past e) where
     -- it stands for the account with the post
-    pub eve-stands : IsEve g today past e
+    eve-stands : IsEve g reached past e
     eve-stands =
         let more = h.changes.more in
         let before = m.earlier in
-        eve-on old g today past e more.kept more.sound_before more.sound more.history (ap sets_rates more.post ∙ m.plain)
-        (λ x dated y l. let same = same-day x m.day (sym dated ∙ m.folded) in continues-before old g p from more y (omega (arith, l, same, before))) s
+        eve-on old g reached past e more.kept more.sound_before more.sound more.history (ap sets_rates more.post ∙ m.plain)
+        (λ y l. continues-before old g p from more y (omega (arith, l, before))) s
 
-    within-eve : opened_in g ≤ m.day
-    within-eve =
-        let on = eve-stands in
-        let same = same-day m.day on.day (sym m.folded ∙ on.folded) in
-        let low = on.opened in
-        omega (arith, same, low)
-
-    first-by-eve : closing (anchor_of g.history) (cycle_before g from) ≤ m.day
+    first-by-eve : closing (anchor_of g.history) (cycle_before g from) ≤ e.day
     first-by-eve = by (cycle-there past.track.cycles.items (cycle_before g from) closed-of)
       where
-        by : (cycle_before g from ≡ 0) ⊎ ((c : Cycle) × (cycle_at (cycle_before g from) past.track.cycles.items ≡ Some c)) → closing (anchor_of g.history) (cycle_before g from) ≤ m.day
+        by : (cycle_before g from ≡ 0) ⊎ ((c : Cycle) × (cycle_at (cycle_before g from) past.track.cycles.items ≡ Some c)) → closing (anchor_of g.history) (cycle_before g from) ≤ e.day
         by (inl z) =
             let a = anchor_of g.history in
             let none : closing a (cycle_before g from) ≡ a.opened - 1 = ap (closing a) z ∙ closing-none a in
-            let low = within-eve in
+            let on = eve-stands in
+            let low = on.opened in
             omega (arith, none, low)
         by (inr (c, at)) =
             let closed = m.closed c at in
@@ -373,38 +320,37 @@ module _ {old g : Given} {p : Post} {from today : ℕ} {b : Summary} {past : Pas
             omega (arith, closed, is)
 
     -- and so does a copy of its Book
-    pub eve-begins : (copy : Summary) → copy.day ≡ e.book.day → copy.whole ≡ e.book.whole → ((t : Track) → StandsFor g e.book t → StandsFor g copy t) → IsBegun g from today past e.ends copy
-    eve-begins copy dated whole stands =
+    pub eve-again : (copy : Summary) → copy.day ≡ e.book.day → copy.whole ≡ e.book.whole → ((t : Track) → StandsFor g e.book t → StandsFor g copy t)
+        → IsAgain g from reached past (record { book = copy; reached = e.day; recorded = recorded.Front e.ends })
+    eve-again copy dated whole stands =
         let on = eve-stands in
-        let here : day_to_fold g copy.day ≡ m.day + 1 = ap (day_to_fold g) (dated ∙ m.folded) in
         let first = first-by-eve in
-        let same = same-day m.day on.day (sym m.folded ∙ on.folded) in
-        let earlier = on.earlier in
         record {
-          begins = record {
-            within = on.begins.within;
+          near = omega (arith, first);
+          earlier = on.earlier;
+          folding = λ new front. record {
+            day = dated ∙ on.folded;
             whole = whole ∙ on.begins.whole;
-            stands = λ front is. stands front.track (on.begins.stands front is);
-            marks = on.begins.marks;
+            stands = stands new.track (on.begins.stands new front);
+            marks = on.begins.marks new front;
+            eve = tt;
           };
-          first = omega (arith, here, first);
-          later = omega (arith, here, same, earlier);
         }
 
   -- the Book that was taken back, where what was kept was read from the list
-  pub earlier-found : {a : Anchor} {k : ℕ} {since : Option ℕ} {kept : List Accruing} (earlier : Summary) → k ≡ cycle_of a from - 1 → a ≡ anchor_of g.history → (k ≡ 0 → ⊥)
+  pub earlier-found : {k : ℕ} {since : Option ℕ} {kept : List Accruing} (earlier : Summary) → k ≡ cycle_before g from → 1 ≤ k
       → since ≡ get_or past.since.items (k - 1) since → kept ≡ past.accrued.items → GoesBack k b past.track since kept earlier
       → ((c : Cycle) → cycle_at k past.track.cycles.items ≡ Some c → earlier.day ≡ Some c.closing) → earlier.whole ≡ true → (c : Cycle) × IsEarlier old (cycle_before g from) b past c earlier
-  earlier-found {k = k} {since = since} earlier number anchor some read same goes dated whole = by (cycle-there past.track.cycles.items k (closed-at number anchor))
+  earlier-found {k = k} {since = since} earlier number some read same goes dated whole = by (cycle-there past.track.cycles.items k (closed-at number))
     where
       there : slice_get past.since.items (k - 1) ≡ Some since
       there =
-          let closed = closed-at number anchor in
+          let closed = closed-at number in
           let count = h.folding.marks.count in
           slice_get_read past.since.items (length past.since.items) (k - 1) since refl (omega (arith, closed, count, some)) read
 
       by : (k ≡ 0) ⊎ ((c : Cycle) × (cycle_at k past.track.cycles.items ≡ Some c)) → (c : Cycle) × IsEarlier old (cycle_before g from) b past c earlier
-      by (inl z) = absurd (some z)
+      by (inl z) = absurd (omega (arith, some, z))
       by (inr (c, at)) =
           let back = subst (λ xs. GoesBack k b past.track since xs earlier) same goes in
-          (c, subst (λ n. IsEarlier old n b past c earlier) (number-is g from number anchor) (earlier-is k c since earlier at there back (dated c at) whole))
+          (c, subst (λ n. IsEarlier old n b past c earlier) number (earlier-is k c since earlier at there back (dated c at) whole))

@@ -1,6 +1,6 @@
 -- A prepared post, and the account that takes it.
-use Rattle.std.proofs.Common.{◌≡◌, ℕ, ◌+◌, ◌≤◌, Bool, true, false, List, [], ◌∷◌, ◌++◌, append-nil, length, take, refl, sym, ap, ◌∙◌, subst, arith, Option, Some, None}
-use Rattle.std.specs.Prelude.{IfSome, if◌then◌else◌}
+use Rattle.std.proofs.Common.{◌≡◌, ℕ, ◌+◌, ◌≤◌, true, false, List, [], ◌∷◌, ◌++◌, append-nil, length, min, sym, ap, ◌∙◌, subst, arith, Option, Some, None}
+use Rattle.std.specs.Prelude.{IfSome}
 use Rattle.card_days.specs.declared.anchor.Anchor.{Anchor}
 use Rattle.card_events.specs.History.{anchor_of}
 use Rattle.card_events.specs.SharedRows.{SharedRows}
@@ -18,76 +18,45 @@ use Rattle.card_daily.specs.Given.{Given, IsSound}
 use Rattle.card_book.specs.Stands.{StandsFor, Summary}
 use Rattle.card_replay.proofs.Changed.{same-anchor}
 use Rattle.card_replay.proofs.LaterRows.{some-posts}
-use Rattle.card_replay.proofs.Putback.{marks-same, stands-same}
 use Rattle.card_replay.proofs.Unread.{issues-nothing, unread-stands}
-use Rattle.card_replay.specs.Changes.{HasItsRoom, IsChangeOf, IsCommitted, IsPrepared, IsRefoldedBy, IsTaken, IsUnfolded, issued_as, lists_with}
-use Rattle.card_replay.specs.Pasts.{AreSame, AreWithin, IsReplaced}
+use Rattle.card_replay.specs.Changes.{IsChangeOf, IsCommitted, IsPrepared, IsRefolded, IsRefoldedBy, IsTaken, issued_as, lists_with}
 use Rattle.card_replay.specs.Refolds.{IsAgain}
-use Rattle.card_replay.specs.Replays.{Folding, IsEve, IsFolding, IsReplay, IsToday, Replay, given_of, present_of}
+use Rattle.card_replay.specs.Replays.{Folding, IsEve, IsFolding, IsReplay, MayReach, Replay, given_of, present_of}
+use Rattle.card_replay.specs.Steps.{IsFirstBetween, IsNear, first_in_cycle}
 use Rattle.card_replay.specs.declared.change.Change.{Change}
 use Rattle.card_replay.specs.declared.change.Refolded.{Refolded}
-use Rattle.card_replay.specs.declared.eve.Eve.{Eve}
-use Rattle.card_replay.specs.declared.past.Ends.{Ends}
-use Rattle.card_replay.specs.declared.past.Past.{Past}
 
 -- ---- the folding after it
-pub unfolded-folding : (g : Given) (old new : Folding) → IsUnfolded old new → IsFolding g old → IsFolding g new
-unfolded-folding g old new u h = record {
-  day = ap (λ (b : Summary). b.day) u.book ∙ (h.day ∙ ap Some (sym u.reached));
-  whole = ap (λ (b : Summary). b.whole) u.book ∙ h.whole;
-  stands = subst (λ (b : Summary). StandsFor g b new.past.track) (sym u.book)
-      (stands-same g old.book old.past.track new.past.track (record { entries = u.past.entries; cycles = u.past.cycles; fees = u.past.fees }) h.stands);
-  marks = marks-same g old.past new.past u.past h.marks;
-  eve = subst (λ o. IfSome o (IsEve g new.reached new.past)) (sym u.eve) tt;
-}
-
--- the eve stands on where it was the day from which was folded
-eve-taken : (g : Given) (today : ℕ) (past : Past) (on : Bool) (old new : Option Eve) → new ≡ (if on then old else None) → (on ≡ true → IfSome old (IsEve g today past)) → IfSome new (IsEve g today past)
-eve-taken g today past true old new is stood = subst (λ o. IfSome o (IsEve g today past)) (sym is) (stood refl)
-eve-taken g today past false old new is stood = subst (λ o. IfSome o (IsEve g today past)) (sym is) tt
-
-refolded-folding : (g : Given) (today : ℕ) (b : Summary) (new : Folding) → new.reached ≡ today → new.book ≡ b → IfSome new.eve (IsEve g today new.past) → IsFolding g (record { reached = today; book = b; past = new.past; eve = None }) → IsFolding g new
-refolded-folding g today b new reached book stood h = record {
-  day = ap (λ (s : Summary). s.day) book ∙ (h.day ∙ ap Some (sym reached));
-  whole = ap (λ (s : Summary). s.whole) book ∙ h.whole;
-  stands = subst (λ (s : Summary). StandsFor g s new.past.track) (sym book) h.stands;
+refolded-folding : (g : Given) (x : Refolded) (old new : Folding) → IsRefolded x old new → IsFolding g (record { reached = x.reached; book = x.book; past = new.past; eve = None }) → IsFolding g new
+refolded-folding g x old new taken h = record {
+  day = ap (λ (s : Summary). s.day) taken.book ∙ (h.day ∙ ap Some (sym taken.reached));
+  whole = ap (λ (s : Summary). s.whole) taken.book ∙ h.whole;
+  stands = subst (λ (s : Summary). StandsFor g s new.past.track) (sym taken.book) h.stands;
   marks = h.marks;
-  eve = subst (λ d. IfSome new.eve (IsEve g d new.past)) (sym reached) stood;
+  eve = subst (λ o. IfSome o (IsEve g new.reached new.past)) (sym taken.eve) tt;
 }
 
-replaced-same : (e : Ends) (p q back new : Past) → AreSame p q → IsReplaced e q back new → IsReplaced e p back new
-replaced-same e p q back new s h = record {
-  entries = h.entries ∙ ap (λ l. take e.entries l ++ back.track.entries.items) s.entries;
-  cycles = h.cycles ∙ ap (λ l. take e.cycles l ++ back.track.cycles.items) s.cycles;
-  fees = h.fees ∙ ap (λ l. take e.fees l ++ back.track.fees.items) s.fees;
-  since = h.since ∙ ap (λ l. take e.cycles l ++ back.since.items) s.since;
-  accrued = h.accrued ∙ ap (λ l. take e.accrued l ++ back.accrued.items) s.accrued;
+-- ---- what it is taken back to
+least-left : (x y z : ℕ) → x ≤ z → min x y ≤ z
+least-left x y z l = omega (arith, l)
+
+least-right : (x y z : ℕ) → y ≤ z → min x y ≤ z
+least-right x y z l = omega (arith, l)
+
+-- it stays
+not-refolded : (shared : SharedRows) (today : ℕ) (key : List ℕ) (p : Post) (r : Replay) → IsFolding (given_of (accepted (present_of today shared r.lists) key p) shared) r.folding → IsRefoldedBy shared today key p None r
+not-refolded shared today key p r h = record {
+  earlier = λ f taken. let same = ap (λ (x : Folding). x.reached) taken in omega (arith, same);
+  near = λ f taken from first.
+      let same = ap (λ (x : Folding). x.reached) taken in
+      least-right (first_in_cycle (anchor_of r.lists.posts) from) (r.folding.reached + 1) (f.reached + 1) (omega (arith, same));
+  next = λ f taken. subst (λ (x : Folding). IsFolding (given_of (accepted (present_of today shared r.lists) key p) shared) x) (sym taken) h;
 }
-
-pub within-same : (e : Ends) (p q : Past) → AreSame p q → AreWithin e p → AreWithin e q
-within-same e p q s h =
-    let entries = ap (λ l. length l) s.entries in
-    let cycles = ap (λ l. length l) s.cycles in
-    let fees = ap (λ l. length l) s.fees in
-    let since = ap (λ l. length l) s.since in
-    let accrued = ap (λ l. length l) s.accrued in
-    record {
-      entries = omega (arith, h.entries, entries);
-      cycles = omega (arith, h.cycles, cycles);
-      fees = omega (arith, h.fees, fees);
-      since = omega (arith, h.since, since);
-      accrued = omega (arith, h.accrued, accrued);
-    }
-
--- ---- what was folded again
-pub not-refolded : (shared : SharedRows) (today : ℕ) (key : List ℕ) (p : Post) (r : Replay) → IsFolding (given_of (accepted (present_of today shared r.lists) key p) shared) r.folding → IsRefoldedBy shared today key p None r
-not-refolded shared today key p r h =
-    record { room = tt; next = λ f taken. unfolded-folding (given_of (accepted (present_of today shared r.lists) key p) shared) r.folding f taken h }
 
 -- a post that no fold reads
-pub unread-refolded : (shared : SharedRows) (today : ℕ) (key : List ℕ) (p : Post) (r : Replay) → is_unread p ≡ true → IsToday today shared r → IsSound (given_of (accepted (present_of today shared r.lists) key p) shared)
+pub unread-refolded : (shared : SharedRows) (today : ℕ) (key : List ℕ) (p : Post) (r : Replay) → is_unread p ≡ true → IsReplay shared r → MayReach today r → IsSound (given_of (accepted (present_of today shared r.lists) key p) shared)
     → IsRefoldedBy shared today key p None r
-unread-refolded shared today key p r u h sound = not-refolded shared today key p r (unread-stands today shared r.lists key p r.folding u h.reached h.replay.sound sound h.replay.folding)
+unread-refolded shared today key p r u h may sound = not-refolded shared today key p r (unread-stands today shared r.lists key p r.folding u may.later h.sound sound h.folding)
 
 -- with no row the lists are those with the post alone
 abbrev pub with_post : Lists → List ℕ → ℕ → Post → SharedRows → Given
@@ -105,16 +74,31 @@ with-post shared today key p l u =
 pub late-refolded : (shared : SharedRows) (today : ℕ) (key : List ℕ) (p : Post) (r : Replay) → is_unread p ≡ false → IsFolding (with_post r.lists key today p shared) r.folding → IsRefoldedBy shared today key p None r
 late-refolded shared today key p r u h = not-refolded shared today key p r (subst (λ g. IsFolding g r.folding) (sym (with-post shared today key p r.lists u)) h)
 
-pub again-refolded : (shared : SharedRows) (today : ℕ) (key : List ℕ) (p : Post) (r : Replay) (past : Past) (x : Refolded) → is_unread p ≡ false → r.folding.reached ≡ today → AreSame past r.folding.past
-    → HasItsRoom (Some x) r.folding.past → IsAgain (with_post r.lists key today p shared) today past r.folding.eve x → IsRefoldedBy shared today key p (Some x) r
-again-refolded shared today key p r past x u reached same room again = record {
-  room = room;
+pub again-refolded : (shared : SharedRows) (today : ℕ) (key : List ℕ) (p : Post) (r : Replay) (from : ℕ) (x : Refolded) → is_unread p ≡ false → IsAgain (with_post r.lists key today p shared) from r.folding.reached r.folding.past x
+    → ((day : ℕ) → IsFirstBetween shared r.lists (accepted (present_of today shared r.lists) key p) day → first_in_cycle (anchor_of r.lists.posts) day ≤ x.reached + 1) → IsRefoldedBy shared today key p (Some x) r
+again-refolded shared today key p r from x u again near = record {
+  earlier = λ f taken. let same = taken.reached in let low = again.earlier in omega (arith, same, low);
+  near = λ f taken day first.
+      let same = taken.reached in
+      let low = near day first in
+      least-left (first_in_cycle (anchor_of r.lists.posts) day) (r.folding.reached + 1) (f.reached + 1) (omega (arith, low, same));
   next = λ f taken.
       subst (λ g. IsFolding g f) (sym (with-post shared today key p r.lists u))
-      (refolded-folding (with_post r.lists key today p shared) today x.book f (taken.reached ∙ reached) taken.book
-      (eve-taken (with_post r.lists key today p shared) today f.past x.on_eve r.folding.eve f.eve taken.eve (λ on. again.stands on f.past (replaced-same x.ends past r.folding.past x.back f.past same taken.past)))
-      (again.folding f.past (replaced-same x.ends past r.folding.past x.back f.past same taken.past)));
+      (refolded-folding (with_post r.lists key today p shared) x r.folding f taken (again.folding f.past taken.past));
 }
+
+-- it is so for an account with the same lists and folding
+pub refolded-same : (shared : SharedRows) (today : ℕ) (key : List ℕ) (p : Post) (made : Option Refolded) (old new : Replay) → new.lists ≡ old.lists → new.folding ≡ old.folding → IsRefoldedBy shared today key p made old → IsRefoldedBy shared today key p made new
+refolded-same shared today key p made old new lists folding h = record {
+  earlier = λ f taken. let low = h.earlier f (before f taken) in let same = ap (λ (x : Folding). x.reached) folding in omega (arith, low, same);
+  near = λ f taken.
+      subst (λ (l : Lists). IsNear shared l (accepted (present_of today shared l) key p) new.folding.reached f.reached) (sym lists)
+      (subst (λ (x : Folding). IsNear shared old.lists (accepted (present_of today shared old.lists) key p) x.reached f.reached) (sym folding) (h.near f (before f taken)));
+  next = λ f taken. subst (λ (l : Lists). IsFolding (given_of (accepted (present_of today shared l) key p) shared) f) (sym lists) (h.next f (before f taken));
+}
+  where
+    before : (f : Folding) → IsTaken made new.folding f → IsTaken made old.folding f
+    before f taken = subst (λ (x : Folding). IsTaken made x f) folding taken
 
 -- ---- the account after it
 accepted-most : (ks : List Kept) (k : Kept) (n : ℕ) → last_accepted ks ≤ n → k.accepted ≤ n → last_accepted (ks ++ k ∷ []) ≤ n
@@ -135,76 +119,81 @@ lists-are shared today key p c l h issued =
     ap (λ k. lists_by (l.posts ++ k ∷ []) (l.issued ++ issued_as c.issued)) (kept-same (length l.posts + 1) c key today p h)
     ∙ ap (λ rows. lists_by (l.posts ++ kept_as (length l.posts + 1) key today p ∷ []) (l.issued ++ rows)) issued
 
-record Accepts (opened n : ℕ) (l : Lists) : Type 0 where
-  pub anchor : (anchor_of l.posts).opened ≡ opened
+record Accepts (n : ℕ) (l : Lists) : Type 0 where
   pub timely : AreTimely (anchor_of l.posts).opened l.posts
   pub last : last_accepted l.posts ≤ n
 
-accepts : (shared : SharedRows) (today : ℕ) (key : List ℕ) (p : Post) (r : Replay) → IsToday today shared r → IsReceived (anchor_of r.lists.posts).opened today p
-    → Accepts (anchor_of r.lists.posts).opened today (accepted (present_of today shared r.lists) key p)
+accepts : (shared : SharedRows) (today : ℕ) (key : List ℕ) (p : Post) (r : Replay) → IsReplay shared r → MayReach today r → IsReceived (anchor_of r.lists.posts).opened today p
+    → Accepts today (accepted (present_of today shared r.lists) key p)
 unfolding accepted
-accepts shared today key p r h came =
+accepts shared today key p r h may came =
     let posts = r.lists.posts in
     let k = kept_as (length posts + 1) key today p in
-    let some = some-posts posts h.replay.sound.opening in
-    let same = same-anchor posts k some in
-    let dated = h.replay.dated in
-    let reached = h.reached in
-    let last = h.replay.accepted in
+    let same = same-anchor posts k (some-posts posts h.sound.opening) in
     record {
-      anchor = ap (λ (a : Anchor). a.opened) same;
-      timely = subst (λ (a : Anchor). AreTimely a.opened (posts ++ k ∷ [])) (sym same) (timely-append (anchor_of posts).opened posts k h.replay.timely (record { dated = omega (arith, dated, reached); received = came }));
-      last = accepted-most posts k today (omega (arith, last, reached)) (omega arith);
+      timely = subst (λ (a : Anchor). AreTimely a.opened (posts ++ k ∷ [])) (sym same) (timely-append (anchor_of posts).opened posts k h.timely (record { dated = may.last; received = came }));
+      last = accepted-most posts k today may.accepted (omega arith);
     }
 
-pub taken-reached : (made : Option Refolded) (old new : Folding) → IsTaken made old new → new.reached ≡ old.reached
-taken-reached None old new h = h.reached
-taken-reached (Some x) old new h = h.reached
+-- it stands, and may be brought to today
+record IsNext (shared : SharedRows) (today : ℕ) (new : Replay) : Type 0 where
+  pub replay : IsReplay shared new
+  pub reach : MayReach today new
 
-pub committed-stands : (shared : SharedRows) (today : ℕ) (key : List ℕ) (p : Post) (c : Change) (r new : Replay) → IsToday today shared r → IsChangeOf key today p c
+-- its lists are those with the post
+committed-lists : (shared : SharedRows) (today : ℕ) (key : List ℕ) (p : Post) (c : Change) (r new : Replay) → IsChangeOf key today p c → issued_as c.issued ≡ issues (present_of today shared r.lists) p → IsCommitted shared c r new
+    → new.lists ≡ accepted (present_of today shared r.lists) key p
+committed-lists shared today key p c r new is issued committed = committed.lists ∙ lists-are shared today key p c r.lists is issued
+
+committed-stands : (shared : SharedRows) (today : ℕ) (key : List ℕ) (p : Post) (c : Change) (r new : Replay) → IsReplay shared r → MayReach today r → IsChangeOf key today p c
     → issued_as c.issued ≡ issues (present_of today shared r.lists) p → reason_against (present_of today shared r.lists) p ≡ None → IsSound (given_of (accepted (present_of today shared r.lists) key p) shared)
-    → IsRefoldedBy shared today key p c.refolded r → IsCommitted shared c r new → IsReplay shared new
-committed-stands shared today key p c r new h is issued none sound refolded committed =
-    let lists : new.lists ≡ accepted (present_of today shared r.lists) key p = committed.lists ∙ lists-are shared today key p c r.lists is issued in
-    let all = accepts shared today key p r h (received (present_of today shared r.lists) p none) in
-    let reached = taken-reached c.refolded r.folding new.folding committed.folding in
-    let now = h.reached in
-    let dated = h.replay.dated in
-    let opened = h.replay.opened in
-    let anchor = all.anchor in
-    let last = all.last in
-    let low : (anchor_of (accepted (present_of today shared r.lists) key p).posts).opened ≤ new.folding.reached = omega (arith, anchor, opened, reached) in
-    let most : last_accepted (accepted (present_of today shared r.lists) key p).posts ≤ new.folding.reached = omega (arith, last, reached, now) in
+    → IsRefoldedBy shared today key p c.refolded r → IsCommitted shared c r new → IsNext shared today new
+committed-stands shared today key p c r new h may is issued none sound refolded committed =
+    let lists : new.lists ≡ accepted (present_of today shared r.lists) key p = committed-lists shared today key p c r new is issued committed in
+    let all = accepts shared today key p r h may (received (present_of today shared r.lists) p none) in
+    let folding : IsFolding (given_of (accepted (present_of today shared r.lists) key p) shared) new.folding = refolded.next new.folding committed.folding in
+    let reached = refolded.earlier new.folding committed.folding in
+    let later = may.later in
+    let dated = h.dated in
+    let low : (anchor_of (accepted (present_of today shared r.lists) key p).posts).opened ≤ new.folding.reached = folding.stands.opened new.folding.reached folding.day in
     record {
-      corrected = committed.corrected;
-      sound = subst (λ (l : Lists). IsSound (given_of l shared)) (sym lists) sound;
-      timely = subst (λ (l : Lists). AreTimely (anchor_of l.posts).opened l.posts) (sym lists) all.timely;
-      accepted = subst (λ (l : Lists). last_accepted l.posts ≤ new.folding.reached) (sym lists) most;
-      opened = subst (λ (l : Lists). (anchor_of l.posts).opened ≤ new.folding.reached) (sym lists) low;
-      dated = omega (arith, dated, reached);
-      folding = subst (λ (l : Lists). IsFolding (given_of l shared) new.folding) (sym lists) (refolded.next new.folding committed.folding);
+      replay = record {
+        corrected = committed.corrected;
+        sound = subst (λ (l : Lists). IsSound (given_of l shared)) (sym lists) sound;
+        timely = subst (λ (l : Lists). AreTimely (anchor_of l.posts).opened l.posts) (sym lists) all.timely;
+        opened = subst (λ (l : Lists). (anchor_of l.posts).opened ≤ new.folding.reached) (sym lists) low;
+        dated = omega (arith, dated, reached);
+        folding = subst (λ (l : Lists). IsFolding (given_of l shared) new.folding) (sym lists) folding;
+      };
+      reach = record {
+        later = omega (arith, reached, later);
+        accepted = subst (λ (l : Lists). last_accepted l.posts ≤ today) (sym lists) all.last;
+        last = may.last;
+      };
     }
 
 -- ---- prepared
-pub is-prepared : (shared : SharedRows) (today : ℕ) (key : List ℕ) (p : Post) (c : Change) (r : Replay) → IsToday today shared r → r.has_room ≡ true → IsChangeOf key today p c
+pub is-prepared : (shared : SharedRows) (today : ℕ) (key : List ℕ) (p : Post) (c : Change) (r : Replay) → IsReplay shared r → MayReach today r → r.has_room ≡ true → IsChangeOf key today p c
     → issued_as c.issued ≡ issues (present_of today shared r.lists) p → reason_against (present_of today shared r.lists) p ≡ None → IsSound (given_of (accepted (present_of today shared r.lists) key p) shared)
     → IsRefoldedBy shared today key p c.refolded r → IsPrepared shared c r
-is-prepared shared today key p c r h room is issued none sound refolded =
+is-prepared shared today key p c r h may room is issued none sound refolded =
     let now = present_of today shared r.lists in
-    let dated = h.replay.dated in
-    let reached = h.reached in
+    let last = may.last in
     let day = is.today in
     record {
-      replay = h.replay;
-      reached = reached ∙ sym day;
+      replay = h;
+      reach = subst (λ d. MayReach d r) (sym day) may;
       added = record {
         room = room;
         few = few now p none;
         target = subst (λ (q : Post). target_of q ≤ length r.lists.posts) (sym is.post) (target_there now p none);
-        dated = omega (arith, dated, reached, day);
+        dated = omega (arith, last, day);
         received = subst (λ (q : Post). IsReceived (anchor_of r.lists.posts).opened c.today q) (sym is.post) (subst (λ d. IsReceived (anchor_of r.lists.posts).opened d p) (sym day) (received now p none));
       };
       issued = issued ∙ (ap (issues now) (sym is.post) ∙ ap (λ d. issues (present_of d shared r.lists) c.post) (sym day));
-      room = refolded.room;
-      next = λ new committed. committed-stands shared today key p c r new h is issued none sound refolded committed;
+      next = λ new committed. (committed-stands shared today key p c r new h may is issued none sound refolded committed).replay;
+      reach_next = λ new committed. subst (λ d. MayReach d new) (sym day) (committed-stands shared today key p c r new h may is issued none sound refolded committed).reach;
+      near = λ new committed.
+          subst (λ (l : Lists). IsNear shared r.lists l r.folding.reached new.folding.reached) (sym (committed-lists shared today key p c r new is issued committed))
+          (refolded.near new.folding committed.folding);
     }

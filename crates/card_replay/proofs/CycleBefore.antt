@@ -17,7 +17,6 @@ use Rattle.card_daily.specs.Given.{Given, book_on}
 use Rattle.card_book.proofs.Days.{book_is_the_fold}
 use Rattle.card_book.specs.Stands.{StandsFor, Summary, book_through}
 use Rattle.card_daily.specs.declared.track.Track.{Track}
-use Rattle.card_replay.proofs.NextClosing.{closing-none}
 
 -- ---- its number
 pub none-before : (a : Anchor) (day : ℕ) → day < a.opened → cycle_of a day - 1 ≡ 0
@@ -53,18 +52,6 @@ closed-before a day open' l some = by (cases_lt day a.opened)
     by : (day < a.opened) ⊎ (a.opened ≤ day) → closing a (cycle_of a day - 1) < day
     by (inl early) = let none = none-before a day early in absurd (omega (arith, some, none))
     by (inr low) = (cycle_around a (is-anchor a open') day (cycle_of a day) low (omega (arith, l)) refl).0
-
--- and none of its days comes after a later day, from the opening on
-pub closed-by-today : (a : Anchor) (day today : ℕ) → IsOpening a → day ≤ today → today ≤ last_request_day → a.opened ≤ today → closing a (cycle_of a day - 1) ≤ today
-closed-by-today a day today open' l last opened = by (cases_lt day a.opened)
-  where
-    by : (day < a.opened) ⊎ (a.opened ≤ day) → closing a (cycle_of a day - 1) ≤ today
-    by (inl early) =
-        let zeroed : closing a (cycle_of a day - 1) ≡ a.opened - 1 = ap (closing a) (none-before a day early) ∙ closing-none a in
-        omega (arith, zeroed, opened)
-    by (inr low) =
-        let before = (cycle_around a (is-anchor a open') day (cycle_of a day) low (omega (arith, l, last)) refl).0 in
-        omega (arith, before, l)
 
 -- so by a later day it is closed
 pub closed-then : (g : Given) (b : Summary) (t : Track) (day today : ℕ) → StandsFor g b t → b.day ≡ Some today → day ≤ today → cycle_of (anchor_of g.history) day - 1 ≤ length t.cycles.items

@@ -1,7 +1,8 @@
--- Folding again with a post that is entered for a while.
+-- Going back behind a post that is entered for a while.
 use Rattle.std.proofs.Common.{◌≡◌, ℕ, ◌+◌, ◌<◌, ◌≤◌, ◌⊎◌, inl, inr, Bool, true, false, cond, nat_le, List, [], ◌∷◌, ◌++◌, length, refl, sym, ap, ◌∙◌, subst, arith, Option, Some, None, Result, Ok, Err}
 use Rattle.std.specs.Prelude.{◌==◌, IfOk, IfSome}
 use Rattle.std.proofs.lemmas.Bool.{cases_lt, eqb-true, leb-false}
+use Rattle.card_days.specs.declared.anchor.Anchor.{Anchor}
 use Rattle.card_events.specs.History.{CorrectedPost, anchor_of, corrected}
 use Rattle.card_events.specs.SharedRows.{SharedRows}
 use Rattle.card_events.specs.declared.kept.Kept.{Kept}
@@ -15,19 +16,14 @@ use Rattle.card_posts.specs.Draft.{IsDraft}
 use Rattle.card_posts.specs.Posted.{Posted, StandsFor}
 use Rattle.card_posts.specs.declared.draft.Draft.{Draft}
 use Rattle.card_daily.specs.Given.{IsSound}
-use Rattle.card_book.proofs.StepCounts.{steps_add_up}
-use Rattle.card_book.specs.Stands.{steps_over}
-use Rattle.card_book.specs.StepCounts.{breaks_with}
+use Rattle.card_replay.proofs.Changed.{anchor-stays}
 use Rattle.card_replay.proofs.Committing.{again-refolded, given_with, late-refolded, with-post, with_post}
 use Rattle.card_replay.proofs.LateChange.{late-stands}
-use Rattle.card_replay.proofs.Reached.{folding-back, past_back}
-use Rattle.card_replay.specs.Changes.{HasItsRoom, IsRefoldedBy}
-use Rattle.card_replay.specs.Pasts.{AreSame}
+use Rattle.card_replay.specs.Changes.{IsReadyFor, IsRefoldedBy}
 use Rattle.card_replay.specs.Refolds.{IsAgain, IsOneMore, MayRefoldOn}
-use Rattle.card_replay.specs.Replays.{IsEve, IsReplay, IsToday, Replay, given_of, present_of}
-use Rattle.card_replay.specs.Steps.{AreFewToRefold, first_in_cycle}
+use Rattle.card_replay.specs.Replays.{IsReplay, Replay, given_of, present_of}
+use Rattle.card_replay.specs.Steps.{IsFirstBetween, first_in_cycle}
 use Rattle.card_replay.specs.declared.change.Refolded.{Refolded}
-use Rattle.card_replay.specs.declared.past.Past.{Past}
 
 -- ---- the account with the post among the others
 -- the draft, its first changed day, and the inputs with it
@@ -62,42 +58,20 @@ drafted shared today key name p r old new rows d h u sound posts kept issued nam
       };
     }
 
-pub may-refold : (shared : SharedRows) (today : ℕ) (key : List ℕ) (p : Post) (r : Replay) (from : ℕ) → IsToday today shared r → IsOneMore (given_of r.lists shared) (with_post r.lists key today p shared) p from → from ≤ today
-    → MayRefoldOn (with_post r.lists key today p shared) p from today r.folding.book r.folding.past r.folding.eve
+pub may-refold : (shared : SharedRows) (today : ℕ) (key : List ℕ) (p : Post) (r : Replay) (from : ℕ) → IsReplay shared r → IsOneMore (given_of r.lists shared) (with_post r.lists key today p shared) p from → from ≤ r.folding.reached
+    → MayRefoldOn (with_post r.lists key today p shared) p from r.folding.reached r.folding.book r.folding.past r.folding.eve
 may-refold shared today key p r from h more l =
-    let dated = h.replay.dated in
-    let reached = h.reached in
-    let folding = h.replay.folding in
+    let folding = h.folding in
     record {
       old = given_of r.lists shared;
       before = record {
-        changes = record { more = more; within = l; last = omega (arith, dated, reached) };
-        folding = record { day = folding.day ∙ ap Some reached; whole = folding.whole; stands = folding.stands; marks = folding.marks; eve = tt };
+        changes = record { more = more; within = l; last = h.dated };
+        folding = record { day = folding.day; whole = folding.whole; stands = folding.stands; marks = folding.marks; eve = tt };
       };
-      stood = subst (λ d. IfSome r.folding.eve (IsEve (given_of r.lists shared) d r.folding.past)) reached folding.eve;
+      stood = folding.eve;
     }
 
--- ---- what was folded again
--- the account with its past put back
-abbrev pub with_past : Replay → Past → Replay
-with_past r p = record r { folding = past_back r.folding p }
-
-pub made-refolded : (shared : SharedRows) (today : ℕ) (key : List ℕ) (p : Post) (r : Replay) (q : Past) (from : ℕ) (made : Option Refolded) → is_unread p ≡ false → reason_against (present_of today shared r.lists) p ≡ None
-    → IsToday today shared r → AreSame r.folding.past q → IsOneMore (given_of r.lists shared) (with_post r.lists key today p shared) p from → (made ≡ None → today < from)
-    → IfSome made (IsAgain (with_post r.lists key today p shared) today r.folding.past r.folding.eve) → HasItsRoom made q → IsRefoldedBy shared today key p made (with_past r q)
-made-refolded shared today key p r q from None u none h same more late again room =
-    late-refolded shared today key p (with_past r q) u
-    (late-stands (present_of today shared r.lists) (given_of r.lists shared) (with_post r.lists key today p shared) p from (with_past r q).folding none (late refl) h.reached more
-    (folding-back (given_of r.lists shared) r.folding q same h.replay.folding))
-made-refolded shared today key p r q from (Some x) u none h same more late again room = again-refolded shared today key p (with_past r q) r.folding.past x u h.reached same room again
-
-pub result-refolded : {E : Type 0} (shared : SharedRows) (today : ℕ) (key : List ℕ) (p : Post) (r : Replay) (q : Past) (from : ℕ) (result : Result (Option Refolded) E) → is_unread p ≡ false → reason_against (present_of today shared r.lists) p ≡ None
-    → IsToday today shared r → AreSame r.folding.past q → IsOneMore (given_of r.lists shared) (with_post r.lists key today p shared) p from → IfOk result (λ made. made ≡ None → today < from)
-    → IfOk result (λ made. IfSome made (IsAgain (with_post r.lists key today p shared) today r.folding.past r.folding.eve)) → IfOk result (λ made. HasItsRoom made q) → IfOk result (λ made. IsRefoldedBy shared today key p made (with_past r q))
-result-refolded shared today key p r q from (Ok made) u none h same more late again room = made-refolded shared today key p r q from made u none h same more late again room
-result-refolded shared today key p r q from (Err e) u none h same more late again room = tt
-
--- ---- its steps
+-- ---- the first changed day
 -- the posts of a day are among those up to it
 on-up-to : (day : ℕ) (xs : List CorrectedPost) → on day (up_to day xs) ≡ on day xs
 on-up-to day [] = refl
@@ -110,7 +84,7 @@ on-up-to day (x ∷ xs) = by (nat_le x.day day) refl (x.day == day) refl (on-up-
     by false e true f h = let late = leb-false x.day day e in let same = eqb-true x.day day f in absurd (omega (arith, late, same))
     by false e false f h = h
 
--- there is one first change
+-- there is one
 same-first : (a b : ℕ) (old new : List CorrectedPost) → IsFirstChange a old new → IsFirstChange b old new → b ≤ a
 same-first a b old new h k = by (cases_lt a b)
   where
@@ -121,23 +95,26 @@ same-first a b old new h k = by (cases_lt a b)
 one-first : (a b : ℕ) (old new : List CorrectedPost) → IsFirstChange a old new → IsFirstChange b old new → a ≡ b
 one-first a b old new h k = let low = same-first a b old new h k in let high = same-first b a old new k h in omega (arith, low, high)
 
-pub few-to-refold : (shared : SharedRows) (today : ℕ) (key : List ℕ) (p : Post) (r : Replay) (from before after : ℕ) → is_unread p ≡ false → IsOneMore (given_of r.lists shared) (with_post r.lists key today p shared) p from
-    → after ≤ before + steps_over (with_post r.lists key today p shared) today (first_in_cycle (anchor_of r.lists.posts) from) → AreFewToRefold today shared r.lists key p before after
-few-to-refold shared today key p r from before after u more few = λ day first.
-    let old = given_of r.lists shared in
+-- so the last closing before it is the one that was meant
+near-first : (shared : SharedRows) (today : ℕ) (key : List ℕ) (p : Post) (r : Replay) (from day : ℕ) (x : Refolded) → is_unread p ≡ false → IsOneMore (given_of r.lists shared) (with_post r.lists key today p shared) p from
+    → IsAgain (with_post r.lists key today p shared) from r.folding.reached r.folding.past x → IsFirstBetween shared r.lists (accepted (present_of today shared r.lists) key p) day → first_in_cycle (anchor_of r.lists.posts) day ≤ x.reached + 1
+near-first shared today key p r from day x u more again first =
     let g = with_post r.lists key today p shared in
-    let same = with-post shared today key p r.lists u in
-    let there = subst (λ x. IsFirstChange day (corrected (anchor_of r.lists.posts) shared.holidays r.lists.posts) (corrected (anchor_of x.history) shared.holidays x.history)) same first in
+    let there = subst (λ y. IsFirstChange day (corrected (anchor_of r.lists.posts) shared.holidays r.lists.posts) (corrected (anchor_of y.history) shared.holidays y.history)) (with-post shared today key p r.lists u) first in
     let is : from ≡ day = one-first from day _ _ more.first there in
-    let low = first_in_cycle (anchor_of r.lists.posts) day in
-    let begun = ap (λ d. steps_over g today (first_in_cycle (anchor_of r.lists.posts) d)) is in
-    let most = steps_add_up.few g low low today (omega arith) in
-    let wide = steps_add_up.after old g low today in
-    subst (λ x. after ≤ before + (breaks_with old x low today + 1)) (sym same) (omega (arith, few, begun, most, wide))
+    subst (λ d. first_in_cycle (anchor_of r.lists.posts) d ≤ x.reached + 1) is
+    (subst (λ (a : Anchor). first_in_cycle a from ≤ x.reached + 1) (anchor-stays (given_of r.lists shared) g p from more) again.near)
 
-pub either-few : (today from before after n : ℕ) → (today < from → after ≡ before) → (from ≤ today → after ≤ before + n) → after ≤ before + n
-either-few today from before after n none most = by (cases_lt today from)
-  where
-    by : (today < from) ⊎ (from ≤ today) → after ≤ before + n
-    by (inl l) = let same = none l in omega (arith, same)
-    by (inr l) = most l
+-- ---- what it is taken back to
+pub made-refolded : (shared : SharedRows) (today : ℕ) (key : List ℕ) (p : Post) (r : Replay) (from : ℕ) (made : Option Refolded) → is_unread p ≡ false → reason_against (present_of today shared r.lists) p ≡ None
+    → IsReplay shared r → IsReadyFor today p r → IsOneMore (given_of r.lists shared) (with_post r.lists key today p shared) p from → (made ≡ None → r.folding.reached < from)
+    → IfSome made (IsAgain (with_post r.lists key today p shared) from r.folding.reached r.folding.past) → IsRefoldedBy shared today key p made r
+made-refolded shared today key p r from None u none h ready more late again =
+    late-refolded shared today key p r u (late-stands (present_of today shared r.lists) (given_of r.lists shared) (with_post r.lists key today p shared) p from r.folding none (late refl) ready more h.folding)
+made-refolded shared today key p r from (Some x) u none h ready more late again = again-refolded shared today key p r from x u again (λ day first. near-first shared today key p r from day x u more again first)
+
+pub result-refolded : {E : Type 0} (shared : SharedRows) (today : ℕ) (key : List ℕ) (p : Post) (r : Replay) (from : ℕ) (result : Result (Option Refolded) E) → is_unread p ≡ false → reason_against (present_of today shared r.lists) p ≡ None
+    → IsReplay shared r → IsReadyFor today p r → IsOneMore (given_of r.lists shared) (with_post r.lists key today p shared) p from → IfOk result (λ made. made ≡ None → r.folding.reached < from)
+    → IfOk result (λ made. IfSome made (IsAgain (with_post r.lists key today p shared) from r.folding.reached r.folding.past)) → IfOk result (λ made. IsRefoldedBy shared today key p made r)
+result-refolded shared today key p r from (Ok made) u none h ready more late again = made-refolded shared today key p r from made u none h ready more late again
+result-refolded shared today key p r from (Err e) u none h ready more late again = tt

@@ -11,17 +11,16 @@ pub if-some : {A : Type 0} (o : Option A) (P Q : A → Type 0) → ((x : A) → 
 if-some None P Q f h = tt
 if-some (Some x) P Q f h = f x h
 
--- it is folded to that day
-abbrev pub eve_folding : ℕ → Eve → Past → Folding
-eve_folding day e front = record { reached = day; book = e.book; past = front; eve = None }
+-- it is folded to its day
+abbrev pub eve_folding : Eve → Past → Folding
+eve_folding e front = record { reached = e.day; book = e.book; past = front; eve = None }
 
 -- so it stands for another account where each such folding does
-pub eve-goes-on : (old g : Given) (reached : ℕ) (past : Past) (e : Eve) (h : IsEve old reached past e) → opened_in g ≡ opened_in old
-    → ((front : Past) → IsFront e.ends past front → IsFolding old (eve_folding h.day e front) → IsFolding g (eve_folding h.day e front)) → IsEve g reached past e
+pub eve-goes-on : (old g : Given) (reached : ℕ) (past : Past) (e : Eve) → IsEve old reached past e → opened_in g ≡ opened_in old
+    → ((front : Past) → IsFront e.ends past front → IsFolding old (eve_folding e front) → IsFolding g (eve_folding e front)) → IsEve g reached past e
 eve-goes-on old g reached past e h same goes =
     let opened = h.opened in
     record {
-      day = h.day;
       folded = h.folded;
       opened = omega (arith, opened, same);
       earlier = h.earlier;
@@ -33,5 +32,5 @@ eve-goes-on old g reached past e h same goes =
       };
     }
   where
-    before : (front : Past) → IsFront e.ends past front → IsFolding old (eve_folding h.day e front)
+    before : (front : Past) → IsFront e.ends past front → IsFolding old (eve_folding e front)
     before front is = record { day = h.folded; whole = h.begins.whole; stands = h.begins.stands front is; marks = h.begins.marks front is; eve = tt }

@@ -1,5 +1,5 @@
--- A post that changes nothing up to today leaves what was folded.
-use Rattle.std.proofs.Common.{◌≡◌, ℕ, suc, ◌+◌, ◌<◌, ◌≤◌, ◌⊎◌, inl, inr, true, false, nat_le, List, [], ◌∷◌, ◌++◌, drop, length, refl, sym, ap, ◌∙◌, subst, arith, Option, None}
+-- A post that changes nothing up to the day reached leaves what was folded.
+use Rattle.std.proofs.Common.{◌≡◌, ℕ, suc, ◌+◌, ◌<◌, ◌≤◌, ◌⊎◌, ◌||◌, inl, inr, Bool, true, false, nat_le, List, [], ◌∷◌, ◌++◌, drop, length, refl, sym, ap, ◌∙◌, subst, arith, Option, None}
 use Rattle.std.specs.Prelude.{nat_lt}
 use Rattle.std.specs.List.{All}
 use Rattle.std.proofs.lemmas.Bool.{cases_lt, le-leb, ltb-false}
@@ -18,6 +18,7 @@ use Rattle.card_daily.specs.Given.{Given}
 use Rattle.card_book.specs.GoingOn.{sets_rates}
 use Rattle.card_replay.proofs.Changed.{continues-before}
 use Rattle.card_replay.proofs.Unread.{folding-on}
+use Rattle.card_replay.specs.Needs.{is_bill, needs_today}
 use Rattle.card_replay.specs.Refolds.{IsOneMore}
 use Rattle.card_replay.specs.Replays.{Folding, IsFolding}
 
@@ -105,7 +106,7 @@ early now old g p from day late h l dated =
     (λ n. ap (effective_day (anchor_of g.history) g.shared.holidays g.history n h.kept.accepted) h.post ∙ dated n h.kept.accepted) in
     omega (arith, first, l, late)
 
-pub late-plain : (now : Present) (old g : Given) (p : Post) (from : ℕ) → reason_against now p ≡ None → now.today < from → IsOneMore old g p from → sets_rates p ≡ false
+late-plain : (now : Present) (old g : Given) (p : Post) (from : ℕ) → reason_against now p ≡ None → now.today < from → IsOneMore old g p from → sets_rates p ≡ false
 unfolding effective_day
 late-plain now old g (post.Plan d k r w f) from none late h = absurd (early now old g (post.Plan d k r w f) from d late h (by-today now (post.Plan d k r w f) d refl none) (λ n accepted. refl))
 late-plain now old g (post.Notice d y r w) from none late h = absurd (early now old g (post.Notice d y r w) from d late h (by-today now (post.Notice d y r w) d refl none) (λ n accepted. refl))
@@ -126,7 +127,14 @@ late-plain now old g (post.Refund c) from none late h = refl
 late-plain now old g (post.Amend t d c) from none late h = refl
 
 -- ---- the folding
-pub late-stands : (now : Present) (old g : Given) (p : Post) (from : ℕ) (f : Folding) → reason_against now p ≡ None → now.today < from → f.reached ≡ now.today → IsOneMore old g p from → IsFolding old f → IsFolding g f
-late-stands now old g p from f none late reached h folding =
-    folding-on old g f h.kept h.sound_before h.sound h.history (ap sets_rates h.post ∙ late-plain now old g p from none late h)
-    (λ x l. continues-before old g p from h x (omega (arith, l, late, reached))) folding
+-- a post that sets rates finds today reached, so it changes no later day
+stays-plain : (now : Present) (old g : Given) (p : Post) (from reached : ℕ) → reason_against now p ≡ None → reached < from → (needs_today p ≡ true → reached ≡ now.today) → IsOneMore old g p from → (s : Bool) → sets_rates p ≡ s → sets_rates p ≡ false
+stays-plain now old g p from reached none late ready h false e = e
+stays-plain now old g p from reached none late ready h true e =
+    let same = ready (ap (λ b. b || is_bill p) e) in
+    late-plain now old g p from none (omega (arith, late, same)) h
+
+pub late-stands : (now : Present) (old g : Given) (p : Post) (from : ℕ) (f : Folding) → reason_against now p ≡ None → f.reached < from → (needs_today p ≡ true → f.reached ≡ now.today) → IsOneMore old g p from → IsFolding old f → IsFolding g f
+late-stands now old g p from f none late ready h folding =
+    folding-on old g f h.kept h.sound_before h.sound h.history (ap sets_rates h.post ∙ stays-plain now old g p from f.reached none late ready h (sets_rates p) refl)
+    (λ x l. continues-before old g p from h x (omega (arith, l, late))) folding

@@ -12,6 +12,7 @@ use Rattle.card_model.specs.Cycles.{Cycle}
 use Rattle.card_model.specs.Folds.{cycle_at}
 use Rattle.card_model.specs.Laws.{HistoriesAgree}
 use Rattle.card_posts.proofs.Holidays.{same-corrected}
+use Rattle.card_posts.specs.Posted.{last_accepted}
 use Rattle.card_book.proofs.Agreement.{later_rows_agree}
 use Rattle.card_book.proofs.GoingOn.{agreement_goes_on, books_go_on}
 use Rattle.card_book.proofs.MarksGoOn.{marks_go_on}
@@ -53,14 +54,14 @@ pub some-posts : (history : List Kept) → IsOpening (anchor_of history) → 1 �
 some-posts [] h = let first = h.first in absurd (omega (arith, first))
 some-posts (k ∷ ks) h = omega arith
 
--- a folding of a day up to the one last reached
-rows-on : (old new : SharedRows) (r : Replay) (f : Folding) → IsReplay old r → AreLaterRows r.folding.reached old new → f.reached ≤ r.folding.reached → IfSome f.eve (IsEve (given_of r.lists new) f.reached f.past)
+-- a folding of a day up to this one
+rows-on : (old new : SharedRows) (r : Replay) (day : ℕ) (f : Folding) → IsReplay old r → last_accepted r.lists.posts ≤ day → AreLaterRows day old new → f.reached ≤ day → IfSome f.eve (IsEve (given_of r.lists new) f.reached f.past)
     → IsFolding (given_of r.lists old) f → IsFolding (given_of r.lists new) f
-rows-on old new r f h rows within stood folding =
+rows-on old new r day f h accepted rows within stood folding =
     let was = given_of r.lists old in
     let now = given_of r.lists new in
-    let agree = later_rows_agree r.lists.posts old new r.folding.reached r.folding.reached h.timely h.accepted rows.holidays rows.fees in
-    let there = agree-earlier old new r.lists.posts r.lists.posts f.reached r.folding.reached within agree in
+    let agree = later_rows_agree r.lists.posts old new day day h.timely accepted rows.holidays rows.fees in
+    let there = agree-earlier old new r.lists.posts r.lists.posts f.reached day within agree in
     let continues : Continues was now (Some f.reached) = agreement_goes_on was now f.reached refl there in
     let rates : HaveSameRates was now = rates_go_on was now [] (sym (append-nil r.lists.posts)) (some-posts r.lists.posts h.sound.opening) (All-nil (λ (k : Kept). sets_rates k.post ≡ false)) in
     record {
@@ -86,19 +87,18 @@ rows-on old new r f h rows within stood folding =
         closed-by was f.reached k c (folding.stands.opened f.reached folding.day) (ap (cycle_at k) (sym cycles) ∙ at)
 
 pub later_rows_leave_it : LaterRowsLeaveIt
-later_rows_leave_it old new r h rows sound =
+later_rows_leave_it old new r day h reached accepted rows sound =
     let was = given_of r.lists old in
     let now = given_of r.lists new in
     let f = r.folding in
     record {
-      corrected = h.corrected ∙ same-corrected (anchor_of r.lists.posts) old.holidays new.holidays r.lists.posts h.timely (λ x l. let last = h.accepted in rows.holidays x (omega (arith, l, last)));
+      corrected = h.corrected ∙ same-corrected (anchor_of r.lists.posts) old.holidays new.holidays r.lists.posts h.timely (λ x l. rows.holidays x (omega (arith, l, accepted)));
       sound = sound;
       timely = h.timely;
-      accepted = h.accepted;
       opened = h.opened;
       dated = h.dated;
-      folding = rows-on old new r f h rows (omega arith)
+      folding = rows-on old new r day f h accepted rows reached
           (if-some f.eve (IsEve was f.reached f.past) (IsEve now f.reached f.past)
-          (λ e stood. eve-goes-on was now f.reached f.past e stood refl (λ front is stands. rows-on old new r (eve_folding stood.day e front) h rows stood.earlier tt stands)) h.folding.eve)
+          (λ e stood. let low = stood.earlier in eve-goes-on was now f.reached f.past e stood refl (λ front is stands. rows-on old new r day (eve_folding e front) h accepted rows (omega (arith, low, reached)) tt stands)) h.folding.eve)
           h.folding;
     }

@@ -1,4 +1,3 @@
-pub mod Moving
 pub mod Changed
 pub mod LaterRows
 pub mod KeptLaws
@@ -7,13 +6,11 @@ pub mod Reaching
 pub mod Statements
 pub mod Again
 pub mod CycleBefore
-pub mod FirstFees
 pub mod Marked
 pub mod MarksFront
 pub mod NextClosing
 pub mod CutTrack
 pub mod Parts
-pub mod LaterSteps
 pub mod Unread
 pub mod LateChange
 pub mod Committing

@@ -1,11 +1,12 @@
 -- What stands for a past stands for one with the same lists.
-use Rattle.std.proofs.Common.{◌≡◌, ℕ, sym, ◌∙◌, subst, None}
+use Rattle.std.proofs.Common.{◌≡◌, length, sym, ap, ◌∙◌, subst, arith}
 use Rattle.card_daily.specs.Given.{Given}
 use Rattle.card_daily.specs.declared.track.Track.{Track}
 use Rattle.card_book.specs.Marks.{AreMarks}
 use Rattle.card_book.specs.Stands.{StandsFor, Summary}
-use Rattle.card_replay.specs.Pasts.{AreSame}
-use Rattle.card_replay.specs.Replays.{HasMarks, IsFolding}
+use Rattle.card_replay.specs.Pasts.{AreSame, AreWithin}
+use Rattle.card_replay.specs.Replays.{HasMarks}
+use Rattle.card_replay.specs.declared.past.Ends.{Ends}
 use Rattle.card_replay.specs.declared.past.Past.{Past}
 
 -- two tracks with the same lists
@@ -40,12 +41,18 @@ marks-same g p q e h =
     subst (λ cycles. AreMarks g cycles q.since.items q.accrued.items) (sym e.cycles)
     (subst (λ since. AreMarks g p.track.cycles.items since q.accrued.items) (sym e.since) (subst (λ kept. AreMarks g p.track.cycles.items p.since.items kept) (sym e.accrued) h))
 
--- the folding of an account whose past was put back
-pub folding-same : (g : Given) (reached : ℕ) (b : Summary) (p q : Past) → AreSame p q → IsFolding g (record { reached = reached; book = b; past = p; eve = None }) → IsFolding g (record { reached = reached; book = b; past = q; eve = None })
-folding-same g reached b p q e h = record {
-  day = h.day;
-  whole = h.whole;
-  stands = stands-same g b p.track q.track (record { entries = e.entries; cycles = e.cycles; fees = e.fees }) h.stands;
-  marks = marks-same g p q e h.marks;
-  eve = tt;
-}
+-- and so do the ends within it
+pub within-same : (e : Ends) (p q : Past) → AreSame p q → AreWithin e p → AreWithin e q
+within-same e p q s h =
+    let entries = ap (λ l. length l) s.entries in
+    let cycles = ap (λ l. length l) s.cycles in
+    let fees = ap (λ l. length l) s.fees in
+    let since = ap (λ l. length l) s.since in
+    let accrued = ap (λ l. length l) s.accrued in
+    record {
+      entries = omega (arith, h.entries, entries);
+      cycles = omega (arith, h.cycles, cycles);
+      fees = omega (arith, h.fees, fees);
+      since = omega (arith, h.since, since);
+      accrued = omega (arith, h.accrued, accrued);
+    }

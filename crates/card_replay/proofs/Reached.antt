@@ -1,5 +1,5 @@
 -- An account at the day that it has reached.
-use Rattle.std.proofs.Common.{◌≡◌, ℕ, ◌+◌, ◌≤◌, Bool, true, false, List, [], ◌∷◌, sym, ap, ◌∙◌, subst, arith, Some, None}
+use Rattle.std.proofs.Common.{◌≡◌, ℕ, ◌+◌, ◌≤◌, ◌⊎◌, inl, inr, Bool, true, false, List, [], ◌∷◌, sym, ap, ◌∙◌, subst, arith, Some, None}
 use Rattle.card_days.specs.Range.{last_request_day}
 use Rattle.card_events.specs.History.{CorrectedPost, anchor_of, corrected, opening_in}
 use Rattle.card_events.specs.SharedRows.{SharedRows}
@@ -15,10 +15,10 @@ use Rattle.card_posts.specs.Stored.{AreTimely}
 use Rattle.card_daily.specs.Given.{Given, IsSound}
 use Rattle.card_book.proofs.Days.{book_is_the_fold}
 use Rattle.card_book.specs.Stands.{Summary, book_through, breaks_of, steps_over}
-use Rattle.card_replay.proofs.Committing.{within-same}
 use Rattle.card_replay.proofs.Eves.{if-some}
 use Rattle.card_replay.proofs.Parts.{begins-same, begins-within, same-front}
-use Rattle.card_replay.proofs.Putback.{marks-same, stands-same}
+use Rattle.card_replay.proofs.Putback.{marks-same, stands-same, within-same}
+use Rattle.card_replay.specs.Changes.{IsReadyFor}
 use Rattle.card_replay.specs.Pasts.{AreEnds, AreSame, PastBegins}
 use Rattle.card_replay.specs.Replays.{Folding, FoldsOn, IsEve, IsFolding, HasClosings, IsReplay, IsToday, MayReach, Replay, SameLists, given_of, opened_lists, present_of}
 use Rattle.card_replay.specs.declared.eve.Eve.{Eve}
@@ -36,13 +36,11 @@ seen posts rows corrected has_room f = record { lists = record { posts = posts; 
 -- with another folding of a day that isn't before the one reached
 pub later-replay : (shared : SharedRows) (r : Replay) (f : Folding) → IsReplay shared r → r.folding.reached ≤ f.reached → f.reached ≤ last_request_day → IsFolding (given_of r.lists shared) f → IsReplay shared (record r { folding = f })
 later-replay shared r f h later last folding =
-    let accepted = h.accepted in
     let opened = h.opened in
     record {
       corrected = h.corrected;
       sound = h.sound;
       timely = h.timely;
-      accepted = omega (arith, accepted, later);
       opened = omega (arith, opened, later);
       dated = last;
       folding = folding;
@@ -63,7 +61,6 @@ folding-back g f p same h = record {
   where
     back : (e : Eve) → IsEve g f.reached f.past e → IsEve g f.reached p e
     back e stood = record {
-      day = stood.day;
       folded = stood.folded;
       opened = stood.opened;
       earlier = stood.earlier;
@@ -80,7 +77,6 @@ same-replay shared r p same h = record {
   corrected = h.corrected;
   sound = h.sound;
   timely = h.timely;
-  accepted = h.accepted;
   opened = h.opened;
   dated = h.dated;
   folding = folding-back (given_of r.lists shared) r.folding p same h.folding;
@@ -97,9 +93,8 @@ folds-on shared r today h may = record {
 
 -- the Book that it had before it was folded on is the eve
 pub last-eve : (shared : SharedRows) (r : Replay) (today : ℕ) (p : Past) (e : Ends) → IsReplay shared r → MayReach today r → AreEnds e r.folding.past → PastBegins r.folding.past p
-    → IsEve (given_of r.lists shared) today p (record { book = r.folding.book; ends = e })
+    → IsEve (given_of r.lists shared) today p (record { book = r.folding.book; day = r.folding.reached; ends = e })
 last-eve shared r today p e h may ends begins = record {
-  day = r.folding.reached;
   folded = h.folding.day;
   opened = h.opened;
   earlier = may.later;
@@ -152,7 +147,6 @@ started shared key today p cs room f o opened l sound is reached folding = recor
     corrected = is;
     sound = sound;
     timely = first-timely (opening_in p) today key p o l;
-    accepted = subst (λ d. last_accepted (kept_as 1 key today p ∷ []) ≤ d) (sym reached) (first-last today key p);
     opened = subst (λ d. opening_in p ≤ d) (sym reached) opened;
     dated = subst (λ d. d ≤ last_request_day) (sym reached) l;
     folding = folding;
@@ -160,15 +154,35 @@ started shared key today p cs room f o opened l sound is reached folding = recor
   reached = reached;
 }
 
+pub started-reach : (key : List ℕ) (today : ℕ) (p : Post) (cs : List CorrectedPost) (room : Bool) (f : Folding) → today ≤ last_request_day → f.reached ≡ today → MayReach today (record { lists = opened_lists key today p; corrected = cs; has_room = room; folding = f })
+started-reach key today p cs room f l reached = record { later = omega (arith, reached); accepted = first-last today key p; last = l }
+
 -- ---- an account whose lists stay
 pub same-lists : (a b c : Replay) → SameLists a b → SameLists b c → SameLists a c
 same-lists a b c h k = record { lists = k.lists ∙ h.lists; corrected = k.corrected ∙ h.corrected; room = λ e. k.room (h.room e) }
 
-pub today-same : (shared : SharedRows) (today : ℕ) (old new : Replay) → SameLists old new → new.folding ≡ old.folding → IsToday today shared old → IsToday today shared new
-today-same shared today old new same folding h = record {
-  replay = by-parts shared old.lists new.lists old.corrected new.corrected old.folding new.folding old.has_room new.has_room (sym same.lists) (sym same.corrected) (sym folding) h.replay;
-  reached = ap (λ (f : Folding). f.reached) folding ∙ h.reached;
+-- no post is later
+pub reach-same : (today : ℕ) (old new : Replay) → SameLists old new → new.folding.reached ≤ today → MayReach today old → MayReach today new
+reach-same today old new same later may = record {
+  later = later;
+  accepted = subst (λ (l : Lists). last_accepted l.posts ≤ today) (sym same.lists) may.accepted;
+  last = may.last;
 }
+
+-- it has reached today, or the day that it had reached
+pub within-today : (today : ℕ) (old new : Replay) → MayReach today old → (new.folding.reached ≡ old.folding.reached) ⊎ (new.folding.reached ≡ today) → new.folding.reached ≤ today
+within-today today old new may (inl e) = let low = may.later in omega (arith, e, low)
+within-today today old new may (inr e) = omega (arith, e)
+
+pub either-same : (today : ℕ) (old mid new : Replay) → new.folding ≡ mid.folding → (mid.folding.reached ≡ old.folding.reached) ⊎ (mid.folding.reached ≡ today) → (new.folding.reached ≡ old.folding.reached) ⊎ (new.folding.reached ≡ today)
+either-same today old mid new same (inl e) = inl (ap (λ (f : Folding). f.reached) same ∙ e)
+either-same today old mid new same (inr e) = inr (ap (λ (f : Folding). f.reached) same ∙ e)
+
+pub ready-same : (today : ℕ) (p : Post) (old new : Replay) → new.folding ≡ old.folding → IsReadyFor today p old → IsReadyFor today p new
+ready-same today p old new same ready = λ needs. ap (λ (f : Folding). f.reached) same ∙ ready needs
+
+pub replay-same : (shared : SharedRows) (old new : Replay) → SameLists old new → new.folding ≡ old.folding → IsReplay shared old → IsReplay shared new
+replay-same shared old new same folding h = by-parts shared old.lists new.lists old.corrected new.corrected old.folding new.folding old.has_room new.has_room (sym same.lists) (sym same.corrected) (sym folding) h
   where
     by-parts : (shared : SharedRows) (l m : Lists) (cs ds : List CorrectedPost) (f g : Folding) (a b : Bool) → l ≡ m → cs ≡ ds → f ≡ g → IsReplay shared (record { lists = l; corrected = cs; has_room = a; folding = f }) → IsReplay shared (record { lists = m; corrected = ds; has_room = b; folding = g })
     by-parts shared l m cs ds f g a b e i j k =
@@ -177,7 +191,7 @@ today-same shared today old new same folding h = record {
         (subst (λ (x : Folding). IsReplay shared (record { lists = l; corrected = cs; has_room = b; folding = x })) j (roomy shared l cs f a b k)))
       where
         roomy : (shared : SharedRows) (l : Lists) (cs : List CorrectedPost) (f : Folding) (a b : Bool) → IsReplay shared (record { lists = l; corrected = cs; has_room = a; folding = f }) → IsReplay shared (record { lists = l; corrected = cs; has_room = b; folding = f })
-        roomy shared l cs f a b h = record { corrected = h.corrected; sound = h.sound; timely = h.timely; accepted = h.accepted; opened = h.opened; dated = h.dated; folding = h.folding }
+        roomy shared l cs f a b h = record { corrected = h.corrected; sound = h.sound; timely = h.timely; opened = h.opened; dated = h.dated; folding = h.folding }
 
 -- ---- its closings, over inputs that are its lists
 pub has-closings : (g : Given) (shared : SharedRows) (r : Replay) → g ≡ given_of r.lists shared → IsReplay shared r → HasClosings g r.folding.book r.folding.past

@@ -1,5 +1,5 @@
 -- Folding on, closing by closing: where it begins, and its steps.
-use Rattle.std.proofs.Common.{◌≡◌, ℕ, zero, suc, ◌+◌, ◌-◌, ◌≤◌, Bool, true, false, ◌&&◌, ◌||◌, nat_le, [], refl, sym, subst, arith, Some, None, eq-eqb}
+use Rattle.std.proofs.Common.{◌≡◌, inr, ℕ, zero, suc, ◌+◌, ◌-◌, ◌≤◌, Bool, true, false, ◌&&◌, ◌||◌, nat_le, [], refl, sym, subst, arith, Some, None, eq-eqb}
 use Rattle.std.specs.Prelude.{◌==◌}
 use Rattle.std.specs.List.{list_any}
 use Rattle.std.proofs.lemmas.Bool.{le-leb}
@@ -13,6 +13,8 @@ use Rattle.card_model.specs.Cycles.{Cycle, IssuedRow}
 use Rattle.card_model.specs.CycleDays.{IsOpening}
 use Rattle.card_model.specs.Folds.{cycle_at}
 use Rattle.card_model.specs.Segments.{segments}
+use Rattle.card_model.specs.Spans.{IsSpan}
+use Rattle.card_model.proofs.Spans.{spans_are_steps}
 use Rattle.card_daily.specs.Given.{Given, account_in, book_on, opened_in}
 use Rattle.card_daily.specs.Stands.{IsBlank}
 use Rattle.card_book.proofs.StepCounts.{steps_add_up}
@@ -71,3 +73,11 @@ pub steps-on : (g : Given) (first day to before mid : ℕ) → IsOpening (anchor
 steps-on g first day to before mid open' low e upto within last did =
     let join = steps_add_up.join g first day to open' upto within last (closing-breaks g to day low e) in
     omega (arith, join, did)
+
+-- a day alone is one step
+pub one-step : (g : Given) (day : ℕ) → steps_over g day day ≡ 1
+one-step g day =
+    let alone : IsSpan (breaks_of g day) day 0 day = record { quiet = λ i l. absurd (omega (arith, l)); within = omega arith; ends = inr (omega arith) } in
+    let more = spans_are_steps.one (breaks_of g day) day 0 day alone in
+    let none = spans_are_steps.none (breaks_of g day) (day + 0 + 1) day (omega arith) in
+    omega (arith, more, none)

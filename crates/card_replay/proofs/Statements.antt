@@ -1,5 +1,5 @@
 -- A closed cycle of an account, the Book that is taken back to its closing, and what a Bill issues.
-use Rattle.std.proofs.Common.{◌≡◌, ℕ, ◌+◌, ◌-◌, List, length, refl, ap, subst, Option, Some}
+use Rattle.std.proofs.Common.{◌≡◌, ℕ, ◌+◌, ◌-◌, List, length, refl, ap, subst, true, Option, Some}
 use Rattle.std.specs.Prelude.{slice_get}
 use Rattle.card_book.proofs.Sheets.{closed-through}
 use Rattle.card_book.proofs.Told.{statement-is}
@@ -16,6 +16,7 @@ use Rattle.card_model.specs.Folds.{cycle_at, row_of_cycle}
 use Rattle.card_model.specs.Machine.{issues}
 use Rattle.card_model.specs.Refusals.{Lists, book_today}
 use Rattle.card_replay.specs.Changes.{issued_from, sheet_on}
+use Rattle.card_replay.specs.Needs.{needs_today}
 use Rattle.card_replay.specs.Replays.{HasClosings, given_of, present_of}
 use Rattle.card_replay.specs.declared.past.Past.{Past}
 
@@ -40,9 +41,9 @@ folded-back g b p k c since back sound last h at kept goes dated =
     record { later = b; folded = folded-now g b p sound last h; cycle = c; back = stands-behind g b p k c since back sound h at kept goes dated }
 
 -- ---- what a post issues
-pub issues-are : (today : ℕ) (shared : SharedRows) (lists : Lists) (cycles : List Cycle) (p : Post) → cycles ≡ (book_today (present_of today shared lists)).cycles
+pub issues-are : (today : ℕ) (shared : SharedRows) (lists : Lists) (cycles : List Cycle) (p : Post) → (needs_today p ≡ true → cycles ≡ (book_today (present_of today shared lists)).cycles)
     → issued_from (given_of lists shared) cycles (length lists.posts + 1) today p ≡ issues (present_of today shared lists) p
-issues-are today shared lists cycles (post.Bill cycle) e = ap (λ cs. row_of_cycle cycle (length lists.posts + 1) today (sheet_on (given_of lists shared) today) (cycle_at cycle cs)) e
+issues-are today shared lists cycles (post.Bill cycle) e = ap (λ cs. row_of_cycle cycle (length lists.posts + 1) today (sheet_on (given_of lists shared) today) (cycle_at cycle cs)) (e refl)
 issues-are today shared lists cycles (post.Open d t) e = refl
 issues-are today shared lists cycles (post.Charge d q c) e = refl
 issues-are today shared lists cycles (post.Credit d q c) e = refl

@@ -130,23 +130,20 @@ book-on old g f k before sound history plain continues stood h =
 
 -- the eve does where the account goes on up to its day
 pub eve-on : (old g : Given) (reached : ℕ) (past : Past) (e : Eve) (k : Kept) → IsSound old → IsSound g → g.history ≡ old.history ++ k ∷ [] → sets_rates k.post ≡ false
-    → ((x : ℕ) → e.book.day ≡ Some x → (y : ℕ) → y ≤ x → Continues old g (Some y)) → IsEve old reached past e → IsEve g reached past e
+    → ((x : ℕ) → x ≤ e.day → Continues old g (Some x)) → IsEve old reached past e → IsEve g reached past e
 eve-on old g reached past e k before sound history plain continues h =
     let opened : opened_in g ≡ opened_in old = ap (λ (a : Anchor). a.opened) (ap anchor_of history ∙ same-anchor old.history k (some-posts old.history before.opening)) in
-    eve-goes-on old g reached past e h opened (λ front is stands. book-on old g (eve_folding h.day e front) k before sound history plain (continues h.day h.folded) tt stands)
+    eve-goes-on old g reached past e h opened (λ front is stands. book-on old g (eve_folding e front) k before sound history plain continues tt stands)
 
 pub folding-on : (old g : Given) (f : Folding) (k : Kept) → IsSound old → IsSound g → g.history ≡ old.history ++ k ∷ [] → sets_rates k.post ≡ false
     → ((x : ℕ) → x ≤ f.reached → Continues old g (Some x)) → IsFolding old f → IsFolding g f
 folding-on old g f k before sound history plain continues h =
     book-on old g f k before sound history plain continues
     (if-some f.eve (IsEve old f.reached f.past) (IsEve g f.reached f.past)
-    (λ e was. eve-on old g f.reached f.past e k before sound history plain (λ x dated y l. let same = same-day x was.day (sym dated ∙ was.folded) in let earlier = was.earlier in continues y (omega (arith, l, same, earlier))) was) h.eve)
+    (λ e was. eve-on old g f.reached f.past e k before sound history plain (λ x l. let earlier = was.earlier in continues x (omega (arith, l, earlier))) was) h.eve)
     h
-  where
-    same-day : (x y : ℕ) → Some x ≡ Some y → x ≡ y
-    same-day x y e = cc
 
-pub unread-stands : (today : ℕ) (shared : SharedRows) (lists : Lists) (key : List ℕ) (p : Post) (f : Folding) → is_unread p ≡ true → f.reached ≡ today → IsSound (given_of lists shared)
+pub unread-stands : (today : ℕ) (shared : SharedRows) (lists : Lists) (key : List ℕ) (p : Post) (f : Folding) → is_unread p ≡ true → f.reached ≤ today → IsSound (given_of lists shared)
     → IsSound (given_of (accepted (present_of today shared lists) key p) shared) → IsFolding (given_of lists shared) f → IsFolding (given_of (accepted (present_of today shared lists) key p) shared) f
 unfolding accepted
 unread-stands today shared lists key p f u reached before sound h =

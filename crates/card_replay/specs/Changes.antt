@@ -1,5 +1,5 @@
 -- A post that was prepared for an account, and what taking it makes of the account. Days are day numbers.
-use Rattle.std.specs.Prelude.{◌≡◌, ℕ, ◌+◌, ◌<◌, ◌≤◌, true, List, [], ◌∷◌, ◌++◌, length, Option, Some, None, Bool, false, if◌then◌else◌}
+use Rattle.std.specs.Prelude.{◌≡◌, ℕ, ◌+◌, ◌<◌, ◌≤◌, true, List, [], ◌∷◌, ◌++◌, length, Option, Some, None}
 use Rattle.card_days.specs.Range.{last_request_day}
 use Rattle.card_events.specs.History.{anchor_of, corrected}
 use Rattle.card_events.specs.Limits.{post_limit}
@@ -13,11 +13,12 @@ use Rattle.card_model.specs.Refusals.{Lists}
 use Rattle.card_model.specs.Sheets.{sheet_of}
 use Rattle.card_daily.specs.Given.{Given}
 use Rattle.card_posts.specs.Posted.{IsReceived, target_of}
-use Rattle.card_replay.specs.Pasts.{AreSame, AreWithin, HasRoomFor, IsReplaced}
-use Rattle.card_replay.specs.Replays.{Folding, IsFolding, IsReplay, Replay, given_of, present_of}
+use Rattle.card_replay.specs.Needs.{needs_today}
+use Rattle.card_replay.specs.Pasts.{IsRecorded}
+use Rattle.card_replay.specs.Replays.{Folding, IsFolding, IsReplay, MayReach, Replay, given_of, present_of}
+use Rattle.card_replay.specs.Steps.{IsNear}
 use Rattle.card_replay.specs.declared.change.Change.{Change}
 use Rattle.card_replay.specs.declared.change.Refolded.{Refolded}
-use Rattle.card_replay.specs.declared.past.Past.{Past}
 
 -- the row that was issued, if one was
 abbrev pub issued_as : Option IssuedRow → List IssuedRow
@@ -52,27 +53,15 @@ lists_with c l =
       issued = l.issued ++ issued_as c.issued;
     }
 
--- whether it was folded again from the eve
-abbrev pub is_on_eve : Option Refolded → Bool
-is_on_eve None = false
-is_on_eve (Some r) = r.on_eve
-
--- The folding stays where nothing was folded again, but for the eve; else the Book is the one that was, and its past stands behind
--- the day from which it was. The eve stands on where that was its day
-pub record IsUnfolded (old new : Folding) : Type 0 where
-  pub reached : new.reached ≡ old.reached
-  pub book : new.book ≡ old.book
-  pub past : AreSame old.past new.past
+-- The folding stays where the post takes it nowhere; else it is that of the earlier day, and there is no eve
+pub record IsRefolded (r : Refolded) (old new : Folding) : Type 0 where
+  pub reached : new.reached ≡ r.reached
+  pub book : new.book ≡ r.book
+  pub past : IsRecorded r.recorded old.past new.past
   pub eve : new.eve ≡ None
 
-pub record IsRefolded (r : Refolded) (old new : Folding) : Type 0 where
-  pub reached : new.reached ≡ old.reached
-  pub book : new.book ≡ r.book
-  pub past : IsReplaced r.ends old.past r.back new.past
-  pub eve : new.eve ≡ (if r.on_eve then old.eve else None)
-
 abbrev pub IsTaken : Option Refolded → Folding → Folding → Type 0
-IsTaken None old new = IsUnfolded old new
+IsTaken None old new = new ≡ old
 IsTaken (Some r) old new = IsRefolded r old new
 
 -- The account after the post. That is all that is said of it, so where this post was prepared it follows that it stands
@@ -90,27 +79,26 @@ pub record MayBeAdded (c : Change) (r : Replay) : Type 0 where
   pub dated : c.today ≤ last_request_day
   pub received : IsReceived (anchor_of r.lists.posts).opened c.today c.post
 
--- what was folded again has its place in the past, and room there
-pub record HasPlace (r : Refolded) (p : Past) : Type 0 where
-  pub within : AreWithin r.ends p
-  pub room : HasRoomFor r.ends r.back p
+-- it has reached today, where the post asks for that
+abbrev pub IsReadyFor : ℕ → Post → Replay → Type 0
+IsReadyFor today p r = needs_today p ≡ true → r.folding.reached ≡ today
 
-abbrev pub HasItsRoom : Option Refolded → Past → Type 0
-HasItsRoom None p = Unit {0}
-HasItsRoom (Some r) p = HasPlace r p
-
--- The post was prepared for this account: it has reached today, the row is the one that the post issues, and whatever it becomes by
--- taking the post, it stands
+-- The post was prepared for this account: the row is the one that the post issues, and whatever the account becomes by taking the
+-- post, it stands, and may be brought to today, from a day that isn't before the last closing before the change
 pub record IsPrepared (shared : SharedRows) (c : Change) (r : Replay) : Type 0 where
   pub replay : IsReplay shared r
-  pub reached : r.folding.reached ≡ c.today
+  pub reach : MayReach c.today r
   pub added : MayBeAdded c r
   pub issued : issued_as c.issued ≡ issues (present_of c.today shared r.lists) c.post
-  pub room : HasItsRoom c.refolded r.folding.past
   pub next : (new : Replay) → IsCommitted shared c r new → IsReplay shared new
+  pub reach_next : (new : Replay) → IsCommitted shared c r new → MayReach c.today new
+  pub near : (new : Replay) → IsCommitted shared c r new → IsNear shared r.lists new.lists r.folding.reached new.folding.reached
 
--- what was folded again for this post, if anything was: whatever the account becomes by taking it, it stands
+-- what this post takes the account back to, if to anything: whatever the account becomes by taking it, it stands at the end of a day
+-- that isn't after the one that was reached, nor before the last closing before the change
 pub record IsRefoldedBy (shared : SharedRows) (today : ℕ) (key : List ℕ) (p : Post) (made : Option Refolded) (r : Replay) : Type 0 where
-  pub room : HasItsRoom made r.folding.past
+  pub earlier : (f : Folding) → IsTaken made r.folding f → f.reached ≤ r.folding.reached
+  pub near :
+      (f : Folding) → IsTaken made r.folding f → IsNear shared r.lists (accepted (present_of today shared r.lists) key p) r.folding.reached f.reached
   pub next :
       (f : Folding) → IsTaken made r.folding f → IsFolding (given_of (accepted (present_of today shared r.lists) key p) shared) f

@@ -1,8 +1,9 @@
 -- Laws of accounts with a folded book.
-use Rattle.std.specs.Prelude.{ℕ, ◌≡◌, Some}
+use Rattle.std.specs.Prelude.{ℕ, ◌≡◌, ◌≤◌, Some}
 use Rattle.card_events.specs.SharedRows.{SharedRows}
 use Rattle.card_model.specs.Cycles.{Cycle}
 use Rattle.card_model.specs.Folds.{cycle_at}
+use Rattle.card_posts.specs.Posted.{last_accepted}
 use Rattle.card_daily.specs.Given.{IsSound}
 use Rattle.card_daily.specs.declared.track.Track.{Track}
 use Rattle.card_book.specs.Rewound.{IsRewound}
@@ -20,7 +21,8 @@ KeptClosingsAreTheFold =
     → cycle_at k r.folding.past.track.cycles.items ≡ Some c
     → IsRewound (given_of r.lists shared) k c r.folding.book r.folding.past.track back cut → IsTheFold (given_of r.lists shared) back cut
 
--- Holidays and fee rows of days after the one last reached leave it standing
+-- Holidays and fee rows of days after one that comes neither before the day last reached nor before a post was accepted leave it
+-- standing
 abbrev pub LaterRowsLeaveIt : Type 0
 LaterRowsLeaveIt =
-    (old new : SharedRows) (r : Replay) → IsReplay old r → AreLaterRows r.folding.reached old new → IsSound (given_of r.lists new) → IsReplay new r
+    (old new : SharedRows) (r : Replay) (day : ℕ) → IsReplay old r → r.folding.reached ≤ day → last_accepted r.lists.posts ≤ day → AreLaterRows day old new → IsSound (given_of r.lists new) → IsReplay new r

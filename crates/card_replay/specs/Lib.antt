@@ -4,3 +4,4 @@ pub mod Pasts
 pub mod Refolds
 pub mod Replays
 pub mod Steps
+pub mod Needs

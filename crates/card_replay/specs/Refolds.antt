@@ -1,5 +1,5 @@
--- Folding again from a closing on, after one more post. Days are day numbers.
-use Rattle.std.specs.Prelude.{◌≡◌, ℕ, ◌+◌, ◌-◌, ◌≤◌, true, [], ◌∷◌, ◌++◌, length, nat_le, Some, ◌<◌, false, Option, None, IfSome}
+-- Going back to a closing, or to the eve, after one more post. Days are day numbers.
+use Rattle.std.specs.Prelude.{◌≡◌, ℕ, ◌+◌, ◌-◌, ◌<◌, ◌≤◌, false, [], ◌∷◌, ◌++◌, length, nat_le, Option, Some, None, IfSome}
 use Rattle.std.specs.List.{filter}
 use Rattle.card_days.specs.Billing.{cycle_of}
 use Rattle.card_days.specs.Range.{last_request_day}
@@ -9,11 +9,11 @@ use Rattle.card_events.specs.declared.post.Post.{Post}
 use Rattle.card_model.specs.Cycles.{Cycle}
 use Rattle.card_model.specs.Folds.{cycle_at}
 use Rattle.card_posts.specs.Change.{IsFirstChange}
-use Rattle.card_book.specs.Stands.{Summary, day_to_fold}
-use Rattle.card_daily.specs.Given.{Given, IsSound}
+use Rattle.card_book.specs.Stands.{Summary}
+use Rattle.card_daily.specs.Given.{Given, IsSound, opened_in}
 use Rattle.card_book.specs.GoingOn.{sets_rates}
-use Rattle.card_replay.specs.Pasts.{AreJoined, AreWithin, IsReplaced}
-use Rattle.card_replay.specs.Replays.{BeginsAgain, IsEve, IsFolding}
+use Rattle.card_replay.specs.Pasts.{IsRecorded}
+use Rattle.card_replay.specs.Replays.{IsEve, IsFolding}
 use Rattle.card_replay.specs.Steps.{first_in_cycle}
 use Rattle.card_replay.specs.declared.change.Refolded.{Refolded}
 use Rattle.card_replay.specs.declared.eve.Eve.{Eve}
@@ -44,54 +44,42 @@ pub record IsOneMore (old g : Given) (p : Post) (from : ℕ) : Type 0 where
   pub sound : IsSound g
   pub first : IsFirstChange from (corrected (anchor_of old.history) old.shared.holidays old.history) (corrected (anchor_of g.history) g.shared.holidays g.history)
 
--- and that day isn't after today
-pub record Changes (old g : Given) (p : Post) (from today : ℕ) : Type 0 where
+-- and that day isn't after the one last reached
+pub record Changes (old g : Given) (p : Post) (from reached : ℕ) : Type 0 where
   pub more : IsOneMore old g p from
-  pub within : from ≤ today
-  pub last : today ≤ last_request_day
+  pub within : from ≤ reached
+  pub last : reached ≤ last_request_day
 
--- a Book of today and its past stand for the account without the post
-pub record IsBeforeChange (old g : Given) (p : Post) (from today : ℕ) (b : Summary) (past : Past) : Type 0 where
-  pub changes : Changes old g p from today
-  pub folding : IsFolding old (record { reached = today; book = b; past = past; eve = None })
+-- the Book of the day reached and its past stand for the account without the post
+pub record IsBeforeChange (old g : Given) (p : Post) (from reached : ℕ) (b : Summary) (past : Past) : Type 0 where
+  pub changes : Changes old g p from reached
+  pub folding : IsFolding old (record { reached = reached; book = b; past = past; eve = None })
 
 -- so they do for some account
-pub record MayRefold (g : Given) (p : Post) (from today : ℕ) (b : Summary) (past : Past) : Type 0 where
+pub record MayRefold (g : Given) (p : Post) (from reached : ℕ) (b : Summary) (past : Past) : Type 0 where
   pub old : Given
-  pub before : IsBeforeChange old g p from today b past
+  pub before : IsBeforeChange old g p from reached b past
 
 -- and the eve stands for it too, where there is one
-pub record MayRefoldOn (g : Given) (p : Post) (from today : ℕ) (b : Summary) (past : Past) (eve : Option Eve) : Type 0 where
+pub record MayRefoldOn (g : Given) (p : Post) (from reached : ℕ) (b : Summary) (past : Past) (eve : Option Eve) : Type 0 where
   pub old : Given
-  pub before : IsBeforeChange old g p from today b past
-  pub stood : IfSome eve (IsEve old today past)
+  pub before : IsBeforeChange old g p from reached b past
+  pub stood : IfSome eve (IsEve old reached past)
 
 -- the change sets no rate, it comes after the eve, and the cycle with this number, where there is one, was closed by then
 pub record MayBegin (past : Past) (p : Post) (from cycle : ℕ) (e : Eve) : Type 0 where
   pub plain : sets_rates p ≡ false
-  pub day : ℕ
-  pub folded : e.book.day ≡ Some day
-  pub earlier : day < from
-  pub closed : (c : Cycle) → cycle_at cycle past.track.cycles.items ≡ Some c → c.closing ≤ day
+  pub earlier : e.day < from
+  pub closed : (c : Cycle) → cycle_at cycle past.track.cycles.items ≡ Some c → c.closing ≤ e.day
 
--- A Book from which the change is folded again: it stands for the account with the post, and its next day isn't before the first
--- of the cycle, nor after tomorrow
-pub record IsBegun (g : Given) (from today : ℕ) (past : Past) (e : Ends) (b : Summary) : Type 0 where
-  pub begins : BeginsAgain g e past b
-  pub first : first_in_cycle (anchor_of g.history) from ≤ day_to_fold g b.day
-  pub later : day_to_fold g b.day ≤ today + 1
+-- What the account is taken back to: it stands for the account with the post, at the end of a day that isn't after the one reached,
+-- nor before the last closing before the change
+pub record IsAgain (g : Given) (from reached : ℕ) (past : Past) (r : Refolded) : Type 0 where
+  pub near : first_in_cycle (anchor_of g.history) from ≤ r.reached + 1
+  pub earlier : r.reached ≤ reached
+  pub folding : (new : Past) → IsRecorded r.recorded past new → IsFolding g (record { reached = r.reached; book = r.book; past = new; eve = None })
 
--- The eve from which it was begun stands for the account with the post
-pub record StandsOn (g : Given) (today : ℕ) (e : Ends) (past : Past) (eve : Eve) : Type 0 where
-  pub ends : e ≡ eve.ends
-  pub stands : IsEve g today past eve
-
--- What was folded again: with the front it stands for the account with the post, at the end of today
-pub record IsAgain (g : Given) (today : ℕ) (past : Past) (eve : Option Eve) (r : Refolded) : Type 0 where
-  pub within : AreWithin r.ends past
-  pub folding : (new : Past) → IsReplaced r.ends past r.back new → IsFolding g (record { reached = today; book = r.book; past = new; eve = None })
-  pub stands : r.on_eve ≡ true → (new : Past) → IsReplaced r.ends past r.back new → IfSome eve (IsEve g today new)
-
--- a Book of today, with a front and the back that was folded behind it
-abbrev pub IsFoldedBehind : Given → ℕ → Summary → Past → Past → Type 0
-IsFoldedBehind g today b front back = (new : Past) → AreJoined front back new → IsFolding g (record { reached = today; book = b; past = new; eve = None })
+-- The opening day, folded anew
+pub record IsAtOpening (g : Given) (r : Refolded) : Type 0 where
+  pub day : r.reached ≡ opened_in g
+  pub folding : (old new : Past) → IsRecorded r.recorded old new → IsFolding g (record { reached = r.reached; book = r.book; past = new; eve = None })

@@ -79,10 +79,9 @@ pub record BeginsAgain (g : Given) (e : Ends) (past : Past) (b : Summary) : Type
 
 -- so does the Book of a day that isn't after the one last reached
 pub record IsEve (g : Given) (reached : ℕ) (past : Past) (e : Eve) : Type 0 where
-  pub day : ℕ
-  pub folded : e.book.day ≡ Some day
-  pub opened : opened_in g ≤ day
-  pub earlier : day ≤ reached
+  pub folded : e.book.day ≡ Some e.day
+  pub opened : opened_in g ≤ e.day
+  pub earlier : e.day ≤ reached
   pub begins : BeginsAgain g e.ends past e.book
 
 -- The folding stands for the account's book at the end of the day last reached, with the mark of each closing up to then
@@ -93,13 +92,12 @@ pub record IsFolding (g : Given) (f : Folding) : Type 0 where
   pub marks : HasMarks g f.past
   pub eve : IfSome f.eve (IsEve g f.reached f.past)
 
--- What always holds of an account under these shared rows: the corrected list is that of its posts, it may be folded, no post was
--- accepted after the day last reached, and what is kept of its book is the book
+-- What always holds of an account under these shared rows: the corrected list is that of its posts, it may be folded, and what is
+-- kept of its book is the book of the day last reached. Posts may have been accepted later
 pub record IsReplay (shared : SharedRows) (r : Replay) : Type 0 where
   pub corrected : r.corrected ≡ corrected (anchor_of r.lists.posts) shared.holidays r.lists.posts
   pub sound : IsSound (given_of r.lists shared)
   pub timely : AreTimely (anchor_of r.lists.posts).opened r.lists.posts
-  pub accepted : last_accepted r.lists.posts ≤ r.folding.reached
   pub opened : (anchor_of r.lists.posts).opened ≤ r.folding.reached
   pub dated : r.folding.reached ≤ last_request_day
   pub folding : IsFolding (given_of r.lists shared) r.folding
@@ -125,9 +123,10 @@ pub record FoldsOn (g : Given) (today : ℕ) (b : Summary) (p : Past) : Type 0 w
   pub later : reached ≤ today
   pub last : today ≤ last_request_day
 
--- today isn't before the day last reached, and may be folded
+-- today isn't before the day last reached, nor before one on which a post was accepted, and may be folded
 pub record MayReach (today : ℕ) (r : Replay) : Type 0 where
   pub later : r.folding.reached ≤ today
+  pub accepted : last_accepted r.lists.posts ≤ today
   pub last : today ≤ last_request_day
 
 -- ---- what stays
@@ -137,7 +136,7 @@ pub record SameLists (old new : Replay) : Type 0 where
   pub corrected : new.corrected ≡ old.corrected
   pub room : old.has_room ≡ true → new.has_room ≡ true
 
--- shared rows that an account doesn't see before the day after the one last reached
-pub record AreLaterRows (reached : ℕ) (old new : SharedRows) : Type 0 where
-  pub holidays : AgreeUpTo reached old.holidays new.holidays
-  pub fees : fees_up_to reached new ≡ fees_up_to reached old
+-- shared rows that no account sees before the day after this one
+pub record AreLaterRows (day : ℕ) (old new : SharedRows) : Type 0 where
+  pub holidays : AgreeUpTo day old.holidays new.holidays
+  pub fees : fees_up_to day new ≡ fees_up_to day old

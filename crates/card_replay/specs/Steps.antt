@@ -37,6 +37,11 @@ abbrev pub breaks_changed : ℕ → SharedRows → Lists → Lists → ℕ → �
 breaks_changed today shared old new reached from =
     breaks_with (given_of old shared) (given_of new shared) (min (first_in_cycle (anchor_of old.posts) from) reached) today
 
+-- a day isn't before another one, or else not before the last closing before the first day that differs
+abbrev pub IsNear : SharedRows → Lists → Lists → ℕ → ℕ → Type 0
+IsNear shared old new before after =
+    (from : ℕ) → IsFirstBetween shared old new from → min (first_in_cycle (anchor_of old.posts) from) (before + 1) ≤ after + 1
+
 -- to fold again, one step for each of the break days from the first day of that cycle on, and one more
 abbrev pub AreFewAgain : ℕ → SharedRows → Lists → Lists → ℕ → ℕ → Type 0
 AreFewAgain today shared old new before after =
@@ -48,10 +53,6 @@ abbrev pub AreFewSteps : ℕ → SharedRows → Lists → Lists → ℕ → ℕ 
 AreFewSteps today shared old new reached before after =
     AreFewAgain today shared old new (before + steps_over (given_of old shared) today (reached + 1)) after
 
--- to fold again for a post that is accepted today under a key
-abbrev pub AreFewToRefold : ℕ → SharedRows → Lists → List ℕ → Post → ℕ → ℕ → Type 0
-AreFewToRefold today shared lists key p before after = AreFewAgain today shared lists (accepted (present_of today shared lists) key p) before after
-
--- and to prepare it, from the day last reached on
+-- to prepare a post that is accepted today under a key, from the day last reached on
 abbrev pub AreFewToPrepare : ℕ → SharedRows → Lists → ℕ → List ℕ → Post → ℕ → ℕ → Type 0
 AreFewToPrepare today shared lists reached key p before after = AreFewSteps today shared lists (accepted (present_of today shared lists) key p) reached before after

@@ -5,18 +5,24 @@ use card_book::{Book, Issued};
 use card_days::Day;
 use card_events::{Name, Post};
 
-/// What a post changes of what was folded: the Book of today, and, behind the day from which it was folded again, what is
-/// recorded; and whether that day was the eve, which then stands on.
+/// What is recorded up to an earlier day: the front of what was, or, on the opening day, what was folded anew.
+#[derive(Drop)]
+pub enum Recorded {
+    Front(Ends),
+    Anew(Past),
+}
+
+/// What a post takes an account back to: the Book at the end of an earlier day, that day, and what is recorded up to then. With the
+/// post among the others it is folded on from there when it is next asked.
 #[derive(Drop)]
 pub struct Refolded {
-    pub ends: Ends,
     pub book: Book,
-    pub back: Past,
-    pub on_eve: bool,
+    pub reached: Day,
+    pub recorded: Recorded,
 }
 
 /// A post that was prepared for an account: its key, the day on which it is accepted, the statement that it issues, and what it
-/// changes of what was folded, None where it changes nothing up to today.
+/// takes the account back to, None where it changes nothing up to the day last reached.
 #[derive(Drop)]
 pub struct Change {
     pub key: Name,

@@ -1,9 +1,11 @@
 use crate::past::Ends;
 use card_book::Book;
+use card_days::Day;
 
-/// A Book of a day before the one last reached, and where the lists of the past ended at the end of that day.
+/// A Book of a day before the one last reached, that day, and where the lists of the past ended at its end.
 #[derive(Drop)]
 pub struct Eve {
     pub book: Book,
+    pub day: Day,
     pub ends: Ends,
 }

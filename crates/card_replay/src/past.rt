@@ -1,12 +1,11 @@
 // What is recorded of an account up to the day last reached.
-ghost use Rattle.std.specs.Prelude.{◌≡◌, ◌+◌, ◌-◌, ◌<◌, ◌≤◌, ◌++◌, [], nat_le, length, take, drop, slice_index_or, vec_len, vec_capacity, IfOk, OnOk, OnErr};
+ghost use Rattle.std.specs.Prelude.{◌≡◌, ◌-◌, ◌≤◌, nat_le, length, slice_index_or};
 ghost use Rattle.std.specs.List.{filter};
 ghost use Rattle.card_model.specs.Cycles.{Cycle};
-ghost use Rattle.card_replay.specs.Pasts.{AreEnds, AreJoined, AreSame, AreWithin, HasRoomBehind, HasRoomFor, IsBack, IsEmpty, IsFront, KeepsRooms};
+ghost use Rattle.card_replay.specs.Pasts.{AreEnds, IsEmpty, IsFront, KeepsRooms};
 
 use card_book::{Accruing, Track, fees_up_to};
 use card_days::Day;
-use card_units::NoMemory;
 use std::alloc::Global;
 
 /// The entries, the closed cycles and the penalty fees of an account, each in order; of each closed cycle the first day of the run
@@ -108,105 +107,4 @@ pub fn cut(past: &mut Past, ends: &Ends)
     past.track.fees.truncate(ends.fees);
     past.since.truncate(ends.cycles);
     past.accrued.truncate(ends.accrued);
-}
-
-// Puts a back behind a front, list by list, where each has room for it. It takes no memory.
-fn append_all<T>(list: &mut Vec<T>, back: &mut Vec<T>)
-    requires room { vec_len list.old + vec_len back.old ≤ vec_capacity list.old }
-    ensures items { list.new.items ≡ list.old.items ++ back.old.items }
-    ensures capacity { vec_capacity list.old ≤ vec_capacity list.new }
-{
-    let _ = list.append(back);
-}
-
-/// Puts a back behind a front that has room for it. It takes no memory.
-pub fn join(past: &mut Past, back: &mut Past, ends: &Ends)
-    requires ends { AreEnds ends.now past.old }
-    requires room { HasRoomFor ends.now back.old past.old }
-    ensures joined { AreJoined past.old back.old past.new }
-    ensures room { KeepsRooms past.old past.new }
-{
-    append_all(&mut past.track.entries, &mut back.track.entries);
-    append_all(&mut past.track.cycles, &mut back.track.cycles);
-    append_all(&mut past.track.fees, &mut back.track.fees);
-    append_all(&mut past.since, &mut back.since);
-    append_all(&mut past.accrued, &mut back.accrued);
-}
-
-// A list with room for so many, which holds nothing.
-fn with_room<T: Drop>(alloc: Global, count: usize) -> Result<Vec<T>, NoMemory>
-    ensures items { IfOk result (λ list. list.items ≡ []) }
-    ensures room { IfOk result (λ list. count ≤ vec_capacity list) }
-{
-    let mut list = Vec::new(alloc);
-    list.reserve_exact(count)?;
-    Ok(list)
-}
-
-// Room for what lies behind the ends.
-fn room_behind(alloc: Global, past: &Past, ends: &Ends) -> Result<Past, NoMemory>
-    requires within { AreWithin ends.now past.now }
-    ensures empty { IfOk result IsEmpty }
-    ensures room { IfOk result (HasRoomBehind ends.now past.now) }
-{
-    Ok(Past {
-        track: Track {
-            entries: with_room(alloc, past.track.entries.len() - ends.entries)?,
-            cycles: with_room(alloc, past.track.cycles.len() - ends.cycles)?,
-            fees: with_room(alloc, past.track.fees.len() - ends.fees)?,
-        },
-        since: with_room(alloc, past.since.len() - ends.cycles)?,
-        accrued: with_room(alloc, past.accrued.len() - ends.accrued)?,
-    })
-}
-
-// Moves the last of a list behind another one, which has room for it.
-fn move_last<T: Drop>(list: &mut Vec<T>, back: &mut Vec<T>)
-    requires some { 1 ≤ vec_len list.old }
-    requires room { vec_len back.old < vec_capacity back.old }
-    ensures list { list.new.items ≡ take (vec_len list.old - 1) list.old.items }
-    ensures back { back.new.items ≡ back.old.items ++ drop (vec_len list.old - 1) list.old.items }
-    ensures capacity { vec_capacity list.new ≡ vec_capacity list.old }
-    ensures back_capacity { vec_capacity back.old ≤ vec_capacity back.new }
-{
-    if let Some(last) = list.pop() {
-        let _ = back.push(last);
-    }
-}
-
-// Moves the back of a list into another one that is empty and has room for it. It takes no memory.
-fn move_back<T: Drop>(list: &mut Vec<T>, at: usize, back: &mut Vec<T>)
-    requires within { at ≤ length list.old.items }
-    requires empty { back.old.items ≡ [] }
-    requires room { length list.old.items - at ≤ vec_capacity back.old }
-    ensures front { list.new.items ≡ take at list.old.items }
-    ensures back { back.new.items ≡ drop at list.old.items }
-    ensures capacity { vec_capacity list.new ≡ vec_capacity list.old }
-{
-    while list.len() > at {
-        move_last(list, back);
-    }
-    back.reverse();
-}
-
-/// Cuts it behind these ends, and gives what lay behind them. The front keeps its room, so that a back of the same length can be
-/// put there again. After want of memory all is as it was.
-pub fn cut_off(alloc: Global, past: &mut Past, ends: &Ends) -> Result<Past, NoMemory>
-    requires within { AreWithin ends.now past.old }
-    ensures front { OnOk result (IsFront ends.now past.old past.new) }
-    ensures back { IfOk result (IsBack ends.now past.old) }
-    ensures err { OnErr result (AreSame past.old past.new) }
-    ensures room { KeepsRooms past.old past.new }
-{
-    let mut back = room_behind(alloc, past, ends)?;
-    move_back(
-        &mut past.track.entries,
-        ends.entries,
-        &mut back.track.entries,
-    );
-    move_back(&mut past.track.cycles, ends.cycles, &mut back.track.cycles);
-    move_back(&mut past.track.fees, ends.fees, &mut back.track.fees);
-    move_back(&mut past.since, ends.cycles, &mut back.since);
-    move_back(&mut past.accrued, ends.accrued, &mut back.accrued);
-    Ok(back)
 }

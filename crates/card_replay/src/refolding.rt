@@ -1,25 +1,22 @@
-// Folding again what a post changes, on the account's own past, which is put back.
-ghost use Rattle.std.specs.Prelude.{◌≡◌, ◌+◌, ◌-◌, ◌<◌, ◌≤◌, ℕ, true, false, length, IfOk, IfSome, None, Some};
+// Going back behind what a post changes, to a day from which the account is folded on.
+ghost use Rattle.std.specs.Prelude.{◌≡◌, ◌+◌, ◌-◌, ◌<◌, ◌≤◌, true, length, IfOk, IfSome, None, Some};
 ghost use Rattle.card_days.specs.Billing.{cycle_of};
 ghost use Rattle.card_days.specs.Range.{last_request_day};
-ghost use Rattle.card_events.specs.History.{anchor_of};
 ghost use Rattle.card_model.specs.CycleDays.{IsOpening};
 ghost use Rattle.card_model.specs.Unread as unread;
 ghost use Rattle.card_model.specs.Cycles.{Cycle};
 ghost use Rattle.card_model.specs.Folds.{cycle_at};
+ghost use Rattle.card_daily.specs.Given.{opened_in};
 ghost use Rattle.card_book.specs.GoingOn as going;
-ghost use Rattle.card_book.specs.Stands.{day_to_fold, steps_over};
-ghost use Rattle.card_replay.specs.Changes.{HasItsRoom};
-ghost use Rattle.card_replay.specs.Pasts.{AreEnds, AreSame, AreWithin, HasRoomFor, IsBack, IsFront, KeepsRooms};
-ghost use Rattle.card_replay.specs.Refolds.{AreEndsOf, IsAgain, IsBegun, IsFoldedBehind, MayBegin, MayRefold, MayRefoldOn, StandsOn};
-ghost use Rattle.card_replay.specs.Replays.{BeginsAgain, IsFoldedBefore};
-ghost use Rattle.card_replay.specs.Steps.{first_in_cycle};
+ghost use Rattle.card_replay.specs.Needs as needs;
+ghost use Rattle.card_replay.specs.Refolds.{AreEndsOf, IsAgain, IsAtOpening, MayBegin, MayRefold, MayRefoldOn, cycle_before};
+ghost use Rattle.card_replay.specs.Replays.{BeginsAgain};
 ghost use Rattle.card_replay.specs.declared.past.Ends.{Ends};
 
-use crate::change::Refolded;
+use crate::change::{Recorded, Refolded};
 use crate::eve::Eve;
-use crate::folding::fold_on;
-use crate::past::{Ends, Past, cut, cut_off, ends_at, join};
+use crate::folding::first_book;
+use crate::past::{Past, ends_at, nothing};
 use card_book::{Book, Inputs};
 use card_days::{Anchor, Day, cycle_of};
 use card_events::Post;
@@ -48,6 +45,20 @@ fn sets_rates(post: &Post) -> bool
     )
 }
 
+fn is_bill(post: &Post) -> bool
+    ensures { result ≡ needs.is_bill post.now }
+{
+    matches!(post, Post::Bill { .. })
+}
+
+/// Whether an account has to reach today before a post is prepared: one that sets rates, since a Book of an earlier day has the
+/// rates of the posts up to then, or a Bill, whose row is read off the book of today.
+pub fn needs_today(post: &Post) -> bool
+    ensures { result ≡ needs.needs_today post.now }
+{
+    sets_rates(post) || is_bill(post)
+}
+
 // How many cycles closed before the one that a day lies in, none where it comes before the opening.
 fn cycles_before(anchor: &Anchor, day: Day) -> u32
     requires opening { IsOpening anchor.now }
@@ -61,25 +72,23 @@ fn cycles_before(anchor: &Anchor, day: Day) -> u32
     }
 }
 
-// The Book at the end of the last closing before a change, or before the opening: it stands with the front of the past.
+// The Book at the end of the last closing before a change: it stands with the front of the past.
 fn begin_again(
     alloc: Global,
     inputs: &Inputs,
     post: &Post,
     from: Day,
-    today: Day,
+    cycle: u32,
+    reached: Day,
     book: &Book,
     past: &Past,
 ) -> Result<Book, NoMemory>
-    requires change { MayRefold inputs.now post.now from today book.now past.now }
+    requires change { MayRefold inputs.now post.now from reached book.now past.now }
+    requires number { cycle ≡ cycle_before inputs.now from }
+    requires some { 1 ≤ cycle }
     ensures again { IfOk result (λ b. (e : Ends) → AreEndsOf inputs.now from past.now e → BeginsAgain inputs.now e past.now b) }
-    ensures first { IfOk result (λ b. day_to_fold inputs.now b.day ≡ first_in_cycle (anchor_of inputs.now.history) from) }
+    ensures day { IfOk result (λ b. (c : Cycle) → cycle_at cycle past.now.track.cycles.items ≡ Some c → b.day ≡ Some c.closing) }
 {
-    let cycle = cycles_before(&inputs.anchor(), from);
-    if cycle == 0 {
-        let first = Book::start(alloc, inputs)?;
-        return Ok(first);
-    }
     let since = past.since[cycle as usize - 1];
     let earlier = book.rewound(alloc, &past.track, cycle, since, &past.accrued)?;
     if sets_rates(post) {
@@ -89,60 +98,84 @@ fn begin_again(
     Ok(earlier)
 }
 
-// Folds to the end of today behind the front of a past, and cuts off what that adds: the front stays, whatever is answered.
-fn fold_behind<L: Ledger>(
+// The day on which the cycle with a number closed.
+fn closing_of(past: &Past, cycle: u32) -> Day
+    requires some { 1 ≤ cycle }
+    requires closed { cycle ≤ length past.now.track.cycles.items }
+    ensures { (c : Cycle) → cycle_at cycle past.now.track.cycles.items ≡ Some c → result ≡ c.closing }
+{
+    past.track.cycles[cycle as usize - 1].closing
+}
+
+// Back to the last closing before a change.
+fn at_closing(
     alloc: Global,
     inputs: &Inputs,
-    book: &mut Book,
-    past: &mut Past,
-    ends: &Ends,
-    today: Day,
+    post: &Post,
+    from: Day,
+    cycle: u32,
+    reached: Day,
+    book: &Book,
+    past: &Past,
+) -> Result<Refolded, NoMemory>
+    requires change { MayRefold inputs.now post.now from reached book.now past.now }
+    requires number { cycle ≡ cycle_before inputs.now from }
+    requires some { 1 ≤ cycle }
+    ensures { IfOk result (IsAgain inputs.now from reached past.now) }
+{
+    let ends = ends_at(past, cycle);
+    let day = closing_of(past, cycle);
+    let earlier = begin_again(alloc, inputs, post, from, cycle, reached, book, past)?;
+    Ok(Refolded {
+        book: earlier,
+        reached: day,
+        recorded: Recorded::Front(ends),
+    })
+}
+
+// Back to the opening day, which is folded anew.
+fn at_opening<L: Ledger>(
+    alloc: Global,
+    inputs: &Inputs,
     steps: &mut Steps<L>,
-) -> Result<Past, NoMemory>
-    requires whole { book.old.whole ≡ true }
-    requires before { IsFoldedBefore inputs.now book.old past.old today }
-    requires ends { AreEnds ends.now past.old }
-    ensures folded { IfOk result (IsFoldedBehind inputs.now today book.new past.old) }
-    ensures room { IfOk result (λ back. HasRoomFor ends.now back past.new) }
-    ensures same { AreSame past.old past.new }
-    ensures rooms { KeepsRooms past.old past.new }
-    ensures most { steps.new ≤ steps.old + steps_over inputs.now today (day_to_fold inputs.now book.old.day) }
+) -> Result<Refolded, NoMemory>
+    requires last { opened_in inputs.now ≤ last_request_day }
+    ensures opening { IfOk result (IsAtOpening inputs.now) }
+    ensures most { steps.new ≤ steps.old + 1 }
 {
-    match fold_on(alloc, inputs, book, past, today, steps) {
-        Ok(()) => {
-            let back = cut_or_drop(alloc, past, ends)?;
-            Ok(back)
-        }
-        Err(NoMemory) => {
-            cut(past, ends);
-            Err(NoMemory)
-        }
-    }
+    let anchor = inputs.anchor();
+    let mut first = nothing(alloc);
+    let book = first_book(alloc, inputs, &mut first, anchor.opened, steps)?;
+    Ok(Refolded {
+        book,
+        reached: anchor.opened,
+        recorded: Recorded::Anew(first),
+    })
 }
 
-// Cuts off what lies behind the ends, and drops it where there is no memory for it.
-fn cut_or_drop(alloc: Global, past: &mut Past, ends: &Ends) -> Result<Past, NoMemory>
-    requires within { AreWithin ends.now past.old }
-    ensures front { IsFront ends.now past.old past.new }
-    ensures back { IfOk result (IsBack ends.now past.old) }
-    ensures room { IfOk result (λ back. HasRoomFor ends.now back past.new) }
-    ensures rooms { KeepsRooms past.old past.new }
+// Back to the last closing before a change, or to the opening day where there is none.
+fn at_cycle<L: Ledger>(
+    alloc: Global,
+    inputs: &Inputs,
+    post: &Post,
+    from: Day,
+    cycle: u32,
+    reached: Day,
+    book: &Book,
+    past: &Past,
+    steps: &mut Steps<L>,
+) -> Result<Refolded, NoMemory>
+    requires change { MayRefold inputs.now post.now from reached book.now past.now }
+    requires number { cycle ≡ cycle_before inputs.now from }
+    ensures again { IfOk result (IsAgain inputs.now from reached past.now) }
+    ensures most { steps.new ≤ steps.old + 1 }
 {
-    match cut_off(alloc, past, ends) {
-        Ok(back) => Ok(back),
-        Err(NoMemory) => {
-            cut(past, ends);
-            Err(NoMemory)
-        }
+    if cycle == 0 {
+        let opening = at_opening(alloc, inputs, steps)?;
+        return Ok(opening);
     }
-}
-
-// What a change is folded again from: a Book of a day before it, where the lists of the past ended then, and whether it is the eve.
-#[derive(Drop)]
-struct Begun {
-    book: Book,
-    ends: Ends,
-    on_eve: bool,
+    let earlier = at_closing(alloc, inputs, post, from, cycle, reached, book, past)?;
+    Ok(earlier)
 }
 
 // Whether the cycle with a number, 0 for none, was closed by a day.
@@ -156,127 +189,64 @@ fn is_closed_by(past: &Past, cycle: u32, day: Day) -> bool
     past.track.cycles[cycle as usize - 1].closing <= day
 }
 
-// Whether a change may be folded again from the eve: it sets no rate, it comes later, and the cycles that closed before its own
-// were closed by then.
+// Whether a change may be taken back to the eve: it sets no rate, it comes later, and the cycles that closed before its own were
+// closed by then.
 fn may_begin(eve: &Eve, past: &Past, post: &Post, from: Day, cycle: u32) -> bool
     requires closed { cycle ≤ length past.now.track.cycles.items }
     ensures { result ≡ true → MayBegin past.now post.now from cycle eve.now }
 {
-    match eve.book.day() {
-        Some(day) => !sets_rates(post) && day < from && is_closed_by(past, cycle, day),
-        None => false,
-    }
+    !sets_rates(post) && eve.day < from && is_closed_by(past, cycle, eve.day)
 }
 
-// The Book of the last closing before a change, with where the lists ended then.
-fn begin_at_closing(
-    alloc: Global,
-    inputs: &Inputs,
-    post: &Post,
-    from: Day,
-    today: Day,
-    book: &Book,
-    past: &Past,
-) -> Result<Begun, NoMemory>
-    requires change { MayRefold inputs.now post.now from today book.now past.now }
-    ensures begun { IfOk result (λ b. IsBegun inputs.now from today past.now b.ends b.book) }
-    ensures eve { IfOk result (λ b. b.on_eve ≡ false) }
-{
-    let cycle = cycles_before(&inputs.anchor(), from);
-    let ends = ends_at(past, cycle);
-    let book = begin_again(alloc, inputs, post, from, today, book, past)?;
-    Ok(Begun {
-        book,
-        ends,
-        on_eve: false,
-    })
-}
-
-// The Book from which a change is folded again: that of the eve where that may be, else that of the last closing before it.
-fn begin(
-    alloc: Global,
-    inputs: &Inputs,
-    post: &Post,
-    from: Day,
-    today: Day,
-    book: &Book,
-    past: &Past,
-    eve: &Option<Eve>,
-) -> Result<Begun, NoMemory>
-    requires change { MayRefoldOn inputs.now post.now from today book.now past.now eve.now }
-    ensures begun { IfOk result (λ b. IsBegun inputs.now from today past.now b.ends b.book) }
-    ensures eve { IfOk result (λ b. b.on_eve ≡ true → IfSome eve.now (StandsOn inputs.now today b.ends past.now)) }
-{
-    let cycle = cycles_before(&inputs.anchor(), from);
-    match eve {
-        Some(eve) if may_begin(eve, past, post, from, cycle) => Ok(Begun {
-            book: eve.book.copy(alloc)?,
-            ends: eve.ends,
-            on_eve: true,
-        }),
-        _ => begin_at_closing(alloc, inputs, post, from, today, book, past),
-    }
-}
-
-/// Folds again what one more post changes, from the eve or from the closing before the cycle in which the first changed day lies,
-/// over inputs with that post. The Book of today, the past and the eve stand for the account without it. The past is put back,
-/// whatever is answered; what was folded again takes its place in `commit`, for which there is room.
+/// Goes back behind what one more post changes, to the eve where that may be, else to the last closing before it, or to the opening
+/// day, over inputs with that post. The Book of the day reached, the past and the eve stand for the account without it. At most one
+/// day is folded, the opening day.
 pub fn refold<L: Ledger>(
     alloc: Global,
     inputs: &Inputs,
     post: &Post,
     from: Day,
-    today: Day,
+    reached: Day,
     book: &Book,
-    past: &mut Past,
+    past: &Past,
     eve: &Option<Eve>,
     steps: &mut Steps<L>,
 ) -> Result<Refolded, NoMemory>
-    requires change { MayRefoldOn inputs.now post.now from today book.now past.old eve.now }
-    ensures again { IfOk result (IsAgain inputs.now today past.old eve.now) }
-    ensures room { IfOk result (λ r. HasRoomFor r.ends r.back past.new) }
-    ensures same { AreSame past.old past.new }
-    ensures most { steps.new ≤ steps.old + steps_over inputs.now today (first_in_cycle (anchor_of inputs.now.history) from) }
+    requires change { MayRefoldOn inputs.now post.now from reached book.now past.now eve.now }
+    ensures again { IfOk result (IsAgain inputs.now from reached past.now) }
+    ensures most { steps.new ≤ steps.old + 1 }
 {
-    let mut begun = begin(alloc, inputs, post, from, today, book, past, eve)?;
-    let ends = begun.ends;
-    let mut behind = cut_off(alloc, past, &ends)?;
-    let folded = fold_behind(alloc, inputs, &mut begun.book, past, &ends, today, steps);
-    join(past, &mut behind, &ends);
-    match folded {
-        Ok(back) => Ok(Refolded {
-            ends,
-            book: begun.book,
-            back,
-            on_eve: begun.on_eve,
+    let cycle = cycles_before(&inputs.anchor(), from);
+    match eve {
+        Some(eve) if may_begin(eve, past, post, from, cycle) => Ok(Refolded {
+            book: eve.book.copy(alloc)?,
+            reached: eve.day,
+            recorded: Recorded::Front(eve.ends),
         }),
-        Err(NoMemory) => Err(NoMemory),
+        _ => at_cycle(alloc, inputs, post, from, cycle, reached, book, past, steps),
     }
 }
 
-/// The same where the first changed day isn't after today; where it is, nothing is folded.
-pub fn refold_by_today<L: Ledger>(
+/// The same where the first changed day isn't after the day reached; where it is, the Book goes on.
+pub fn refold_if_reached<L: Ledger>(
     alloc: Global,
     inputs: &Inputs,
     post: &Post,
     from: Day,
-    today: Day,
+    reached: Day,
     book: &Book,
-    past: &mut Past,
+    past: &Past,
     eve: &Option<Eve>,
     steps: &mut Steps<L>,
 ) -> Result<Option<Refolded>, NoMemory>
-    requires change { from ≤ today → MayRefoldOn inputs.now post.now from today book.now past.old eve.now }
-    ensures later { IfOk result (λ made. made ≡ None → today < from) }
-    ensures again { IfOk result (λ made. IfSome made (IsAgain inputs.now today past.old eve.now)) }
-    ensures room { IfOk result (λ made. HasItsRoom made past.new) }
-    ensures same { AreSame past.old past.new }
-    ensures none { today < from → steps.new ≡ steps.old }
-    ensures most { from ≤ today → steps.new ≤ steps.old + steps_over inputs.now today (first_in_cycle (anchor_of inputs.now.history) from) }
+    requires change { from ≤ reached → MayRefoldOn inputs.now post.now from reached book.now past.now eve.now }
+    ensures later { IfOk result (λ made. made ≡ None → reached < from) }
+    ensures again { IfOk result (λ made. IfSome made (IsAgain inputs.now from reached past.now)) }
+    ensures most { steps.new ≤ steps.old + 1 }
 {
-    if today < from {
+    if reached < from {
         return Ok(None);
     }
-    let made = refold(alloc, inputs, post, from, today, book, past, eve, steps)?;
+    let made = refold(alloc, inputs, post, from, reached, book, past, eve, steps)?;
     Ok(Some(made))
 }

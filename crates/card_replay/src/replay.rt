@@ -1,17 +1,15 @@
 // An account with its book folded to the day last reached.
 ghost use Rattle.std.specs.Prelude.{◌≡◌, ◌+◌, ◌≤◌, ℕ, IfOk, OnOk, OnErr, None};
-ghost use Rattle.card_days.specs.Range.{last_request_day};
-ghost use Rattle.card_daily.specs.Given.{opened_in};
 ghost use Rattle.card_book.specs.Stands.{day_to_fold, steps_over};
-ghost use Rattle.card_replay.specs.Pasts.{AreSame, IsEmpty, PastBegins};
+ghost use Rattle.card_replay.specs.Pasts.{AreSame, PastBegins};
 ghost use Rattle.card_replay.specs.Replays.{FoldsOn, IsFolding};
 
 use crate::change::{Change, Refolded};
 use crate::eve::Eve;
-use crate::folding::fold_on;
+use crate::folding::{first_book, fold_on};
 use crate::issuing::{closed_number, issued_by, push_issued};
 use crate::past::{Past, cut, ends_of, nothing};
-use crate::refolding::{is_unread, refold_by_today};
+use crate::refolding::{is_unread, needs_today, refold_if_reached};
 use crate::statement::statement_at;
 use crate::taking::take_if_any;
 use card_book::{Book, Folded, Inputs, Issued, Statement};
@@ -49,26 +47,6 @@ impl Model for Replay {
     ghost view = { λ r. record { lists = record { posts = r.posts.history; issued = r.issued.items }; corrected = r.posts.corrected; has_room = r.has_room; folding = record { reached = r.reached; book = r.book; past = r.past; eve = r.eve } } };
 
     ghost invariant = { λ r. r.has_room ≡ true → (r.posts.has_room ≡ true) × (vec_len r.issued < vec_capacity r.issued) };
-}
-
-// The Book of an account that was just opened, at the end of today.
-fn first_book<L: Ledger>(
-    alloc: Global,
-    inputs: &Inputs,
-    past: &mut Past,
-    today: Day,
-    steps: &mut Steps<L>,
-) -> Result<Book, NoMemory>
-    requires empty { IsEmpty past.old }
-    requires opened { opened_in inputs.now ≤ today }
-    requires last { today ≤ last_request_day }
-    ensures folding { IfOk result (λ b. IsFolding inputs.now (record { reached = today; book = b; past = past.new; eve = None })) }
-    ensures steps { OnOk result (steps.new ≡ steps.old + steps_over inputs.now today (opened_in inputs.now)) }
-    ensures most { steps.new ≤ steps.old + steps_over inputs.now today (opened_in inputs.now) }
-{
-    let mut book = Book::start(alloc, inputs)?;
-    fold_on(alloc, inputs, &mut book, past, today, steps)?;
-    Ok(book)
 }
 
 // Folds a copy of a Book to the end of today. After want of memory the past is as it was.
@@ -115,9 +93,9 @@ impl Replay {
     ghost use Rattle.card_slots.specs.Segments.{account_segments};
     ghost use Rattle.card_daily.specs.Given.{IsSound};
     ghost use Rattle.card_book.specs.Stands.{steps_over};
-    ghost use Rattle.card_replay.specs.Changes.{IsChangeOf, IsCommitted, IsPrepared, IsRefoldedBy, issued_as};
+    ghost use Rattle.card_replay.specs.Changes.{IsChangeOf, IsCommitted, IsPrepared, IsReadyFor, IsRefoldedBy, issued_as};
     ghost use Rattle.card_replay.specs.Replays.{IsReplay, IsToday, MayReach, SameLists, given_of, opened_lists, present_of};
-    ghost use Rattle.card_replay.specs.Steps.{AreFewToPrepare, AreFewToRefold, steps_to};
+    ghost use Rattle.card_replay.specs.Steps.{AreFewToPrepare, IsNear, steps_to};
 
     /// The account that a post opens today, folded to the end of today. What every run leaves holds of its lists.
     pub fn start<L: Ledger>(
@@ -135,6 +113,7 @@ impl Replay {
         requires sound { IsSound (given_of (opened_lists key.now today post.now) shared.now) }
         ensures lists { IfOk result (λ r. r.lists ≡ opened_lists key.now today post.now) }
         ensures today { IfOk result (IsToday today shared.now) }
+        ensures reach { IfOk result (MayReach today) }
         ensures room { IfOk result (λ r. r.has_room ≡ false) }
         ensures most { steps.new ≤ steps.old + steps_over (given_of (opened_lists key.now today post.now) shared.now) today (opening_in post.now) }
     {
@@ -180,7 +159,11 @@ impl Replay {
         let inputs = Inputs::new(&self.posts, &self.issued, shared);
         let later = reach(alloc, &inputs, &self.book, &mut self.past, today, steps)?;
         let book = replace(&mut self.book, later);
-        self.eve = Some(Eve { book, ends });
+        self.eve = Some(Eve {
+            book,
+            day: self.reached,
+            ends,
+        });
         self.reached = today;
         Ok(())
     }
@@ -197,7 +180,31 @@ impl Replay {
         Ok(())
     }
 
-    // The row that a post issues today, where it is a Bill.
+    // Folds to the end of today for a post that asks for it.
+    fn reach_for<L: Ledger>(
+        &mut self,
+        alloc: Global,
+        post: &Post,
+        today: Day,
+        shared: &SharedRows,
+        steps: &mut Steps<L>,
+    ) -> Result<(), NoMemory>
+        requires replay { IsReplay shared.now self.old }
+        requires reach { MayReach today self.old }
+        ensures same { SameLists self.old self.new }
+        ensures replay { IsReplay shared.now self.new }
+        ensures ready { OnOk result (IsReadyFor today post.now self.new) }
+        ensures reached { (self.new.folding.reached ≡ self.old.folding.reached) ⊎ (self.new.folding.reached ≡ today) }
+        ensures most { steps.new ≤ steps.old + steps_to today shared.now self.old }
+    {
+        if !needs_today(post) {
+            return Ok(());
+        }
+        self.to_day(alloc, today, shared, steps)?;
+        Ok(())
+    }
+
+    // The row that a post issues today, where it is a Bill, for which the account has reached today.
     fn issued_today(
         &self,
         alloc: Global,
@@ -205,7 +212,8 @@ impl Replay {
         today: Day,
         shared: &SharedRows,
     ) -> Result<Option<Issued>, NoMemory>
-        requires today { IsToday today shared.now self.now }
+        requires replay { IsReplay shared.now self.now }
+        requires ready { IsReadyFor today post.now self.now }
         requires no_reason { reason_against (present_of today shared.now self.now.lists) post.now ≡ None }
         ensures { IfOk result (λ made. issued_as made ≡ issues (present_of today shared.now self.now.lists) post.now) }
     {
@@ -215,7 +223,7 @@ impl Replay {
         Ok(made)
     }
 
-    // What a post changes of what was folded, where it changes something up to today. The account stays as it is.
+    // What a post takes the account back to, where it changes something up to the day reached. The account stays as it is.
     fn refolded<L: Ledger>(
         &mut self,
         alloc: Global,
@@ -225,15 +233,17 @@ impl Replay {
         shared: &SharedRows,
         steps: &mut Steps<L>,
     ) -> Result<Option<Refolded>, NoMemory>
-        requires today { IsToday today shared.now self.old }
+        requires replay { IsReplay shared.now self.old }
+        requires reach { MayReach today self.old }
+        requires ready { IsReadyFor today post.now self.old }
         requires room { self.old.has_room ≡ true }
         requires fresh { with_key key.now self.old.lists.posts ≡ None }
         requires no_reason { reason_against (present_of today shared.now self.old.lists) post.now ≡ None }
         requires sound { IsSound (given_of (accepted (present_of today shared.now self.old.lists) key.now post.now) shared.now) }
         ensures same { SameLists self.old self.new }
-        ensures today { IsToday today shared.now self.new }
-        ensures refolded { IfOk result (λ made. IsRefoldedBy shared.now today key.now post.now made self.new) }
-        ensures most { AreFewToRefold today shared.now self.old.lists key.now post.now steps.old steps.new }
+        ensures folding { self.new.folding ≡ self.old.folding }
+        ensures refolded { IfOk result (λ made. IsRefoldedBy shared.now today key.now post.now made self.old) }
+        ensures most { steps.new ≤ steps.old + 1 }
     {
         if is_unread(post) {
             return Ok(None);
@@ -243,14 +253,14 @@ impl Replay {
             .posts
             .draft(alloc, key, today, post, shared.calendar())?;
         let inputs = Inputs::new(&self.posts, &self.issued, shared);
-        let made = refold_by_today(
+        let made = refold_if_reached(
             alloc,
             &inputs,
             post,
             draft.from(),
-            today,
+            self.reached,
             &self.book,
-            &mut self.past,
+            &self.past,
             &self.eve,
             steps,
         );
@@ -258,11 +268,12 @@ impl Replay {
         made
     }
 
-    /// Prepares a post against which there is no reason, under a new key: the account reaches today, there is room for the post, and
-    /// what it changes of the book of today is folded again, from the closing before the cycle in which the first changed day lies
-    /// or from a later day before it.
-    /// The posts and the issued statements stay as they are; with the post, they are as every run leaves them. After want of memory
-    /// the day last reached is as before, or today.
+    /// Prepares a post against which there is no reason, under a new key: there is room for it, and the Book is there that it takes
+    /// the account back to, where it changes a day up to the one last reached: that of the eve, of the closing before the cycle in
+    /// which the first changed day lies, or of the opening day. The account reaches today for a Bill, whose row is read off the
+    /// book of today, and for a Plan, a Notice or a Lower; for any other post nothing is folded but that opening day.
+    /// The posts and the issued statements stay as they are; with the post, they are as every run leaves them. The day last reached
+    /// is as before, or today.
     pub fn prepare<L: Ledger>(
         &mut self,
         alloc: Global,
@@ -281,13 +292,12 @@ impl Replay {
         requires sound { IsSound (given_of (accepted (present_of today shared.now self.old.lists) key post.now) shared.now) }
         ensures same { SameLists self.old self.new }
         ensures replay { IsReplay shared.now self.new }
-        ensures reached { OnOk result (self.new.folding.reached ≡ today) }
-        ensures err { OnErr result ((self.new.folding.reached ≡ self.old.folding.reached) ⊎ (self.new.folding.reached ≡ today)) }
+        ensures reached { (self.new.folding.reached ≡ self.old.folding.reached) ⊎ (self.new.folding.reached ≡ today) }
         ensures prepared { IfOk result (λ c. IsPrepared shared.now c self.new) }
         ensures post { IfOk result (λ c. IsChangeOf key today post.now c) }
         ensures most { AreFewToPrepare today shared.now self.old.lists self.old.folding.reached key post.now steps.old steps.new }
     {
-        self.to_day(alloc, today, shared, steps)?;
+        self.reach_for(alloc, post, today, shared, steps)?;
         let issued = self.issued_today(alloc, post, today, shared)?;
         self.make_room()?;
         let refolded = self.refolded(alloc, &key, post, today, shared, steps)?;
@@ -300,22 +310,27 @@ impl Replay {
         })
     }
 
-    /// Takes a post that was prepared for this account, and answers its number. It takes no memory and can't fail.
+    /// Takes a post that was prepared for this account, and answers its number. The account is taken back to a day before what the
+    /// post changes, and folded on when it is next asked. It takes no memory and can't fail.
     pub fn commit(&mut self, change: Change, shared: &SharedRows) -> u32
         requires prepared { IsPrepared shared.now change self.old }
         ensures committed { IsCommitted shared.now change self.old self.new }
-        ensures today { IsToday change.today shared.now self.new }
+        ensures replay { IsReplay shared.now self.new }
+        ensures reach { MayReach change.today self.new }
+        ensures near { IsNear shared.now self.old.lists self.new.lists self.old.folding.reached self.new.folding.reached }
         ensures room { self.new.has_room ≡ false }
         ensures number { result ≡ length self.old.lists.posts + 1 }
     {
         push_issued(&mut self.issued, change.issued);
         self.has_room = false;
-        take_if_any(
+        let reached = take_if_any(
             &mut self.book,
             &mut self.past,
             &mut self.eve,
+            self.reached,
             change.refolded,
         );
+        self.reached = reached;
         let pushed = self
             .posts
             .add(change.key, change.today, &change.post, shared.calendar());

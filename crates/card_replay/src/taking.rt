@@ -1,53 +1,42 @@
-// Taking what was folded again.
-ghost use Rattle.std.specs.Prelude.{◌≡◌, ℕ};
-ghost use Rattle.card_replay.specs.Changes.{HasItsRoom, IsTaken, is_on_eve};
-ghost use Rattle.card_replay.specs.Pasts.{AreWithin, HasRoomFor, IsReplaced};
+// Taking an account back to what a post leaves of its book.
+ghost use Rattle.std.specs.Prelude.{◌≡◌};
+ghost use Rattle.card_replay.specs.Changes.{IsTaken};
+ghost use Rattle.card_replay.specs.Pasts.{IsRecorded};
 
-use crate::change::Refolded;
+use crate::change::{Recorded, Refolded};
 use crate::eve::Eve;
-use crate::past::{Past, cut, join};
+use crate::past::{Past, cut};
 use card_book::Book;
+use card_days::Day;
 
-/// Puts what was folded again behind the front of the past, for which there is room, and gives its Book. It takes no memory.
-pub fn take(past: &mut Past, refolded: Refolded) -> Book
-    requires within { AreWithin refolded.ends past.old }
-    requires room { HasRoomFor refolded.ends refolded.back past.old }
-    ensures past { IsReplaced refolded.ends past.old refolded.back past.new }
-    ensures book { result ≡ refolded.book }
+// Takes a past back to what was recorded up to an earlier day. It takes no memory.
+fn take(past: &mut Past, recorded: Recorded)
+    ensures { IsRecorded recorded past.old past.new }
 {
-    let ends = refolded.ends;
-    let mut back = refolded.back;
-    cut(past, &ends);
-    join(past, &mut back, &ends);
-    refolded.book
-}
-
-// Whether the eve stands on.
-fn is_on_eve(refolded: &Option<Refolded>) -> bool
-    ensures { result ≡ is_on_eve refolded.now }
-{
-    match refolded {
-        Some(refolded) => refolded.on_eve,
-        None => false,
+    match recorded {
+        Recorded::Front(ends) => cut(past, &ends),
+        Recorded::Anew(first) => *past = first,
     }
 }
 
-/// Puts what was folded again, if anything was, in its place, for which there is room, with its Book; the eve is dropped unless it
-/// stands on. It takes no memory.
+/// Takes a Book and its past back to an earlier day, where a post asks for it, and answers the day that is then reached; the eve is
+/// dropped. Else all stays. It takes no memory.
 pub fn take_if_any(
     book: &mut Book,
     past: &mut Past,
     eve: &mut Option<Eve>,
+    reached: Day,
     refolded: Option<Refolded>,
-)
-    requires { HasItsRoom refolded past.old }
-    ensures { (reached : ℕ) → IsTaken refolded (record { reached = reached; book = book.old; past = past.old; eve = eve.old }) (record { reached = reached; book = book.new; past = past.new; eve = eve.new }) }
+) -> Day
+    ensures { IsTaken refolded (record { reached = reached; book = book.old; past = past.old; eve = eve.old }) (record { reached = result; book = book.new; past = past.new; eve = eve.new }) }
 {
-    if !is_on_eve(&refolded) {
-        *eve = None;
-    }
     match refolded {
-        Some(refolded) => *book = take(past, refolded),
-        None => {}
+        Some(refolded) => {
+            *eve = None;
+            *book = refolded.book;
+            take(past, refolded.recorded);
+            refolded.reached
+        }
+        None => reached,
     }
 }

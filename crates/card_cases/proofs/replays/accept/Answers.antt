@@ -1,4 +1,5 @@
-use Rattle.card_cases.proofs.Reached.{charge-dated, no-reason, sound-with, three-steps}
+use Rattle.std.proofs.Common.{arith}
+use Rattle.card_cases.proofs.Reached.{charge-dated, may-reach, no-reason, sound-with, three-steps}
 use Rattle.card_cases.proofs.replays.accept.Goals as goal
 
 pub prepare-requires-clause-dated : goal.prepare-requires-clause-dated
@@ -16,3 +17,9 @@ returns g c =
       three = three-steps c.day-today.result c.args.shared.now c.args.account.now.lists c.args.account.now.folding.reached c.in_ok-key.key c.charge.result c.args.steps.now c.prepare.new.steps
           c.day-today.ensures c.requires.nothing c.requires.alone c.requires.today.reached c.charge.ensures c.prepare.ensures.most;
     }
+
+pub prepare-requires-clause-reach : goal.prepare-requires-clause-reach
+prepare-requires-clause-reach g c =
+    let day = c.day-today.ensures in
+    let reached = c.requires.today.reached in
+    may-reach c.day-today.result c.args.account.now c.requires.alone (omega (arith, day, reached)) (omega (arith, day)) (omega (arith, day))

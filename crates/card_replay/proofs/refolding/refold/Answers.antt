@@ -1,70 +1,31 @@
-use Rattle.std.proofs.Common.{refl, arith}
-use Rattle.card_book.specs.Stands.{breaks_of, day_to_fold}
-use Rattle.card_events.specs.History.{anchor_of}
-use Rattle.card_replay.proofs.Again.{eve-behind, folded-again, front-ends}
-use Rattle.card_replay.proofs.LaterSteps.{fewer-steps}
-use Rattle.card_replay.proofs.Parts.{has-room, put-back, replaced-joined, room-for, rooms-then, same-ends}
-use Rattle.card_replay.specs.Steps.{first_in_cycle}
+use Rattle.std.proofs.Common.{sym, subst, arith}
+use Rattle.std.specs.Prelude.{IfSome}
+use Rattle.card_model.specs.CycleDays.{IsOpening}
+use Rattle.card_replay.proofs.Again.{closed-at, eve-again, number-is}
+use Rattle.card_replay.specs.Refolds.{MayBegin}
+use Rattle.card_replay.specs.Replays.{IsEve}
 use Rattle.card_replay.proofs.refolding.refold.Goals as goal
 
-pub cut_off-requires : goal.cut_off-requires
-cut_off-requires g c = record { within = c.in_ok-begun.ensures.begun.begins.within }
+pub cycles_before-cycle-requires-clause-opening : goal.cycles_before-cycle-requires-clause-opening
+cycles_before-cycle-requires-clause-opening g c = subst IsOpening (sym c.anchor.ensures.value) c.anchor.ensures.sound.opening
 
-pub fold_behind-folded-requires-clause-whole : goal.fold_behind-folded-requires-clause-whole
-fold_behind-folded-requires-clause-whole g c = c.in_ok-begun.ensures.begun.begins.whole
+pub cycles_before-cycle-requires-clause-last : goal.cycles_before-cycle-requires-clause-last
+cycles_before-cycle-requires-clause-last g c = let h = c.requires.change.before.changes in omega (arith, h.within, h.last)
 
-pub fold_behind-folded-requires-clause-before : goal.fold_behind-folded-requires-clause-before
-fold_behind-folded-requires-clause-before g c = folded-again c.requires.change.before c.in_ok-begun.begun.book c.cut_off.new.past c.in_ok-begun.begun.ends c.in_ok-begun.ensures.begun c.in_ok-behind.ensures.front
+pub may_begin-requires : goal.may_begin-requires
+may_begin-requires g c = record { closed = closed-at c.requires.change.before (number-is c.args.inputs.now c.args.from c.cycles_before-cycle.ensures c.anchor.ensures.value) }
 
-pub fold_behind-folded-requires-clause-ends : goal.fold_behind-folded-requires-clause-ends
-fold_behind-folded-requires-clause-ends g c = front-ends c.in_ok-begun.begun.ends c.args.past.now c.cut_off.new.past c.in_ok-begun.ensures.begun.begins.within c.in_ok-behind.ensures.front
+pub at_cycle-requires-clause-number : goal.at_cycle-requires-clause-number
+at_cycle-requires-clause-number g c = number-is c.args.inputs.now c.args.from c.cycles_before-cycle.ensures c.anchor.ensures.value
 
-pub join-requires-clause-ends : goal.join-requires-clause-ends
-join-requires-clause-ends g c =
-    same-ends c.in_ok-begun.begun.ends c.cut_off.new.past c.fold_behind-folded.new.past
-    (front-ends c.in_ok-begun.begun.ends c.args.past.now c.cut_off.new.past c.in_ok-begun.ensures.begun.begins.within c.in_ok-behind.ensures.front) c.fold_behind-folded.ensures.same
-
-pub join-requires-clause-room : goal.join-requires-clause-room
-join-requires-clause-room g c =
-    room-for c.in_ok-begun.begun.ends c.args.past.now c.in_ok-behind.behind c.fold_behind-folded.new.past c.in_ok-begun.ensures.begun.begins.within c.in_ok-behind.ensures.back
-    (rooms-then c.args.past.now c.cut_off.new.past c.fold_behind-folded.new.past c.cut_off.ensures.room c.fold_behind-folded.ensures.rooms)
-
--- ---- what was folded again
-pub returns-in-Ok-clause-again : goal.returns-in-Ok-clause-again
-returns-in-Ok-clause-again g c =
+-- ---- the eve
+pub returns-in_ok-copy-in-Some-clause-again : goal.returns-in_ok-copy-in-Some-clause-again
+returns-in_ok-copy-in-Some-clause-again g c =
     let given = c.args.inputs.now in
     let past = c.args.past.now in
-    let ends = c.in_ok-begun.begun.ends in
-    record {
-      within = c.in_ok-begun.ensures.begun.begins.within;
-      folding = λ new replaced. c.in-Ok.ensures.folded new (replaced-joined ends past c.cut_off.new.past c.in-Ok.back new c.in_ok-behind.ensures.front replaced);
-      stands = λ on new replaced. eve-behind given c.args.today ends past c.in-Ok.back new c.args.eve.now replaced (c.in_ok-begun.ensures.eve on);
-    }
-
-pub returns-in-Ok-clause-room : goal.returns-in-Ok-clause-room
-returns-in-Ok-clause-room g c = has-room c.in_ok-begun.begun.ends c.in-Ok.back c.fold_behind-folded.new.past c.join.new.past c.in-Ok.ensures.room c.join.ensures.room
-
-pub returns-in-Ok-clause-same : goal.returns-in-Ok-clause-same
-returns-in-Ok-clause-same g c =
-    put-back c.in_ok-begun.begun.ends c.args.past.now c.cut_off.new.past c.fold_behind-folded.new.past c.in_ok-behind.behind c.join.new.past c.in_ok-behind.ensures.front c.fold_behind-folded.ensures.same
-    c.in_ok-behind.ensures.back c.join.ensures.joined
-
-pub returns-in-Err-clause-same : goal.returns-in-Err-clause-same
-returns-in-Err-clause-same g c =
-    put-back c.in_ok-begun.begun.ends c.args.past.now c.cut_off.new.past c.fold_behind-folded.new.past c.in_ok-behind.behind c.join.new.past c.in_ok-behind.ensures.front c.fold_behind-folded.ensures.same
-    c.in_ok-behind.ensures.back c.join.ensures.joined
-
-pub returns-in_err-begun-clause-same : goal.returns-in_err-begun-clause-same
-returns-in_err-begun-clause-same g c = record { entries = refl; cycles = refl; fees = refl; since = refl; accrued = refl }
-
-pub returns-in-Ok-clause-most : goal.returns-in-Ok-clause-most
-returns-in-Ok-clause-most g c =
-    let given = c.args.inputs.now in
-    let fewer = fewer-steps (breaks_of given c.args.today) (first_in_cycle (anchor_of given.history) c.args.from) (day_to_fold given c.in_ok-begun.begun.book.day) c.args.today c.in_ok-begun.ensures.begun.first in
-    omega (arith, c.fold_behind-folded.ensures.most, fewer)
-
-pub returns-in-Err-clause-most : goal.returns-in-Err-clause-most
-returns-in-Err-clause-most g c =
-    let given = c.args.inputs.now in
-    let fewer = fewer-steps (breaks_of given c.args.today) (first_in_cycle (anchor_of given.history) c.args.from) (day_to_fold given c.in_ok-begun.begun.book.day) c.args.today c.in_ok-begun.ensures.begun.first in
-    omega (arith, c.fold_behind-folded.ensures.most, fewer)
+    let e = c.in-Some.eve in
+    let copied = c.in_ok-copy-in-Some.ensures in
+    let number = number-is given c.args.from c.cycles_before-cycle.ensures c.anchor.ensures.value in
+    let may = subst (λ k. MayBegin past c.args.post.now c.args.from k e) number (c.may_begin.ensures c.if-may_begin.true) in
+    let stood = subst (λ o. IfSome o (IsEve c.requires.change.old c.args.reached past)) c.in-Some.is c.requires.change.stood in
+    eve-again c.requires.change.before e may stood c.in_ok-copy-in-Some.field-0 copied.day copied.whole (copied.stands given)

@@ -1,4 +1,4 @@
-use Rattle.std.proofs.Common.{◌≡◌, ◌+◌, [], ◌∷◌, ◌++◌, List, length, sym, ap, subst, ◌∙◌, arith}
+use Rattle.std.proofs.Common.{◌≡◌, ◌+◌, [], ◌∷◌, ◌++◌, List, length, sym, ap, subst, ◌∙◌}
 use Rattle.card_account.specs.Accounts.{OpenAccount, replay_of}
 use Rattle.card_events.specs.SharedRows.{SharedRows}
 use Rattle.card_model.specs.Cycles.{IssuedRow}
@@ -26,11 +26,7 @@ returns-clause-lists c =
     ∙ (ap (lists_with change) lists ∙ with-row shared change c.args.self.now.named.lists c.requires.prepared.issued)
 
 pub returns-clause-account : goal.returns-clause-account
-returns-clause-account c =
-    let h = c.commit.ensures.today in
-    let reached = h.reached in
-    let dated = h.replay.dated in
-    record { replay = h.replay; reach = record { later = omega (arith, reached); last = omega (arith, reached, dated) } }
+returns-clause-account c = record { replay = c.commit.ensures.replay; reach = c.commit.ensures.reach }
 
 pub returns-clause-number : goal.returns-clause-number
 returns-clause-number c = c.commit.ensures.number ∙ ap (λ (a : OpenAccount). length a.named.lists.posts + 1) c.self.view_is

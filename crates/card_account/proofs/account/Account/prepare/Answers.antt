@@ -1,6 +1,6 @@
 use Rattle.std.proofs.Common.{◌≡◌, ◌⊎◌, None, inl, inr, sym, subst}
 use Rattle.card_account.specs.Accounts.{IsTold, OpenAccount, replay_of}
-use Rattle.card_account.proofs.Told.{either-of, told-by, with_replay}
+use Rattle.card_account.proofs.Told.{told-by, with_replay}
 use Rattle.card_daily.specs.Given.{IsSound}
 use Rattle.card_events.specs.Keys.{with_key}
 use Rattle.card_model.specs.Machine.{accepted}
@@ -41,7 +41,7 @@ returns-clause-told g c =
     let reach = subst (λ (a : OpenAccount). MayReach today (replay_of a)) (sym c.self.view_is) c.requires.account.reach in
     subst (λ (a : OpenAccount). IsTold today shared a (with_replay name new)) c.self.view_is
     (told-by today shared name old new reach did.same did.replay
-    (either-of c.prepare.result (new.folding.reached ≡ today) ((new.folding.reached ≡ old.folding.reached) ⊎ (new.folding.reached ≡ today)) ((new.folding.reached ≡ today) ⊎ (new.folding.reached ≡ old.folding.reached)) (λ e. inl e) (λ e. turned (new.folding.reached ≡ old.folding.reached) (new.folding.reached ≡ today) e) did.reached did.err))
+    (turned (new.folding.reached ≡ old.folding.reached) (new.folding.reached ≡ today) did.reached))
 
 pub returns-clause-most : goal.returns-clause-most
 returns-clause-most g c =

@@ -4,8 +4,8 @@ use Rattle.card_events.specs.declared.kept.Kept.{Kept}
 use Rattle.card_posts.specs.Posted.{IsReceived, StandsFor}
 use Rattle.card_model.specs.Cycles.{IssuedRow}
 use Rattle.card_model.specs.Machine.{kept_as}
-use Rattle.card_replay.proofs.Committing.{lists_by, taken-reached}
-use Rattle.card_replay.specs.Changes.{HasItsRoom, IsCommitted, IsTaken, issued_as}
+use Rattle.card_replay.proofs.Committing.{lists_by}
+use Rattle.card_replay.specs.Changes.{IsCommitted, IsTaken, issued_as}
 use Rattle.card_replay.specs.Replays.{Folding, Replay}
 use Rattle.card_replay.proofs.replay.Replay.commit.Goals as goal
 
@@ -36,9 +36,6 @@ add-pushed-requires-clause-stands c =
 pub push_issued-requires : goal.push_issued-requires
 push_issued-requires c = (c.self.invariant (ap (λ (r : Replay). r.has_room) c.self.view_is ∙ c.requires.prepared.added.room)).1
 
-pub take_if_any-requires : goal.take_if_any-requires
-take_if_any-requires c = subst (λ (r : Replay). HasItsRoom c.args.change.refolded r.folding.past) (sym c.self.view_is) c.requires.prepared.room
-
 pub returns : goal.returns
 returns c =
     let change = c.args.change in
@@ -47,17 +44,19 @@ returns c =
     let rows : c.self.inside.issued.items ≡ old.lists.issued = ap (λ (r : Replay). r.lists.issued) c.self.view_is in
     let posts = c.add-pushed.ensures.history ∙ ap (λ (hs : List Kept). hs ++ kept_as (length hs + 1) change.key change.today change.post ∷ []) history in
     let issued = c.push_issued.ensures ∙ ap (λ (is : List IssuedRow). is ++ issued_as change.issued) rows in
-    let folding : Folding = record { reached = c.self.inside.reached; book = c.take_if_any.new.book; past = c.take_if_any.new.past; eve = c.take_if_any.new.eve } in
+    let folding : Folding = record { reached = c.take_if_any-reached.result; book = c.take_if_any-reached.new.book; past = c.take_if_any-reached.new.past; eve = c.take_if_any-reached.new.eve } in
     let new : Replay = record { lists = lists_by c.add-pushed.new.self.history c.push_issued.new.list.items; corrected = c.add-pushed.new.self.corrected; has_room = false; folding = folding } in
     let committed : IsCommitted c.args.shared.now change old new =
     record {
       lists = ap (λ hs. lists_by hs c.push_issued.new.list.items) posts ∙ ap (lists_by (old.lists.posts ++ kept_as (length old.lists.posts + 1) change.key change.today change.post ∷ [])) issued;
       corrected = subst (λ holidays. StandsFor holidays c.add-pushed.new.self) c.calendar.ensures c.add-pushed.ensures.stands;
-      folding = subst (λ (f : Folding). IsTaken change.refolded f folding) (ap (λ (r : Replay). r.folding) c.self.view_is) (c.take_if_any.ensures c.self.inside.reached);
+      folding = subst (λ (f : Folding). IsTaken change.refolded f folding) (ap (λ (r : Replay). r.folding) c.self.view_is) c.take_if_any-reached.ensures;
     } in
     record {
       committed = committed;
-      today = record { replay = c.requires.prepared.next new committed; reached = taken-reached change.refolded old.folding folding committed.folding ∙ c.requires.prepared.reached };
+      replay = c.requires.prepared.next new committed;
+      reach = c.requires.prepared.reach_next new committed;
+      near = c.requires.prepared.near new committed;
       room = refl;
       number = c.add-pushed.ensures.number ∙ ap (λ (r : Replay). length r.lists.posts + 1) c.self.view_is;
     }

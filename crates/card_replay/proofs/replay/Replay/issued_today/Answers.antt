@@ -13,19 +13,19 @@ use Rattle.card_replay.proofs.replay.Replay.issued_today.Goals as goal
 
 pub new-inputs-requires-clause-stands : goal.new-inputs-requires-clause-stands
 new-inputs-requires-clause-stands c =
-    subst (λ (x : Replay). x.corrected ≡ corrected (anchor_of x.lists.posts) c.args.shared.now.holidays x.lists.posts) (sym c.self.view_is) c.requires.today.replay.corrected
+    subst (λ (x : Replay). x.corrected ≡ corrected (anchor_of x.lists.posts) c.args.shared.now.holidays x.lists.posts) (sym c.self.view_is) c.requires.replay.corrected
 
 pub new-inputs-requires-clause-sound : goal.new-inputs-requires-clause-sound
 new-inputs-requires-clause-sound c =
     let shared = c.args.shared.now in
     let parts = ap (λ rows. given_with c.self.inside.posts.history rows shared) c.deref.ensures.value ∙ ap (λ (x : Replay). given_of x.lists shared) c.self.view_is in
-    subst IsSound (sym parts) c.requires.today.replay.sound
+    subst IsSound (sym parts) c.requires.replay.sound
 
 pub issued_by-requires-clause-closings : goal.issued_by-requires-clause-closings
 issued_by-requires-clause-closings c =
     let shared = c.args.shared.now in
     let parts = ap (λ rows. given_with c.self.inside.posts.history rows shared) c.deref.ensures.value ∙ ap (λ (x : Replay). given_of x.lists shared) c.self.view_is in
-    subst (λ (x : Replay). HasClosings c.new-inputs.result x.folding.book x.folding.past) (sym c.self.view_is) (has-closings c.new-inputs.result shared c.args.self.now (c.new-inputs.ensures ∙ parts) c.requires.today.replay)
+    subst (λ (x : Replay). HasClosings c.new-inputs.result x.folding.book x.folding.past) (sym c.self.view_is) (has-closings c.new-inputs.result shared c.args.self.now (c.new-inputs.ensures ∙ parts) c.requires.replay)
 
 pub issued_by-requires-clause-small : goal.issued_by-requires-clause-small
 issued_by-requires-clause-small c = λ cycle e.
@@ -47,4 +47,4 @@ returns c =
     ∙ (ap (λ g. issued_from g c.self.inside.past.track.cycles.items (c.len-number.result + 1) today p) inputs
     ∙ (ap (λ cs. issued_from (given_of r.lists shared) cs (c.len-number.result + 1) today p) cycles
     ∙ (ap (λ n. issued_from (given_of r.lists shared) r.folding.past.track.cycles.items n today p) number
-    ∙ issues-are today shared r.lists r.folding.past.track.cycles.items p (cycles-today shared today r c.requires.today))))
+    ∙ issues-are today shared r.lists r.folding.past.track.cycles.items p (λ needs. cycles-today shared today r (record { replay = c.requires.replay; reached = c.requires.ready needs })))))

@@ -6,8 +6,8 @@ use Rattle.card_model.specs.Refusals.{Lists}
 use Rattle.card_daily.specs.Given.{IsSound, opened_in}
 use Rattle.card_book.specs.Stands.{steps_over}
 use Rattle.card_replay.proofs.Committing.{given_with, lists_by}
-use Rattle.card_replay.proofs.Reached.{started}
-use Rattle.card_replay.specs.Replays.{Folding, IsFolding, IsToday}
+use Rattle.card_replay.proofs.Reached.{started, started-reach}
+use Rattle.card_replay.specs.Replays.{Folding, IsFolding, IsToday, MayReach}
 use Rattle.card_replay.proofs.replay.Replay.start.Goals as goal
 
 pub new-inputs-requires-clause-stands : goal.new-inputs-requires-clause-stands
@@ -45,6 +45,16 @@ returns-clause-today g c =
     let stands = c.in_ok-posts.ensures.stands shared.holidays ∙ ap (λ (hs : List Kept). corrected (anchor_of hs) shared.holidays hs) c.in_ok-posts.ensures.history in
     subst (λ (l : Lists). IsToday today shared (record { lists = l; corrected = c.in_ok-posts.posts.corrected; has_room = false; folding = f })) (sym lists)
     (started shared key today p c.in_ok-posts.posts.corrected false f c.requires.opens c.requires.opened c.requires.dated c.requires.sound stands refl folding)
+
+pub returns-clause-reach : goal.returns-clause-reach
+returns-clause-reach g c =
+    let key = c.args.key.now in
+    let today = c.args.today in
+    let p = c.args.post.now in
+    let f : Folding = record { reached = today; book = c.in_ok-book.book; past = c.first_book.new.past; eve = None } in
+    let lists = ap (λ hs. lists_by hs c.new-issued.result.items) c.in_ok-posts.ensures.history ∙ ap (lists_by (kept_as 1 key today p ∷ [])) c.new-issued.ensures.items in
+    subst (λ (l : Lists). MayReach today (record { lists = l; corrected = c.in_ok-posts.posts.corrected; has_room = false; folding = f })) (sym lists)
+    (started-reach key today p c.in_ok-posts.posts.corrected false f c.requires.dated refl)
 
 pub returns-clause-most : goal.returns-clause-most
 returns-clause-most g c =

@@ -39,12 +39,12 @@ returns g c =
     let r = c.args.self.now in
     let e = c.new-inputs.ensures ∙ (ap (λ rows. given_with c.self.inside.posts.history rows shared) c.deref.ensures.value ∙ ap (λ (x : Replay). given_of x.lists shared) c.self.view_is) in
     let p = c.reach.new.past in
-    let last : Eve = record { book = c.replace-book.result; ends = c.ends_of-ends.result } in
+    let last : Eve = record { book = c.replace-book.result; day = c.self.inside.reached; ends = c.ends_of-ends.result } in
     let f : Folding = record { reached = c.args.today; book = c.replace-book.new.dest; past = p; eve = Some last } in
     let stood : IsEve (given_of r.lists shared) c.args.today p last =
-    subst (λ b. IsEve (given_of r.lists shared) c.args.today p (record { book = b; ends = c.ends_of-ends.result })) (ap (λ (x : Replay). x.folding.book) (sym c.self.view_is) ∙ sym c.replace-book.ensures.value)
-    (last-eve shared r c.args.today p c.ends_of-ends.result c.requires.replay c.requires.reach (subst (λ (x : Replay). AreEnds c.ends_of-ends.result x.folding.past) c.self.view_is c.ends_of-ends.ensures)
-    (subst (λ (x : Replay). PastBegins x.folding.past p) c.self.view_is c.in_ok-later.ensures.begins)) in
+    subst (λ b. IsEve (given_of r.lists shared) c.args.today p (record { book = b; day = c.self.inside.reached; ends = c.ends_of-ends.result })) (sym c.replace-book.ensures.value)
+    (subst (λ (x : Replay). IsEve (given_of r.lists shared) c.args.today p (record { book = x.folding.book; day = x.folding.reached; ends = c.ends_of-ends.result })) (sym c.self.view_is) (last-eve shared r c.args.today p c.ends_of-ends.result c.requires.replay c.requires.reach (subst (λ (x : Replay). AreEnds c.ends_of-ends.result x.folding.past) c.self.view_is c.ends_of-ends.ensures)
+    (subst (λ (x : Replay). PastBegins x.folding.past p) c.self.view_is c.in_ok-later.ensures.begins))) in
     let alone = subst (λ given. IsFolding given (record { reached = c.args.today; book = c.in_ok-later.later; past = p; eve = None })) e c.in_ok-later.ensures.folding in
     let folding = with-eve (given_of r.lists shared) c.args.today c.replace-book.new.dest p last stood (subst (λ b. IsFolding (given_of r.lists shared) (record { reached = c.args.today; book = b; past = p; eve = None })) (sym c.replace-book.ensures.after) alone) in
     let day = ap (λ (x : Replay). x.folding.book.day) c.self.view_is ∙ c.requires.replay.folding.day in
