@@ -1,15 +1,14 @@
 -- Effective days by a post's own day and that of the post it waits for.
 use Rattle.std.proofs.Common.{◌≡◌, ℕ, zero, suc, ◌+◌, ◌<◌, ◌≤◌, max, Bool, true, false, cond, ◌==◌, List, [], ◌∷◌, ◌++◌, length, get_or, refl, ap, arith, Option, Some, None}
 use Rattle.std.specs.Option.{option_or}
+use Rattle.card_days.specs.Business.{credit_day, is_mail}
 use Rattle.card_days.specs.Range.{last_request_day}
 use Rattle.card_days.specs.declared.anchor.Anchor.{Anchor}
-use Rattle.card_days.specs.declared.anchor.Channel.{Channel}
-use Rattle.card_events.specs.History.{amend_of, at_number, charge_day, dispute_day, effective_day, last_amend, payment_day}
+use Rattle.card_events.specs.History.{amend_of, amended_day, at_number, charge_day, dispute_day, effective_day, last_amend, payment_day}
 use Rattle.card_events.specs.declared.kept.Kept.{Kept}
-use Rattle.card_events.specs.declared.post.Place.{Place}
 use Rattle.card_events.specs.declared.post.Post.{Post}
 use Rattle.card_events.specs.declared.post.Post.TheVariants as post
-use Rattle.card_posts.specs.Effect.{IsAmendDated, awaited_day, own_day}
+use Rattle.card_posts.specs.Effect.{IsAmendDated, awaited_day, day_alone}
 use Rattle.card_posts.specs.Posted.{target_of, IsReceived}
 use Rattle.card_posts.specs.Stored.{AreTimely, IsTimely, NameEarlier}
 
@@ -92,30 +91,27 @@ amend : (a : Anchor) (holidays : List ℕ) (h : List Kept) (t d c : ℕ) (o : Op
 amend a holidays h t d c None = top d
 amend a holidays h t d c (Some k) = top d
 
--- a post that isn't a Charge, a Credit or a Payment
+-- an effective day is the later of the post's day by itself and that of the post it waits for
 pub day-by-later : (a : Anchor) (holidays : List ℕ) (h : List Kept) (n accepted : ℕ) (q : Post)
-    → ((d : ℕ) (p : Place) (c : ℕ) → q ≡ post.Charge d p c → ⊥)
-    → ((d : ℕ) (p : Place) (c : ℕ) → q ≡ post.Credit d p c → ⊥)
-    → ((d i : ℕ) (y : Channel) (c : ℕ) → q ≡ post.Payment d i y c → ⊥)
-    → effective_day a holidays h n accepted q ≡ max (own_day accepted q) (awaited_day a holidays h q (at_number (target_of q) h))
+    → effective_day a holidays h n accepted q ≡ max (day_alone a holidays (last_amend n h) accepted q) (awaited_day a holidays h q (at_number (target_of q) h))
 unfolding effective_day
-day-by-later a holidays h n accepted (post.Open d t) no1 no2 no3 = top d
-day-by-later a holidays h n accepted (post.Charge d p c) no1 no2 no3 = absurd (no1 d p c refl)
-day-by-later a holidays h n accepted (post.Credit d p c) no1 no2 no3 = absurd (no2 d p c refl)
-day-by-later a holidays h n accepted (post.Payment d i y c) no1 no2 no3 = absurd (no3 d i y c refl)
-day-by-later a holidays h n accepted (post.Return d t) no1 no2 no3 = ap (λ x. max d x) (payment a holidays h t d (at_number t h))
-day-by-later a holidays h n accepted (post.Plan d v r w f) no1 no2 no3 = top d
-day-by-later a holidays h n accepted (post.Notice d y r w) no1 no2 no3 = top d
-day-by-later a holidays h n accepted (post.Lower d y r) no1 no2 no3 = top d
-day-by-later a holidays h n accepted post.Penalty no1 no2 no3 = top accepted
-day-by-later a holidays h n accepted (post.Review d f) no1 no2 no3 = top d
-day-by-later a holidays h n accepted (post.Dispute d t c) no1 no2 no3 = ap (λ x. max d x) (charge a holidays h t d c (at_number t h))
-day-by-later a holidays h n accepted (post.Ack d t) no1 no2 no3 = top d
-day-by-later a holidays h n accepted (post.Resolve d t c) no1 no2 no3 = ap (λ x. max d x) (dispute a holidays h t d c (at_number t h))
-day-by-later a holidays h n accepted (post.AskRefund d) no1 no2 no3 = top d
-day-by-later a holidays h n accepted (post.Refund c) no1 no2 no3 = top accepted
-day-by-later a holidays h n accepted (post.Amend t d c) no1 no2 no3 = amend a holidays h t d c (at_number t h)
-day-by-later a holidays h n accepted (post.Bill c) no1 no2 no3 = top accepted
+day-by-later a holidays h n accepted (post.Open d t) = top d
+day-by-later a holidays h n accepted (post.Charge d p c) = top (amended_day (last_amend n h) d)
+day-by-later a holidays h n accepted (post.Credit d p c) = top (amended_day (last_amend n h) d)
+day-by-later a holidays h n accepted (post.Payment d i y c) = top (credit_day a holidays (amended_day (last_amend n h) d) i (is_mail y))
+day-by-later a holidays h n accepted (post.Return d t) = ap (λ x. max d x) (payment a holidays h t d (at_number t h))
+day-by-later a holidays h n accepted (post.Plan d v r w f) = top d
+day-by-later a holidays h n accepted (post.Notice d y r w) = top d
+day-by-later a holidays h n accepted (post.Lower d y r) = top d
+day-by-later a holidays h n accepted post.Penalty = top accepted
+day-by-later a holidays h n accepted (post.Review d f) = top d
+day-by-later a holidays h n accepted (post.Dispute d t c) = ap (λ x. max d x) (charge a holidays h t d c (at_number t h))
+day-by-later a holidays h n accepted (post.Ack d t) = top d
+day-by-later a holidays h n accepted (post.Resolve d t c) = ap (λ x. max d x) (dispute a holidays h t d c (at_number t h))
+day-by-later a holidays h n accepted (post.AskRefund d) = top d
+day-by-later a holidays h n accepted (post.Refund c) = top accepted
+day-by-later a holidays h n accepted (post.Amend t d c) = amend a holidays h t d c (at_number t h)
+day-by-later a holidays h n accepted (post.Bill c) = top accepted
 
 -- ---- days of receipt
 either : (opened : ℕ) (x y : Option (ℕ × ℕ)) → IsAmendDated opened x → IsAmendDated opened y → IsAmendDated opened (option_or x y)

@@ -8,6 +8,7 @@ pub mod DayLemmas
 pub mod Bounded
 pub mod Changed
 pub mod Following
+pub mod FirstWith
 pub mod IndexLemmas
 pub mod Opening
 pub mod Holidays

@@ -219,7 +219,7 @@ target-last (post.Refund c) m n b l = refl
 target-last (post.Amend t d c) m n b l = rw (other t n (λ e. omega (arith, b, e, l))) refl
 target-last (post.Bill c) m n b l = refl
 
-unnamed : (n m : ℕ) (ks : List Kept) → NameEarlier m ks → m + length ks ≤ n + 1 → last_amend n ks ≡ None
+pub unnamed : (n m : ℕ) (ks : List Kept) → NameEarlier m ks → m + length ks ≤ n + 1 → last_amend n ks ≡ None
 unfolding last_amend NameEarlier
 unnamed n m [] e l = refl
 unnamed n m (k ∷ ks) e l =

@@ -212,7 +212,7 @@ dispute-agree h g top t a e l (Some k) f = by k.post (target-below t g k e f)
     by (post.Amend t d c) b = refl
     by (post.Bill c) b = refl
 
-day-agree : (a : Anchor) (holidays : List ℕ) (h g : List Kept) (top : ℕ) → Agree h g top → NameEarlier 1 g → (n accepted : ℕ) (p : Post) → target_of p ≤ top → effective_day a holidays h n accepted p ≡ effective_day a holidays g n accepted p
+pub day-agree : (a : Anchor) (holidays : List ℕ) (h g : List Kept) (top : ℕ) → Agree h g top → NameEarlier 1 g → (n accepted : ℕ) (p : Post) → target_of p ≤ top → effective_day a holidays h n accepted p ≡ effective_day a holidays g n accepted p
 unfolding effective_day
 day-agree a holidays h g top s e n accepted (post.Open d t) l = refl
 day-agree a holidays h g top s e n accepted (post.Charge d p c) l = ap (λ o. amended_day o d) (s.amends n)
@@ -261,16 +261,17 @@ effects-agree a holidays h g top s e n (k ∷ ks) f l =
     let rest : effects_from a holidays h (suc n) ks ≡ effects_from a holidays g (suc n) ks = effects-agree a holidays h g top s e (suc n) ks f.1 (omega (arith, l)) in
     rw (day, cents, rest) refl
 
--- a post that corrects nothing leaves what counts for the others
+-- a post that corrects nothing leaves what stands for the others
+pub plain-agree : (h : List Kept) (k : Kept) → NameEarlier 1 h → target_of k.post ≤ length h → corrects k.post ≡ false → Agree (more h k) h (length h)
+plain-agree h k e l f = record {
+  amends = λ n. plain-amend n h k f;
+  confirms = λ n. plain-confirmed n h k e l f;
+  posts = λ n m. number-more n h k m;
+}
+
+-- and so what counts for them
 pub plain-effects : (a : Anchor) (holidays : List ℕ) (h : List Kept) (k : Kept) → NameEarlier 1 h → target_of k.post ≤ length h → corrects k.post ≡ false → effects_from a holidays (more h k) 1 h ≡ effects_from a holidays h 1 h
-plain-effects a holidays h k e l f = effects-agree a holidays (more h k) h (length h) agree e 1 h e (omega arith)
-  where
-    agree : Agree (more h k) h (length h)
-    agree = record {
-      amends = λ n. plain-amend n h k f;
-      confirms = λ n. plain-confirmed n h k e l f;
-      posts = λ n m. number-more n h k m;
-    }
+plain-effects a holidays h k e l f = effects-agree a holidays (more h k) h (length h) (plain-agree h k e l f) e 1 h e (omega arith)
 
 pub effects-append : (a : Anchor) (holidays : List ℕ) (h : List Kept) (n : ℕ) (ks : List Kept) (k : Kept) → effects_from a holidays h n (ks ++ k ∷ []) ≡ effects_from a holidays h n ks ++ effect_of a holidays h (n + length ks) k ∷ []
 unfolding effects_from

@@ -1,5 +1,6 @@
 -- A post that is entered for a while, and taken back.
-use Rattle.std.specs.Prelude.{◌≡◌, ◌-◌, ◌<◌, ◌≤◌, true, false, List, [], ◌∷◌, ◌++◌, length, take, Option, Some, None, vec_len, vec_capacity}
+use Rattle.std.specs.Prelude.{◌≡◌, ℕ, ◌+◌, ◌-◌, ◌<◌, ◌≤◌, true, false, List, [], ◌∷◌, ◌++◌, length, take, Option, Some, None, vec_len, vec_capacity}
+use Rattle.card_events.specs.History.{anchor_of, corrected}
 use Rattle.card_events.specs.Keys.{with_key}
 use Rattle.card_events.specs.declared.kept.Kept.{Kept}
 use Rattle.card_events.specs.declared.kept.Slot.{Slot}
@@ -14,6 +15,11 @@ use Rattle.card_posts.specs.declared.correction.Correction.{Correction}
 use Rattle.card_posts.specs.declared.draft.Beside.{Beside}
 use Rattle.card_posts.specs.declared.draft.Draft.{Draft}
 use Rattle.card_posts.specs.declared.effect.Effect.{Effect}
+
+-- the day is the first on which the corrected list differs with this post behind the others, accepted on a day under any key
+abbrev pub IsFirstWith : List ℕ → ℕ → Post → Posted → ℕ → Type 0
+IsFirstWith holidays accepted p posted from =
+    (key : List ℕ) → IsFirstChange from posted.corrected (corrected (anchor_of posted.history) holidays (posted.history ++ record { number = length posted.history + 1; key = key; accepted = accepted; post = p } ∷ []))
 
 -- each of the lists has room for one more
 pub record IsRoomy (b : Beside) : Type 0 where

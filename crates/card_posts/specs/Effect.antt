@@ -3,7 +3,8 @@ use Rattle.std.specs.Prelude.{◌≡◌, ℕ, suc, ◌≤◌, Bool, true, false,
 use Rattle.std.specs.List.{All}
 use Rattle.card_days.specs.Range.{last_request_day}
 use Rattle.card_days.specs.declared.anchor.Anchor.{Anchor}
-use Rattle.card_events.specs.History.{CorrectedPost, at_number, effective_day, cents_of, next_segment}
+use Rattle.card_days.specs.Business.{credit_day, is_mail}
+use Rattle.card_events.specs.History.{CorrectedPost, amended_day, at_number, effective_day, cents_of, next_segment}
 use Rattle.card_events.specs.declared.kept.Kept.{Kept}
 use Rattle.card_events.specs.declared.kept.Slot.{Slot}
 use Rattle.card_events.specs.declared.post.Post.{Post}
@@ -30,6 +31,13 @@ own_day accepted (post.AskRefund day) = day
 own_day accepted (post.Refund _) = accepted
 own_day accepted (post.Amend _ day _) = day
 own_day accepted (post.Bill _) = accepted
+
+-- the effective day of a post by itself: its own, or that of the last Amend, as of which a payment is credited
+abbrev pub day_alone : Anchor → List ℕ → Option (ℕ × ℕ) → ℕ → Post → ℕ
+day_alone a holidays amend accepted (post.Charge day _ _) = amended_day amend day
+day_alone a holidays amend accepted (post.Credit day _ _) = amended_day amend day
+day_alone a holidays amend accepted (post.Payment day minute by _) = credit_day a holidays (amended_day amend day) minute (is_mail by)
+day_alone a holidays amend accepted p = own_day accepted p
 
 -- a Return counts no earlier than its payment, a Dispute than its charge, and a Resolve than its Dispute
 abbrev pub awaits : Post → Post → Bool

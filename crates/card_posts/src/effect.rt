@@ -6,9 +6,9 @@ ghost use Rattle.card_days.specs.Business.{credit_day, is_mail};
 ghost use Rattle.card_events.specs.History.{amended_cents, amended_day, cents_of, effective_day};
 ghost use Rattle.card_events.specs.declared.kept.Kept.{Kept};
 ghost use Rattle.card_posts.specs.Corrections.{correction_of, corrections_from};
-ghost use Rattle.card_posts.specs.Effect.{IsAmendDated, awaits, day_awaited, own_day};
+ghost use Rattle.card_posts.specs.Effect.{IsAmendDated, awaits, day_alone, day_awaited, own_day};
 ghost use Rattle.card_posts.specs.Effect as spec;
-ghost use Rattle.card_posts.specs.Posted.{cents_limit, target_of};
+ghost use Rattle.card_posts.specs.Posted.{IsReceived, cents_limit, target_of};
 ghost use Rattle.card_posts.specs.Stored.{IsKept, IsTimely};
 ghost use Rattle.card_posts.specs.declared.effect.Effect.{Effect};
 ghost use Rattle.card_days.specs.declared.anchor.Anchor.{Anchor};
@@ -80,10 +80,10 @@ fn cents_now(post: &Post, correction: &Correction) -> Num
 }
 
 // a post's own day, and that of acceptance where it has none
-fn own_day(kept: &Kept) -> Day
-    ensures { result ≡ own_day kept.now.accepted kept.now.post }
+fn own_day(accepted: Day, post: &Post) -> Day
+    ensures { result ≡ own_day accepted post.now }
 {
-    match kept.post {
+    match *post {
         Post::Open { day, .. }
         | Post::Charge { day, .. }
         | Post::Credit { day, .. }
@@ -98,7 +98,7 @@ fn own_day(kept: &Kept) -> Day
         | Post::Resolve { day, .. }
         | Post::AskRefund { day }
         | Post::Amend { day, .. } => day,
-        Post::Penalty | Post::Refund { .. } | Post::Bill { .. } => kept.accepted,
+        Post::Penalty | Post::Refund { .. } | Post::Bill { .. } => accepted,
     }
 }
 
@@ -168,6 +168,36 @@ fn credited(
     credit_day(*anchor, receipt, minute.get() as u16, channel, calendar)
 }
 
+// the effective day of a post by itself: its own or that of the last Amend, as of which a payment is credited
+fn day_alone(
+    accepted: Day,
+    post: &Post,
+    correction: &Correction,
+    anchor: &Anchor,
+    calendar: &Calendar,
+) -> Day
+    requires close_day { IsCloseDay anchor.now.close_day }
+    requires dated { accepted ≤ last_request_day }
+    requires received { IsReceived anchor.now.opened accepted post.now }
+    requires amend { IsAmendDated anchor.now.opened correction.now.amend }
+    ensures { result ≡ day_alone anchor.now calendar.now correction.now.amend accepted post.now }
+{
+    match *post {
+        Post::Charge { day, .. } => amended_day(correction, day),
+        Post::Credit { day, .. } => amended_day(correction, day),
+        Post::Payment {
+            day,
+            minute,
+            channel,
+            ..
+        } => {
+            let receipt = amended_day(correction, day);
+            credited(anchor, receipt, minute, channel, calendar)
+        }
+        _ => own_day(accepted, post),
+    }
+}
+
 // the effective day of post i + 1, where what counts for all posts before it is known
 fn day_now(
     history: &[Kept],
@@ -188,20 +218,32 @@ fn day_now(
     requires front { take i effects.now ≡ take i (spec.effects anchor.now calendar.now history.now) }
     ensures { result ≡ effective_day anchor.now calendar.now history.now (i + 1) kept.now.accepted kept.now.post }
 {
-    match kept.post {
-        Post::Charge { day, .. } => amended_day(correction, day),
-        Post::Credit { day, .. } => amended_day(correction, day),
-        Post::Payment {
-            day,
-            minute,
-            channel,
-            ..
-        } => {
-            let receipt = amended_day(correction, day);
-            credited(anchor, receipt, minute, channel, calendar)
-        }
-        _ => later(own_day(kept), awaited_day(history, effects, &kept.post, i)),
-    }
+    let alone = day_alone(kept.accepted, &kept.post, correction, anchor, calendar);
+    later(alone, awaited_day(history, effects, &kept.post, i))
+}
+
+// The effective day of a post of which nothing is said yet, where what counts for all posts before it is known.
+pub fn day_of_next(
+    history: &[Kept],
+    effects: &[Effect],
+    accepted: Day,
+    post: &Post,
+    anchor: &Anchor,
+    calendar: &Calendar,
+) -> Day
+    requires kept { IsKept anchor.now history.now }
+    requires effects { effects.now ≡ spec.effects anchor.now calendar.now history.now }
+    requires target { target_of post.now ≤ length history.now }
+    requires dated { accepted ≤ last_request_day }
+    requires received { IsReceived anchor.now.opened accepted post.now }
+    ensures { result ≡ effective_day anchor.now calendar.now history.now (1 + length history.now) accepted post.now }
+{
+    let nothing = Correction {
+        amend: None,
+        confirmed: 0,
+    };
+    let alone = day_alone(accepted, post, &nothing, anchor, calendar);
+    later(alone, awaited_day(history, effects, post, history.len()))
 }
 
 // What counts for post i + 1, where what counts for all posts before it is known.

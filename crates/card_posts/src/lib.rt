@@ -5,6 +5,7 @@ mod correction;
 mod draft;
 mod effect;
 mod enter;
+mod foretold;
 mod index;
 pub mod laws;
 mod make;

@@ -2,9 +2,11 @@ use crate::correction::{Correction, numbered};
 use crate::draft::{Draft, beside_if_corrected, keep_first, put_back};
 use crate::effect::{Effect, no_cents};
 use crate::enter::enter;
+use crate::foretold::first_with_plain;
 use crate::index::{enter_key, find};
 use crate::make::{copy_history, one, one_correction, one_effect, one_kept, one_slot, opening};
 use crate::order::{slot, slot_with};
+use crate::refresh::is_correction;
 use card_days::{Anchor, Calendar, Day};
 use card_events::{Kept, Name, Post, Slot};
 use card_units::NoMemory;
@@ -44,7 +46,7 @@ pub struct Pushed {
 }
 
 impl Posts {
-    ghost use Rattle.std.specs.Prelude.{◌≡◌, ℕ, ◌+◌, ◌<◌, ◌≤◌, ◌++◌, List, [], ◌∷◌, true, false, length, IsOk, IfOk, OnOk, OnErr, None, option_copied};
+    ghost use Rattle.std.specs.Prelude.{◌≡◌, ℕ, ◌+◌, ◌<◌, ◌≤◌, ◌++◌, List, [], ◌∷◌, true, false, length, IsOk, IfOk, IfSome, OnOk, OnErr, None, option_copied};
     ghost use Rattle.card_events.specs.Limits.{post_limit};
     ghost use Rattle.card_days.specs.Range.{last_request_day};
     ghost use Rattle.card_days.specs.Billing.{IsCloseDay};
@@ -52,7 +54,8 @@ impl Posts {
     ghost use Rattle.card_events.specs.Keys.{with_key};
     ghost use Rattle.card_events.specs.declared.kept.Kept.{Kept};
     ghost use Rattle.card_posts.specs.Change.{IsFirstChange};
-    ghost use Rattle.card_posts.specs.Draft.{AwaitsReturn, IsDraft};
+    ghost use Rattle.card_posts.specs.Corrections.{corrects};
+    ghost use Rattle.card_posts.specs.Draft.{AwaitsReturn, IsDraft, IsFirstWith};
     ghost use Rattle.card_posts.specs.Posted.{Posted, AreBounded, AreNumbered, IsReceived, StandsFor, folding_order, opens, slot_with, target_of};
     ghost use Rattle.card_posts.specs.Stored.{AreTimely};
 
@@ -189,6 +192,33 @@ impl Posts {
         );
         self.has_room = false;
         Pushed { number, from }
+    }
+
+    /// The first day on which the corrected list differs once this post stands behind the others, accepted on this day under any
+    /// key; told without entering it, and without memory. None comes only for a post that corrects others: then `draft` tells it.
+    /// The corrected list must be that of the posts under this calendar. The post is about no later one. A payment came in by
+    /// the day of acceptance, and an Amend gives no later day.
+    pub fn first_change(&self, accepted: Day, post: &Post, calendar: &Calendar) -> Option<Day>
+        requires few { length self.now.history < post_limit }
+        requires stands { StandsFor calendar.now self.now }
+        requires target { target_of post.now ≤ length self.now.history }
+        requires dated { accepted ≤ last_request_day }
+        requires received { IsReceived (anchor_of self.now.history).opened accepted post.now }
+        ensures from { IfSome result (IsFirstWith calendar.now accepted post.now self.now) }
+        ensures none { result ≡ None → corrects post.now ≡ true }
+    {
+        if is_correction(post) {
+            return None;
+        }
+        let from = first_with_plain(
+            &self.history,
+            &self.effects,
+            accepted,
+            post,
+            &self.anchor,
+            calendar,
+        );
+        Some(from)
     }
 
     /// Enters a post behind the others for a while, with room made for it: as `add` does, but so that `withdraw` takes it back.

@@ -1,0 +1,35 @@
+// What one more post changes, told without entering it.
+ghost use Rattle.std.specs.Prelude.{◌≡◌, ◌≤◌, ◌++◌, [], ◌∷◌, length, false};
+ghost use Rattle.card_days.specs.Range.{last_request_day};
+ghost use Rattle.card_events.specs.History.{corrected};
+ghost use Rattle.card_events.specs.declared.kept.Kept.{Kept};
+ghost use Rattle.card_posts.specs.Change.{IsFirstChange};
+ghost use Rattle.card_posts.specs.Corrections.{corrects};
+ghost use Rattle.card_posts.specs.Effect.{corrected_with};
+ghost use Rattle.card_posts.specs.Effect as spec;
+ghost use Rattle.card_posts.specs.Posted.{IsReceived, target_of};
+ghost use Rattle.card_posts.specs.Stored.{IsKept};
+
+use crate::effect::{Effect, day_of_next};
+use card_days::{Anchor, Calendar, Day};
+use card_events::{Kept, Post};
+
+// The first day on which the corrected list differs with one more post, which corrects none of the others: its effective day.
+pub fn first_with_plain(
+    history: &[Kept],
+    effects: &[Effect],
+    accepted: Day,
+    post: &Post,
+    anchor: &Anchor,
+    calendar: &Calendar,
+) -> Day
+    requires kept { IsKept anchor.now history.now }
+    requires effects { effects.now ≡ spec.effects anchor.now calendar.now history.now }
+    requires plain { corrects post.now ≡ false }
+    requires target { target_of post.now ≤ length history.now }
+    requires dated { accepted ≤ last_request_day }
+    requires received { IsReceived anchor.now.opened accepted post.now }
+    ensures { (k : Kept) → k.accepted ≡ accepted → k.post ≡ post.now → IsFirstChange result (corrected_with 1 5 history.now effects.now) (corrected anchor.now calendar.now (history.now ++ k ∷ [])) }
+{
+    day_of_next(history, effects, accepted, post, anchor, calendar)
+}
