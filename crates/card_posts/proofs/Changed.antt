@@ -70,6 +70,28 @@ unfolding first_change
 change-same first [] = refl
 change-same first (e ∷ es) = rw (stands-itself e) (change-same first es)
 
+-- one alone was looked at
+pub change-one : (first i : ℕ) (es : List Effect) (f d : Effect) → i < length es → after_one first (get_or es i d) f ≡ first_change first es (set es i f)
+unfolding first_change
+change-one first i [] f d l = absurd (omega (arith, l))
+change-one first zero (e ∷ es) f d l = sym (change-same (after_one first e f) es)
+change-one first (suc i) (e ∷ es) f d l = rw (stands-itself e) (change-one first i es f d (omega (arith, l)))
+
+-- what comes before the place of one that was set
+pub front-set : (i n : ℕ) (old all : List Effect) (x : Effect) → i < n → take n all ≡ set old i x → take i old ≡ take i all
+front-set i zero old all x l e = absurd (omega (arith, l))
+front-set zero (suc n) old all x l e = refl
+front-set (suc i) (suc n) [] [] x l e = refl
+front-set (suc i) (suc n) [] (y ∷ ys) x l e = absurd (cc)
+front-set (suc i) (suc n) (z ∷ zs) [] x l e = absurd (cc)
+front-set (suc i) (suc n) (z ∷ zs) (y ∷ ys) x l e = pair z y (take i zs) (take i ys) (cc) (front-set i n zs ys x (omega (arith, l)) (rest y z (take n ys) (set zs i x) e))
+  where
+    pair : (a b : Effect) (us vs : List Effect) → a ≡ b → us ≡ vs → a ∷ us ≡ b ∷ vs
+    pair a b us vs p q = rw (p, q) refl
+
+    rest : (a b : Effect) (us vs : List Effect) → a ∷ us ≡ b ∷ vs → us ≡ vs
+    rest a b us vs p = cc
+
 -- the day of the new post may be looked at last
 pub change-last : (a b : ℕ) (es fs : List Effect) → min a (first_change b es fs) ≡ first_change (min a b) es fs
 unfolding first_change

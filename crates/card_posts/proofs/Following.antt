@@ -35,7 +35,7 @@ front-length (suc i) (x ∷ xs) l = ap suc (front-length i xs (omega (arith, l))
 pub whole : (n : ℕ) (xs : List Effect) (d : Effect) → length xs ≡ n + 1 → take n xs ++ get_or xs n d ∷ [] ≡ xs
 whole n xs d e = let l : n < length xs = omega (arith, e) in sym (take_more xs n d l) ∙ take-all (n + 1) xs e
 
-take-front : (n : ℕ) (xs ys : List Effect) → length xs ≡ n → take n (xs ++ ys) ≡ xs
+pub take-front : (n : ℕ) (xs ys : List Effect) → length xs ≡ n → take n (xs ++ ys) ≡ xs
 take-front zero [] ys e = refl
 take-front zero (x ∷ xs) ys e = absurd (omega (arith, e))
 take-front (suc n) [] ys e = absurd (omega (arith, e))
@@ -49,18 +49,6 @@ plain-front a holidays h k e l f =
     let there : effects a holidays (more h k) ≡ effects_from a holidays (more h k) 1 h ++ _ = effects-append a holidays (more h k) 1 h k in
     let long : length (effects_from a holidays (more h k) 1 h) ≡ length (effects a holidays h) = ap length same in
     sym (ap (take (length (effects a holidays h))) there ∙ (take-front (length (effects a holidays h)) (effects_from a holidays (more h k) 1 h) _ long ∙ same))
-
-last-at : (h : List Kept) (k d : Kept) → get_or (h ++ k ∷ []) (length h) d ≡ k
-last-at [] k d = refl
-last-at (q ∷ h) k d = last-at h k d
-
-pub plain-last : (a : Anchor) (holidays : List ℕ) (h g : List Kept) (k d : Kept) (es : List Effect) → es ≡ effects a holidays h → g ≡ more h k → NameEarlier 1 h → target_of k.post ≤ length h
-    → corrects (get_or g (length es) d).post ≡ false → es ≡ take (length es) (effects a holidays g)
-plain-last a holidays h g k d es is now e l f =
-    let long : length es ≡ length h = ap length is ∙ effects-length a holidays h 1 h in
-    let last : get_or g (length es) d ≡ k = ap (λ u. get_or u (length es) d) now ∙ (ap (λ n. get_or (more h k) n d) long ∙ last-at h k d) in
-    let plain : corrects k.post ≡ false = sym (ap (λ (q : Kept). corrects q.post) last) ∙ f in
-    is ∙ (plain-front a holidays h k e l plain ∙ (ap (λ u. take (length u) (effects a holidays (more h k))) (sym is) ∙ ap (λ u. take (length es) (effects a holidays u)) (sym now)))
 
 -- the day of a push is exact
 pub push-from : (ks : List Kept) (k : Kept) (es fs : List Effect) (e : Effect) (from : ℕ) → length ks ≡ length es → length es ≡ length fs → e.day ≤ last_calendar_day → from ≡ min e.day (first_change last_calendar_day es fs)

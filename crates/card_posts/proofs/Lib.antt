@@ -9,6 +9,7 @@ pub mod Bounded
 pub mod Changed
 pub mod Following
 pub mod FirstWith
+pub mod Alone
 pub mod IndexLemmas
 pub mod Opening
 pub mod Holidays

@@ -64,13 +64,13 @@ same : (a : ℕ) → (a == a) ≡ true
 same a = grind (arith, nat_tests)
 
 -- an Amend sets the day and cents that stand
-amend-other : (h : List Kept) (k : Kept) (t d c m : ℕ) → k.post ≡ post.Amend t d c → (t ≡ m → ⊥) → last_amend m (more h k) ≡ last_amend m h
+pub amend-other : (h : List Kept) (k : Kept) (t d c m : ℕ) → k.post ≡ post.Amend t d c → (t ≡ m → ⊥) → last_amend m (more h k) ≡ last_amend m h
 amend-other h k t d c m is n = last_amend-more m h k ∙ (rw (is, other t m n) refl)
 
 amend-this : (h : List Kept) (k : Kept) (t d c : ℕ) → k.post ≡ post.Amend t d c → last_amend t (more h k) ≡ Some (d, c)
 amend-this h k t d c is = last_amend-more t h k ∙ (rw (is, same t) refl)
 
-amend-confirmed : (h : List Kept) (k : Kept) (t d c m : ℕ) → k.post ≡ post.Amend t d c → NameEarlier 1 h → t ≤ length h → confirmed m (more h k) ≡ confirmed m h
+pub amend-confirmed : (h : List Kept) (k : Kept) (t d c m : ℕ) → k.post ≡ post.Amend t d c → NameEarlier 1 h → t ≤ length h → confirmed m (more h k) ≡ confirmed m h
 amend-confirmed h k t d c m is e l =
     let within : target_of k.post ≤ length h = rw is l in
     let none : confirms m h k.post ≡ 0 = rw is refl in
@@ -139,7 +139,7 @@ named-no : (m : ℕ) (o : Option Kept) → charge_named o ≡ 0 → (0 ≡ m →
 named-no m None z n = refl
 named-no m (Some k) z n = no m k.post z n
 
-resolve-amend : (h : List Kept) (k : Kept) (a t x m : ℕ) → k.post ≡ post.Resolve a t x → last_amend m (more h k) ≡ last_amend m h
+pub resolve-amend : (h : List Kept) (k : Kept) (a t x m : ℕ) → k.post ≡ post.Resolve a t x → last_amend m (more h k) ≡ last_amend m h
 resolve-amend h k a t x m is = last_amend-more m h k ∙ (rw is refl)
 
 resolve-by : (h : List Kept) (k : Kept) (a t x m : ℕ) (b : Bool) → k.post ≡ post.Resolve a t x → NameEarlier 1 h → t ≤ length h → dispute_names m (at_number t h) ≡ b → confirmed m (more h k) ≡ confirmed m h + cond b x 0
@@ -149,7 +149,7 @@ resolve-by h k a t x m b is e l f =
     let all = confirmed-more m h k e within in
     omega (arith, all, adds)
 
-resolve-other : (h : List Kept) (k : Kept) (a t x m : ℕ) → k.post ≡ post.Resolve a t x → NameEarlier 1 h → t ≤ length h → dispute_names m (at_number t h) ≡ false → confirmed m (more h k) ≡ confirmed m h
+pub resolve-other : (h : List Kept) (k : Kept) (a t x m : ℕ) → k.post ≡ post.Resolve a t x → NameEarlier 1 h → t ≤ length h → dispute_names m (at_number t h) ≡ false → confirmed m (more h k) ≡ confirmed m h
 resolve-other h k a t x m is e l f = let all = resolve-by h k a t x m false is e l f in omega (arith, all)
 
 resolve-this : (h : List Kept) (k : Kept) (a t x m : ℕ) → k.post ≡ post.Resolve a t x → NameEarlier 1 h → t ≤ length h → dispute_names m (at_number t h) ≡ true → confirmed m (more h k) ≡ confirmed m h + x

@@ -232,32 +232,32 @@ day-agree a holidays h g top s e n accepted (post.Refund c) l = refl
 day-agree a holidays h g top s e n accepted (post.Amend t d c) l = refl
 day-agree a holidays h g top s e n accepted (post.Bill c) l = refl
 
-cents-agree : (h g : List Kept) (top : ℕ) → Agree h g top → (n : ℕ) (p : Post) → cents_of h n p ≡ cents_of g n p
+pub cents-agree : (h g : List Kept) (n : ℕ) (p : Post) → last_amend n h ≡ last_amend n g → confirmed n h ≡ confirmed n g → cents_of h n p ≡ cents_of g n p
 unfolding cents_of
-cents-agree h g top s n (post.Open d t) = refl
-cents-agree h g top s n (post.Charge d p c) = rw (s.amends n, s.confirms n) refl
-cents-agree h g top s n (post.Credit d p c) = ap (λ o. amended_cents o c) (s.amends n)
-cents-agree h g top s n (post.Payment d i y c) = ap (λ o. amended_cents o c) (s.amends n)
-cents-agree h g top s n (post.Return d t) = refl
-cents-agree h g top s n (post.Plan d v r w f) = refl
-cents-agree h g top s n (post.Notice d y r w) = refl
-cents-agree h g top s n (post.Lower d y r) = refl
-cents-agree h g top s n post.Penalty = refl
-cents-agree h g top s n (post.Review d f) = refl
-cents-agree h g top s n (post.Dispute d t c) = refl
-cents-agree h g top s n (post.Ack d t) = refl
-cents-agree h g top s n (post.Resolve d t c) = refl
-cents-agree h g top s n (post.AskRefund d) = refl
-cents-agree h g top s n (post.Refund c) = refl
-cents-agree h g top s n (post.Amend t d c) = refl
-cents-agree h g top s n (post.Bill c) = refl
+cents-agree h g n (post.Open d t) f e = refl
+cents-agree h g n (post.Charge d p c) f e = rw (f, e) refl
+cents-agree h g n (post.Credit d p c) f e = ap (λ o. amended_cents o c) f
+cents-agree h g n (post.Payment d i y c) f e = ap (λ o. amended_cents o c) f
+cents-agree h g n (post.Return d t) f e = refl
+cents-agree h g n (post.Plan d v r w s) f e = refl
+cents-agree h g n (post.Notice d y r w) f e = refl
+cents-agree h g n (post.Lower d y r) f e = refl
+cents-agree h g n post.Penalty f e = refl
+cents-agree h g n (post.Review d s) f e = refl
+cents-agree h g n (post.Dispute d t c) f e = refl
+cents-agree h g n (post.Ack d t) f e = refl
+cents-agree h g n (post.Resolve d t c) f e = refl
+cents-agree h g n (post.AskRefund d) f e = refl
+cents-agree h g n (post.Refund c) f e = refl
+cents-agree h g n (post.Amend t d c) f e = refl
+cents-agree h g n (post.Bill c) f e = refl
 
 pub effects-agree : (a : Anchor) (holidays : List ℕ) (h g : List Kept) (top : ℕ) → Agree h g top → NameEarlier 1 g → (n : ℕ) (ks : List Kept) → NameEarlier n ks → n + length ks ≤ top + 1 → effects_from a holidays h n ks ≡ effects_from a holidays g n ks
 unfolding effects_from NameEarlier
 effects-agree a holidays h g top s e n [] f l = refl
 effects-agree a holidays h g top s e n (k ∷ ks) f l =
     let day : effective_day a holidays h n k.accepted k.post ≡ effective_day a holidays g n k.accepted k.post = day-agree a holidays h g top s e n k.accepted k.post (omega (arith, f.0, l)) in
-    let cents : cents_of h n k.post ≡ cents_of g n k.post = cents-agree h g top s n k.post in
+    let cents : cents_of h n k.post ≡ cents_of g n k.post = cents-agree h g n k.post (s.amends n) (s.confirms n) in
     let rest : effects_from a holidays h (suc n) ks ≡ effects_from a holidays g (suc n) ks = effects-agree a holidays h g top s e (suc n) ks f.1 (omega (arith, l)) in
     rw (day, cents, rest) refl
 

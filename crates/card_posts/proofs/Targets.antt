@@ -13,14 +13,14 @@ effects-at a holidays h n i [] d k l = absurd (omega (arith, l))
 effects-at a holidays h n zero (q ∷ ks) d k l = let e : n ≡ n + 0 = omega arith in ap (λ m. effect_of a holidays h m q) e
 effects-at a holidays h n (suc i) (q ∷ ks) d k l = let e : suc n + i ≡ n + suc i = omega arith in subst (λ m. get_or (effects_from a holidays h (suc n) ks) i d ≡ effect_of a holidays h m (get_or ks i k)) e (effects-at a holidays h (suc n) i ks d k (omega (arith, l)))
 
+pub in_take : (i k : ℕ) (xs : List Effect) (d : Effect) → k < i → get_or (take i xs) k d ≡ get_or xs k d
+in_take zero k xs d l = absurd (omega (arith, l))
+in_take (suc i) k [] d l = refl
+in_take (suc i) zero (x ∷ xs) d l = refl
+in_take (suc i) (suc k) (x ∷ xs) d l = in_take i k xs d (omega (arith, l))
+
 front-at : (i k : ℕ) (xs ys : List Effect) (d : Effect) → take i xs ≡ take i ys → k < i → get_or xs k d ≡ get_or ys k d
 front-at i k xs ys d e l = sym (in_take i k xs d l) ∙ (ap (λ u. get_or u k d) e ∙ in_take i k ys d l)
-  where
-    in_take : (i k : ℕ) (xs : List Effect) (d : Effect) → k < i → get_or (take i xs) k d ≡ get_or xs k d
-    in_take zero k xs d l = absurd (omega (arith, l))
-    in_take (suc i) k [] d l = refl
-    in_take (suc i) zero (x ∷ xs) d l = refl
-    in_take (suc i) (suc k) (x ∷ xs) d l = in_take i k xs d (omega (arith, l))
 
 -- what is kept for an earlier post is what the history says of it
 pub target-effect : (a : Anchor) (holidays : List ℕ) (h : List Kept) (es : List Effect) (t i : ℕ) (k : Kept) (d : Effect) → t ≤ i → i ≤ length h → take i es ≡ take i (effects a holidays h) → at_number t h ≡ Some k → get_or es (t - 1) d ≡ effect_of a holidays h t k

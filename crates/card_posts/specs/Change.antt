@@ -1,5 +1,5 @@
 -- The first day on which a corrected list differs from what it was.
-use Rattle.std.specs.Prelude.{ℕ, min, ◌<◌, ◌≡◌, Bool, ◌&&◌, ◌==◌, nat_le, if◌then◌else◌, List, [], ◌∷◌}
+use Rattle.std.specs.Prelude.{ℕ, ◌-◌, min, ◌<◌, ◌≤◌, ◌≡◌, Bool, ◌&&◌, ◌==◌, nat_le, if◌then◌else◌, List, [], ◌∷◌, length, slice_index_or, slice_set}
 use Rattle.std.specs.List.{filter}
 use Rattle.card_events.specs.History.{CorrectedPost}
 use Rattle.card_posts.specs.declared.effect.Effect.{Effect}
@@ -30,3 +30,9 @@ unfoldable pub first_change : ℕ → List Effect → List Effect → ℕ
 first_change first [] fs = first
 first_change first (e ∷ es) [] = first
 first_change first (e ∷ es) (f ∷ fs) = first_change (after_one first e f) es fs
+
+-- what counts for other posts than this one is as it was, and 0 stands for none
+pub record IsAlone (number : ℕ) (old new : List Effect) : Type 0 where
+  pub within : number ≤ length old
+  pub none : number ≡ 0 → new ≡ old
+  pub one : (d : Effect) → 0 < number → new ≡ slice_set old (number - 1) (slice_index_or new (number - 1) d)

@@ -1,5 +1,5 @@
 -- The effective day and corrected cents that are kept for each post, by number.
-use Rattle.std.specs.Prelude.{◌≡◌, ℕ, suc, ◌≤◌, Bool, true, false, if◌then◌else◌, List, [], ◌∷◌, take, length, Option, Some, None, pos}
+use Rattle.std.specs.Prelude.{ℕ, suc, ◌≤◌, Bool, true, false, if◌then◌else◌, List, [], ◌∷◌, Option, Some, None, pos}
 use Rattle.std.specs.List.{All}
 use Rattle.card_days.specs.Range.{last_request_day}
 use Rattle.card_days.specs.declared.anchor.Anchor.{Anchor}
@@ -71,10 +71,6 @@ effects_from a holidays history n (k ∷ ks) = effect_of a holidays history n k 
 
 abbrev pub effects : Anchor → List ℕ → List Kept → List Effect
 effects a holidays history = effects_from a holidays history 1 history
-
--- these are the first of what the history says
-abbrev pub AreFront : Anchor → List ℕ → List Kept → List Effect → Type 0
-AreFront a holidays history now = now ≡ take (length now) (effects a holidays history)
 
 -- no post has more cents than requests have
 abbrev pub AreSmall : List Effect → Type 0

@@ -8,7 +8,7 @@ use Rattle.card_events.specs.History.{anchor_of}
 use Rattle.card_events.specs.Limits.{post_limit}
 use Rattle.card_events.specs.declared.kept.Kept.{Kept}
 use Rattle.card_events.specs.declared.kept.Slot.{Slot}
-use Rattle.card_posts.specs.Corrections.{corrections}
+use Rattle.card_posts.specs.Corrections.{corrections, some_waits}
 use Rattle.card_posts.specs.Effect.{AreSmall, slots_from}
 use Rattle.card_posts.specs.Index.{IsIndex}
 use Rattle.card_posts.specs.Order.{in_order}
@@ -60,8 +60,8 @@ pub record HaveRoom (history : Vec Kept) (index : Vec ℕ) (later : Vec Correcti
   pub effect_room : vec_len now < vec_capacity now
   pub slot_room : vec_len slots < vec_capacity slots
 
--- what always holds of it: an account may have the history, the rest is kept beside it, and where there is said to be room,
--- there is
-abbrev pub AreStored : Anchor → Vec Kept → Vec ℕ → Vec Correction → Vec Effect → Vec Slot → Bool → Type 0
-AreStored a history index later now slots has_room =
-    IsKept a history.items × IsIndex history.items index.items × AreBeside history.items later.items now.items slots.items × (has_room ≡ true → HaveRoom history index later now slots)
+-- what always holds of it: an account may have the history, the rest is kept beside it, where there is said to be room, there
+-- is, and it is known whether some post waits
+abbrev pub AreStored : Anchor → Vec Kept → Vec ℕ → Vec Correction → Vec Effect → Vec Slot → Bool → Bool → Type 0
+AreStored a history index later now slots waits has_room =
+    IsKept a history.items × IsIndex history.items index.items × AreBeside history.items later.items now.items slots.items × (has_room ≡ true → HaveRoom history index later now slots) × (waits ≡ some_waits history.items)

@@ -23,12 +23,13 @@ pub struct Beside {
     pub order: Vec<Slot>,
 }
 
-/// A post that was entered behind the others for a while: the first day on which the corrected list differs, and what takes the
-/// post back.
+/// A post that was entered behind the others for a while: the first day on which the corrected list differs, what takes the
+/// post back, and whether one of the others waits.
 #[derive(Drop)]
 pub struct Draft {
     pub(crate) from: Day,
     pub(crate) before: Option<Beside>,
+    pub(crate) waits: bool,
 }
 
 impl Draft {

@@ -1,10 +1,10 @@
 // Entering a post, with room made for it.
-ghost use Rattle.std.specs.Prelude.{◌≡◌, ◌+◌, ◌<◌, ◌≤◌, ◌++◌, [], ◌∷◌, List, false, length, slice_index_or, vec_len, vec_capacity};
+ghost use Rattle.std.specs.Prelude.{◌≡◌, ℕ, ◌+◌, ◌<◌, ◌≤◌, ◌++◌, [], ◌∷◌, List, Some, length, take, vec_len, vec_capacity};
 ghost use Rattle.card_events.specs.Limits.{post_limit};
 ghost use Rattle.card_events.specs.declared.kept.Kept.{Kept};
-ghost use Rattle.card_posts.specs.Change.{IsFirstChange};
-ghost use Rattle.card_posts.specs.Corrections.{corrections_from, corrects};
-ghost use Rattle.card_posts.specs.Effect.{AreFront, AreSmall, corrected_with, slots_from};
+ghost use Rattle.card_posts.specs.Change.{IsAlone, IsFirstChange};
+ghost use Rattle.card_posts.specs.Corrections.{corrections_from, some_waits};
+ghost use Rattle.card_posts.specs.Effect.{AreSmall, corrected_with, slots_from};
 ghost use Rattle.card_posts.specs.Effect as spec;
 ghost use Rattle.card_posts.specs.Order.{in_order};
 ghost use Rattle.card_posts.specs.Posted.{target_of};
@@ -13,7 +13,7 @@ ghost use Rattle.card_posts.specs.Stored.{AreBeside, IsKept, IsTimely};
 use crate::correction::{Correction, note};
 use crate::effect::{Effect, effect_now};
 use crate::order::{place, slot};
-use crate::refresh::{sooner, update};
+use crate::refresh::{changed_alone, sooner, update};
 use card_days::{Anchor, Calendar, Day};
 use card_events::{Kept, Slot};
 
@@ -39,7 +39,8 @@ fn append(history: &mut Vec<Kept>, corrections: &mut Vec<Correction>, anchor: &A
     let _ = history.push(kept);
 }
 
-// Brings the corrected list up to the last post of the history. Answers the first day on which it differs.
+// Brings the corrected list up to the last post of the history, where it is known that something else may count for one other
+// alone, by that one. Answers the first day on which it differs.
 fn follow(
     history: &[Kept],
     corrections: &[Correction],
@@ -47,6 +48,7 @@ fn follow(
     order: &mut Vec<Slot>,
     anchor: &Anchor,
     calendar: &Calendar,
+    alone: Option<u64>,
 ) -> Day
     requires kept { IsKept anchor.now history.now }
     requires corrections { corrections.now ≡ corrections_from history.now 1 history.now }
@@ -55,14 +57,13 @@ fn follow(
     requires order { order.old.items ≡ in_order (slots_from 1 effects.old.items) }
     requires room_effects { vec_len effects.old < vec_capacity effects.old }
     requires room_order { vec_len order.old < vec_capacity order.old }
-    requires plain { (k : Kept) → corrects (slice_index_or history.now (length effects.old.items) k).post ≡ false → AreFront anchor.now calendar.now history.now effects.old.items }
+    requires alone { (n : ℕ) → alone ≡ Some n → IsAlone n effects.old.items (take (length effects.old.items) (spec.effects anchor.now calendar.now history.now)) }
     ensures effects { effects.new.items ≡ spec.effects anchor.now calendar.now history.now }
     ensures small { AreSmall effects.new.items }
     ensures order { order.new.items ≡ in_order (slots_from 1 effects.new.items) }
     ensures from { (h : List Kept) (k : Kept) → history.now ≡ h ++ k ∷ [] → IsFirstChange result (corrected_with 1 5 h effects.old.items) (corrected_with 1 5 history.now effects.new.items) }
 {
     let count = effects.len();
-    let last = &history[count];
     let changed = update(
         history,
         corrections,
@@ -70,7 +71,7 @@ fn follow(
         order,
         anchor,
         calendar,
-        &last.post,
+        alone,
     );
     let effect = effect_now(history, corrections, effects, count, anchor, calendar);
     let from = sooner(effect.day, changed);
@@ -79,7 +80,8 @@ fn follow(
     from
 }
 
-// Enters a post, with room made for it, where the corrected list is that of the history. Answers the first day on which it differs.
+// Enters a post, with room made for it, where the corrected list is that of the history, and it is known whether some post of
+// it waits. Answers the first day on which the list differs.
 pub fn enter(
     history: &mut Vec<Kept>,
     corrections: &mut Vec<Correction>,
@@ -88,8 +90,10 @@ pub fn enter(
     anchor: &Anchor,
     calendar: &Calendar,
     kept: Kept,
+    waiting: bool,
 ) -> Day
     requires kept { IsKept anchor.now history.old.items }
+    requires waiting { waiting ≡ some_waits history.old.items }
     requires beside { AreBeside history.old.items corrections.old.items effects.old.items order.old.items }
     requires stands { effects.old.items ≡ spec.effects anchor.now calendar.now history.old.items }
     requires few { length history.old.items < post_limit }
@@ -106,6 +110,15 @@ pub fn enter(
     ensures stands { effects.new.items ≡ spec.effects anchor.now calendar.now history.new.items }
     ensures from { IsFirstChange result (corrected_with 1 5 history.old.items effects.old.items) (corrected_with 1 5 history.new.items effects.new.items) }
 {
+    let alone = changed_alone(waiting, &kept.post);
     append(history, corrections, anchor, kept);
-    follow(history, corrections, effects, order, anchor, calendar)
+    follow(
+        history,
+        corrections,
+        effects,
+        order,
+        anchor,
+        calendar,
+        alone,
+    )
 }

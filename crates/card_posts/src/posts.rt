@@ -6,7 +6,7 @@ use crate::foretold::first_with_plain;
 use crate::index::{enter_key, find};
 use crate::make::{copy_history, one, one_correction, one_effect, one_kept, one_slot, opening};
 use crate::order::{slot, slot_with};
-use crate::refresh::is_correction;
+use crate::refresh::{is_correction, waits_with};
 use card_days::{Anchor, Calendar, Day};
 use card_events::{Kept, Name, Post, Slot};
 use card_units::NoMemory;
@@ -23,6 +23,7 @@ pub struct Posts {
     effects: Vec<Effect>,
     order: Vec<Slot>,
     anchor: Anchor,
+    waits: bool,
     has_room: bool,
 }
 
@@ -35,7 +36,7 @@ impl Model for Posts {
 
     ghost view = { λ p. record { history = p.history.items; corrected = corrected_with 1 5 p.history.items p.effects.items; has_room = p.has_room } };
 
-    ghost invariant = { λ p. AreStored p.anchor p.history p.index p.corrections p.effects p.order p.has_room };
+    ghost invariant = { λ p. AreStored p.anchor p.history p.index p.corrections p.effects p.order p.waits p.has_room };
 }
 
 /// What became of a post: its number, and the earliest day on which the corrected list differs from what it was.
@@ -87,6 +88,7 @@ impl Posts {
             effects: one_effect(alloc, effect)?,
             history: one_kept(alloc, kept)?,
             anchor,
+            waits: false,
             has_room: false,
         })
     }
@@ -189,7 +191,9 @@ impl Posts {
             &self.anchor,
             calendar,
             kept,
+            self.waits,
         );
+        self.waits = waits_with(self.waits, post);
         self.has_room = false;
         Pushed { number, from }
     }
@@ -250,10 +254,12 @@ impl Posts {
             &self.effects,
             &self.order,
         )?;
+        let waits = self.waits;
         let pushed = self.add(key, accepted, post, calendar);
         Ok(Draft {
             from: pushed.from,
             before,
+            waits,
         })
     }
 
@@ -271,6 +277,7 @@ impl Posts {
         );
         let _ = self.history.pop();
         keep_first(&mut self.index, self.history.len() as u32);
+        self.waits = draft.waits;
         self.has_room = true;
     }
 
@@ -311,6 +318,7 @@ impl Posts {
             effects: Vec::from_slice(alloc, &self.effects)?,
             order: Vec::from_slice(alloc, &self.order)?,
             anchor: self.anchor,
+            waits: self.waits,
             has_room: false,
         })
     }

@@ -1,10 +1,10 @@
 // Bringing what counts for earlier posts, and their order, up to a correction.
-ghost use Rattle.std.specs.Prelude.{◌≡◌, ◌+◌, ◌<◌, ◌≤◌, min, false, length, take, slice_index_or, slice_set, vec_len, vec_capacity};
+ghost use Rattle.std.specs.Prelude.{◌≡◌, ℕ, ◌+◌, ◌<◌, ◌≤◌, ◌||◌, min, Some, length, take, slice_index_or, slice_set, vec_len, vec_capacity};
 ghost use Rattle.card_events.specs.Limits.{post_limit};
 ghost use Rattle.card_days.specs.Range.{last_calendar_day};
-ghost use Rattle.card_posts.specs.Change.{after_one, first_change, stands};
-ghost use Rattle.card_posts.specs.Corrections.{corrections_from, corrects};
-ghost use Rattle.card_posts.specs.Effect.{AreFront, AreSmall, slots_from};
+ghost use Rattle.card_posts.specs.Change.{IsAlone, after_one, first_change, stands};
+ghost use Rattle.card_posts.specs.Corrections.{amended, changed_alone, corrections_from, corrects, waits};
+ghost use Rattle.card_posts.specs.Effect.{AreSmall, slots_from};
 ghost use Rattle.card_posts.specs.Effect as spec;
 ghost use Rattle.card_posts.specs.Order.{in_order};
 ghost use Rattle.card_posts.specs.Stored.{AreOrdered, IsKept};
@@ -36,6 +36,44 @@ pub fn is_correction(post: &Post) -> bool
     ensures { result ≡ corrects post.now }
 {
     matches!(post, Post::Amend { .. } | Post::Resolve { .. })
+}
+
+// whether a post counts no earlier than another one that it names
+fn waits(post: &Post) -> bool
+    ensures { result ≡ waits post.now }
+{
+    matches!(
+        post,
+        Post::Return { .. } | Post::Dispute { .. } | Post::Resolve { .. }
+    )
+}
+
+// Whether some post waits, with one more post behind the others.
+pub fn waits_with(before: bool, post: &Post) -> bool
+    ensures { result ≡ (before || waits post.now) }
+{
+    before || waits(post)
+}
+
+// the post that an Amend names, and 0 for the other kinds
+fn amended(post: &Post) -> u64
+    ensures { result ≡ amended post.now }
+{
+    match post {
+        Post::Amend { target, .. } => target.get(),
+        _ => 0,
+    }
+}
+
+// The one earlier post for which something else may count with a new post, 0 for none; and None where others may wait for what
+// it corrects.
+pub fn changed_alone(waiting: bool, post: &Post) -> Option<u64>
+    ensures { result ≡ changed_alone waiting post.now }
+{
+    if is_correction(post) && waiting {
+        return None;
+    }
+    Some(amended(post))
 }
 
 // brings one post, and its place in the order, up to what counts now. Answers the first day known to differ
@@ -95,22 +133,22 @@ fn refresh(
     first
 }
 
-// Brings earlier posts up to a new one, which stands last in the history. Answers the first day known to differ.
-pub fn update(
+// brings one post alone up to what the history says, by its number, and 0 for none. Answers the first day known to differ
+fn refresh_alone(
     history: &[Kept],
     corrections: &[Correction],
     effects: &mut [Effect],
     order: &mut Vec<Slot>,
     anchor: &Anchor,
     calendar: &Calendar,
-    post: &Post,
+    number: u64,
 ) -> Day
     requires kept { IsKept anchor.now history.now }
     requires corrections { corrections.now ≡ corrections_from history.now 1 history.now }
     requires length { length effects.old ≤ length history.now }
     requires ordered { AreOrdered order.old.items effects.old }
     requires room { vec_len order.old ≤ vec_capacity order.old }
-    requires plain { corrects post.now ≡ false → AreFront anchor.now calendar.now history.now effects.old }
+    requires alone { IsAlone number effects.old (take (length effects.old) (spec.effects anchor.now calendar.now history.now)) }
     ensures effects { effects.new ≡ take (length effects.old) (spec.effects anchor.now calendar.now history.now) }
     ensures small { AreSmall effects.new }
     ensures order { order.new.items ≡ in_order (slots_from 1 effects.new) }
@@ -118,8 +156,49 @@ pub fn update(
     ensures len { vec_len order.new ≡ vec_len order.old }
     ensures capacity { vec_capacity order.old ≤ vec_capacity order.new }
 {
-    if is_correction(post) {
-        return refresh(history, corrections, effects, order, anchor, calendar);
+    let last = Day::last();
+    if number == 0 {
+        return last;
     }
-    Day::last()
+    let i = number as usize - 1;
+    let now = effect_now(history, corrections, effects, i, anchor, calendar);
+    refresh_one(effects, order, i, &now, last)
+}
+
+// Brings earlier posts up to a new one, which stands last in the history: where it is known that something else may count for
+// one alone, that one. Answers the first day known to differ.
+pub fn update(
+    history: &[Kept],
+    corrections: &[Correction],
+    effects: &mut [Effect],
+    order: &mut Vec<Slot>,
+    anchor: &Anchor,
+    calendar: &Calendar,
+    alone: Option<u64>,
+) -> Day
+    requires kept { IsKept anchor.now history.now }
+    requires corrections { corrections.now ≡ corrections_from history.now 1 history.now }
+    requires length { length effects.old ≤ length history.now }
+    requires ordered { AreOrdered order.old.items effects.old }
+    requires room { vec_len order.old ≤ vec_capacity order.old }
+    requires alone { (n : ℕ) → alone ≡ Some n → IsAlone n effects.old (take (length effects.old) (spec.effects anchor.now calendar.now history.now)) }
+    ensures effects { effects.new ≡ take (length effects.old) (spec.effects anchor.now calendar.now history.now) }
+    ensures small { AreSmall effects.new }
+    ensures order { order.new.items ≡ in_order (slots_from 1 effects.new) }
+    ensures first { result ≡ first_change last_calendar_day effects.old effects.new }
+    ensures len { vec_len order.new ≡ vec_len order.old }
+    ensures capacity { vec_capacity order.old ≤ vec_capacity order.new }
+{
+    match alone {
+        Some(number) => refresh_alone(
+            history,
+            corrections,
+            effects,
+            order,
+            anchor,
+            calendar,
+            number,
+        ),
+        None => refresh(history, corrections, effects, order, anchor, calendar),
+    }
 }

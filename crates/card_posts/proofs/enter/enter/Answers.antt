@@ -1,11 +1,13 @@
-use Rattle.std.proofs.Common.{◌∙◌, ap, length}
+use Rattle.std.proofs.Common.{◌∙◌, sym, ap, length}
 use Rattle.card_posts.specs.Effect.{effects}
-use Rattle.card_posts.proofs.Following.{plain-last}
+use Rattle.card_posts.proofs.Alone.{last-alone}
 use Rattle.card_posts.proofs.OneMore.{effects-length}
 use Rattle.card_posts.proofs.enter.enter.Goals as goal
 
-pub follow-requires-clause-plain : goal.follow-requires-clause-plain
-follow-requires-clause-plain c d f = plain-last c.args.anchor.now c.args.calendar.now c.args.history.now.items c.deref.result.now c.args.kept d c.args.effects.now.items c.requires.stands (c.deref.ensures.value ∙ c.append.ensures.history) c.requires.kept.names c.requires.earlier f
+pub follow-requires-clause-alone : goal.follow-requires-clause-alone
+follow-requires-clause-alone c n is =
+    last-alone c.args.anchor.now c.args.calendar.now c.args.history.now.items c.deref.result.now c.args.kept c.args.effects.now.items c.args.waiting n c.requires.stands (c.deref.ensures.value ∙ c.append.ensures.history)
+    c.requires.kept.names c.requires.earlier c.requires.waiting (sym c.changed_alone-alone.ensures ∙ is)
 
 pub returns-clause-beside : goal.returns-clause-beside
 returns-clause-beside c = record {

@@ -1,12 +1,12 @@
 use Rattle.std.proofs.Common.{arith, [], ◌∷◌, ap, ◌∙◌, refl}
 use Rattle.card_days.specs.declared.anchor.Anchor.{Anchor}
-use Rattle.card_posts.proofs.Opening.{first-lists, stands-one}
+use Rattle.card_posts.proofs.Opening.{first-lists, none-waits, stands-one}
 use Rattle.card_posts.proofs.posts.Posts.start.Goals as goal
 
 pub invariant_of-result : goal.invariant_of-result
 invariant_of-result c =
     let first = first-lists c.opening-anchor.result _ _ _ _ _ _ _ c.in_ok-one_kept.ensures c.in_ok-one.ensures c.in_ok-one_correction.ensures c.in_ok-one_effect.ensures (c.in_ok-one_slot.ensures ∙ ap (λ s. s ∷ []) c.slot.ensures.value) c.requires.opens c.requires.close_day refl c.requires.dated c.opening-anchor.ensures (rw c.no_cents.ensures (omega arith)) in
-    (first.kept, first.index, first.beside, λ e. absurd (cc))
+    (first.kept, first.index, first.beside, λ e. absurd (cc), none-waits _ _ c.in_ok-one_kept.ensures c.requires.opens)
 
 pub returns-clause-stands : goal.returns-clause-stands
 returns-clause-stands c holidays = stands-one _ _ _ _ c.in_ok-one_kept.ensures c.in_ok-one_effect.ensures c.requires.opens (ap (λ (a : Anchor). a.opened) c.opening-anchor.ensures) c.no_cents.ensures holidays

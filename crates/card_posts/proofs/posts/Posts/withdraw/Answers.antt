@@ -28,7 +28,7 @@ room_left g h n m old_room new_room is count some many within same =
 
 pub invariant_of-self : goal.invariant_of-self
 invariant_of-self c =
-    let back : AreBack c.self.inside.anchor c.pop.new.self.items c.self.inside.index.items c.keep_first.new.index.items c.put_back.new.corrections.items c.put_back.new.effects.items c.put_back.new.order.items =
+    let back : AreBack c.self.inside.anchor c.pop.new.self.items c.self.inside.index.items c.keep_first.new.index.items c.put_back.new.corrections.items c.put_back.new.effects.items c.put_back.new.order.items c.args.draft.waits =
     lists-back c.self.inside.anchor c.requires.draft.kept c.requires.draft.old c.args.self.now c.args.draft c.self.inside.history.items c.pop.new.self.items c.self.inside.index.items c.keep_first.new.index.items
     c.self.inside.corrections.items c.put_back.new.corrections.items c.self.inside.effects.items c.put_back.new.effects.items c.self.inside.order.items c.put_back.new.order.items _
     c.requires.draft.draft (ap (λ (p : Posted). p.history) c.self.view_is) c.self.invariant.0 c.self.invariant.1 c.self.invariant.2 c.self.inside.history.ok.0 c.pop.ensures.rest
@@ -44,4 +44,5 @@ invariant_of-self c =
         effect_room = c.put_back.ensures.effect_room;
         slot_room = c.put_back.ensures.slot_room;
       },
+      back.waiting,
     )
