@@ -52,6 +52,18 @@ pub number-waits : (t : ℕ) (h : List Kept) (k : Kept) → some_waits h ≡ fal
 number-waits zero h k w e = let no : None ≡ Some k = e in absurd (cc)
 number-waits (suc t) h k w e = place-waits t h k w e
 
+pub read-waits : (i : ℕ) (h : List Kept) (d : Kept) → some_waits h ≡ false → i < length h → waits (get_or h i d).post ≡ false
+unfolding some_waits
+read-waits i [] d w l = absurd (omega (arith, l))
+read-waits zero (q ∷ h) d w l = either-first (waits q.post) (some_waits h) w
+read-waits (suc i) (q ∷ h) d w l = read-waits i h d (either-second (waits q.post) (some_waits h) w) (omega (arith, l))
+
+-- what is read within the list is the same by any default
+pub get_or-default : (i : ℕ) (h : List Kept) (d e : Kept) → i < length h → get_or h i d ≡ get_or h i e
+get_or-default i [] d e l = absurd (omega (arith, l))
+get_or-default zero (q ∷ h) d e l = refl
+get_or-default (suc i) (q ∷ h) d e l = get_or-default i h d e (omega (arith, l))
+
 awaits-none : (p q : Post) → waits p ≡ false → awaits p q ≡ false
 awaits-none (post.Open d' t') q w = refl
 awaits-none (post.Charge d' p' c') q w = refl
@@ -112,10 +124,10 @@ day-lone a holidays h n accepted p w =
     top : (d : ℕ) → max d 0 ≡ d
     top d = omega arith
 
-abbrev effect_by : ℕ → ℕ → Effect
+abbrev pub effect_by : ℕ → ℕ → Effect
 effect_by d c = record { day = d; cents = c }
 
-parts : (d c m b : ℕ) → d ≡ m → c ≡ b → effect_by d c ≡ effect_by m b
+pub parts : (d c m b : ℕ) → d ≡ m → c ≡ b → effect_by d c ≡ effect_by m b
 parts d c m b e f = rw (e, f) refl
 
 effect-still : (a : Anchor) (holidays : List ℕ) (h g : List Kept) (m : ℕ) (k : Kept) → waits k.post ≡ false → SaysSame h g m → effect_of a holidays g m k ≡ effect_of a holidays h m k
@@ -152,10 +164,10 @@ still t old new z e = record { within = omega (arith, z); none = λ _. e; one = 
 said-by-amend : (h : List Kept) (k : Kept) (t d c : ℕ) → k.post ≡ post.Amend t d c → NameEarlier 1 h → t ≤ length h → (m : ℕ) → (t ≡ m → ⊥) → SaysSame h (more h k) m
 said-by-amend h k t d c is e l m n = (amend-other h k t d c m is n, amend-confirmed h k t d c m is e l)
 
-said-by-resolve : (h : List Kept) (k : Kept) (x t c : ℕ) → k.post ≡ post.Resolve x t c → some_waits h ≡ false → NameEarlier 1 h → t ≤ length h → (m : ℕ) → (0 ≡ m → ⊥) → SaysSame h (more h k) m
+pub said-by-resolve : (h : List Kept) (k : Kept) (x t c : ℕ) → k.post ≡ post.Resolve x t c → some_waits h ≡ false → NameEarlier 1 h → t ≤ length h → (m : ℕ) → (0 ≡ m → ⊥) → SaysSame h (more h k) m
 said-by-resolve h k x t c is w e l m n = (resolve-amend h k x t c m is, resolve-other h k x t c m is e l (no-names m t h (at_number t h) w refl))
 
-amend-alone : (a : Anchor) (holidays : List ℕ) (h : List Kept) (k : Kept) (t d c : ℕ) → k.post ≡ post.Amend t d c → some_waits h ≡ false → NameEarlier 1 h → t ≤ length h
+pub amend-alone : (a : Anchor) (holidays : List ℕ) (h : List Kept) (k : Kept) (t d c : ℕ) → k.post ≡ post.Amend t d c → some_waits h ≡ false → NameEarlier 1 h → t ≤ length h
     → IsAlone t (effects a holidays h) (effects_from a holidays (more h k) 1 h)
 amend-alone a holidays h k t d c is w e l =
     let said = said-by-amend h k t d c is e l in

@@ -8,8 +8,8 @@ pub mod DayLemmas
 pub mod Bounded
 pub mod Changed
 pub mod Following
-pub mod FirstWith
 pub mod Alone
+pub mod FirstWith
 pub mod IndexLemmas
 pub mod Opening
 pub mod Holidays

@@ -77,6 +77,10 @@ amend-confirmed h k t d c m is e l =
     let all = confirmed-more m h k e within in
     omega (arith, all, none)
 
+-- what is said of the post that it names
+pub amend-said : (h : List Kept) (k : Kept) (t d c : ℕ) → k.post ≡ post.Amend t d c → NameEarlier 1 h → t ≤ length h → correction_of (more h k) t ≡ by_parts (Some (d, c)) (min (confirmed t h) (2 ^ 64 - 1))
+amend-said h k t d c is e l = rw (amend-this h k t d c is, amend-confirmed h k t d c t is e l) refl
+
 pub amend-kept : (h : List Kept) (k : Kept) (t d c : ℕ) (o : Correction) → k.post ≡ post.Amend t d c → NameEarlier 1 h → 0 < t → t ≤ length h
     → corrections_from (more h k) 1 h ≡ set (corrections_from h 1 h) (t - 1) (by_parts (Some (d, c)) (get_or (corrections_from h 1 h) (t - 1) o).confirmed)
 amend-kept h k t d c o is e z l =
@@ -84,10 +88,7 @@ amend-kept h k t d c o is e z l =
     let old : get_or (corrections_from h 1 h) (t - 1) o ≡ correction_of h (1 + (t - 1)) = corrections-at h 1 (t - 1) h o (omega (arith, z, l)) in
     let count : (get_or (corrections_from h 1 h) (t - 1) o).confirmed ≡ min (confirmed t h) (2 ^ 64 - 1) = ap (λ (u : Correction). u.confirmed) old ∙ ap (λ m. min (confirmed m h) (2 ^ 64 - 1)) place in
     one-changed h (more h k) t (λ m n. of-parts h (more h k) m (amend-other h k t d c m is n) (amend-confirmed h k t d c m is e l)) (t - 1) 1 h place (omega (arith, z, l))
-    ∙ ap (set (corrections_from h 1 h) (t - 1)) (new ∙ ap (by_parts (Some (d, c))) (sym count))
-  where
-    new : correction_of (more h k) t ≡ by_parts (Some (d, c)) (min (confirmed t h) (2 ^ 64 - 1))
-    new = rw (amend-this h k t d c is, amend-confirmed h k t d c t is e l) refl
+    ∙ ap (set (corrections_from h 1 h) (t - 1)) (amend-said h k t d c is e l ∙ ap (by_parts (Some (d, c))) (sym count))
 
 pub amend-none : (h : List Kept) (k : Kept) (d c : ℕ) → k.post ≡ post.Amend 0 d c → NameEarlier 1 h → corrections_from (more h k) 1 h ≡ corrections_from h 1 h
 amend-none h k d c is e = all-same h (more h k) 0 (λ m n. of-parts h (more h k) m (amend-other h k 0 d c m is n) (amend-confirmed h k 0 d c m is e (omega arith))) 1 h (omega arith)

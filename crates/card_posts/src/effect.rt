@@ -1,12 +1,13 @@
 // What counts for each post now, by number.
-ghost use Rattle.std.specs.Prelude.{◌≡◌, ℕ, ◌+◌, ◌-◌, ◌<◌, ◌≤◌, List, Option, max, length, take, slice_index_or, unwrap_or};
+ghost use Rattle.std.specs.Prelude.{◌≡◌, ℕ, ◌+◌, ◌-◌, ◌<◌, ◌≤◌, ◌++◌, false, List, [], ◌∷◌, Option, Some, max, length, take, slice_index_or, unwrap_or};
 ghost use Rattle.card_days.specs.Range.{last_request_day};
 ghost use Rattle.card_days.specs.Billing.{IsCloseDay};
 ghost use Rattle.card_days.specs.Business.{credit_day, is_mail};
 ghost use Rattle.card_events.specs.History.{amended_cents, amended_day, cents_of, effective_day};
 ghost use Rattle.card_events.specs.declared.kept.Kept.{Kept};
-ghost use Rattle.card_posts.specs.Corrections.{correction_of, corrections_from};
-ghost use Rattle.card_posts.specs.Effect.{IsAmendDated, awaits, day_alone, day_awaited, own_day};
+ghost use Rattle.card_events.specs.declared.post.Post.TheVariants as kind;
+ghost use Rattle.card_posts.specs.Corrections.{correction_of, corrections_from, some_waits};
+ghost use Rattle.card_posts.specs.Effect.{IsAmendDated, awaits, day_alone, day_awaited, effect_of, own_day};
 ghost use Rattle.card_posts.specs.Effect as spec;
 ghost use Rattle.card_posts.specs.Posted.{IsReceived, cents_limit, target_of};
 ghost use Rattle.card_posts.specs.Stored.{IsKept, IsTimely};
@@ -244,6 +245,37 @@ pub fn day_of_next(
     };
     let alone = day_alone(accepted, post, &nothing, anchor, calendar);
     later(alone, awaited_day(history, effects, post, history.len()))
+}
+
+// What counts for an earlier post with one more post, an Amend that gives it a day and cents, where no post waits for another.
+pub fn amended_effect(
+    history: &[Kept],
+    corrections: &[Correction],
+    number: u64,
+    day: Day,
+    cents: Num,
+    anchor: &Anchor,
+    calendar: &Calendar,
+) -> Effect
+    requires kept { IsKept anchor.now history.now }
+    requires corrections { corrections.now ≡ corrections_from history.now 1 history.now }
+    requires alone { some_waits history.now ≡ false }
+    requires number { 0 < number }
+    requires known { number ≤ length history.now }
+    requires dated { IsAmendDated anchor.now.opened (Some (day, cents)) }
+    ensures { (k d : Kept) → k.post ≡ kind.Amend number day cents → result ≡ effect_of anchor.now calendar.now (history.now ++ k ∷ []) number (slice_index_or history.now (number - 1) d) }
+{
+    let i = number as usize - 1;
+    let kept = &history[i];
+    let before = &corrections[i];
+    let correction = Correction {
+        amend: Some((day, cents)),
+        confirmed: before.confirmed,
+    };
+    Effect {
+        day: day_alone(kept.accepted, &kept.post, &correction, anchor, calendar),
+        cents: cents_now(&kept.post, &correction),
+    }
 }
 
 // What counts for post i + 1, where what counts for all posts before it is known.

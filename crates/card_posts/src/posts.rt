@@ -2,7 +2,7 @@ use crate::correction::{Correction, numbered};
 use crate::draft::{Draft, beside_if_corrected, keep_first, put_back};
 use crate::effect::{Effect, no_cents};
 use crate::enter::enter;
-use crate::foretold::first_with_plain;
+use crate::foretold::first_with;
 use crate::index::{enter_key, find};
 use crate::make::{copy_history, one, one_correction, one_effect, one_kept, one_slot, opening};
 use crate::order::{slot, slot_with};
@@ -55,7 +55,7 @@ impl Posts {
     ghost use Rattle.card_events.specs.Keys.{with_key};
     ghost use Rattle.card_events.specs.declared.kept.Kept.{Kept};
     ghost use Rattle.card_posts.specs.Change.{IsFirstChange};
-    ghost use Rattle.card_posts.specs.Corrections.{corrects};
+    ghost use Rattle.card_posts.specs.Corrections.{corrects, some_waits};
     ghost use Rattle.card_posts.specs.Draft.{AwaitsReturn, IsDraft, IsFirstWith};
     ghost use Rattle.card_posts.specs.Posted.{Posted, AreBounded, AreNumbered, IsReceived, StandsFor, folding_order, opens, slot_with, target_of};
     ghost use Rattle.card_posts.specs.Stored.{AreTimely};
@@ -199,8 +199,9 @@ impl Posts {
     }
 
     /// The first day on which the corrected list differs once this post stands behind the others, accepted on this day under any
-    /// key; told without entering it, and without memory. None comes only for a post that corrects others: then `draft` tells it.
-    /// The corrected list must be that of the posts under this calendar. The post is about no later one. A payment came in by
+    /// key; told without entering it, and without memory. None comes only for a post that corrects others, where a Return, a
+    /// Dispute or a Resolve stands among them: then `draft` tells it. The corrected list must be that of the posts under this
+    /// calendar. The post is about no later one. A payment came in by
     /// the day of acceptance, and an Amend gives no later day.
     pub fn first_change(&self, accepted: Day, post: &Post, calendar: &Calendar) -> Option<Day>
         requires few { length self.now.history < post_limit }
@@ -210,12 +211,14 @@ impl Posts {
         requires received { IsReceived (anchor_of self.now.history).opened accepted post.now }
         ensures from { IfSome result (IsFirstWith calendar.now accepted post.now self.now) }
         ensures none { result ≡ None → corrects post.now ≡ true }
+        ensures waits { result ≡ None → some_waits self.now.history ≡ true }
     {
-        if is_correction(post) {
+        if is_correction(post) && self.waits {
             return None;
         }
-        let from = first_with_plain(
+        let from = first_with(
             &self.history,
+            &self.corrections,
             &self.effects,
             accepted,
             post,

@@ -76,6 +76,16 @@ pub fn changed_alone(waiting: bool, post: &Post) -> Option<u64>
     Some(amended(post))
 }
 
+// The first day known to differ, after one more post was looked at.
+pub fn after_one(first: Day, before: &Effect, now: &Effect) -> Day
+    ensures { result ≡ after_one first before.now now.now }
+{
+    if stands(before, now) {
+        return first;
+    }
+    sooner(first, sooner(before.day, now.day))
+}
+
 // brings one post, and its place in the order, up to what counts now. Answers the first day known to differ
 fn refresh_one(
     effects: &mut [Effect],
