@@ -7,13 +7,14 @@ use Rattle.std.specs.Prelude.{slice_get}
 use Rattle.std.specs.Str.{bytes_eq}
 use Rattle.card_events.specs.Keys.{key_from, with_key}
 use Rattle.card_events.specs.declared.kept.Kept.{Kept}
-use Rattle.card_posts.specs.Index.{AreFrom, AreNumbers, IsIndex, IsSorted, first_with, is_up_to, key_in, key_of}
+use Rattle.card_posts.specs.Index.{AreFrom, AreHashed, AreNumbers, IsIndex, IsSorted, first_with, hash_of, key_in, key_of}
+use Rattle.card_posts.specs.declared.index.HashedKey.{HashedKey}
 use Rattle.card_posts.proofs.IndexLemmas.{key-last, key-more, keys-more, none-last, same_bytes}
 use Rattle.card_posts.proofs.OneMore.{more}
 
--- the numbers up to a count
-abbrev pub numbers_to : ℕ → List ℕ → List ℕ
-numbers_to count ns = filter (λ n. nat_le n count) ns
+-- the entries with numbers up to a count
+abbrev pub numbers_to : ℕ → List HashedKey → List HashedKey
+numbers_to count es = filter (λ e. nat_le e.number count) es
 
 within : (n count : ℕ) → nat_le n count ≡ true → n ≤ count
 within n count e = grind (arith, nat_tests)
@@ -21,48 +22,57 @@ within n count e = grind (arith, nat_tests)
 beyond : (n count : ℕ) → nat_le n count ≡ false → count < n
 beyond n count e = grind (arith, nat_tests)
 
--- ---- what holds of all numbers holds of these
-numbers-front : (count : ℕ) (ns : List ℕ) → AreNumbers (count + 1) ns → AreNumbers count (numbers_to count ns)
+-- ---- what holds of all entries holds of these
+numbers-front : (count : ℕ) (es : List HashedKey) → AreNumbers (count + 1) es → AreNumbers count (numbers_to count es)
 unfolding AreNumbers
 numbers-front count [] b = tt
-numbers-front count (n ∷ ns) b = at (nat_le n count) refl (numbers-front count ns b.2)
+numbers-front count (e ∷ es) b = at (nat_le e.number count) refl (numbers-front count es b.2)
   where
-    at : (t : Bool) → nat_le n count ≡ t → AreNumbers count (numbers_to count ns) → AreNumbers count (cond t (n ∷ numbers_to count ns) (numbers_to count ns))
-    at true e r = (b.0, within n count e, r)
-    at false e r = r
+    at : (t : Bool) → nat_le e.number count ≡ t → AreNumbers count (numbers_to count es) → AreNumbers count (cond t (e ∷ numbers_to count es) (numbers_to count es))
+    at true f r = (b.0, within e.number count f, r)
+    at false f r = r
 
-from-front : (h : List Kept) (k : Kept) (key : List ℕ) (ns : List ℕ) → AreFrom (more h k) key ns → AreFrom h key (numbers_to (length h) ns)
+hashed-front : (h : List Kept) (k : Kept) (es : List HashedKey) → AreHashed (more h k) es → AreHashed h (numbers_to (length h) es)
+unfolding AreHashed
+hashed-front h k [] b = tt
+hashed-front h k (e ∷ es) b = at (nat_le e.number (length h)) refl (hashed-front h k es b.1)
+  where
+    at : (t : Bool) → nat_le e.number (length h) ≡ t → AreHashed h (numbers_to (length h) es) → AreHashed h (cond t (e ∷ numbers_to (length h) es) (numbers_to (length h) es))
+    at true f r = (b.0 ∙ ap hash_of (key-more h k e.number (within e.number (length h) f)), r)
+    at false f r = r
+
+from-front : (x count : ℕ) (es : List HashedKey) → AreFrom x es → AreFrom x (numbers_to count es)
 unfolding AreFrom
-from-front h k key [] f = tt
-from-front h k key (n ∷ ns) f = at (nat_le n (length h)) refl (from-front h k key ns f.1)
+from-front x count [] f = tt
+from-front x count (e ∷ es) f = at (nat_le e.number count) (from-front x count es f.1)
   where
-    at : (t : Bool) → nat_le n (length h) ≡ t → AreFrom h key (numbers_to (length h) ns) → AreFrom h key (cond t (n ∷ numbers_to (length h) ns) (numbers_to (length h) ns))
-    at true e r = (ap (is_up_to key) (sym (key-more h k n (within n (length h) e))) ∙ f.0, r)
-    at false e r = r
+    at : (t : Bool) → AreFrom x (numbers_to count es) → AreFrom x (cond t (e ∷ numbers_to count es) (numbers_to count es))
+    at true r = (f.0, r)
+    at false r = r
 
-sorted-front : (h : List Kept) (k : Kept) (ns : List ℕ) → IsSorted (more h k) ns → IsSorted h (numbers_to (length h) ns)
+sorted-front : (count : ℕ) (es : List HashedKey) → IsSorted es → IsSorted (numbers_to count es)
 unfolding IsSorted
-sorted-front h k [] s = tt
-sorted-front h k (n ∷ ns) s = at (nat_le n (length h)) refl (sorted-front h k ns s.1)
+sorted-front count [] s = tt
+sorted-front count (e ∷ es) s = at (nat_le e.number count) (sorted-front count es s.1)
   where
-    at : (t : Bool) → nat_le n (length h) ≡ t → IsSorted h (numbers_to (length h) ns) → IsSorted h (cond t (n ∷ numbers_to (length h) ns) (numbers_to (length h) ns))
-    at true e r = (subst (λ u. AreFrom h u (numbers_to (length h) ns)) (key-more h k n (within n (length h) e)) (from-front h k (key_of (more h k) n) ns s.0), r)
-    at false e r = r
+    at : (t : Bool) → IsSorted (numbers_to count es) → IsSorted (cond t (e ∷ numbers_to count es) (numbers_to count es))
+    at true r = (from-front e.hash count es s.0, r)
+    at false r = r
 
 -- ---- what is found
 -- another key than that of the last post
-first-front : (h : List Kept) (k : Kept) (q : List ℕ) (ns : List ℕ) → bytes_eq k.key q ≡ false → AreNumbers (length h + 1) ns → first_with (more h k) q ns ≡ first_with h q (numbers_to (length h) ns)
+first-front : (h : List Kept) (k : Kept) (q : List ℕ) (es : List HashedKey) → bytes_eq k.key q ≡ false → AreNumbers (length h + 1) es → first_with (more h k) q es ≡ first_with h q (numbers_to (length h) es)
 unfolding first_with AreNumbers
 first-front h k q [] other b = refl
-first-front h k q (n ∷ ns) other b = at (nat_le n (length h)) refl (first-front h k q ns other b.2)
+first-front h k q (e ∷ es) other b = at (nat_le e.number (length h)) refl (first-front h k q es other b.2)
   where
-    at : (t : Bool) → nat_le n (length h) ≡ t → first_with (more h k) q ns ≡ first_with h q (numbers_to (length h) ns)
-        → cond (bytes_eq (key_of (more h k) n) q) (Some n) (first_with (more h k) q ns) ≡ first_with h q (cond t (n ∷ numbers_to (length h) ns) (numbers_to (length h) ns))
-    at true e r = rw (key-more h k n (within n (length h) e), r) refl
-    at false e r =
-        let late : length h < n = beyond n (length h) e in
-        let last : n ≡ suc (length h) = omega (arith, late, b.1) in
-        let no : bytes_eq (key_of (more h k) n) q ≡ false = ap (λ m. bytes_eq (key_of (more h k) m) q) last ∙ (ap (λ u. bytes_eq u q) (key-last h k) ∙ other) in
+    at : (t : Bool) → nat_le e.number (length h) ≡ t → first_with (more h k) q es ≡ first_with h q (numbers_to (length h) es)
+        → cond (bytes_eq (key_of (more h k) e.number) q) (Some e.number) (first_with (more h k) q es) ≡ first_with h q (cond t (e ∷ numbers_to (length h) es) (numbers_to (length h) es))
+    at true f r = rw (key-more h k e.number (within e.number (length h) f), r) refl
+    at false f r =
+        let late : length h < e.number = beyond e.number (length h) f in
+        let last : e.number ≡ suc (length h) = omega (arith, late, b.1) in
+        let no : bytes_eq (key_of (more h k) e.number) q ≡ false = ap (λ m. bytes_eq (key_of (more h k) m) q) last ∙ (ap (λ u. bytes_eq u q) (key-last h k) ∙ other) in
         rw no r
 
 -- a key that no post has
@@ -84,58 +94,59 @@ number-unlike : (q : List ℕ) (n : ℕ) (h : List Kept) → with_key q h ≡ No
 number-unlike q zero h e low l = absurd (omega (arith, low))
 number-unlike q (suc i) h e low l = place-unlike q 1 i h e (omega (arith, l))
 
-none-unlike : (h : List Kept) (q : List ℕ) (ns : List ℕ) → with_key q h ≡ None → AreNumbers (length h) ns → first_with h q ns ≡ None
+none-unlike : (h : List Kept) (q : List ℕ) (es : List HashedKey) → with_key q h ≡ None → AreNumbers (length h) es → first_with h q es ≡ None
 unfolding first_with AreNumbers
-none-unlike h q [] e b = refl
-none-unlike h q (n ∷ ns) e b =
-    let other : bytes_eq (key_of h n) q ≡ false = number-unlike q n h e b.0 b.1 in
-    rw other (none-unlike h q ns e b.2)
+none-unlike h q [] f b = refl
+none-unlike h q (e ∷ es) f b =
+    let other : bytes_eq (key_of h e.number) q ≡ false = number-unlike q e.number h f b.0 b.1 in
+    rw other (none-unlike h q es f b.2)
 
 -- the index without the last post, which has a key of its own
-pub index-front : (h : List Kept) (k : Kept) (ns : List ℕ) → with_key k.key h ≡ None → IsIndex (more h k) ns → IsIndex h (numbers_to (length h) ns)
-index-front h k ns fresh i = record {
-  numbers = numbers-front (length h) ns all;
-  sorted = sorted-front h k ns i.sorted;
+pub index-front : (h : List Kept) (k : Kept) (es : List HashedKey) → with_key k.key h ≡ None → IsIndex (more h k) es → IsIndex h (numbers_to (length h) es)
+index-front h k es fresh i = record {
+  numbers = numbers-front (length h) es all;
+  hashed = hashed-front h k es i.hashed;
+  sorted = sorted-front (length h) es i.sorted;
   finds = λ q. found q (bytes_eq k.key q) refl;
 }
   where
-    all : AreNumbers (length h + 1) ns
-    all = let long : length (more h k) ≡ length h + 1 = length-append h (k ∷ []) in subst (λ m. AreNumbers m ns) long i.numbers
+    all : AreNumbers (length h + 1) es
+    all = let long : length (more h k) ≡ length h + 1 = length-append h (k ∷ []) in subst (λ m. AreNumbers m es) long i.numbers
 
-    found : (q : List ℕ) (t : Bool) → bytes_eq k.key q ≡ t → first_with h q (numbers_to (length h) ns) ≡ with_key q h
+    found : (q : List ℕ) (t : Bool) → bytes_eq k.key q ≡ t → first_with h q (numbers_to (length h) es) ≡ with_key q h
     found q true e =
         let none : with_key q h ≡ None = subst (λ u. with_key u h ≡ None) (same_bytes k.key q e) fresh in
-        none-unlike h q (numbers_to (length h) ns) none (numbers-front (length h) ns all) ∙ sym none
+        none-unlike h q (numbers_to (length h) es) none (numbers-front (length h) es all) ∙ sym none
     found q false e =
-        sym (first-front h k q ns e all)
+        sym (first-front h k q es e all)
         ∙ (i.finds q ∙ (keys-more q 1 h k ∙ (ap (λ t. option_or (key_from q 1 h) (cond t (Some (1 + length h)) None)) e ∙ sym (none-last (key_from q 1 h)))))
 
--- ---- it has fewer numbers
-fewer : (count : ℕ) (ns : List ℕ) → length (numbers_to count ns) ≤ length ns
+-- ---- it has fewer entries
+fewer : (count : ℕ) (es : List HashedKey) → length (numbers_to count es) ≤ length es
 fewer count [] = omega arith
-fewer count (n ∷ ns) = at (nat_le n count) (fewer count ns)
+fewer count (e ∷ es) = at (nat_le e.number count) (fewer count es)
   where
-    at : (t : Bool) → length (numbers_to count ns) ≤ length ns → length (cond t (n ∷ numbers_to count ns) (numbers_to count ns)) ≤ suc (length ns)
+    at : (t : Bool) → length (numbers_to count es) ≤ length es → length (cond t (e ∷ numbers_to count es) (numbers_to count es)) ≤ suc (length es)
     at true r = omega (arith, r)
     at false r = omega (arith, r)
 
 -- where one is found that lies above the count
-found-less : (g : List Kept) (q : List ℕ) (count m : ℕ) (ns : List ℕ) → first_with g q ns ≡ Some m → count < m → length (numbers_to count ns) < length ns
+found-less : (g : List Kept) (q : List ℕ) (count m : ℕ) (es : List HashedKey) → first_with g q es ≡ Some m → count < m → length (numbers_to count es) < length es
 unfolding first_with
 found-less g q count m [] e l = let no : None ≡ Some m = e in absurd (cc)
-found-less g q count m (n ∷ ns) e l = at (nat_le n count) refl (bytes_eq (key_of g n) q) e (λ f. found-less g q count m ns f l)
+found-less g q count m (x ∷ es) e l = at (nat_le x.number count) refl (bytes_eq (key_of g x.number) q) e (λ f. found-less g q count m es f l)
   where
-    at : (t : Bool) → nat_le n count ≡ t → (s : Bool) → cond s (Some n) (first_with g q ns) ≡ Some m → (first_with g q ns ≡ Some m → length (numbers_to count ns) < length ns)
-        → length (cond t (n ∷ numbers_to count ns) (numbers_to count ns)) < suc (length ns)
-    at false f s e r = let less = fewer count ns in omega (arith, less)
-    at true f true e r = let same : n ≡ m = one n m e in let low = within n count f in absurd (omega (arith, same, low, l))
+    at : (t : Bool) → nat_le x.number count ≡ t → (s : Bool) → cond s (Some x.number) (first_with g q es) ≡ Some m → (first_with g q es ≡ Some m → length (numbers_to count es) < length es)
+        → length (cond t (x ∷ numbers_to count es) (numbers_to count es)) < suc (length es)
+    at false f s e r = let less = fewer count es in omega (arith, less)
+    at true f true e r = let same : x.number ≡ m = one x.number m e in let low = within x.number count f in absurd (omega (arith, same, low, l))
       where
         one : (x y : ℕ) → Some x ≡ Some y → x ≡ y
         one x y e = cc
     at true f false e r = let less = r e in omega (arith, less)
 
-pub index-less : (h : List Kept) (k : Kept) (ns : List ℕ) → with_key k.key h ≡ None → IsIndex (more h k) ns → length (numbers_to (length h) ns) < length ns
-index-less h k ns fresh i = found-less (more h k) k.key (length h) (1 + length h) ns (i.finds k.key ∙ (keys-more k.key 1 h k ∙ here)) (omega arith)
+pub index-less : (h : List Kept) (k : Kept) (es : List HashedKey) → with_key k.key h ≡ None → IsIndex (more h k) es → length (numbers_to (length h) es) < length es
+index-less h k es fresh i = found-less (more h k) k.key (length h) (1 + length h) es (i.finds k.key ∙ (keys-more k.key 1 h k ∙ here)) (omega arith)
   where
     here : option_or (key_from k.key 1 h) (cond (bytes_eq k.key k.key) (Some (1 + length h)) None) ≡ Some (1 + length h)
     here = let same : bytes_eq k.key k.key ≡ true = (bytes_decides k.key k.key).1 refl in rw (fresh, same) refl

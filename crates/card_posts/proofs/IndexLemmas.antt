@@ -1,146 +1,166 @@
 -- An index of posts by their keys.
-use Rattle.std.proofs.Common.{◌≡◌, ℕ, zero, suc, ◌+◌, ◌<◌, ◌≤◌, Bool, true, false, cond, List, [], ◌∷◌, ◌++◌, length, length-append, get_or, Option, Some, None, refl, sym, ap, ◌∙◌, subst, arith}
-use Rattle.std.specs.Cmp.Lexicographic.{slice_cmp, bytes_decides}
+use Rattle.std.proofs.Common.{◌≡◌, ℕ, zero, suc, ◌+◌, ◌<◌, ◌≤◌, Bool, true, false, cond, nat_le, nat_lt, List, [], ◌∷◌, ◌++◌, drop, take, length, length-append, get_or, ◌-◌, Option, Some, None, refl, sym, ap, ◌∙◌, subst, arith}
+use Rattle.std.proofs.lemmas.Bool.Decides.{nat_tests}
+use Rattle.std.proofs.lemmas.List.{length-drop, take_all}
+use Rattle.std.specs.Cmp.Lexicographic.{bytes_decides}
 use Rattle.std.specs.List.{insert}
 use Rattle.std.specs.List.Sorted.{IsPartitionedBy}
 use Rattle.std.specs.Option.{option_or}
-use Rattle.std.specs.Ordering.{is_eq, is_le, is_lt, nat_cmp, ordering_reverse}
 use Rattle.std.specs.Prelude.{slice_get}
 use Rattle.std.specs.Str.{bytes_eq}
-use Rattle.std.specs.BTreeMap.Comparable.{le_lt_trans}
-use Rattle.std.specs.declared.cmp.Ordering.{Ordering}
-use Rattle.std.specs.declared.cmp.Ordering.TheVariants.{Less, Equal, Greater}
-use Rattle.std.proofs.lemmas.Cmp.{nat_list_cmp_total}
-use Rattle.std.proofs.lemmas.Map.Text.{is_eq-slice_cmp}
 use Rattle.card_events.specs.Keys.{key_from, with_key}
 use Rattle.card_events.specs.declared.kept.Kept.{Kept}
-use Rattle.card_posts.specs.Index.{AreFrom, AreNumbers, IsEnd, IsIndex, IsSorted, IsStart, first_with, is_before, is_up_to, key_in, key_of}
+use Rattle.card_posts.specs.Index.{AreFrom, AreHashed, AreNumbers, IsEnd, IsIndex, IsSorted, IsStart, first_with, hash_of, key_in, key_of}
+use Rattle.card_posts.specs.declared.index.HashedKey.{HashedKey}
 use Rattle.card_posts.proofs.OneMore.{more, number-more}
 
--- ---- the order of keys
-less : (o : Ordering) → is_lt o ≡ true → o ≡ Less
-less Less e = refl
-less Equal e = absurd (cc)
-less Greater e = absurd (cc)
+-- ---- numbers and their tests
+pub less-down : (z x y : ℕ) → x ≤ y → nat_lt y z ≡ true → nat_lt x z ≡ true
+less-down z x y l e = grind (arith, nat_tests)
 
-less-is : (o : Ordering) → o ≡ Less → is_lt o ≡ true
-less-is o e = rw e refl
+pub up_to-down : (z x y : ℕ) → x ≤ y → nat_le y z ≡ true → nat_le x z ≡ true
+up_to-down z x y l e = grind (arith, nat_tests)
 
-not-less : (o : Ordering) → is_lt o ≡ false → is_le (ordering_reverse o) ≡ true
-not-less Less e = absurd (cc)
-not-less Equal e = refl
-not-less Greater e = refl
+pub is-less : (x y : ℕ) → nat_lt x y ≡ true → x < y
+is-less x y e = grind (arith, nat_tests)
 
-not-up_to : (o : Ordering) → is_le o ≡ false → is_lt (ordering_reverse o) ≡ true
-not-up_to Less e = absurd (cc)
-not-up_to Equal e = absurd (cc)
-not-up_to Greater e = refl
+pub not-less : (x y : ℕ) → nat_lt x y ≡ false → y ≤ x
+not-less x y e = grind (arith, nat_tests)
 
-less-up_to : (o : Ordering) → is_lt o ≡ true → is_le o ≡ true
-less-up_to Less e = refl
-less-up_to Equal e = absurd (cc)
-less-up_to Greater e = absurd (cc)
+pub is-up_to : (x y : ℕ) → nat_le x y ≡ true → x ≤ y
+is-up_to x y e = grind (arith, nat_tests)
 
-pub up_to-before : (x y z : List ℕ) → is_up_to x y ≡ true → is_before y z ≡ true → is_before x z ≡ true
-up_to-before x y z e f = less-is (slice_cmp nat_cmp x z) (le_lt_trans nat_list_cmp_total x y z e (less (slice_cmp nat_cmp y z) f))
+pub not-up_to : (x y : ℕ) → nat_le x y ≡ false → y < x
+not-up_to x y e = grind (arith, nat_tests)
 
-pub up_to-up_to : (x y z : List ℕ) → is_up_to x y ≡ true → is_up_to y z ≡ true → is_up_to x z ≡ true
-up_to-up_to x y z e f = at (slice_cmp nat_cmp y z) refl f
-  where
-    at : (o : Ordering) → slice_cmp nat_cmp y z ≡ o → is_le o ≡ true → is_up_to x z ≡ true
-    at Less is f = let r : slice_cmp nat_cmp x z ≡ Less = le_lt_trans nat_list_cmp_total x y z e is in rw r refl
-    at Equal is f =
-        let there : slice_cmp nat_cmp y x ≡ slice_cmp nat_cmp z x = nat_list_cmp_total.congr y z x is in
-        let r : slice_cmp nat_cmp x z ≡ slice_cmp nat_cmp x y = nat_list_cmp_total.antisymm x z ∙ (ap ordering_reverse (sym there) ∙ sym (nat_list_cmp_total.antisymm x y)) in
-        rw r e
-    at Greater is f = absurd (cc)
+-- an entry's hash, which is its key's and not this one
+behind : (x e own other : ℕ) → e ≡ own → own ≡ other → x ≤ e → other < x → ⊥
+behind x e own other is same low l = omega (arith, is, same, low, l)
 
-pub from-not-before : (x y : List ℕ) → is_before x y ≡ false → is_up_to y x ≡ true
-from-not-before x y e = let r = nat_list_cmp_total.antisymm y x in rw r (not-less (slice_cmp nat_cmp x y) e)
+before : (e own other : ℕ) → e ≡ own → own ≡ other → e < other → ⊥
+before e own other is same l = omega (arith, is, same, l)
 
-pub from-not-up_to : (x y : List ℕ) → is_up_to x y ≡ false → is_before y x ≡ true
-from-not-up_to x y e = let r = nat_list_cmp_total.antisymm y x in rw r (not-up_to (slice_cmp nat_cmp x y) e)
-
-pub before-up_to : (x y : List ℕ) → is_before x y ≡ true → is_up_to x y ≡ true
-before-up_to x y e = less-up_to (slice_cmp nat_cmp x y) e
-
--- a key that comes before another isn't the same
-pub before-other : (x y : List ℕ) → is_before x y ≡ true → bytes_eq x y ≡ false
-before-other x y e = let l : slice_cmp nat_cmp x y ≡ Less = less (slice_cmp nat_cmp x y) e in sym (is_eq-slice_cmp x y) ∙ ap is_eq l
-
-pub before-other_back : (x y : List ℕ) → is_before x y ≡ true → bytes_eq y x ≡ false
-before-other_back x y e =
-    let l : slice_cmp nat_cmp x y ≡ Less = less (slice_cmp nat_cmp x y) e in
-    let back : slice_cmp nat_cmp y x ≡ ordering_reverse Less = nat_list_cmp_total.antisymm y x ∙ ap ordering_reverse l in
-    sym (is_eq-slice_cmp y x) ∙ ap is_eq back
-
--- a key that is neither before another nor the same comes behind it
-behind : (x y : List ℕ) → is_before x y ≡ false → bytes_eq x y ≡ false → is_before y x ≡ true
-behind x y e f = let r = nat_list_cmp_total.antisymm y x in rw r (at (slice_cmp nat_cmp x y) e (is_eq-slice_cmp x y ∙ f))
-  where
-    at : (o : Ordering) → is_lt o ≡ false → is_eq o ≡ false → is_lt (ordering_reverse o) ≡ true
-    at Less e f = absurd (cc)
-    at Equal e f = absurd (cc)
-    at Greater e f = refl
-
+-- ---- keys
 pub same_bytes : (x y : List ℕ) → bytes_eq x y ≡ true → x ≡ y
 same_bytes x y e = (bytes_decides x y).0 e
 
--- ---- a sorted index is parted by each key
-from-at : (h : List Kept) (key : List ℕ) (ns : List ℕ) → AreFrom h key ns → (j d : ℕ) → j < length ns → is_up_to key (key_of h (get_or ns j d)) ≡ true
-unfolding AreFrom
-from-at h key [] f j d l = absurd (omega (arith, l))
-from-at h key (n ∷ ns) f zero d l = f.0
-from-at h key (n ∷ ns) f (suc j) d l = from-at h key ns f.1 j d (omega (arith, l))
+-- keys with other hashes are others
+pub unlike : (x y : List ℕ) → (hash_of x ≡ hash_of y → ⊥) → bytes_eq x y ≡ false
+unlike x y apart = at (bytes_eq x y) refl
+  where
+    at : (b : Bool) → bytes_eq x y ≡ b → b ≡ false
+    at true e = absurd (apart (ap hash_of (same_bytes x y e)))
+    at false e = refl
 
-pub parted : (h : List Kept) (p : List ℕ → Bool) → ((x y : List ℕ) → is_up_to x y ≡ true → p y ≡ true → p x ≡ true) → (ns : List ℕ) → IsSorted h ns → IsPartitionedBy (λ n. p (key_of h n)) ns
+-- ---- a sorted index is parted by each hash
+from-at : (x : ℕ) (es : List HashedKey) → AreFrom x es → (j : ℕ) (d : HashedKey) → j < length es → x ≤ (get_or es j d).hash
+unfolding AreFrom
+from-at x [] f j d l = absurd (omega (arith, l))
+from-at x (e ∷ es) f zero d l = f.0
+from-at x (e ∷ es) f (suc j) d l = from-at x es f.1 j d (omega (arith, l))
+
+pub parted : (p : ℕ → Bool) → ((x y : ℕ) → x ≤ y → p y ≡ true → p x ≡ true) → (es : List HashedKey) → IsSorted es → IsPartitionedBy (λ e. p e.hash) es
 unfolding IsSorted
-parted h p down [] s i j d low l e = absurd (omega (arith, l))
-parted h p down (n ∷ ns) s zero zero d low l e = e
-parted h p down (n ∷ ns) s zero (suc j) d low l e = down (key_of h n) (key_of h (get_or ns j d)) (from-at h (key_of h n) ns s.0 j d (omega (arith, l))) e
-parted h p down (n ∷ ns) s (suc i) zero d low l e = absurd (omega (arith, low))
-parted h p down (n ∷ ns) s (suc i) (suc j) d low l e = parted h p down ns s.1 i j d (omega (arith, low)) (omega (arith, l)) e
+parted p down [] s i j d low l e = absurd (omega (arith, l))
+parted p down (x ∷ es) s zero zero d low l e = e
+parted p down (x ∷ es) s zero (suc j) d low l e = down x.hash (get_or es j d).hash (from-at x.hash es s.0 j d (omega (arith, l))) e
+parted p down (x ∷ es) s (suc i) zero d low l e = absurd (omega (arith, low))
+parted p down (x ∷ es) s (suc i) (suc j) d low l e = parted p down es s.1 i j d (omega (arith, low)) (omega (arith, l)) e
 
 -- ---- what is found
-none-after : (h : List Kept) (key x : List ℕ) (ns : List ℕ) → is_before key x ≡ true → AreFrom h x ns → first_with h key ns ≡ None
-unfolding AreFrom first_with
-none-after h key x [] b f = refl
-none-after h key x (n ∷ ns) b f =
-    let later : is_before key (key_of h n) ≡ true = at (slice_cmp nat_cmp x (key_of h n)) refl f.0 in
-    let other : bytes_eq (key_of h n) key ≡ false = before-other_back key (key_of h n) later in
-    rw other (none-after h key x ns b f.1)
-  where
-    at : (o : Ordering) → slice_cmp nat_cmp x (key_of h n) ≡ o → is_le o ≡ true → is_before key (key_of h n) ≡ true
-    at Less is e = up_to-before key x (key_of h n) (before-up_to key x b) (less-is (slice_cmp nat_cmp x (key_of h n)) is)
-    at Equal is e =
-        let there : slice_cmp nat_cmp x key ≡ slice_cmp nat_cmp (key_of h n) key = nat_list_cmp_total.congr x (key_of h n) key is in
-        let r : slice_cmp nat_cmp key (key_of h n) ≡ slice_cmp nat_cmp key x = nat_list_cmp_total.antisymm key (key_of h n) ∙ (ap ordering_reverse (sym there) ∙ sym (nat_list_cmp_total.antisymm key x)) in
-        rw r b
-    at Greater is e = absurd (cc)
+-- where all hashes are greater than the key's
+pub none-greater : (h : List Kept) (key : List ℕ) (x : ℕ) (es : List HashedKey) → AreHashed h es → AreFrom x es → hash_of key < x → first_with h key es ≡ None
+unfolding AreHashed AreFrom first_with
+none-greater h key x [] b f l = refl
+none-greater h key x (e ∷ es) b f l =
+    let other : bytes_eq (key_of h e.number) key ≡ false = unlike (key_of h e.number) key (λ same. behind x e.hash (hash_of (key_of h e.number)) (hash_of key) b.0 same f.0 l) in
+    rw other (none-greater h key x es b.1 f.1 l)
 
-start-less : (h : List Kept) (n : ℕ) (ns : List ℕ) (key : List ℕ) (p : ℕ) → IsStart h (n ∷ ns) key (suc p) → IsStart h ns key p
-start-less h n ns key p s = record {
+pub from-all : (x : ℕ) (es : List HashedKey) → ((i : ℕ) (d : HashedKey) → i < length es → x ≤ (get_or es i d).hash) → AreFrom x es
+unfolding AreFrom
+from-all x [] f = tt
+from-all x (e ∷ es) f = (f 0 e (omega arith), from-all x es (λ i d l. f (suc i) d (omega (arith, l))))
+
+start-less : (e : HashedKey) (es : List HashedKey) (x p : ℕ) → IsStart (e ∷ es) x (suc p) → IsStart es x p
+start-less e es x p s = record {
   front = λ i d l m. s.front (suc i) d (omega (arith, l)) (omega (arith, m));
   back = λ i d l m. s.back (suc i) d (omega (arith, l)) (omega (arith, m));
   within = omega (arith, s.within);
 }
 
--- the post that stands where the key begins, if it has it
-abbrev pub found_at : List Kept → List ℕ → Option ℕ → Option ℕ
-found_at h key None = None
-found_at h key (Some n) = cond (bytes_eq (key_of h n) key) (Some n) None
+pub start-finds : (h : List Kept) (key : List ℕ) (es : List HashedKey) (p : ℕ) → AreHashed h es → IsStart es (hash_of key) p → first_with h key es ≡ first_with h key (drop p es)
+unfolding AreHashed first_with
+start-finds h key [] zero b s = refl
+start-finds h key [] (suc p) b s = refl
+start-finds h key (e ∷ es) zero b s = refl
+start-finds h key (e ∷ es) (suc p) b s =
+    let low : e.hash < hash_of key = s.front 0 e (omega arith) (omega arith) in
+    let other : bytes_eq (key_of h e.number) key ≡ false = unlike (key_of h e.number) key (λ same. before e.hash (hash_of (key_of h e.number)) (hash_of key) b.0 same low) in
+    rw other (start-finds h key es p b.1 (start-less e es (hash_of key) p s))
 
-pub start-finds : (h : List Kept) (ns : List ℕ) (key : List ℕ) (p : ℕ) → IsSorted h ns → IsStart h ns key p → first_with h key ns ≡ found_at h key (slice_get ns p)
-unfolding IsSorted first_with
-start-finds h [] key p s b = refl
-start-finds h (n ∷ ns) key zero s b = at (bytes_eq (key_of h n) key) refl
+-- ---- the entries from a place on
+pub rest-from : (es : List HashedKey) (p : ℕ) → take (length es - p) (drop p es) ≡ drop p es
+rest-from es p = let long : length (drop p es) ≡ length es - p = length-drop p es in take_all (length es - p) (drop p es) (omega (arith, long))
+
+pub hashed-drop : (h : List Kept) (es : List HashedKey) (p : ℕ) → AreHashed h es → AreHashed h (drop p es)
+unfolding AreHashed
+hashed-drop h [] zero b = tt
+hashed-drop h [] (suc p) b = tt
+hashed-drop h (e ∷ es) zero b = b
+hashed-drop h (e ∷ es) (suc p) b = hashed-drop h es p b.1
+
+pub sorted-drop : (es : List HashedKey) (p : ℕ) → IsSorted es → IsSorted (drop p es)
+unfolding IsSorted
+sorted-drop [] zero s = tt
+sorted-drop [] (suc p) s = tt
+sorted-drop (e ∷ es) zero s = s
+sorted-drop (e ∷ es) (suc p) s = sorted-drop es p s.1
+
+pub from-start : (x : ℕ) (es : List HashedKey) (p : ℕ) → IsStart es x p → AreFrom x (drop p es)
+unfolding AreFrom
+from-start x [] zero s = tt
+from-start x [] (suc p) s = tt
+from-start x (e ∷ es) zero s = from-all x (e ∷ es) (λ i d l. s.back i d (omega arith) l)
+from-start x (e ∷ es) (suc p) s = from-start x es p (start-less e es x p s)
+
+-- ---- the search, entry by entry
+apart-less : (x y : ℕ) → x ≤ y → (y ≡ x → ⊥) → x < y
+apart-less x y l a = at (nat_lt x y) refl
   where
-    at : (c : Bool) → bytes_eq (key_of h n) key ≡ c → cond c (Some n) (first_with h key ns) ≡ cond c (Some n) None
-    at true e = refl
-    at false e = none-after h key (key_of h n) ns (behind (key_of h n) key (b.back 0 n (omega arith) (omega arith)) e) s.0
-start-finds h (n ∷ ns) key (suc p) s b =
-    let other : bytes_eq (key_of h n) key ≡ false = before-other (key_of h n) key (b.front 0 n (omega arith) (omega arith)) in
-    rw other (start-finds h ns key p s.1 (start-less h n ns key p b))
+    at : (t : Bool) → nat_lt x y ≡ t → x < y
+    at true e = is-less x y e
+    at false e = let back = not-less x y e in let same : y ≡ x = omega (arith, l, back) in absurd (a same)
+
+-- at an entry with another hash nothing more is found
+pub at-greater : (h : List Kept) (key : List ℕ) (hash : ℕ) (es : List HashedKey) (i : ℕ) (d : HashedKey)
+    → hash ≡ hash_of key → AreHashed h es → IsSorted es → AreFrom hash es → i < length es → ((get_or es i d).hash ≡ hash → ⊥) → first_with h key (drop i es) ≡ None
+unfolding AreHashed IsSorted AreFrom
+at-greater h key hash [] i d is b s f l a = absurd (omega (arith, l))
+at-greater h key hash (e ∷ es) zero d is b s f l a =
+    let high : hash < e.hash = apart-less hash e.hash f.0 a in
+    none-greater h key e.hash (e ∷ es) b (omega arith, s.0) (omega (arith, is, high))
+at-greater h key hash (e ∷ es) (suc i) d is b s f l a = at-greater h key hash es i d is b.1 s.1 f.1 (omega (arith, l)) a
+
+-- at an entry whose post has the key, it is found
+pub at-same : (h : List Kept) (key : List ℕ) (es : List HashedKey) (i : ℕ) (d : HashedKey) → i < length es → bytes_eq (key_of h (get_or es i d).number) key ≡ true → first_with h key (drop i es) ≡ Some (get_or es i d).number
+unfolding first_with
+at-same h key [] i d l e = absurd (omega (arith, l))
+at-same h key (x ∷ es) zero d l e = rw e refl
+at-same h key (x ∷ es) (suc i) d l e = at-same h key es i d (omega (arith, l)) e
+
+-- at another one the search goes on
+pub at-other : (h : List Kept) (key : List ℕ) (es : List HashedKey) (i : ℕ) (d : HashedKey) → i < length es → bytes_eq (key_of h (get_or es i d).number) key ≡ false → first_with h key (drop (suc i) es) ≡ first_with h key (drop i es)
+unfolding first_with
+at-other h key [] i d l e = absurd (omega (arith, l))
+at-other h key (x ∷ es) zero d l e = rw e refl
+at-other h key (x ∷ es) (suc i) d l e = at-other h key es i d (omega (arith, l)) e
+
+pub at-end : (h : List Kept) (key : List ℕ) (es : List HashedKey) (i : ℕ) → length es ≤ i → first_with h key (drop i es) ≡ None
+unfolding first_with
+at-end h key [] zero l = refl
+at-end h key [] (suc i) l = refl
+at-end h key (x ∷ es) zero l = absurd (omega (arith, l))
+at-end h key (x ∷ es) (suc i) l = at-end h key es i (omega (arith, l))
 
 -- ---- one more post
 pub key-more : (h : List Kept) (k : Kept) (n : ℕ) → n ≤ length h → key_of (more h k) n ≡ key_of h n
@@ -153,101 +173,80 @@ last-get (q ∷ h) k = last-get h k
 pub key-last : (h : List Kept) (k : Kept) → key_of (more h k) (suc (length h)) ≡ k.key
 key-last h k = ap key_in (last-get h k)
 
-from-more : (h : List Kept) (k : Kept) (key : List ℕ) (ns : List ℕ) → AreNumbers (length h) ns → AreFrom h key ns → AreFrom (more h k) key ns
-unfolding AreFrom AreNumbers
-from-more h k key [] b f = tt
-from-more h k key (n ∷ ns) b f = (ap (is_up_to key) (key-more h k n b.1) ∙ f.0, from-more h k key ns b.2 f.1)
+hashed-more : (h : List Kept) (k : Kept) (es : List HashedKey) → AreNumbers (length h) es → AreHashed h es → AreHashed (more h k) es
+unfolding AreHashed AreNumbers
+hashed-more h k [] n b = tt
+hashed-more h k (e ∷ es) n b = (b.0 ∙ ap hash_of (sym (key-more h k e.number n.1)), hashed-more h k es n.2 b.1)
 
-sorted-more : (h : List Kept) (k : Kept) (ns : List ℕ) → AreNumbers (length h) ns → IsSorted h ns → IsSorted (more h k) ns
-unfolding IsSorted AreNumbers
-sorted-more h k [] b s = tt
-sorted-more h k (n ∷ ns) b s = (subst (λ u. AreFrom (more h k) u ns) (sym (key-more h k n b.1)) (from-more h k (key_of h n) ns b.2 s.0), sorted-more h k ns b.2 s.1)
-
-first-more : (h : List Kept) (k : Kept) (key : List ℕ) (ns : List ℕ) → AreNumbers (length h) ns → first_with (more h k) key ns ≡ first_with h key ns
+first-more : (h : List Kept) (k : Kept) (key : List ℕ) (es : List HashedKey) → AreNumbers (length h) es → first_with (more h k) key es ≡ first_with h key es
 unfolding first_with AreNumbers
-first-more h k key [] b = refl
-first-more h k key (n ∷ ns) b = rw (key-more h k n b.1, first-more h k key ns b.2) refl
+first-more h k key [] n = refl
+first-more h k key (e ∷ es) n = rw (key-more h k e.number n.1, first-more h k key es n.2) refl
 
-number-at : (count : ℕ) (ns : List ℕ) → AreNumbers count ns → (i d : ℕ) → i < length ns → get_or ns i d ≤ count
-unfolding AreNumbers
-number-at count [] b i d l = absurd (omega (arith, l))
-number-at count (n ∷ ns) b zero d l = b.1
-number-at count (n ∷ ns) b (suc i) d l = number-at count ns b.2 i d (omega (arith, l))
-
-end-more : (h : List Kept) (k : Kept) (ns : List ℕ) (key : List ℕ) (p : ℕ) → AreNumbers (length h) ns → IsEnd h ns key p → IsEnd (more h k) ns key p
-end-more h k ns key p b e = record {
-  front = λ i d l m. ap (λ u. is_up_to u key) (key-more h k (get_or ns i d) (number-at (length h) ns b i d m)) ∙ e.front i d l m;
-  back = λ i d l m. ap (λ u. is_up_to u key) (key-more h k (get_or ns i d) (number-at (length h) ns b i d m)) ∙ e.back i d l m;
-  within = e.within;
-}
-
-numbers-more : (count : ℕ) (ns : List ℕ) → AreNumbers count ns → AreNumbers (count + 1) ns
+numbers-more : (count : ℕ) (es : List HashedKey) → AreNumbers count es → AreNumbers (count + 1) es
 unfolding AreNumbers
 numbers-more count [] b = tt
-numbers-more count (n ∷ ns) b = (b.0, omega (arith, b.1), numbers-more count ns b.2)
+numbers-more count (e ∷ es) b = (b.0, omega (arith, b.1), numbers-more count es b.2)
 
-numbers-insert : (count : ℕ) (ns : List ℕ) (p n : ℕ) → AreNumbers count ns → 1 ≤ n → n ≤ count → AreNumbers count (insert ns p n)
+numbers-insert : (count : ℕ) (es : List HashedKey) (p : ℕ) (e : HashedKey) → AreNumbers count es → 1 ≤ e.number → e.number ≤ count → AreNumbers count (insert es p e)
 unfolding AreNumbers
-numbers-insert count [] zero n b low l = (low, l, tt)
-numbers-insert count [] (suc p) n b low l = (low, l, tt)
-numbers-insert count (m ∷ ns) zero n b low l = (low, l, b)
-numbers-insert count (m ∷ ns) (suc p) n b low l = (b.0, b.1, numbers-insert count ns p n b.2 low l)
+numbers-insert count [] zero e b low l = (low, l, tt)
+numbers-insert count [] (suc p) e b low l = (low, l, tt)
+numbers-insert count (m ∷ es) zero e b low l = (low, l, b)
+numbers-insert count (m ∷ es) (suc p) e b low l = (b.0, b.1, numbers-insert count es p e b.2 low l)
 
-end-less : (g : List Kept) (m : ℕ) (ns : List ℕ) (key : List ℕ) (p : ℕ) → IsEnd g (m ∷ ns) key (suc p) → IsEnd g ns key p
-end-less g m ns key p e = record {
+end-less : (m : HashedKey) (es : List HashedKey) (x p : ℕ) → IsEnd (m ∷ es) x (suc p) → IsEnd es x p
+end-less m es x p e = record {
   front = λ i d l k. e.front (suc i) d (omega (arith, l)) (omega (arith, k));
   back = λ i d l k. e.back (suc i) d (omega (arith, l)) (omega (arith, k));
   within = omega (arith, e.within);
 }
 
--- where all keys come behind a key
-from-behind : (g : List Kept) (key : List ℕ) (ns : List ℕ) → ((i d : ℕ) → i < length ns → is_up_to (key_of g (get_or ns i d)) key ≡ false) → AreFrom g key ns
+-- where all hashes are greater than that of an entry for a key
+none-behind : (g : List Kept) (key : List ℕ) (x : ℕ) (es : List HashedKey) → AreHashed g es → x ≡ hash_of key → ((i : ℕ) (d : HashedKey) → i < length es → x < (get_or es i d).hash) → first_with g key es ≡ None
+none-behind g key x es b is f = none-greater g key (suc x) es b (from-all (suc x) es (λ i d l. let high = f i d l in omega (arith, high))) (omega (arith, is))
+
+from-insert : (x : ℕ) (es : List HashedKey) (p : ℕ) (e : HashedKey) → AreFrom x es → x ≤ e.hash → AreFrom x (insert es p e)
 unfolding AreFrom
-from-behind g key [] f = tt
-from-behind g key (n ∷ ns) f = (before-up_to key (key_of g n) (from-not-up_to (key_of g n) key (f 0 n (omega arith))), from-behind g key ns (λ i d l. f (suc i) d (omega (arith, l))))
+from-insert x [] zero e f u = (u, tt)
+from-insert x [] (suc p) e f u = (u, tt)
+from-insert x (m ∷ es) zero e f u = (u, f)
+from-insert x (m ∷ es) (suc p) e f u = (f.0, from-insert x es p e f.1 u)
 
-none-behind : (g : List Kept) (key : List ℕ) (ns : List ℕ) → ((i d : ℕ) → i < length ns → is_up_to (key_of g (get_or ns i d)) key ≡ false) → first_with g key ns ≡ None
-unfolding first_with
-none-behind g key [] f = refl
-none-behind g key (n ∷ ns) f =
-    let other : bytes_eq (key_of g n) key ≡ false = before-other_back key (key_of g n) (from-not-up_to (key_of g n) key (f 0 n (omega arith))) in
-    rw other (none-behind g key ns (λ i d l. f (suc i) d (omega (arith, l))))
-
-from-insert : (g : List Kept) (x : List ℕ) (ns : List ℕ) (p n : ℕ) → AreFrom g x ns → is_up_to x (key_of g n) ≡ true → AreFrom g x (insert ns p n)
-unfolding AreFrom
-from-insert g x [] zero n f u = (u, tt)
-from-insert g x [] (suc p) n f u = (u, tt)
-from-insert g x (m ∷ ns) zero n f u = (u, f)
-from-insert g x (m ∷ ns) (suc p) n f u = (f.0, from-insert g x ns p n f.1 u)
-
-sorted-insert : (g : List Kept) (ns : List ℕ) (key : List ℕ) (p n : ℕ) → key_of g n ≡ key → IsSorted g ns → IsEnd g ns key p → IsSorted g (insert ns p n)
+sorted-insert : (es : List HashedKey) (p : ℕ) (e : HashedKey) → IsSorted es → IsEnd es e.hash p → IsSorted (insert es p e)
 unfolding IsSorted AreFrom
-sorted-insert g [] key zero n is s e = (tt, tt)
-sorted-insert g [] key (suc p) n is s e = absurd (omega (arith, e.within))
-sorted-insert g (m ∷ ns) key zero n is s e = (subst (λ u. AreFrom g u (m ∷ ns)) (sym is) (from-behind g key (m ∷ ns) (λ i d l. e.back i d (omega arith) l)), s)
-sorted-insert g (m ∷ ns) key (suc p) n is s e =
-    let up : is_up_to (key_of g m) (key_of g n) ≡ true = ap (is_up_to (key_of g m)) is ∙ e.front 0 m (omega arith) (omega arith) in
-    (from-insert g (key_of g m) ns p n s.0 up, sorted-insert g ns key p n is s.1 (end-less g m ns key p e))
+sorted-insert [] zero e s n = (tt, tt)
+sorted-insert [] (suc p) e s n = absurd (omega (arith, n.within))
+sorted-insert (m ∷ es) zero e s n = (from-all e.hash (m ∷ es) (λ i d l. let high = n.back i d (omega arith) l in omega (arith, high)), s)
+sorted-insert (m ∷ es) (suc p) e s n = (from-insert m.hash es p e s.0 (n.front 0 m (omega arith) (omega arith)), sorted-insert es p e s.1 (end-less m es e.hash p n))
+
+hashed-insert : (g : List Kept) (es : List HashedKey) (p : ℕ) (e : HashedKey) → AreHashed g es → e.hash ≡ hash_of (key_of g e.number) → AreHashed g (insert es p e)
+unfolding AreHashed
+hashed-insert g [] zero e b is = (is, tt)
+hashed-insert g [] (suc p) e b is = (is, tt)
+hashed-insert g (m ∷ es) zero e b is = (is, b)
+hashed-insert g (m ∷ es) (suc p) e b is = (b.0, hashed-insert g es p e b.1 is)
 
 pub none-last : {X : Type 0} (o : Option X) → o ≡ option_or o None
 none-last None = refl
 none-last (Some x) = refl
 
-first-insert : (g : List Kept) (q : List ℕ) (ns : List ℕ) (key : List ℕ) (p n : ℕ) → key_of g n ≡ key → IsEnd g ns key p → first_with g q (insert ns p n) ≡ option_or (first_with g q ns) (cond (bytes_eq key q) (Some n) None)
-unfolding first_with
-first-insert g q [] key zero n is e = rw is refl
-first-insert g q [] key (suc p) n is e = absurd (omega (arith, e.within))
-first-insert g q (m ∷ ns) key zero n is e = ap (λ u. cond (bytes_eq u q) (Some n) (first_with g q (m ∷ ns))) is ∙ at (bytes_eq key q) refl
+first-insert : (g : List Kept) (q : List ℕ) (es : List HashedKey) (key : List ℕ) (p : ℕ) (e : HashedKey) → key_of g e.number ≡ key → e.hash ≡ hash_of key → AreHashed g es → IsEnd es e.hash p
+    → first_with g q (insert es p e) ≡ option_or (first_with g q es) (cond (bytes_eq key q) (Some e.number) None)
+unfolding AreHashed first_with
+first-insert g q [] key zero e is own b n = rw is refl
+first-insert g q [] key (suc p) e is own b n = absurd (omega (arith, n.within))
+first-insert g q (m ∷ es) key zero e is own b n = ap (λ u. cond (bytes_eq u q) (Some e.number) (first_with g q (m ∷ es))) is ∙ at (bytes_eq key q) refl
   where
-    at : (b : Bool) → bytes_eq key q ≡ b → cond b (Some n) (first_with g q (m ∷ ns)) ≡ option_or (first_with g q (m ∷ ns)) (cond b (Some n) None)
+    at : (t : Bool) → bytes_eq key q ≡ t → cond t (Some e.number) (first_with g q (m ∷ es)) ≡ option_or (first_with g q (m ∷ es)) (cond t (Some e.number) None)
     at true same =
-        let none : first_with g q (m ∷ ns) ≡ None = subst (λ u. first_with g u (m ∷ ns) ≡ None) (same_bytes key q same) (none-behind g key (m ∷ ns) (λ i d l. e.back i d (omega arith) l)) in
-        sym (ap (λ o. option_or o (Some n)) none)
-    at false same = none-last (first_with g q (m ∷ ns))
-first-insert g q (m ∷ ns) key (suc p) n is e = at (bytes_eq (key_of g m) q) (first-insert g q ns key p n is (end-less g m ns key p e))
+        let none : first_with g q (m ∷ es) ≡ None = subst (λ u. first_with g u (m ∷ es) ≡ None) (same_bytes key q same) (none-behind g key e.hash (m ∷ es) b own (λ i d l. n.back i d (omega arith) l)) in
+        sym (ap (λ o. option_or o (Some e.number)) none)
+    at false same = none-last (first_with g q (m ∷ es))
+first-insert g q (m ∷ es) key (suc p) e is own b n = at (bytes_eq (key_of g m.number) q) (first-insert g q es key p e is own b.1 (end-less m es e.hash p n))
   where
-    at : (b : Bool) → first_with g q (insert ns p n) ≡ option_or (first_with g q ns) (cond (bytes_eq key q) (Some n) None)
-        → cond b (Some m) (first_with g q (insert ns p n)) ≡ option_or (cond b (Some m) (first_with g q ns)) (cond (bytes_eq key q) (Some n) None)
+    at : (t : Bool) → first_with g q (insert es p e) ≡ option_or (first_with g q es) (cond (bytes_eq key q) (Some e.number) None)
+        → cond t (Some m.number) (first_with g q (insert es p e)) ≡ option_or (cond t (Some m.number) (first_with g q es)) (cond (bytes_eq key q) (Some e.number) None)
     at true r = refl
     at false r = r
 
@@ -265,30 +264,34 @@ keys-more q n (j ∷ h) k = at (bytes_eq j.key q) (keys-more q (n + 1) h k ∙ a
     at false r = r
 
 -- the index after one more post
-pub index-more : (h : List Kept) (k : Kept) (ns : List ℕ) (key : List ℕ) (p n : ℕ) → k.key ≡ key → IsIndex h ns → IsEnd h ns key p → n ≡ length h + 1 → IsIndex (more h k) (insert ns p n)
-index-more h k ns key p n same i e is =
+pub index-more : (h : List Kept) (k : Kept) (es : List HashedKey) (key : List ℕ) (p : ℕ) (e : HashedKey) → k.key ≡ key → IsIndex h es → IsEnd es e.hash p → e.number ≡ length h + 1 → e.hash ≡ hash_of key → IsIndex (more h k) (insert es p e)
+index-more h k es key p e same i end is own =
     let long : length (more h k) ≡ length h + 1 = length-append h (k ∷ []) in
-    let place : n ≡ suc (length h) = omega (arith, is) in
-    let named : key_of (more h k) n ≡ key = ap (key_of (more h k)) place ∙ (key-last h k ∙ same) in
-    let end : IsEnd (more h k) ns key p = end-more h k ns key p i.numbers e in
+    let place : e.number ≡ suc (length h) = omega (arith, is) in
+    let named : key_of (more h k) e.number ≡ key = ap (key_of (more h k)) place ∙ (key-last h k ∙ same) in
+    let all : AreHashed (more h k) es = hashed-more h k es i.numbers i.hashed in
     record {
-      numbers = subst (λ m. AreNumbers m (insert ns p n)) (sym long) (numbers-insert (length h + 1) ns p n (numbers-more (length h) ns i.numbers) (omega (arith, is)) (omega (arith, is)));
-      sorted = sorted-insert (more h k) ns key p n named (sorted-more h k ns i.numbers i.sorted) end;
-      finds = λ q. first-insert (more h k) q ns key p n named end
-          ∙ (ap (λ o. option_or o (cond (bytes_eq key q) (Some n) None)) (first-more h k q ns i.numbers ∙ i.finds q)
+      numbers = subst (λ m. AreNumbers m (insert es p e)) (sym long) (numbers-insert (length h + 1) es p e (numbers-more (length h) es i.numbers) (omega (arith, is)) (omega (arith, is)));
+      hashed = hashed-insert (more h k) es p e all (own ∙ ap hash_of (sym named));
+      sorted = sorted-insert es p e i.sorted end;
+      finds = λ q. first-insert (more h k) q es key p e named own all end
+          ∙ (ap (λ o. option_or o (cond (bytes_eq key q) (Some e.number) None)) (first-more h k q es i.numbers ∙ i.finds q)
           ∙ sym (keys-more q 1 h k ∙ number q));
     }
   where
-    number : (q : List ℕ) → option_or (with_key q h) (cond (bytes_eq k.key q) (Some (1 + length h)) None) ≡ option_or (with_key q h) (cond (bytes_eq key q) (Some n) None)
+    number : (q : List ℕ) → option_or (with_key q h) (cond (bytes_eq k.key q) (Some (1 + length h)) None) ≡ option_or (with_key q h) (cond (bytes_eq key q) (Some e.number) None)
     number q =
-        let m : 1 + length h ≡ n = omega (arith, is) in
+        let m : 1 + length h ≡ e.number = omega (arith, is) in
         ap (λ u. option_or (with_key q h) (cond (bytes_eq u q) (Some (1 + length h)) None)) same ∙ ap (λ u. option_or (with_key q h) (cond (bytes_eq key q) (Some u) None)) m
 
 -- the index of one post
-pub index-one : (k : Kept) → IsIndex (k ∷ []) (1 ∷ [])
-unfolding AreNumbers IsSorted AreFrom first_with key_from
-index-one k = record {
-  numbers = (omega arith, omega arith, tt);
-  sorted = (tt, tt);
-  finds = λ q. refl;
-}
+pub index-one : (k : Kept) (e : HashedKey) → e.hash ≡ hash_of k.key → e.number ≡ 1 → IsIndex (k ∷ []) (e ∷ [])
+unfolding AreNumbers AreHashed IsSorted AreFrom first_with key_from
+index-one k e own first =
+    let named : key_of (k ∷ []) e.number ≡ k.key = ap (key_of (k ∷ [])) first in
+    record {
+      numbers = (omega (arith, first), omega (arith, first), tt);
+      hashed = (own ∙ ap hash_of (sym named), tt);
+      sorted = (tt, tt);
+      finds = λ q. ap (λ u. cond (bytes_eq u q) (Some e.number) None) named ∙ ap (λ n. cond (bytes_eq k.key q) (Some n) None) first;
+    }

@@ -11,12 +11,13 @@ use Rattle.card_events.specs.declared.post.Post.{Post}
 use Rattle.card_events.specs.declared.post.Post.TheVariants as post
 use Rattle.card_posts.specs.Corrections.{corrections_from, some_waits, waits}
 use Rattle.card_posts.specs.Effect.{corrected_with, slot_by, slots_from}
-use Rattle.card_posts.specs.Index.{IsIndex}
+use Rattle.card_posts.specs.Index.{IsIndex, hash_of}
 use Rattle.card_posts.specs.Order.{in_order, placed}
 use Rattle.card_posts.specs.Posted.{AreNumbered, IsReceived, opens, target_of}
 use Rattle.card_posts.specs.Stored.{AreBeside, AreTimely, IsKept, NameEarlier}
 use Rattle.card_posts.specs.declared.correction.Correction.{Correction}
 use Rattle.card_posts.specs.declared.effect.Effect.{Effect}
+use Rattle.card_posts.specs.declared.index.HashedKey.{HashedKey}
 use Rattle.card_posts.proofs.IndexLemmas.{index-one}
 use Rattle.card_posts.proofs.Noted.{by_parts}
 
@@ -119,16 +120,16 @@ beside-one : (k : Kept) (e : Effect) → opens k.post ≡ true → e.cents ≤ 9
 unfolding in_order placed slots_from
 beside-one k e o small = record { corrections = corrections-one k o; effects = refl; small = All-cons (λ (x : Effect). x.cents ≤ 999_999_999_999) e [] small (All-nil (λ (x : Effect). x.cents ≤ 999_999_999_999)); order = refl }
 
-pub record AreFirst (a : Anchor) (h : List Kept) (ns : List ℕ) (cs : List Correction) (es : List Effect) (slots : List Slot) : Type 0 where
+pub record AreFirst (a : Anchor) (h : List Kept) (ns : List HashedKey) (cs : List Correction) (es : List Effect) (slots : List Slot) : Type 0 where
   pub kept : IsKept a h
   pub index : IsIndex h ns
   pub beside : AreBeside h cs es slots
 
-pub first-lists : (a : Anchor) (k : Kept) (e : Effect) (h : List Kept) (ns : List ℕ) (cs : List Correction) (es : List Effect) (slots : List Slot)
-    → h ≡ k ∷ [] → ns ≡ 1 ∷ [] → cs ≡ by_parts None 0 ∷ [] → es ≡ e ∷ [] → slots ≡ slot_by 1 e ∷ []
+pub first-lists : (a : Anchor) (k : Kept) (e : Effect) (x : HashedKey) (h : List Kept) (ns : List HashedKey) (cs : List Correction) (es : List Effect) (slots : List Slot)
+    → h ≡ k ∷ [] → ns ≡ x ∷ [] → x.hash ≡ hash_of k.key → x.number ≡ 1 → cs ≡ by_parts None 0 ∷ [] → es ≡ e ∷ [] → slots ≡ slot_by 1 e ∷ []
     → opens k.post ≡ true → IsCloseDay (terms_in k.post).close → k.number ≡ 1 → k.accepted ≤ last_request_day → a ≡ anchor_of (k ∷ []) → e.cents ≤ 999_999_999_999 → AreFirst a h ns cs es slots
-first-lists a k e h ns cs es slots h_is ns_is cs_is es_is slots_is o close number dated is small =
-    rw (h_is, ns_is, cs_is, es_is, slots_is) (record { kept = kept-one a k o close number dated is; index = index-one k; beside = beside-one k e o small })
+first-lists a k e x h ns cs es slots h_is ns_is own first cs_is es_is slots_is o close number dated is small =
+    rw (h_is, ns_is, cs_is, es_is, slots_is) (record { kept = kept-one a k o close number dated is; index = index-one k x own first; beside = beside-one k e o small })
 
 -- the corrected list of an opening
 day-one : (a : Anchor) (holidays : List ℕ) (h : List Kept) (accepted : ℕ) (p : Post) → opens p ≡ true → opening_in p ≡ effective_day a holidays h 1 accepted p

@@ -16,6 +16,7 @@ use Rattle.card_posts.specs.declared.correction.Correction.{Correction}
 use Rattle.card_posts.specs.declared.draft.Beside.{Beside}
 use Rattle.card_posts.specs.declared.draft.Draft.{Draft}
 use Rattle.card_posts.specs.declared.effect.Effect.{Effect}
+use Rattle.card_posts.specs.declared.index.HashedKey.{HashedKey}
 use Rattle.card_posts.proofs.Following.{same-anchor}
 use Rattle.card_posts.proofs.Fronts.{beside-front, kept-front, plain-corrected, pop-front, with-front}
 use Rattle.card_posts.proofs.IndexFronts.{index-front, index-less, numbers_to}
@@ -105,14 +106,14 @@ posted-back k old new d g h es fs room n draft view long count h_is fs_is =
     parts h x c y r z p q s = rw (p, q, s) refl
 
 -- what is stored once the last post is taken back
-pub record AreBack (a : Anchor) (h : List Kept) (ns ms : List ℕ) (cs : List Correction) (es : List Effect) (slots : List Slot) (waits : Bool) : Type 0 where
+pub record AreBack (a : Anchor) (h : List Kept) (ns ms : List HashedKey) (cs : List Correction) (es : List Effect) (slots : List Slot) (waits : Bool) : Type 0 where
   pub kept : IsKept a h
   pub index : IsIndex h ms
   pub less : length ms < length ns
   pub beside : AreBeside h cs es slots
   pub waiting : waits ≡ some_waits h
 
-pub lists-back : (a : Anchor) (k : Kept) (old new : Posted) (d : Draft) (g h : List Kept) (ns ms : List ℕ) (cs ds : List Correction) (es fs : List Effect) (slots rows : List Slot) (n : ℕ)
+pub lists-back : (a : Anchor) (k : Kept) (old new : Posted) (d : Draft) (g h : List Kept) (ns ms : List HashedKey) (cs ds : List Correction) (es fs : List Effect) (slots rows : List Slot) (n : ℕ)
     → IsDraft k old new d → g ≡ new.history → IsKept a g → IsIndex g ns → AreBeside g cs es slots → n ≡ length g → h ≡ take (n - 1) g → ms ≡ numbers_to (length h) ns
     → ds ≡ corrections_before d.before cs → fs ≡ effects_before d.before es → rows ≡ slots_before d.before es → AreBack a h ns ms ds fs rows d.waits
 lists-back a k old new d g h ns ms cs ds es fs slots rows n draft same kept index b count h_is ms_is ds_is fs_is rows_is =

@@ -1,11 +1,19 @@
--- An index of posts by their keys: the numbers of the posts, in the order of the keys.
-use Rattle.std.specs.Prelude.{◌≡◌, ℕ, ◌<◌, ◌≤◌, Bool, true, false, if◌then◌else◌, List, [], ◌∷◌, length, slice_index_or, Option, Some, None}
-use Rattle.std.specs.Cmp.Lexicographic.{slice_cmp}
-use Rattle.std.specs.Ordering.{is_le, is_lt, nat_cmp}
+-- An index of posts by their keys: a hash of each key, with the number of its post, in ascending order of the hashes.
+use Rattle.std.specs.Prelude.{◌≡◌, ℕ, ◌+◌, ◌*◌, ◌%◌, ◌<◌, ◌≤◌, if◌then◌else◌, List, [], ◌∷◌, length, slice_index_or, Option, Some, None}
+use Rattle.std.specs.List.{fold}
 use Rattle.std.specs.Str.{bytes_eq}
 use Rattle.card_events.specs.History.{at_number}
 use Rattle.card_events.specs.Keys.{with_key}
 use Rattle.card_events.specs.declared.kept.Kept.{Kept}
+use Rattle.card_posts.specs.declared.index.HashedKey.{HashedKey}
+
+-- a hash with one more byte: the bytes are digits to the base 31, and what lies above 32 bits is left out
+abbrev pub hash_step : ℕ → ℕ → ℕ
+hash_step hash byte = (hash * 31 + byte) % 4_294_967_296
+
+-- the hash of a key
+unfoldable pub hash_of : List ℕ → ℕ
+hash_of key = fold hash_step 0 key
 
 -- the key of a post, which is there or not
 abbrev pub key_in : Option Kept → List ℕ
@@ -16,48 +24,46 @@ key_in (Some k) = k.key
 abbrev pub key_of : List Kept → ℕ → List ℕ
 key_of history number = key_in (at_number number history)
 
--- a key comes before another one, byte by byte
-abbrev pub is_before : List ℕ → List ℕ → Bool
-is_before key other = is_lt (slice_cmp nat_cmp key other)
+-- each has the hash of its post's key
+unfoldable pub AreHashed : List Kept → List HashedKey → Type 0
+AreHashed history [] = Unit {0}
+AreHashed history (e ∷ es) = (e.hash ≡ hash_of (key_of history e.number)) × AreHashed history es
 
--- it comes before the other, or is the same
-abbrev pub is_up_to : List ℕ → List ℕ → Bool
-is_up_to key other = is_le (slice_cmp nat_cmp key other)
+-- each has this hash or a greater one
+unfoldable pub AreFrom : ℕ → List HashedKey → Type 0
+AreFrom hash [] = Unit {0}
+AreFrom hash (e ∷ es) = (hash ≤ e.hash) × AreFrom hash es
 
--- each of the numbers has this key or one behind it
-unfoldable pub AreFrom : List Kept → List ℕ → List ℕ → Type 0
-AreFrom history key [] = Unit {0}
-AreFrom history key (n ∷ ns) = (is_up_to key (key_of history n) ≡ true) × AreFrom history key ns
+-- the hashes ascend
+unfoldable pub IsSorted : List HashedKey → Type 0
+IsSorted [] = Unit {0}
+IsSorted (e ∷ es) = AreFrom e.hash es × IsSorted es
 
--- the keys ascend
-unfoldable pub IsSorted : List Kept → List ℕ → Type 0
-IsSorted history [] = Unit {0}
-IsSorted history (n ∷ ns) = AreFrom history (key_of history n) ns × IsSorted history ns
-
--- up to this place the keys come before this one, and from there on they don't
-pub record IsStart (history : List Kept) (index : List ℕ) (key : List ℕ) (place : ℕ) : Type 0 where
-  pub front : (i d : ℕ) → i < place → i < length index → is_before (key_of history (slice_index_or index i d)) key ≡ true
-  pub back : (i d : ℕ) → place ≤ i → i < length index → is_before (key_of history (slice_index_or index i d)) key ≡ false
+-- up to this place the hashes are smaller than this one, and from there on they aren't
+pub record IsStart (index : List HashedKey) (hash : ℕ) (place : ℕ) : Type 0 where
+  pub front : (i : ℕ) (d : HashedKey) → i < place → i < length index → (slice_index_or index i d).hash < hash
+  pub back : (i : ℕ) (d : HashedKey) → place ≤ i → i < length index → hash ≤ (slice_index_or index i d).hash
   pub within : place ≤ length index
 
--- up to this place the keys come before this one or are the same, and from there on they don't
-pub record IsEnd (history : List Kept) (index : List ℕ) (key : List ℕ) (place : ℕ) : Type 0 where
-  pub front : (i d : ℕ) → i < place → i < length index → is_up_to (key_of history (slice_index_or index i d)) key ≡ true
-  pub back : (i d : ℕ) → place ≤ i → i < length index → is_up_to (key_of history (slice_index_or index i d)) key ≡ false
+-- up to this place the hashes are at most this one, and from there on they aren't
+pub record IsEnd (index : List HashedKey) (hash : ℕ) (place : ℕ) : Type 0 where
+  pub front : (i : ℕ) (d : HashedKey) → i < place → i < length index → (slice_index_or index i d).hash ≤ hash
+  pub back : (i : ℕ) (d : HashedKey) → place ≤ i → i < length index → hash < (slice_index_or index i d).hash
   pub within : place ≤ length index
 
 -- the first number whose post has a key
-unfoldable pub first_with : List Kept → List ℕ → List ℕ → Option ℕ
+unfoldable pub first_with : List Kept → List ℕ → List HashedKey → Option ℕ
 first_with history key [] = None
-first_with history key (n ∷ ns) = let later = first_with history key ns in if bytes_eq (key_of history n) key then Some n else later
+first_with history key (e ∷ es) = let later = first_with history key es in if bytes_eq (key_of history e.number) key then Some e.number else later
 
 -- the numbers are those of posts
-unfoldable pub AreNumbers : ℕ → List ℕ → Type 0
+unfoldable pub AreNumbers : ℕ → List HashedKey → Type 0
 AreNumbers count [] = Unit {0}
-AreNumbers count (n ∷ ns) = (1 ≤ n) × (n ≤ count) × AreNumbers count ns
+AreNumbers count (e ∷ es) = (1 ≤ e.number) × (e.number ≤ count) × AreNumbers count es
 
 -- an index finds what the history says of each key
-pub record IsIndex (history : List Kept) (index : List ℕ) : Type 0 where
+pub record IsIndex (history : List Kept) (index : List HashedKey) : Type 0 where
   pub numbers : AreNumbers (length history) index
-  pub sorted : IsSorted history index
+  pub hashed : AreHashed history index
+  pub sorted : IsSorted index
   pub finds : (key : List ℕ) → first_with history key index ≡ with_key key history

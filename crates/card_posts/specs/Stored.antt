@@ -15,6 +15,7 @@ use Rattle.card_posts.specs.Order.{in_order}
 use Rattle.card_posts.specs.Posted.{AreNumbered, IsReceived, target_of}
 use Rattle.card_posts.specs.declared.correction.Correction.{Correction}
 use Rattle.card_posts.specs.declared.effect.Effect.{Effect}
+use Rattle.card_posts.specs.declared.index.HashedKey.{HashedKey}
 
 -- each of these posts, the first of which is post n, is about an earlier one
 unfoldable pub NameEarlier : ℕ → List Kept → Type 0
@@ -53,7 +54,7 @@ pub record AreBeside (history : List Kept) (later : List Correction) (now : List
   pub order : slots ≡ in_order (slots_from 1 now)
 
 -- there is room for one more in each
-pub record HaveRoom (history : Vec Kept) (index : Vec ℕ) (later : Vec Correction) (now : Vec Effect) (slots : Vec Slot) : Type 0 where
+pub record HaveRoom (history : Vec Kept) (index : Vec HashedKey) (later : Vec Correction) (now : Vec Effect) (slots : Vec Slot) : Type 0 where
   pub history_room : vec_len history < vec_capacity history
   pub index_room : vec_len index < vec_capacity index
   pub correction_room : vec_len later < vec_capacity later
@@ -62,6 +63,6 @@ pub record HaveRoom (history : Vec Kept) (index : Vec ℕ) (later : Vec Correcti
 
 -- what always holds of it: an account may have the history, the rest is kept beside it, where there is said to be room, there
 -- is, and it is known whether some post waits
-abbrev pub AreStored : Anchor → Vec Kept → Vec ℕ → Vec Correction → Vec Effect → Vec Slot → Bool → Bool → Type 0
+abbrev pub AreStored : Anchor → Vec Kept → Vec HashedKey → Vec Correction → Vec Effect → Vec Slot → Bool → Bool → Type 0
 AreStored a history index later now slots waits has_room =
     IsKept a history.items × IsIndex history.items index.items × AreBeside history.items later.items now.items slots.items × (has_room ≡ true → HaveRoom history index later now slots) × (waits ≡ some_waits history.items)

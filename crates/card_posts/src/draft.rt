@@ -8,6 +8,7 @@ ghost use Rattle.card_posts.specs.Order.{in_order};
 
 use crate::correction::Correction;
 use crate::effect::Effect;
+use crate::index::HashedKey;
 use crate::order::take_out;
 use crate::refresh::is_correction;
 use card_days::Day;
@@ -133,10 +134,10 @@ pub fn put_back(
     }
 }
 
-// Takes the numbers above a count out of an index.
-pub fn keep_first(index: &mut Vec<u32>, count: u32)
-    ensures items { index.new.items ≡ filter (λ number. nat_le number count) index.old.items }
+// Takes the keys of posts with numbers above a count out of an index.
+pub fn keep_first(index: &mut Vec<HashedKey>, count: u32)
+    ensures items { index.new.items ≡ filter (λ entry. nat_le entry.number count) index.old.items }
     ensures capacity { vec_capacity index.new ≡ vec_capacity index.old }
 {
-    index.retain(|number| *number <= count);
+    index.retain(|entry| entry.number <= count);
 }

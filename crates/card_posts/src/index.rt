@@ -1,12 +1,23 @@
-// The numbers of an account's posts, ordered by their keys.
-ghost use Rattle.std.specs.Prelude.{◌≡◌, ◌+◌, ◌<◌, ◌≤◌, ◌++◌, [], ◌∷◌, length, slice_get, vec_len, vec_capacity};
+// The numbers of an account's posts, by the hashes of their keys. A search reads this list alone, and the history only where the
+// hash is met.
+ghost use Rattle.std.specs.Prelude.{◌≡◌, ◌+◌, ◌<◌, ◌≤◌, ◌++◌, [], ◌∷◌, length, vec_len, vec_capacity};
 ghost use Rattle.card_events.specs.Limits.{post_limit};
 ghost use Rattle.card_events.specs.Keys.{with_key};
 ghost use Rattle.card_events.specs.declared.kept.Kept.{Kept};
-ghost use Rattle.card_posts.specs.Index.{IsEnd, IsIndex, IsSorted, IsStart, is_before, is_up_to, key_of};
+ghost use Rattle.card_posts.specs.Index.{AreFrom, AreHashed, IsEnd, IsIndex, IsSorted, IsStart, first_with, hash_of, key_of};
 
 use crate::correction::numbered;
 use card_events::{Kept, Name};
+
+// How many hashes there are: those of 32 bits.
+const HASHES: u64 = 4_294_967_296;
+
+// The hash of the key of a post, and the post's number.
+#[derive(Clone, Copy, Debug, PartialEq, Eq)]
+pub struct HashedKey {
+    pub hash: u32,
+    pub number: u32,
+}
 
 // the key of the post with a number
 fn key_of(history: &[Kept], number: u32) -> &[u8]
@@ -18,63 +29,82 @@ fn key_of(history: &[Kept], number: u32) -> &[u8]
     }
 }
 
-// whether the post with a number has a key before this one, byte by byte
-fn is_before(history: &[Kept], number: u32, key: &[u8]) -> bool
-    ensures { result ≡ is_before (key_of history.now number) key.now }
+// the hash of a key
+#[tactic(auto, unfolding(crate::specs::Index::hash_of))]
+fn hash_of(key: &[u8]) -> u32
+    ensures { result ≡ hash_of key.now }
 {
-    key_of(history, number).cmp(key).is_lt()
+    let mut hash: u64 = 0;
+    for byte in key {
+        hash = (hash * 31 + *byte as u64) % HASHES;
+    }
+    hash as u32
 }
 
-// whether it has a key before this one, or this one
-fn is_up_to(history: &[Kept], number: u32, key: &[u8]) -> bool
-    ensures { result ≡ is_up_to (key_of history.now number) key.now }
+// A key with the number of its post.
+pub fn hashed_key(key: &[u8], number: u32) -> HashedKey
+    ensures { result ≡ record { hash = hash_of key.now; number = number } }
 {
-    key_of(history, number).cmp(key).is_le()
+    HashedKey {
+        hash: hash_of(key),
+        number,
+    }
 }
 
-// where the numbers begin whose posts have this key or one behind it
-fn start_of(history: &[Kept], index: &[u32], key: &[u8]) -> usize
-    requires { IsSorted history.now index.now }
-    ensures { IsStart history.now index.now key.now result }
+// where the entries begin that have this hash or a greater one
+fn start_of(index: &[HashedKey], hash: u32) -> usize
+    requires { IsSorted index.now }
+    ensures { IsStart index.now hash result }
 {
-    index.partition_point(|number| is_before(history, *number, key))
+    index.partition_point(|entry| entry.hash < hash)
 }
 
-// where the numbers begin whose posts have a key behind this one
-fn end_of(history: &[Kept], index: &[u32], key: &[u8]) -> usize
-    requires { IsSorted history.now index.now }
-    ensures { IsEnd history.now index.now key.now result }
+// where the entries begin that have a greater hash
+fn end_of(index: &[HashedKey], hash: u32) -> usize
+    requires { IsSorted index.now }
+    ensures { IsEnd index.now hash result }
 {
-    index.partition_point(|number| is_up_to(history, *number, key))
+    index.partition_point(|entry| entry.hash <= hash)
 }
 
-// the number at a place
-fn number_at(index: &[u32], place: usize) -> Option<u32>
-    ensures { result ≡ slice_get index.now place }
+// the first number among these whose post has a key, where none of them has a smaller hash than the key
+fn find_among(history: &[Kept], entries: &[HashedKey], key: &[u8], hash: u32) -> Option<u32>
+    requires hash { hash ≡ hash_of key.now }
+    requires hashed { AreHashed history.now entries.now }
+    requires sorted { IsSorted entries.now }
+    requires from { AreFrom hash entries.now }
+    ensures { result ≡ first_with history.now key.now entries.now }
 {
-    index.get(place).copied()
+    for entry in entries {
+        if entry.hash != hash {
+            return None;
+        }
+        if key_of(history, entry.number) == key {
+            return Some(entry.number);
+        }
+    }
+    None
 }
 
 // The number of the post with a key.
-pub fn find(history: &[Kept], index: &[u32], key: &Name) -> Option<u32>
+pub fn find(history: &[Kept], index: &[HashedKey], key: &Name) -> Option<u32>
     requires { IsIndex history.now index.now }
     ensures { result ≡ with_key key.now history.now }
 {
     let key = key.bytes();
-    let at = start_of(history, index, key);
-    match number_at(index, at) {
-        Some(number) if key_of(history, number) == key => Some(number),
-        _ => None,
-    }
+    let hash = hash_of(key);
+    let at = start_of(index, hash);
+    find_among(history, &index[at..], key, hash)
 }
 
 // Puts the number of a new post into its place, with room for it.
-pub fn enter_key(history: &[Kept], index: &mut Vec<u32>, key: &Name)
+pub fn enter_key(history: &[Kept], index: &mut Vec<HashedKey>, key: &Name)
     requires few { length history.now < post_limit }
     requires index { IsIndex history.now index.old.items }
     requires room { vec_len index.old < vec_capacity index.old }
     ensures { (k : Kept) → k.key ≡ key.now → IsIndex (history.now ++ k ∷ []) index.new.items }
 {
-    let at = end_of(history, index, key.bytes());
-    let _ = index.insert(at, history.len() as u32 + 1);
+    let entry = hashed_key(key.bytes(), history.len() as u32 + 1);
+    let at = end_of(index, entry.hash);
+    let _ = index.insert(at, entry);
 }

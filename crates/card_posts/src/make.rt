@@ -6,6 +6,7 @@ ghost use Rattle.card_posts.specs.Posted.{opens};
 
 use crate::correction::Correction;
 use crate::effect::Effect;
+use crate::index::HashedKey;
 use card_days::Anchor;
 use card_events::{Kept, Post, Slot};
 use card_units::NoMemory;
@@ -26,12 +27,12 @@ pub fn opening(post: &Post) -> Anchor
     }
 }
 
-// A list of one number.
-pub fn one(alloc: Global, number: u32) -> Result<Vec<u32>, NoMemory>
-    ensures { IfOk result (λ v. v.items ≡ number ∷ []) }
+// A list of one key.
+pub fn one_key(alloc: Global, key: HashedKey) -> Result<Vec<HashedKey>, NoMemory>
+    ensures { IfOk result (λ v. v.items ≡ key ∷ []) }
 {
     let mut list = Vec::new(alloc);
-    list.push(number)?;
+    list.push(key)?;
     Ok(list)
 }
 

@@ -3,8 +3,8 @@ use crate::draft::{Draft, beside_if_corrected, keep_first, put_back};
 use crate::effect::{Effect, no_cents};
 use crate::enter::enter;
 use crate::foretold::first_with;
-use crate::index::{enter_key, find};
-use crate::make::{copy_history, one, one_correction, one_effect, one_kept, one_slot, opening};
+use crate::index::{HashedKey, enter_key, find, hashed_key};
+use crate::make::{copy_history, one_correction, one_effect, one_kept, one_key, one_slot, opening};
 use crate::order::{slot, slot_with};
 use crate::refresh::{is_correction, waits_with};
 use card_days::{Anchor, Calendar, Day};
@@ -18,7 +18,7 @@ use std::marker::Model;
 #[derive(Drop)]
 pub struct Posts {
     history: Vec<Kept>,
-    index: Vec<u32>,
+    index: Vec<HashedKey>,
     corrections: Vec<Correction>,
     effects: Vec<Effect>,
     order: Vec<Slot>,
@@ -82,7 +82,7 @@ impl Posts {
             cents: no_cents(),
         };
         Ok(Posts {
-            index: one(alloc, 1)?,
+            index: one_key(alloc, hashed_key(key.bytes(), 1))?,
             corrections: one_correction(alloc)?,
             order: one_slot(alloc, slot(1, &effect))?,
             effects: one_effect(alloc, effect)?,

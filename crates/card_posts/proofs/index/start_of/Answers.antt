@@ -1,14 +1,14 @@
-use Rattle.std.proofs.Common.{rules, arith}
+use Rattle.std.proofs.Common.{nat_lt, rules, arith}
 use Rattle.std.proofs.lemmas.List.Sorted.{IsPartitionPoint-from_clause}
-use Rattle.card_posts.specs.Index.{is_before, key_of}
-use Rattle.card_posts.proofs.IndexLemmas.{parted, up_to-before}
+use Rattle.card_posts.specs.declared.index.HashedKey.{HashedKey}
+use Rattle.card_posts.proofs.IndexLemmas.{is-less, less-down, not-less, parted}
 use Rattle.card_posts.proofs.index.start_of.Goals as goal
 
 pub returns : goal.returns
 returns c =
-    let point = IsPartitionPoint-from_clause (λ n. is_before (key_of c.args.history.now n) c.args.key.now) _ _ c.partition_point.ensures.partitioned (parted c.args.history.now (λ u. is_before u c.args.key.now) (λ x y e f. up_to-before x y c.args.key.now e f) c.args.index.now c.requires) (λ a r q k. search rules) in
+    let point = IsPartitionPoint-from_clause (λ (e : HashedKey). nat_lt e.hash c.args.hash) _ _ c.partition_point.ensures.partitioned (parted (λ x. nat_lt x c.args.hash) (less-down c.args.hash) c.args.index.now c.requires) (λ a r q k. search rules) in
     record {
-      front = λ i d l m. point.0 i d (omega arith) l;
-      back = λ i d l m. point.1 i d l m;
+      front = λ i d l m. is-less _ _ (point.0 i d (omega arith) l);
+      back = λ i d l m. not-less _ _ (point.1 i d l m);
       within = c.partition_point.ensures.bound;
     }
