@@ -1,6 +1,6 @@
 -- Where an account is taken back after a post: the Book at the closing before the change, with the front of the past.
-use Rattle.std.proofs.Common.{◌≡◌, ℕ, ◌+◌, ◌-◌, ◌<◌, ◌≤◌, ◌⊎◌, inl, inr, false, true, nat_le, List, [], ◌∷◌, length, take, refl, sym, ap, ◌∙◌, subst, arith, Option, Some, get_or}
-use Rattle.std.specs.Prelude.{slice_get}
+use Rattle.std.proofs.Common.{◌≡◌, ℕ, ◌+◌, ◌-◌, ◌<◌, ◌≤◌, ◌⊎◌, inl, inr, false, true, nat_le, List, [], ◌∷◌, length, take, refl, sym, ap, ◌∙◌, subst, arith, Option, Some, None, Result, Ok, Err, get_or}
+use Rattle.std.specs.Prelude.{IfOk, IfSome, slice_get}
 use Rattle.std.specs.List.{filter}
 use Rattle.std.proofs.lemmas.Option.{slice_get_read}
 use Rattle.card_days.specs.Billing.{closing, cycle_of}
@@ -34,7 +34,7 @@ use Rattle.card_replay.proofs.MarksFront.{among-front, marks-front}
 use Rattle.card_replay.proofs.NextClosing.{closing-dated, closing-none}
 use Rattle.card_replay.specs.Pasts.{AreWithin, IsFront}
 use Rattle.card_replay.proofs.Unread.{eve-on}
-use Rattle.card_replay.specs.Refolds.{AreEndsOf, IsAgain, IsAtOpening, IsBeforeChange, MayBegin, cycle_before}
+use Rattle.card_replay.specs.Refolds.{AreEndsOf, IsAgain, IsAtClosing, IsAtOpening, IsBeforeChange, MayBegin, MayGoBack, MayGoBackOn, cycle_before}
 use Rattle.card_replay.specs.Replays.{BeginsAgain, HasMarks, IsEve}
 use Rattle.card_replay.specs.Steps.{first_in_cycle}
 use Rattle.card_replay.specs.declared.change.Recorded.TheVariants as recorded
@@ -354,3 +354,41 @@ module _ {old g : Given} {p : Post} {from reached : ℕ} {b : Summary} {past : P
       by (inr (c, at)) =
           let back = subst (λ xs. GoesBack k b past.track since xs earlier) same goes in
           (c, subst (λ n. IsEarlier old n b past c earlier) number (earlier-is k c since earlier at there back (dated c at) whole))
+
+-- ---- an account before whichever change
+-- taken back to the closing of a cycle
+pub at-closing : (b : Summary) (past : Past) (e : Ends) (day : ℕ) (earlier : Summary) {k : ℕ} {since : Option ℕ} {kept : List Accruing}
+    → ((g : Given) (from : ℕ) → k ≡ cycle_before g from → AreEndsOf g from past e) → 1 ≤ k
+    → since ≡ get_or past.since.items (k - 1) since → kept ≡ past.accrued.items → GoesBack k b past.track since kept earlier
+    → ((c : Cycle) → cycle_at k past.track.cycles.items ≡ Some c → earlier.day ≡ Some c.closing) → earlier.whole ≡ true
+    → ((c : Cycle) → cycle_at k past.track.cycles.items ≡ Some c → day ≡ c.closing)
+    → IsAtClosing k b past (record { book = earlier; reached = day; recorded = recorded.Front e })
+at-closing b past e day earlier ends some read same goes dated whole closed = record {
+  plain = λ g p from reached may plain.
+      let h = may.change.before in
+      let found = earlier-found h earlier may.number some read same goes dated whole in
+      closing-again h day earlier e may.number some (plain-begins h e found.0 earlier (ends g from may.number) found.1 plain) dated closed;
+  rates = λ g p from reached may.
+      let h = may.change.before in
+      let found = earlier-found h earlier may.number some read same goes dated whole in
+      record {
+        awaits = awaits-posts h found.0 earlier found.1;
+        again = λ r has. closing-again h day r e may.number some (renewed-begins h e found.0 earlier r (ends g from may.number) found.1 has.whole has.stands) (λ c at. has.day ∙ dated c at) closed;
+      };
+}
+
+-- taken back to the eve
+pub eve-back : (p : Post) (from k : ℕ) (b : Summary) (past : Past) (e : Eve) (copy : Summary) → MayBegin past p from k e → copy.day ≡ e.book.day → copy.whole ≡ e.book.whole
+    → ((g : Given) (t : Track) → StandsFor g e.book t → StandsFor g copy t) → (g : Given) (reached : ℕ) → MayGoBackOn g p from k reached b past (Some e)
+    → IsAgain g from reached past (record { book = copy; reached = e.day; recorded = recorded.Front e.ends })
+eve-back p from k b past e copy begin dated whole stands g reached may =
+    eve-again may.change.before e (subst (λ n. MayBegin past p from n e) may.number begin) may.change.stood copy dated whole (stands g)
+
+-- to a closing, whether there is an eve or not
+pub closing-back : {E : Type 0} (p : Post) (from k : ℕ) (b : Summary) (past : Past) (eve : Option Eve) (result : Result (Option Refolded) E)
+    → IfOk result (λ made. IfSome made (λ r. (g : Given) (f reached : ℕ) → MayGoBack g p f k reached b past → IsAgain g f reached past r))
+    → IfOk result (λ made. IfSome made (λ r. (g : Given) (reached : ℕ) → MayGoBackOn g p from k reached b past eve → IsAgain g from reached past r))
+closing-back p from k b past eve (Ok None) h = tt
+closing-back p from k b past eve (Ok (Some r)) h = λ g reached may.
+    h g from reached (record { change = record { old = may.change.old; before = may.change.before }; number = may.number })
+closing-back p from k b past eve (Err e) h = tt

@@ -1,7 +1,8 @@
 -- Going back behind a post that is entered for a while.
 use Rattle.std.proofs.Common.{◌≡◌, ℕ, ◌+◌, ◌<◌, ◌≤◌, ◌⊎◌, inl, inr, Bool, true, false, cond, nat_le, List, [], ◌∷◌, ◌++◌, length, refl, sym, ap, ◌∙◌, subst, arith, Option, Some, None, Result, Ok, Err}
-use Rattle.std.specs.Prelude.{◌==◌, IfOk, IfSome}
+use Rattle.std.specs.Prelude.{◌-◌, ◌==◌, IfOk, IfSome}
 use Rattle.std.proofs.lemmas.Bool.{cases_lt, eqb-true, leb-false}
+use Rattle.card_days.specs.Billing.{cycle_of}
 use Rattle.card_days.specs.declared.anchor.Anchor.{Anchor}
 use Rattle.card_events.specs.History.{CorrectedPost, anchor_of, corrected}
 use Rattle.card_events.specs.SharedRows.{SharedRows}
@@ -15,13 +16,16 @@ use Rattle.card_posts.specs.Change.{IsFirstChange, on, up_to}
 use Rattle.card_posts.specs.Draft.{IsDraft}
 use Rattle.card_posts.specs.Posted.{Posted, StandsFor}
 use Rattle.card_posts.specs.declared.draft.Draft.{Draft}
-use Rattle.card_daily.specs.Given.{IsSound}
-use Rattle.card_replay.proofs.Changed.{anchor-stays}
+use Rattle.card_daily.specs.Given.{Given, IsSound}
+use Rattle.card_book.specs.Rewound.{AreFolded}
+use Rattle.card_replay.proofs.Again.{closed-at, folded-before, number-is}
+use Rattle.card_replay.proofs.Changed.{anchor-stays, same-anchor}
 use Rattle.card_replay.proofs.Committing.{again-refolded, given_with, late-refolded, with-post, with_post}
 use Rattle.card_replay.proofs.LateChange.{late-stands}
-use Rattle.card_replay.specs.Changes.{IsReadyFor, IsRefoldedBy}
-use Rattle.card_replay.specs.Refolds.{IsAgain, IsOneMore, MayRefoldOn}
-use Rattle.card_replay.specs.Replays.{IsReplay, Replay, given_of, present_of}
+use Rattle.card_replay.proofs.LaterRows.{some-posts}
+use Rattle.card_replay.specs.Changes.{IsReadyFor, IsRefoldedBy, MayPrepare}
+use Rattle.card_replay.specs.Refolds.{IsAgain, IsFirstWith, IsOneMore, MayGoBackOn, MayRefoldOn, cycle_before}
+use Rattle.card_replay.specs.Replays.{IsReplay, Replay, given_of, posted_of, present_of}
 use Rattle.card_replay.specs.Steps.{IsFirstBetween, first_in_cycle}
 use Rattle.card_replay.specs.declared.change.Refolded.{Refolded}
 
@@ -71,6 +75,50 @@ may-refold shared today key p r from h more l =
       stood = folding.eve;
     }
 
+-- ---- the account with a post whose first changed day is told
+pub more-told : (shared : SharedRows) (today : ℕ) (key : List ℕ) (p : Post) (r : Replay) (from : ℕ) → MayPrepare shared today key p r → IsFirstWith shared.holidays today p (posted_of r) from
+    → IsOneMore (given_of r.lists shared) (with_post r.lists key today p shared) p from
+more-told shared today key p r from h first =
+    let posts = r.lists.posts in
+    let k = kept_as (length posts + 1) key today p in
+    let same = same-anchor posts k (some-posts posts h.replay.sound.opening) in
+    record {
+      kept = k;
+      post = refl;
+      history = refl;
+      issued = refl;
+      shared = refl;
+      sound_before = h.replay.sound;
+      sound = subst IsSound (with-post shared today key p r.lists h.read) h.sound;
+      first = subst (λ (a : Anchor). IsFirstChange from (corrected (anchor_of posts) shared.holidays posts) (corrected a shared.holidays (posts ++ k ∷ []))) (sym same)
+          (subst (λ cs. IsFirstChange from cs (corrected (anchor_of posts) shared.holidays (posts ++ k ∷ []))) h.replay.corrected (first key));
+    }
+
+-- before it, where it isn't after the day reached, and behind which closing it lies
+pub record IsTold (shared : SharedRows) (today : ℕ) (key : List ℕ) (p : Post) (r : Replay) (from cycle : ℕ) : Type 0 where
+  pub more : IsOneMore (given_of r.lists shared) (with_post r.lists key today p shared) p from
+  pub change : MayRefoldOn (with_post r.lists key today p shared) p from r.folding.reached r.folding.book r.folding.past r.folding.eve
+  pub number : cycle ≡ cycle_before (with_post r.lists key today p shared) from
+  pub folded : AreFolded r.folding.book r.folding.past.track
+  pub closed : cycle ≤ length r.folding.past.track.cycles.items
+  pub marked : length r.folding.past.since.items ≡ length r.folding.past.track.cycles.items
+
+pub told : (shared : SharedRows) (today : ℕ) (key : List ℕ) (p : Post) (r : Replay) (from : ℕ) {cycle : ℕ} {a : Anchor} → MayPrepare shared today key p r → IsFirstWith shared.holidays today p (posted_of r) from
+    → from ≤ r.folding.reached → cycle ≡ cycle_of a from - 1 → a ≡ anchor_of r.lists.posts → IsTold shared today key p r from cycle
+told shared today key p r from h first l number anchor =
+    let g = with_post r.lists key today p shared in
+    let more = more-told shared today key p r from h first in
+    let change = may-refold shared today key p r from h.replay more l in
+    let same = number-is g from number (anchor ∙ sym (anchor-stays (given_of r.lists shared) g p from more)) in
+    record {
+      more = more;
+      change = change;
+      number = same;
+      folded = folded-before change.before;
+      closed = closed-at change.before same;
+      marked = change.before.folding.marks.count;
+    }
+
 -- ---- the first changed day
 -- the posts of a day are among those up to it
 on-up-to : (day : ℕ) (xs : List CorrectedPost) → on day (up_to day xs) ≡ on day xs
@@ -118,3 +166,16 @@ pub result-refolded : {E : Type 0} (shared : SharedRows) (today : ℕ) (key : Li
     → IfOk result (λ made. IfSome made (IsAgain (with_post r.lists key today p shared) from r.folding.reached r.folding.past)) → IfOk result (λ made. IsRefoldedBy shared today key p made r)
 result-refolded shared today key p r from (Ok made) u none h ready more late again = made-refolded shared today key p r from made u none h ready more late again
 result-refolded shared today key p r from (Err e) u none h ready more late again = tt
+
+-- what it is taken back to with no fold
+pub back-refolded : (shared : SharedRows) (today : ℕ) (key : List ℕ) (p : Post) (r : Replay) (from cycle : ℕ) (x : Refolded) → MayPrepare shared today key p r → IsTold shared today key p r from cycle
+    → ((g : Given) (reached : ℕ) → MayGoBackOn g p from cycle reached r.folding.book r.folding.past r.folding.eve → IsAgain g from reached r.folding.past x) → IsRefoldedBy shared today key p (Some x) r
+back-refolded shared today key p r from cycle x h is again =
+    made-refolded shared today key p r from (Some x) h.read h.no_reason h.replay h.ready is.more (λ e. let no : Some x ≡ None = e in absurd (cc))
+    (again (with_post r.lists key today p shared) r.folding.reached (record { change = is.change; number = is.number }))
+
+-- where it changes only later days
+pub later-refolded : (shared : SharedRows) (today : ℕ) (key : List ℕ) (p : Post) (r : Replay) (from : ℕ) → MayPrepare shared today key p r → IsFirstWith shared.holidays today p (posted_of r) from
+    → r.folding.reached < from → IsRefoldedBy shared today key p None r
+later-refolded shared today key p r from h first l =
+    made-refolded shared today key p r from None h.read h.no_reason h.replay h.ready (more-told shared today key p r from h first) (λ e. l) tt

@@ -1,7 +1,8 @@
 -- A post that was prepared for an account, and what taking it makes of the account. Days are day numbers.
-use Rattle.std.specs.Prelude.{◌≡◌, ℕ, ◌+◌, ◌<◌, ◌≤◌, true, List, [], ◌∷◌, ◌++◌, length, Option, Some, None}
+use Rattle.std.specs.Prelude.{◌≡◌, ℕ, ◌+◌, ◌<◌, ◌≤◌, true, false, List, [], ◌∷◌, ◌++◌, length, Option, Some, None}
 use Rattle.card_days.specs.Range.{last_request_day}
 use Rattle.card_events.specs.History.{anchor_of, corrected}
+use Rattle.card_events.specs.Keys.{with_key}
 use Rattle.card_events.specs.Limits.{post_limit}
 use Rattle.card_events.specs.SharedRows.{SharedRows}
 use Rattle.card_events.specs.declared.post.Post.{Post}
@@ -9,9 +10,10 @@ use Rattle.card_events.specs.declared.post.Post.TheVariants as post
 use Rattle.card_model.specs.Cycles.{Cycle, IssuedRow, Sheet}
 use Rattle.card_model.specs.Folds.{cycle_at, row_of_cycle}
 use Rattle.card_model.specs.Machine.{accepted, issues, kept_as}
-use Rattle.card_model.specs.Refusals.{Lists}
+use Rattle.card_model.specs.Refusals.{Lists, reason_against}
 use Rattle.card_model.specs.Sheets.{sheet_of}
-use Rattle.card_daily.specs.Given.{Given}
+use Rattle.card_model.specs.Unread.{is_unread}
+use Rattle.card_daily.specs.Given.{Given, IsSound}
 use Rattle.card_posts.specs.Posted.{IsReceived, target_of}
 use Rattle.card_replay.specs.Needs.{needs_today}
 use Rattle.card_replay.specs.Pasts.{IsRecorded}
@@ -82,6 +84,18 @@ pub record MayBeAdded (c : Change) (r : Replay) : Type 0 where
 -- it has reached today, where the post asks for that
 abbrev pub IsReadyFor : ℕ → Post → Replay → Type 0
 IsReadyFor today p r = needs_today p ≡ true → r.folding.reached ≡ today
+
+-- What is asked of an account for which a post is prepared that a fold reads: there is room for it, today is reached where the post asks
+-- for that, no reason is against it, its key is new, and the account may be folded with it
+pub record MayPrepare (shared : SharedRows) (today : ℕ) (key : List ℕ) (p : Post) (r : Replay) : Type 0 where
+  pub replay : IsReplay shared r
+  pub reach : MayReach today r
+  pub ready : IsReadyFor today p r
+  pub room : r.has_room ≡ true
+  pub fresh : with_key key r.lists.posts ≡ None
+  pub no_reason : reason_against (present_of today shared r.lists) p ≡ None
+  pub sound : IsSound (given_of (accepted (present_of today shared r.lists) key p) shared)
+  pub read : is_unread p ≡ false
 
 -- The post was prepared for this account: the row is the one that the post issues, and whatever the account becomes by taking the
 -- post, it stands, and may be brought to today, from a day that isn't before the last closing before the change

@@ -1,5 +1,5 @@
 -- Going back to a closing, or to the eve, after one more post. Days are day numbers.
-use Rattle.std.specs.Prelude.{◌≡◌, ℕ, ◌+◌, ◌-◌, ◌<◌, ◌≤◌, false, [], ◌∷◌, ◌++◌, length, nat_le, Option, Some, None, IfSome}
+use Rattle.std.specs.Prelude.{◌≡◌, ℕ, ◌+◌, ◌-◌, ◌<◌, ◌≤◌, true, false, List, [], ◌∷◌, ◌++◌, length, nat_le, Option, Some, None, IfSome}
 use Rattle.std.specs.List.{filter}
 use Rattle.card_days.specs.Billing.{cycle_of}
 use Rattle.card_days.specs.Range.{last_request_day}
@@ -9,8 +9,11 @@ use Rattle.card_events.specs.declared.post.Post.{Post}
 use Rattle.card_model.specs.Cycles.{Cycle}
 use Rattle.card_model.specs.Folds.{cycle_at}
 use Rattle.card_posts.specs.Change.{IsFirstChange}
-use Rattle.card_book.specs.Stands.{Summary}
+use Rattle.card_posts.specs.Posted.{Posted}
+use Rattle.card_book.specs.Renewed.{AwaitsPosts, HasNewPosts}
+use Rattle.card_book.specs.Stands.{StandsFor, Summary}
 use Rattle.card_daily.specs.Given.{Given, IsSound, opened_in}
+use Rattle.card_daily.specs.declared.track.Track.{Track}
 use Rattle.card_book.specs.GoingOn.{sets_rates}
 use Rattle.card_replay.specs.Pasts.{IsRecorded}
 use Rattle.card_replay.specs.Replays.{IsEve, IsFolding}
@@ -66,6 +69,15 @@ pub record MayRefoldOn (g : Given) (p : Post) (from reached : ℕ) (b : Summary)
   pub before : IsBeforeChange old g p from reached b past
   pub stood : IfSome eve (IsEve old reached past)
 
+-- the same, with the number of the last closing before the change
+pub record MayGoBack (g : Given) (p : Post) (from cycle reached : ℕ) (b : Summary) (past : Past) : Type 0 where
+  pub change : MayRefold g p from reached b past
+  pub number : cycle ≡ cycle_before g from
+
+pub record MayGoBackOn (g : Given) (p : Post) (from cycle reached : ℕ) (b : Summary) (past : Past) (eve : Option Eve) : Type 0 where
+  pub change : MayRefoldOn g p from reached b past eve
+  pub number : cycle ≡ cycle_before g from
+
 -- the change sets no rate, it comes after the eve, and the cycle with this number, where there is one, was closed by then
 pub record MayBegin (past : Past) (p : Post) (from cycle : ℕ) (e : Eve) : Type 0 where
   pub plain : sets_rates p ≡ false
@@ -83,3 +95,28 @@ pub record IsAgain (g : Given) (from reached : ℕ) (past : Past) (r : Refolded)
 pub record IsAtOpening (g : Given) (r : Refolded) : Type 0 where
   pub day : r.reached ≡ opened_in g
   pub folding : (old new : Past) → IsRecorded r.recorded old new → IsFolding g (record { reached = r.reached; book = r.book; past = new; eve = None })
+
+-- A Book over the account with the post, with the segments and rates of all its posts, by one of the same day that stood without it
+pub record HasRatesOf (g : Given) (earlier b : Summary) : Type 0 where
+  pub day : b.day ≡ earlier.day
+  pub whole : b.whole ≡ true
+  pub stands : (old : Given) (day : ℕ) (t : Track) → HasNewPosts old g day earlier t → StandsFor g b t
+
+-- with such a Book it stands for the account with the post
+pub record IsAgainWithRates (g : Given) (from reached : ℕ) (past : Past) (r : Refolded) : Type 0 where
+  pub awaits : AwaitsPosts g r.book
+  pub again : (b : Summary) → HasRatesOf g r.book b → IsAgain g from reached past (record { book = b; reached = r.reached; recorded = r.recorded })
+
+-- The closing of a cycle: whichever post changes the account behind it, it stands with that post, or, where the post sets rates, with
+-- these rates
+pub record IsAtClosing (cycle : ℕ) (b : Summary) (past : Past) (r : Refolded) : Type 0 where
+  pub plain : (g : Given) (p : Post) (from reached : ℕ) → MayGoBack g p from cycle reached b past → sets_rates p ≡ false → IsAgain g from reached past r
+  pub rates : (g : Given) (p : Post) (from reached : ℕ) → MayGoBack g p from cycle reached b past → IsAgainWithRates g from reached past r
+
+-- ---- the first changed day
+-- the first day that one post more changes, accepted on a day, whatever its key
+abbrev pub IsFirstWith : List ℕ → ℕ → Post → Posted → ℕ → Type 0
+IsFirstWith holidays accepted p posted from =
+    (key : List ℕ)
+    → IsFirstChange from posted.corrected
+    (corrected (anchor_of posted.history) holidays (posted.history ++ record { number = length posted.history + 1; key = key; accepted = accepted; post = p } ∷ []))

@@ -42,7 +42,7 @@ abbrev pub IsNear : SharedRows → Lists → Lists → ℕ → ℕ → Type 0
 IsNear shared old new before after =
     (from : ℕ) → IsFirstBetween shared old new from → min (first_in_cycle (anchor_of old.posts) from) (before + 1) ≤ after + 1
 
--- to fold again, one step for each of the break days from the first day of that cycle on, and one more
+-- at most one step for each of the break days from the first day of that cycle on, and one more
 abbrev pub AreFewAgain : ℕ → SharedRows → Lists → Lists → ℕ → ℕ → Type 0
 AreFewAgain today shared old new before after =
     (from : ℕ) → IsFirstBetween shared old new from

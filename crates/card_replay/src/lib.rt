@@ -1,8 +1,9 @@
-//! Accounts with their book folded to the day last reached: what a post changes is folded again from the closing before it.
+//! Accounts with their book folded to the day last reached: a post takes the book back to a day before what it changes.
 #![tactic(auto)]
 
 mod change;
 mod eve;
+mod first;
 mod folding;
 mod issuing;
 pub mod laws;

@@ -1,17 +1,16 @@
 // Going back behind what a post changes, to a day from which the account is folded on.
-ghost use Rattle.std.specs.Prelude.{◌≡◌, ◌+◌, ◌-◌, ◌<◌, ◌≤◌, true, length, IfOk, IfSome, None, Some};
+ghost use Rattle.std.specs.Prelude.{◌≡◌, ℕ, ◌+◌, ◌-◌, ◌<◌, ◌≤◌, ◌⊎◌, true, length, IfOk, IfSome, None, Some};
 ghost use Rattle.card_days.specs.Billing.{cycle_of};
 ghost use Rattle.card_days.specs.Range.{last_request_day};
 ghost use Rattle.card_model.specs.CycleDays.{IsOpening};
 ghost use Rattle.card_model.specs.Unread as unread;
 ghost use Rattle.card_model.specs.Cycles.{Cycle};
 ghost use Rattle.card_model.specs.Folds.{cycle_at};
-ghost use Rattle.card_daily.specs.Given.{opened_in};
+ghost use Rattle.card_daily.specs.Given.{Given, opened_in};
+ghost use Rattle.card_book.specs.Rewound.{AreFolded};
 ghost use Rattle.card_book.specs.GoingOn as going;
 ghost use Rattle.card_replay.specs.Needs as needs;
-ghost use Rattle.card_replay.specs.Refolds.{AreEndsOf, IsAgain, IsAtOpening, MayBegin, MayRefold, MayRefoldOn, cycle_before};
-ghost use Rattle.card_replay.specs.Replays.{BeginsAgain};
-ghost use Rattle.card_replay.specs.declared.past.Ends.{Ends};
+ghost use Rattle.card_replay.specs.Refolds.{IsAgain, IsAtClosing, IsAtOpening, MayBegin, MayGoBack, MayGoBackOn, MayRefold, MayRefoldOn, cycle_before};
 
 use crate::change::{Recorded, Refolded};
 use crate::eve::Eve;
@@ -59,8 +58,8 @@ pub fn needs_today(post: &Post) -> bool
     sets_rates(post) || is_bill(post)
 }
 
-// How many cycles closed before the one that a day lies in, none where it comes before the opening.
-fn cycles_before(anchor: &Anchor, day: Day) -> u32
+/// How many cycles closed before the one that a day lies in, none where it comes before the opening.
+pub fn cycles_before(anchor: &Anchor, day: Day) -> u32
     requires opening { IsOpening anchor.now }
     requires last { day ≤ last_request_day }
     ensures { result ≡ cycle_of anchor.now day - 1 }
@@ -72,32 +71,6 @@ fn cycles_before(anchor: &Anchor, day: Day) -> u32
     }
 }
 
-// The Book at the end of the last closing before a change: it stands with the front of the past.
-fn begin_again(
-    alloc: Global,
-    inputs: &Inputs,
-    post: &Post,
-    from: Day,
-    cycle: u32,
-    reached: Day,
-    book: &Book,
-    past: &Past,
-) -> Result<Book, NoMemory>
-    requires change { MayRefold inputs.now post.now from reached book.now past.now }
-    requires number { cycle ≡ cycle_before inputs.now from }
-    requires some { 1 ≤ cycle }
-    ensures again { IfOk result (λ b. (e : Ends) → AreEndsOf inputs.now from past.now e → BeginsAgain inputs.now e past.now b) }
-    ensures day { IfOk result (λ b. (c : Cycle) → cycle_at cycle past.now.track.cycles.items ≡ Some c → b.day ≡ Some c.closing) }
-{
-    let since = past.since[cycle as usize - 1];
-    let earlier = book.rewound(alloc, &past.track, cycle, since, &past.accrued)?;
-    if sets_rates(post) {
-        let renewed = earlier.renewed(alloc, inputs)?;
-        return Ok(renewed);
-    }
-    Ok(earlier)
-}
-
 // The day on which the cycle with a number closed.
 fn closing_of(past: &Past, cycle: u32) -> Day
     requires some { 1 ≤ cycle }
@@ -107,8 +80,27 @@ fn closing_of(past: &Past, cycle: u32) -> Day
     past.track.cycles[cycle as usize - 1].closing
 }
 
-// Back to the last closing before a change.
-fn at_closing(
+// Back to the closing of a cycle: with the rates of the posts up to then.
+fn at_closing(alloc: Global, cycle: u32, book: &Book, past: &Past) -> Result<Refolded, NoMemory>
+    requires folded { AreFolded book.now past.now.track }
+    requires some { 1 ≤ cycle }
+    requires closed { cycle ≤ length past.now.track.cycles.items }
+    requires marked { length past.now.since.items ≡ length past.now.track.cycles.items }
+    ensures { IfOk result (IsAtClosing cycle book.now past.now) }
+{
+    let since = past.since[cycle as usize - 1];
+    let ends = ends_at(past, cycle);
+    let day = closing_of(past, cycle);
+    let earlier = book.rewound(alloc, &past.track, cycle, since, &past.accrued)?;
+    Ok(Refolded {
+        book: earlier,
+        reached: day,
+        recorded: Recorded::Front(ends),
+    })
+}
+
+// Back to the last closing before a change, with the segments and rates of all posts.
+fn with_rates(
     alloc: Global,
     inputs: &Inputs,
     post: &Post,
@@ -123,13 +115,12 @@ fn at_closing(
     requires some { 1 ≤ cycle }
     ensures { IfOk result (IsAgain inputs.now from reached past.now) }
 {
-    let ends = ends_at(past, cycle);
-    let day = closing_of(past, cycle);
-    let earlier = begin_again(alloc, inputs, post, from, cycle, reached, book, past)?;
+    let earlier = at_closing(alloc, cycle, book, past)?;
+    let renewed = earlier.book.renewed(alloc, inputs)?;
     Ok(Refolded {
-        book: earlier,
-        reached: day,
-        recorded: Recorded::Front(ends),
+        book: renewed,
+        reached: earlier.reached,
+        recorded: earlier.recorded,
     })
 }
 
@@ -153,7 +144,7 @@ fn at_opening<L: Ledger>(
     })
 }
 
-// Back to the last closing before a change, or to the opening day where there is none.
+// Back to the last closing before a change, or to the opening day where there is none, over inputs with the post.
 fn at_cycle<L: Ledger>(
     alloc: Global,
     inputs: &Inputs,
@@ -174,7 +165,7 @@ fn at_cycle<L: Ledger>(
         let opening = at_opening(alloc, inputs, steps)?;
         return Ok(opening);
     }
-    let earlier = at_closing(alloc, inputs, post, from, cycle, reached, book, past)?;
+    let earlier = with_rates(alloc, inputs, post, from, cycle, reached, book, past)?;
     Ok(earlier)
 }
 
@@ -198,9 +189,61 @@ fn may_begin(eve: &Eve, past: &Past, post: &Post, from: Day, cycle: u32) -> bool
     !sets_rates(post) && eve.day < from && is_closed_by(past, cycle, eve.day)
 }
 
-/// Goes back behind what one more post changes, to the eve where that may be, else to the last closing before it, or to the opening
-/// day, over inputs with that post. The Book of the day reached, the past and the eve stand for the account without it. At most one
-/// day is folded, the opening day.
+// Back to the closing of a cycle, 0 for none, for a post that sets no rate.
+fn at_closing_if_any(
+    alloc: Global,
+    post: &Post,
+    cycle: u32,
+    book: &Book,
+    past: &Past,
+) -> Result<Option<Refolded>, NoMemory>
+    requires folded { AreFolded book.now past.now.track }
+    requires closed { cycle ≤ length past.now.track.cycles.items }
+    requires marked { length past.now.since.items ≡ length past.now.track.cycles.items }
+    ensures again { IfOk result (λ made. IfSome made (λ r. (g : Given) (from reached : ℕ) → MayGoBack g post.now from cycle reached book.now past.now → IsAgain g from reached past.now r)) }
+    ensures none { IfOk result (λ made. made ≡ None → (cycle ≡ 0) ⊎ (going.sets_rates post.now ≡ true)) }
+{
+    if cycle == 0 {
+        return Ok(None);
+    }
+    if sets_rates(post) {
+        return Ok(None);
+    }
+    let earlier = at_closing(alloc, cycle, book, past)?;
+    Ok(Some(earlier))
+}
+
+/// Goes back behind what one more post changes, whichever inputs it comes to: to the eve where that may be, else to the closing of
+/// the last cycle before the change, 0 for none. None comes only where there is none, or where the post sets rates. Nothing is
+/// folded.
+pub fn go_back(
+    alloc: Global,
+    post: &Post,
+    from: Day,
+    cycle: u32,
+    book: &Book,
+    past: &Past,
+    eve: &Option<Eve>,
+) -> Result<Option<Refolded>, NoMemory>
+    requires folded { AreFolded book.now past.now.track }
+    requires closed { cycle ≤ length past.now.track.cycles.items }
+    requires marked { length past.now.since.items ≡ length past.now.track.cycles.items }
+    ensures again { IfOk result (λ made. IfSome made (λ r. (g : Given) (reached : ℕ) → MayGoBackOn g post.now from cycle reached book.now past.now eve.now → IsAgain g from reached past.now r)) }
+    ensures none { IfOk result (λ made. made ≡ None → (cycle ≡ 0) ⊎ (going.sets_rates post.now ≡ true)) }
+{
+    match eve {
+        Some(eve) if may_begin(eve, past, post, from, cycle) => Ok(Some(Refolded {
+            book: eve.book.copy(alloc)?,
+            reached: eve.day,
+            recorded: Recorded::Front(eve.ends),
+        })),
+        _ => at_closing_if_any(alloc, post, cycle, book, past),
+    }
+}
+
+/// Goes back behind what one more post changes, over inputs with that post: to the eve or to the last closing before it, with new
+/// rates where the post sets some, or to the opening day. The Book of the day reached, the past and the eve stand for the account
+/// without the post. At most one day is folded, the opening day.
 pub fn refold<L: Ledger>(
     alloc: Global,
     inputs: &Inputs,
@@ -217,13 +260,10 @@ pub fn refold<L: Ledger>(
     ensures most { steps.new ≤ steps.old + 1 }
 {
     let cycle = cycles_before(&inputs.anchor(), from);
-    match eve {
-        Some(eve) if may_begin(eve, past, post, from, cycle) => Ok(Refolded {
-            book: eve.book.copy(alloc)?,
-            reached: eve.day,
-            recorded: Recorded::Front(eve.ends),
-        }),
-        _ => at_cycle(alloc, inputs, post, from, cycle, reached, book, past, steps),
+    let back = go_back(alloc, post, from, cycle, book, past, eve)?;
+    match back {
+        Some(earlier) => Ok(earlier),
+        None => at_cycle(alloc, inputs, post, from, cycle, reached, book, past, steps),
     }
 }
 

@@ -6,10 +6,11 @@ ghost use Rattle.card_replay.specs.Replays.{FoldsOn, IsFolding};
 
 use crate::change::{Change, Refolded};
 use crate::eve::Eve;
+use crate::first::first_change;
 use crate::folding::{first_book, fold_on};
 use crate::issuing::{closed_number, issued_by, push_issued};
 use crate::past::{Past, cut, ends_of, nothing};
-use crate::refolding::{is_unread, needs_today, refold_if_reached};
+use crate::refolding::{cycles_before, go_back, is_unread, needs_today, refold_if_reached};
 use crate::statement::statement_at;
 use crate::taking::take_if_any;
 use card_book::{Book, Folded, Inputs, Issued, Statement};
@@ -93,8 +94,9 @@ impl Replay {
     ghost use Rattle.card_slots.specs.Segments.{account_segments};
     ghost use Rattle.card_daily.specs.Given.{IsSound};
     ghost use Rattle.card_book.specs.Stands.{steps_over};
-    ghost use Rattle.card_replay.specs.Changes.{IsChangeOf, IsCommitted, IsPrepared, IsReadyFor, IsRefoldedBy, issued_as};
-    ghost use Rattle.card_replay.specs.Replays.{IsReplay, IsToday, MayReach, SameLists, given_of, opened_lists, present_of};
+    ghost use Rattle.card_replay.specs.Changes.{IsChangeOf, IsCommitted, IsPrepared, IsReadyFor, IsRefoldedBy, MayPrepare, issued_as};
+    ghost use Rattle.card_replay.specs.Refolds.{IsFirstWith};
+    ghost use Rattle.card_replay.specs.Replays.{IsReplay, IsToday, MayReach, SameLists, given_of, opened_lists, posted_of, present_of};
     ghost use Rattle.card_replay.specs.Steps.{AreFewToPrepare, IsNear, steps_to};
 
     /// The account that a post opens today, folded to the end of today. What every run leaves holds of its lists.
@@ -223,6 +225,72 @@ impl Replay {
         Ok(made)
     }
 
+    // What a post that a fold reads takes the account back to, found with the post among the others for a while.
+    fn drafted<L: Ledger>(
+        &mut self,
+        alloc: Global,
+        key: &Name,
+        post: &Post,
+        today: Day,
+        shared: &SharedRows,
+        steps: &mut Steps<L>,
+    ) -> Result<Option<Refolded>, NoMemory>
+        requires may { MayPrepare shared.now today key.now post.now self.old }
+        ensures same { SameLists self.old self.new }
+        ensures folding { self.new.folding ≡ self.old.folding }
+        ensures refolded { IfOk result (λ made. IsRefoldedBy shared.now today key.now post.now made self.old) }
+        ensures most { steps.new ≤ steps.old + 1 }
+    {
+        let key = key.copy(alloc)?;
+        let draft = self
+            .posts
+            .draft(alloc, key, today, post, shared.calendar())?;
+        let inputs = Inputs::new(&self.posts, &self.issued, shared);
+        let made = refold_if_reached(
+            alloc,
+            &inputs,
+            post,
+            draft.from(),
+            self.reached,
+            &self.book,
+            &self.past,
+            &self.eve,
+            steps,
+        );
+        self.posts.withdraw(draft);
+        made
+    }
+
+    // What a post that a fold reads takes the account back to, where the first day is known that it changes. Unless it sets rates, or
+    // that day comes before the first closing, the post isn't entered.
+    fn refolded_from<L: Ledger>(
+        &mut self,
+        alloc: Global,
+        key: &Name,
+        post: &Post,
+        today: Day,
+        from: Day,
+        shared: &SharedRows,
+        steps: &mut Steps<L>,
+    ) -> Result<Option<Refolded>, NoMemory>
+        requires may { MayPrepare shared.now today key.now post.now self.old }
+        requires first { IsFirstWith shared.now.holidays today post.now (posted_of self.old) from }
+        ensures same { SameLists self.old self.new }
+        ensures folding { self.new.folding ≡ self.old.folding }
+        ensures refolded { IfOk result (λ made. IsRefoldedBy shared.now today key.now post.now made self.old) }
+        ensures most { steps.new ≤ steps.old + 1 }
+    {
+        if self.reached < from {
+            return Ok(None);
+        }
+        let cycle = cycles_before(&self.posts.anchor(), from);
+        let back = go_back(alloc, post, from, cycle, &self.book, &self.past, &self.eve)?;
+        match back {
+            Some(earlier) => Ok(Some(earlier)),
+            None => self.drafted(alloc, key, post, today, shared, steps),
+        }
+    }
+
     // What a post takes the account back to, where it changes something up to the day reached. The account stays as it is.
     fn refolded<L: Ledger>(
         &mut self,
@@ -248,24 +316,11 @@ impl Replay {
         if is_unread(post) {
             return Ok(None);
         }
-        let key = key.copy(alloc)?;
-        let draft = self
-            .posts
-            .draft(alloc, key, today, post, shared.calendar())?;
-        let inputs = Inputs::new(&self.posts, &self.issued, shared);
-        let made = refold_if_reached(
-            alloc,
-            &inputs,
-            post,
-            draft.from(),
-            self.reached,
-            &self.book,
-            &self.past,
-            &self.eve,
-            steps,
-        );
-        self.posts.withdraw(draft);
-        made
+        let told = first_change(&self.posts, today, post, shared.calendar());
+        match told {
+            Some(from) => self.refolded_from(alloc, key, post, today, from, shared, steps),
+            None => self.drafted(alloc, key, post, today, shared, steps),
+        }
     }
 
     /// Prepares a post against which there is no reason, under a new key: there is room for it, and the Book is there that it takes

@@ -9,8 +9,8 @@ at_opening-requires g c =
     let last = h.changes.last in
     record { last = omega (arith, low, last) }
 
-pub at_closing-requires-clause-some : goal.at_closing-requires-clause-some
-at_closing-requires-clause-some g c = omega (arith, c.if-cycle-eq0.false)
+pub with_rates-requires-clause-some : goal.with_rates-requires-clause-some
+with_rates-requires-clause-some g c = omega (arith, c.if-cycle-eq0.false)
 
 pub returns-then-cycle-eq0-clause-again : goal.returns-then-cycle-eq0-clause-again
 returns-then-cycle-eq0-clause-again g c = opening-again c.requires.change.before c.in_ok-opening.opening (sym c.requires.number ∙ c.if-cycle-eq0.true) c.in_ok-opening.ensures.opening

@@ -1,0 +1,127 @@
+use Rattle.std.proofs.Common.{◌≡◌, ◌+◌, ◌<◌, ◌≤◌, length, refl, sym, ap, subst, ◌∙◌, arith, None}
+use Rattle.std.specs.Prelude.{IfOk, IfSome}
+use Rattle.card_events.specs.History.{anchor_of, corrected}
+use Rattle.card_events.specs.Keys.{with_key}
+use Rattle.card_model.specs.Machine.{kept_as}
+use Rattle.card_daily.specs.Given.{IsSound}
+use Rattle.card_posts.specs.Posted.{IsReceived, Posted, StandsFor}
+use Rattle.card_reasons.proofs.Accepted.{few, received, target_there}
+use Rattle.card_replay.proofs.Committing.{lists_by, with_post}
+use Rattle.card_replay.proofs.Drafting.{drafted, may-refold, result-refolded}
+use Rattle.card_replay.specs.Refolds.{IsAgain, IsOneMore, MayRefoldOn}
+use Rattle.card_replay.specs.Replays.{Replay, given_of, present_of}
+use Rattle.card_replay.proofs.replay.Replay.drafted.Goals as goal
+
+-- ---- the post for a while
+pub draft-requires-clause-room : goal.draft-requires-clause-room
+draft-requires-clause-room g c = (c.self.invariant (ap (λ (x : Replay). x.has_room) c.self.view_is ∙ c.requires.may.room)).0
+
+pub draft-requires-clause-few : goal.draft-requires-clause-few
+draft-requires-clause-few g c =
+    let same = ap (λ (x : Replay). length x.lists.posts) c.self.view_is in
+    omega (arith, same, few (present_of c.args.today c.args.shared.now c.args.self.now.lists) c.args.post.now c.requires.may.no_reason)
+
+pub draft-requires-clause-stands : goal.draft-requires-clause-stands
+draft-requires-clause-stands g c =
+    subst (λ holidays. StandsFor holidays c.self.inside.posts) (sym c.calendar.ensures)
+    (subst (λ (x : Replay). x.corrected ≡ corrected (anchor_of x.lists.posts) c.args.shared.now.holidays x.lists.posts) (sym c.self.view_is) c.requires.may.replay.corrected)
+
+pub draft-requires-clause-fresh : goal.draft-requires-clause-fresh
+draft-requires-clause-fresh g c =
+    ap (λ k. with_key k c.self.inside.posts.history) c.in_ok-key.ensures ∙ (ap (λ (x : Replay). with_key c.args.key.now x.lists.posts) c.self.view_is ∙ c.requires.may.fresh)
+
+pub draft-requires-clause-target : goal.draft-requires-clause-target
+draft-requires-clause-target g c =
+    let same = ap (λ (x : Replay). length x.lists.posts) c.self.view_is in
+    omega (arith, same, target_there (present_of c.args.today c.args.shared.now c.args.self.now.lists) c.args.post.now c.requires.may.no_reason)
+
+pub draft-requires-clause-dated : goal.draft-requires-clause-dated
+draft-requires-clause-dated g c = c.requires.may.reach.last
+
+pub draft-requires-clause-received : goal.draft-requires-clause-received
+draft-requires-clause-received g c =
+    subst (λ (x : Replay). IsReceived (anchor_of x.lists.posts).opened c.args.today c.args.post.now) (sym c.self.view_is)
+    (received (present_of c.args.today c.args.shared.now c.args.self.now.lists) c.args.post.now c.requires.may.no_reason)
+
+pub new-inputs-requires-clause-stands : goal.new-inputs-requires-clause-stands
+new-inputs-requires-clause-stands g c = subst (λ holidays. StandsFor holidays c.draft.new.self) c.calendar.ensures c.in_ok-draft.ensures.stands
+
+pub new-inputs-requires-clause-sound : goal.new-inputs-requires-clause-sound
+new-inputs-requires-clause-sound g c =
+    let shared = c.args.shared.now in
+    let today = c.args.today in
+    let key = c.args.key.now in
+    let p = c.args.post.now in
+    let r = c.args.self.now in
+    let posts = c.self.inside.posts in
+    let new = c.draft.new.self in
+    let u = c.requires.may.read in
+    let h = drafted shared today key c.in_ok-key.key p r posts new c.deref.result.now c.in_ok-draft.draft c.requires.may.replay u c.requires.may.sound (ap (λ (x : Replay). x.lists.posts) c.self.view_is) (ap (λ (x : Replay). x.corrected) c.self.view_is)
+    (c.deref.ensures.value ∙ ap (λ (x : Replay). x.lists.issued) c.self.view_is) c.in_ok-key.ensures c.in_ok-draft.ensures.draft (subst (λ holidays. StandsFor holidays new) c.calendar.ensures c.in_ok-draft.ensures.stands) in
+    subst IsSound (sym h.inputs) h.more.sound
+
+pub refold_if_reached-made-requires : goal.refold_if_reached-made-requires
+refold_if_reached-made-requires g c =
+    let shared = c.args.shared.now in
+    let today = c.args.today in
+    let key = c.args.key.now in
+    let p = c.args.post.now in
+    let r = c.args.self.now in
+    let posts = c.self.inside.posts in
+    let new = c.draft.new.self in
+    let u = c.requires.may.read in
+    let h = drafted shared today key c.in_ok-key.key p r posts new c.deref.result.now c.in_ok-draft.draft c.requires.may.replay u c.requires.may.sound (ap (λ (x : Replay). x.lists.posts) c.self.view_is) (ap (λ (x : Replay). x.corrected) c.self.view_is)
+    (c.deref.ensures.value ∙ ap (λ (x : Replay). x.lists.issued) c.self.view_is) c.in_ok-key.ensures c.in_ok-draft.ensures.draft (subst (λ holidays. StandsFor holidays new) c.calendar.ensures c.in_ok-draft.ensures.stands) in
+    let at : IsOneMore (given_of r.lists shared) (with_post r.lists key today p shared) p c.from.result = subst (λ f. IsOneMore (given_of r.lists shared) (with_post r.lists key today p shared) p f) (sym c.from.ensures) h.more in
+    let inputs = c.new-inputs.ensures ∙ h.inputs in
+    record {
+      change = subst (λ given. c.from.result ≤ c.self.inside.reached → MayRefoldOn given p c.from.result c.self.inside.reached c.self.inside.book c.self.inside.past c.self.inside.eve) (sym inputs)
+          (subst (λ (x : Replay). c.from.result ≤ x.folding.reached → MayRefoldOn (with_post r.lists key today p shared) p c.from.result x.folding.reached x.folding.book x.folding.past x.folding.eve) (sym c.self.view_is)
+          (λ l. may-refold shared today key p r c.from.result c.requires.may.replay at l));
+    }
+
+pub withdraw-requires : goal.withdraw-requires
+withdraw-requires g c =
+    let shared = c.args.shared.now in
+    let today = c.args.today in
+    let key = c.args.key.now in
+    let p = c.args.post.now in
+    let r = c.args.self.now in
+    let posts = c.self.inside.posts in
+    let new = c.draft.new.self in
+    let u = c.requires.may.read in
+    let h = drafted shared today key c.in_ok-key.key p r posts new c.deref.result.now c.in_ok-draft.draft c.requires.may.replay u c.requires.may.sound (ap (λ (x : Replay). x.lists.posts) c.self.view_is) (ap (λ (x : Replay). x.corrected) c.self.view_is)
+    (c.deref.ensures.value ∙ ap (λ (x : Replay). x.lists.issued) c.self.view_is) c.in_ok-key.ensures c.in_ok-draft.ensures.draft (subst (λ holidays. StandsFor holidays new) c.calendar.ensures c.in_ok-draft.ensures.stands) in
+    record { draft = record { kept = kept_as (length r.lists.posts + 1) key today p; old = posts; draft = h.draft } }
+
+-- ---- what it is taken back to, with the post taken out
+pub returns : goal.returns
+returns g c =
+    let shared = c.args.shared.now in
+    let today = c.args.today in
+    let key = c.args.key.now in
+    let p = c.args.post.now in
+    let r = c.args.self.now in
+    let posts = c.self.inside.posts in
+    let new = c.draft.new.self in
+    let u = c.requires.may.read in
+    let h = drafted shared today key c.in_ok-key.key p r posts new c.deref.result.now c.in_ok-draft.draft c.requires.may.replay u c.requires.may.sound (ap (λ (x : Replay). x.lists.posts) c.self.view_is) (ap (λ (x : Replay). x.corrected) c.self.view_is)
+    (c.deref.ensures.value ∙ ap (λ (x : Replay). x.lists.issued) c.self.view_is) c.in_ok-key.ensures c.in_ok-draft.ensures.draft (subst (λ holidays. StandsFor holidays new) c.calendar.ensures c.in_ok-draft.ensures.stands) in
+    let at : IsOneMore (given_of r.lists shared) (with_post r.lists key today p shared) p c.from.result = subst (λ f. IsOneMore (given_of r.lists shared) (with_post r.lists key today p shared) p f) (sym c.from.ensures) h.more in
+    let inputs = c.new-inputs.ensures ∙ h.inputs in
+    let made = c.refold_if_reached-made.result in
+    let did = c.refold_if_reached-made.ensures in
+    let back = c.withdraw.ensures (kept_as (length r.lists.posts + 1) key today p) posts h.draft in
+    let later = subst (λ (x : Replay). IfOk made (λ o. o ≡ None → x.folding.reached < c.from.result)) c.self.view_is did.later in
+    let again = subst (λ (x : Replay). IfOk made (λ o. IfSome o (IsAgain (with_post r.lists key today p shared) c.from.result x.folding.reached x.folding.past))) c.self.view_is
+    (subst (λ given. IfOk made (λ o. IfSome o (IsAgain given c.from.result c.self.inside.reached c.self.inside.past))) inputs did.again) in
+    record {
+      same = record {
+        lists = ap (λ (w : Posted). lists_by w.history c.self.inside.issued.items) back ∙ ap (λ (x : Replay). x.lists) c.self.view_is;
+        corrected = ap (λ (w : Posted). w.corrected) back ∙ ap (λ (x : Replay). x.corrected) c.self.view_is;
+        room = λ e. ap (λ (x : Replay). x.has_room) c.self.view_is ∙ e;
+      };
+      folding = ap (λ (x : Replay). x.folding) c.self.view_is;
+      refolded = result-refolded shared today key p r c.from.result made u c.requires.may.no_reason c.requires.may.replay c.requires.may.ready at later again;
+      most = did.most;
+    }
