@@ -40,7 +40,7 @@ fn connect(store: &Option<Store<File>>, rt: &HostRuntime, path: &str) -> Made<Fi
 }
 
 // Takes the connection that was made. This and the next two are over any store: what is proved of a call of one of them over
-// a file takes long, so a keeper makes one a call.
+// a file takes long, so a load and an append are one such call.
 fn take<S: Alter + Drop>(
     store: &mut Option<StoreKeeper<S>>,
     made: Made<S>,
@@ -55,65 +55,53 @@ fn take<S: Alter + Drop>(
     }
 }
 
-fn load_over<S: Alter + Drop>(
-    store: &mut Option<StoreKeeper<S>>,
-    made: Made<S>,
+// Adds the rows, where there are some to add, and gives none. Else gives the rows that are kept.
+fn answer<S: Alter>(
+    store: &mut StoreKeeper<S>,
     alloc: Global,
+    more: Option<&[Row]>,
 ) -> Result<Vec<Row>, KeeperFault> {
-    take(store, made)?;
-    match store {
-        Some(store) => store.load_rows(alloc),
-        None => Err(KeeperFault::Failed),
+    match more {
+        None => store.load_rows(alloc),
+        Some(rows) => {
+            store.append_rows(rows)?;
+            Ok(Vec::new(alloc))
+        }
     }
 }
 
-fn append_over<S: Alter + Drop>(
+fn answer_over<S: Alter + Drop>(
     store: &mut Option<StoreKeeper<S>>,
     made: Made<S>,
-    rows: &[Row],
-) -> Result<(), KeeperFault> {
+    alloc: Global,
+    more: Option<&[Row]>,
+) -> Result<Vec<Row>, KeeperFault> {
     take(store, made)?;
     match store {
-        Some(store) => store.append_rows(rows),
+        Some(store) => answer(store, alloc, more),
         None => Err(KeeperFault::Failed),
     }
 }
 
 // The same over files on any disk.
-fn load_rows<D: Disk + Drop>(
+fn answer_on<D: Disk + Drop>(
     store: &mut Option<Store<D>>,
     made: Made<FileStore<D>>,
     alloc: Global,
+    more: Option<&[Row]>,
 ) -> Result<Vec<Row>, KeeperFault> {
-    load_over(store, made, alloc)
+    answer_over(store, made, alloc, more)
 }
 
-fn append_rows<D: Disk + Drop>(
-    store: &mut Option<Store<D>>,
-    made: Made<FileStore<D>>,
-    rows: &[Row],
-) -> Result<(), KeeperFault> {
-    append_over(store, made, rows)
-}
-
-fn load(
+fn answer_from(
     store: &mut Option<Store<File>>,
     rt: &HostRuntime,
     path: &str,
     alloc: Global,
+    more: Option<&[Row]>,
 ) -> Result<Vec<Row>, KeeperFault> {
     let made = connect(store, rt, path);
-    load_rows(store, made, alloc)
-}
-
-fn append(
-    store: &mut Option<Store<File>>,
-    rt: &HostRuntime,
-    path: &str,
-    rows: &[Row],
-) -> Result<(), KeeperFault> {
-    let made = connect(store, rt, path);
-    append_rows(store, made, rows)
+    answer_on(store, made, alloc, more)
 }
 
 impl SqliteKeeper {
@@ -152,15 +140,21 @@ impl Keeper for SqliteKeeper {
     ghost faults = { λ k. k.faults };
 
     fn load(&mut self, alloc: Global) -> Result<Vec<Row>, KeeperFault> {
-        match load(&mut self.store, &self.rt, self.path.as_str(), alloc) {
+        match answer_from(&mut self.store, &self.rt, self.path.as_str(), alloc, None) {
             Ok(rows) => Ok(rows),
             Err(fault) => Err(counted(&mut self.faults, fault)),
         }
     }
 
-    fn append(&mut self, _: Global, more: &[Row]) -> Result<(), KeeperFault> {
-        match append(&mut self.store, &self.rt, self.path.as_str(), more) {
-            Ok(()) => Ok(()),
+    fn append(&mut self, alloc: Global, more: &[Row]) -> Result<(), KeeperFault> {
+        match answer_from(
+            &mut self.store,
+            &self.rt,
+            self.path.as_str(),
+            alloc,
+            Some(more),
+        ) {
+            Ok(_) => Ok(()),
             Err(fault) => Err(counted(&mut self.faults, fault)),
         }
     }

@@ -1,5 +1,5 @@
 // Texts in columns. A text that is wider than its places stands whole.
-ghost use Rattle.std.specs.Prelude.{◌≡◌, ◌++◌, IfOk, OnOk, pos, replicate};
+ghost use Rattle.std.specs.Prelude.{◌≡◌, ◌∷◌, ◌++◌, IfOk, OnOk, pos, replicate};
 ghost use Rattle.std.specs.String.{string_bytes};
 ghost use Rattle.card_text.specs.Statements.{labelled, three_texts_ended, to_left, to_right, two_texts, two_texts_ended};
 ghost use Rattle.card_units.specs.Money.{money_text};
@@ -38,12 +38,21 @@ pub fn push_left(text: &mut String, places: usize, piece: &str) -> Result<(), No
 
 // A text, filled with spaces on the left.
 #[tactic(auto, using(card_lines::proofs::TextRules::texts))]
-pub fn push_right(text: &mut String, places: usize, piece: &str) -> Result<(), NoMemory>
+fn push_right(text: &mut String, places: usize, piece: &str) -> Result<(), NoMemory>
     ensures { OnOk result (string_bytes text.new ≡ string_bytes text.old ++ to_right places piece.now) }
 {
     push_spaces(text, places.saturating_sub(piece.len()))?;
     text.push_str(piece)?;
     Ok(())
+}
+
+// A space, and a text that is filled with spaces on the left.
+#[tactic(auto, using(card_lines::proofs::TextRules::texts))]
+pub fn push_column(text: &mut String, places: usize, piece: &str) -> Result<(), NoMemory>
+    ensures { OnOk result (string_bytes text.new ≡ string_bytes text.old ++ 32 ∷ to_right places piece.now) }
+{
+    text.push_str(" ")?;
+    push_right(text, places, piece)
 }
 
 // The line of a label and a value.
@@ -52,8 +61,7 @@ pub fn push_labelled(text: &mut String, label: &str, value: &str) -> Result<(), 
     ensures { OnOk result (string_bytes text.new ≡ string_bytes text.old ++ labelled label.now value.now) }
 {
     push_left(text, 28, label)?;
-    text.push_str(" ")?;
-    push_right(text, 14, value)?;
+    push_column(text, 14, value)?;
     text.push_str("\n")?;
     Ok(())
 }
@@ -74,12 +82,12 @@ pub fn push_sum(alloc: Global, text: &mut String, label: &str, cents: u128) -> R
     push_labelled(text, label, value.as_str())
 }
 
-// Such an amount in its column.
+// A space, and such an amount in its column.
 pub fn push_sum_amount(alloc: Global, text: &mut String, cents: u128) -> Result<(), NoMemory>
-    ensures { OnOk result (string_bytes text.new ≡ string_bytes text.old ++ to_right 14 (money_text (pos cents))) }
+    ensures { OnOk result (string_bytes text.new ≡ string_bytes text.old ++ 32 ∷ to_right 14 (money_text (pos cents))) }
 {
     let amount = sum_text(alloc, cents)?;
-    push_right(text, 14, amount.as_str())
+    push_column(text, 14, amount.as_str())
 }
 
 // The line of a label and an amount.
@@ -95,12 +103,12 @@ pub fn push_cents(
     push_labelled(text, label, value.as_str())
 }
 
-// An amount in its column.
+// A space, and an amount in its column.
 pub fn push_amount(alloc: Global, text: &mut String, cents: Cents) -> Result<(), NoMemory>
-    ensures { OnOk result (string_bytes text.new ≡ string_bytes text.old ++ to_right 14 (money_text cents)) }
+    ensures { OnOk result (string_bytes text.new ≡ string_bytes text.old ++ 32 ∷ to_right 14 (money_text cents)) }
 {
     let amount = Money(cents).to_string(alloc)?;
-    push_right(text, 14, amount.as_str())
+    push_column(text, 14, amount.as_str())
 }
 
 // A text behind another.

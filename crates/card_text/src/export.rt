@@ -1,5 +1,6 @@
 // The entries of an account as CSV.
-ghost use Rattle.std.specs.Prelude.{◌≡◌, ◌<◌, length, IfOk, OnOk};
+ghost use Rattle.std.specs.Fmt.{decimal};
+ghost use Rattle.std.specs.Prelude.{◌≡◌, ◌<◌, ◌++◌, length, IfOk, OnOk};
 ghost use Rattle.std.specs.Io.KnownBytes.{Appends};
 ghost use Rattle.std.specs.List.{All, flat_map};
 ghost use Rattle.std.specs.Str.{IsUtf8};
@@ -30,6 +31,13 @@ fn kind_word(kind: EntryKind) -> &'static str
     }
 }
 
+// A word with the number behind it.
+fn numbered(alloc: Global, word: &str, number: u8) -> Result<String, NoMemory>
+    ensures { IfOk result (λ text. string_bytes text ≡ word.now ++ decimal number) }
+{
+    Ok(format!(in alloc; "{word}{number}")?)
+}
+
 // The name of the segment of a sort with a number.
 pub fn segment_name(alloc: Global, sort: Sort, number: u8) -> Result<String, NoMemory>
     ensures { IfOk result (λ text. string_bytes text ≡ spec.segment_name sort number) }
@@ -37,11 +45,11 @@ pub fn segment_name(alloc: Global, sort: Sort, number: u8) -> Result<String, NoM
     match sort {
         Sort::Credit => Ok(String::from_str(alloc, "credit")?),
         Sort::Held => Ok(String::from_str(alloc, "held")?),
-        Sort::Purchase => Ok(format!(in alloc; "purchase:{number}")?),
-        Sort::Cash => Ok(format!(in alloc; "cash:{number}")?),
-        Sort::Transfer => Ok(format!(in alloc; "transfer:{number}")?),
-        Sort::Promo => Ok(format!(in alloc; "promo:{number}")?),
-        Sort::Deferred => Ok(format!(in alloc; "deferred:{number}")?),
+        Sort::Purchase => numbered(alloc, "purchase:", number),
+        Sort::Cash => numbered(alloc, "cash:", number),
+        Sort::Transfer => numbered(alloc, "transfer:", number),
+        Sort::Promo => numbered(alloc, "promo:", number),
+        Sort::Deferred => numbered(alloc, "deferred:", number),
     }
 }
 

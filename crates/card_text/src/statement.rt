@@ -9,7 +9,7 @@ ghost use Rattle.card_text.specs.Statements as spec;
 ghost use Rattle.card_units.specs.Money.{money_text};
 
 use crate::columns::{
-    push_amount, push_both, push_cents, push_end, push_labelled, push_last, push_left, push_right,
+    push_amount, push_both, push_cents, push_column, push_end, push_labelled, push_last, push_left,
     push_sum, push_sum_amount, push_zeros,
 };
 use crate::export::segment_name;
@@ -68,9 +68,7 @@ fn push_move(alloc: Global, text: &mut String, line: &Move) -> Result<(), NoMemo
     let post = line.post.to_string(alloc)?;
     write!(text, "{} ", line.day)?;
     push_left(text, 10, move_word(line.kind, line.post))?;
-    text.push_str(" ")?;
-    push_right(text, 6, post.as_str())?;
-    text.push_str(" ")?;
+    push_column(text, 6, post.as_str())?;
     push_amount(alloc, text, line.cents)?;
     text.push_str("\n")?;
     Ok(())
@@ -90,10 +88,8 @@ fn push_rate_front(
     let daily = daily_text(alloc, rate)?;
     text.push_str("RATE ")?;
     push_left(text, 12, segment)?;
-    text.push_str(" ")?;
-    push_right(text, 7, yearly.as_str())?;
-    text.push_str(" ")?;
-    push_right(text, 12, daily.as_str())
+    push_column(text, 7, yearly.as_str())?;
+    push_column(text, 12, daily.as_str())
 }
 
 // The average balance and the interest.
@@ -106,9 +102,7 @@ fn push_rate_amounts(
 ) -> Result<(), NoMemory>
     ensures { OnOk result (string_bytes text.new ≡ string_bytes text.old ++ spec.rate_amounts average interest) }
 {
-    text.push_str(" ")?;
     push_sum_amount(alloc, text, average)?;
-    text.push_str(" ")?;
     push_sum_amount(alloc, text, interest)?;
     text.push_str("\n")?;
     Ok(())
@@ -125,7 +119,7 @@ fn push_rate(alloc: Global, text: &mut String, line: &RateLine) -> Result<(), No
 }
 
 // The name of a Deferred and its balance.
-#[tactic(auto, using(card_lines::proofs::TextRules::texts), unfolding(crate::specs::Statements::deferred_front))]
+#[tactic(auto, using(card_lines::proofs::TextRules::texts), unfolding(crate::specs::Statements::deferred_front, crate::specs::Statements::two_texts))]
 fn push_deferred_front(
     alloc: Global,
     text: &mut String,
@@ -135,10 +129,8 @@ fn push_deferred_front(
     ensures { OnOk result (string_bytes text.new ≡ string_bytes text.old ++ spec.deferred_front segment.now balance) }
 {
     let balance = Money(balance).to_string(alloc)?;
-    text.push_str("DEFERRED ")?;
-    text.push_str(segment)?;
-    text.push_str(" ")?;
-    text.push_str(balance.as_str())?;
+    push_both(text, "DEFERRED ", segment)?;
+    push_both(text, " ", balance.as_str())?;
     text.push_str(" ")?;
     Ok(())
 }
