@@ -1,13 +1,13 @@
 use card_units::NoMemory;
 use std::alloc::Global;
-use std::collections::BTreeMap;
+use std::collections::HashMap;
 use std::marker::Model;
 
-/// An ordered index of names, which are bytes: the number that was given to each. Clauses see it as a list of names and
-/// numbers, which they read by `place_of`.
+/// An index of names, which are bytes: the number that was given to each. A name is found in about the same time however many
+/// there are. Clauses see the index as a list of names and numbers, which they read by `place_of`.
 #[derive(Drop)]
 pub struct NameIndex {
-    places: BTreeMap<Vec<u8>, u32>,
+    places: HashMap<Vec<u8>, u32>,
 }
 
 impl Model for NameIndex {
@@ -28,7 +28,7 @@ impl NameIndex {
         ensures { result ≡ [] }
     {
         NameIndex {
-            places: BTreeMap::new(alloc),
+            places: HashMap::new(alloc),
         }
     }
 
