@@ -14,6 +14,7 @@ use Rattle.card_model.specs.Refusals.{reason_against}
 use Rattle.card_model.specs.Unread.{is_unread}
 use Rattle.card_posts.specs.Change.{IsFirstChange, on, up_to}
 use Rattle.card_posts.specs.Draft.{IsDraft}
+use Rattle.card_posts.specs.Draft.{IsFirstWith}
 use Rattle.card_posts.specs.Posted.{Posted, StandsFor}
 use Rattle.card_posts.specs.declared.draft.Draft.{Draft}
 use Rattle.card_daily.specs.Given.{Given, IsSound}
@@ -24,7 +25,7 @@ use Rattle.card_replay.proofs.Committing.{again-refolded, given_with, late-refol
 use Rattle.card_replay.proofs.LateChange.{late-stands}
 use Rattle.card_replay.proofs.LaterRows.{some-posts}
 use Rattle.card_replay.specs.Changes.{IsReadyFor, IsRefoldedBy, MayPrepare}
-use Rattle.card_replay.specs.Refolds.{IsAgain, IsFirstWith, IsOneMore, MayGoBackOn, MayRefoldOn, cycle_before}
+use Rattle.card_replay.specs.Refolds.{IsAgain, IsOneMore, MayGoBackOn, MayRefoldOn, cycle_before}
 use Rattle.card_replay.specs.Replays.{IsReplay, Replay, given_of, posted_of, present_of}
 use Rattle.card_replay.specs.Steps.{IsFirstBetween, first_in_cycle}
 use Rattle.card_replay.specs.declared.change.Refolded.{Refolded}

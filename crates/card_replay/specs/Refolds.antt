@@ -112,11 +112,3 @@ pub record IsAgainWithRates (g : Given) (from reached : ℕ) (past : Past) (r : 
 pub record IsAtClosing (cycle : ℕ) (b : Summary) (past : Past) (r : Refolded) : Type 0 where
   pub plain : (g : Given) (p : Post) (from reached : ℕ) → MayGoBack g p from cycle reached b past → sets_rates p ≡ false → IsAgain g from reached past r
   pub rates : (g : Given) (p : Post) (from reached : ℕ) → MayGoBack g p from cycle reached b past → IsAgainWithRates g from reached past r
-
--- ---- the first changed day
--- the first day that one post more changes, accepted on a day, whatever its key
-abbrev pub IsFirstWith : List ℕ → ℕ → Post → Posted → ℕ → Type 0
-IsFirstWith holidays accepted p posted from =
-    (key : List ℕ)
-    → IsFirstChange from posted.corrected
-    (corrected (anchor_of posted.history) holidays (posted.history ++ record { number = length posted.history + 1; key = key; accepted = accepted; post = p } ∷ []))

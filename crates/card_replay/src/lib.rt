@@ -3,7 +3,6 @@
 
 mod change;
 mod eve;
-mod first;
 mod folding;
 mod issuing;
 pub mod laws;

@@ -6,7 +6,6 @@ ghost use Rattle.card_replay.specs.Replays.{FoldsOn, IsFolding};
 
 use crate::change::{Change, Refolded};
 use crate::eve::Eve;
-use crate::first::first_change;
 use crate::folding::{first_book, fold_on};
 use crate::issuing::{closed_number, issued_by, push_issued};
 use crate::past::{Past, cut, ends_of, nothing};
@@ -95,7 +94,7 @@ impl Replay {
     ghost use Rattle.card_daily.specs.Given.{IsSound};
     ghost use Rattle.card_book.specs.Stands.{steps_over};
     ghost use Rattle.card_replay.specs.Changes.{IsChangeOf, IsCommitted, IsPrepared, IsReadyFor, IsRefoldedBy, MayPrepare, issued_as};
-    ghost use Rattle.card_replay.specs.Refolds.{IsFirstWith};
+    ghost use Rattle.card_posts.specs.Draft.{IsFirstWith};
     ghost use Rattle.card_replay.specs.Replays.{IsReplay, IsToday, MayReach, SameLists, given_of, opened_lists, posted_of, present_of};
     ghost use Rattle.card_replay.specs.Steps.{AreFewToPrepare, IsNear, steps_to};
 
@@ -316,7 +315,7 @@ impl Replay {
         if is_unread(post) {
             return Ok(None);
         }
-        let told = first_change(&self.posts, today, post, shared.calendar());
+        let told = self.posts.first_change(today, post, shared.calendar());
         match told {
             Some(from) => self.refolded_from(alloc, key, post, today, from, shared, steps),
             None => self.drafted(alloc, key, post, today, shared, steps),

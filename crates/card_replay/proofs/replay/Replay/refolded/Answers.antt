@@ -4,7 +4,7 @@ use Rattle.card_events.specs.History.{anchor_of, corrected}
 use Rattle.card_reasons.proofs.Accepted.{few, received, target_there}
 use Rattle.card_posts.specs.Posted.{IsReceived, StandsFor}
 use Rattle.card_replay.proofs.Committing.{unread-refolded}
-use Rattle.card_replay.specs.Refolds.{IsFirstWith}
+use Rattle.card_posts.specs.Draft.{IsFirstWith}
 use Rattle.card_replay.specs.Replays.{Replay, posted_of, present_of}
 use Rattle.card_replay.proofs.replay.Replay.refolded.Goals as goal
 
