@@ -13,8 +13,7 @@ use Rattle.card_model.specs.Machine.{accepted, kept_as}
 use Rattle.card_model.specs.Refusals.{reason_against}
 use Rattle.card_model.specs.Unread.{is_unread}
 use Rattle.card_posts.specs.Change.{IsFirstChange, on, up_to}
-use Rattle.card_posts.specs.Draft.{IsDraft}
-use Rattle.card_posts.specs.Draft.{IsFirstWith}
+use Rattle.card_posts.specs.Draft.{IsDraft, IsFirstWith}
 use Rattle.card_posts.specs.Posted.{Posted, StandsFor}
 use Rattle.card_posts.specs.declared.draft.Draft.{Draft}
 use Rattle.card_daily.specs.Given.{Given, IsSound}

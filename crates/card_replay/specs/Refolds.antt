@@ -9,7 +9,6 @@ use Rattle.card_events.specs.declared.post.Post.{Post}
 use Rattle.card_model.specs.Cycles.{Cycle}
 use Rattle.card_model.specs.Folds.{cycle_at}
 use Rattle.card_posts.specs.Change.{IsFirstChange}
-use Rattle.card_posts.specs.Posted.{Posted}
 use Rattle.card_book.specs.Renewed.{AwaitsPosts, HasNewPosts}
 use Rattle.card_book.specs.Stands.{StandsFor, Summary}
 use Rattle.card_daily.specs.Given.{Given, IsSound, opened_in}
