@@ -214,9 +214,10 @@ impl Account {
         }
     }
 
-    /// Prepares a post against which there is no reason, under a new key: the account reaches today, and there is room for the
-    /// post. Its posts and issued statements stay; with the post, they are as every run leaves them. After want of memory it is the
-    /// same account too.
+    /// Prepares a post against which there is no reason, under a new key: there is room for the post, and the Book is there that it
+    /// takes the account back to. For a Bill and for what sets rates the account reaches today; else nothing is folded but the
+    /// opening day. Its posts and issued statements stay; with the post, they are as every run leaves them. After want of memory it
+    /// is the same account too.
     pub fn prepare<L: Ledger>(
         &mut self,
         alloc: Global,
@@ -240,8 +241,8 @@ impl Account {
         self.replay.prepare(alloc, key, post, today, shared, steps)
     }
 
-    /// Takes a post that was prepared for this account, with the statement that it issues, and answers its number. It takes no
-    /// memory and can't fail.
+    /// Takes a post that was prepared for this account, with the statement that it issues, and answers its number. What it changes is
+    /// folded when the account is next asked. It takes no memory and can't fail.
     #[tactic(auto, unfolding(card_model::specs::Machine::accepted))]
     pub fn commit(&mut self, change: Change, shared: &SharedRows) -> u32
         requires prepared { IsPrepared shared.now change (replay_of self.old) }

@@ -79,7 +79,7 @@ AreFewToPost s a (Accepts new) before after =
 AreFewToPost s a (Refuses r) before after = after ≤ before + (2 * breaks_left s a + 2)
 AreFewToPost s a (Repeats n) before after = after ≤ before + (2 * breaks_left s a + 2)
 
--- to keep an accepted post: those that are left to reach today, and those to fold again
+-- to keep an accepted post: at most those that are left to reach today, and those from the first day of that cycle on
 abbrev pub AreFewToKeep : State → Option ReachedLists → Outcome → ℕ → ℕ → Type 0
 AreFewToKeep s (Some a) (Accepts new) before after = AreFewSteps s.today (shared_rows s.shared) a.lists new a.reached before after
 AreFewToKeep s _ _ before after = Unit {0}
