@@ -1,6 +1,7 @@
 pub mod Numbers
 pub mod Ordered
 pub mod SlotLists
+pub mod Moved
 pub mod OneMore
 pub mod Noted
 pub mod Targets

@@ -1,5 +1,6 @@
 // Slots in the order in which they are folded.
 ghost use Rattle.std.specs.Prelude.{◌≡◌, ◌+◌, ◌<◌, ◌≤◌, List, length, slice_set, vec_len, vec_capacity};
+ghost use Rattle.std.specs.List.{insert, remove};
 ghost use Rattle.card_events.specs.Limits.{post_limit};
 ghost use Rattle.card_events.specs.declared.kept.Kept.{Kept};
 ghost use Rattle.card_posts.specs.Effect.{corrected_with, slot_by, slots_from};
@@ -75,17 +76,44 @@ pub fn take_out(order: &mut Vec<Slot>, effects: &[Effect], i: usize)
     let _ = order.remove(from);
 }
 
+// moves the slot at a place back to an earlier one, and puts another in its stead
+fn move_back(order: &mut [Slot], from: usize, to: usize, slot: Slot)
+    requires earlier { to ≤ from }
+    requires known { from < length order.old }
+    ensures { order.new ≡ insert (remove order.old from) to slot }
+{
+    order[to..from + 1].rotate_right(1);
+    order[to] = slot;
+}
+
+// moves the slot at a place on to a later one, and puts another in its stead
+fn move_on(order: &mut [Slot], from: usize, to: usize, slot: Slot)
+    requires later { from ≤ to }
+    requires known { to < length order.old }
+    ensures { order.new ≡ insert (remove order.old from) to slot }
+{
+    order[from..to + 1].rotate_left(1);
+    order[to] = slot;
+}
+
 // Moves the slot of a post to where it belongs now.
 pub fn change(order: &mut Vec<Slot>, effects: &[Effect], i: usize, now: &Effect)
     requires few { length effects.now ≤ post_limit }
     requires order { order.old.items ≡ in_order (slots_from 1 effects.now) }
     requires known { i < length effects.now }
-    requires room { vec_len order.old ≤ vec_capacity order.old }
     ensures order { order.new.items ≡ in_order (slots_from 1 (slice_set effects.now i now.now)) }
     ensures small { now.now.cents ≤ cents_limit }
     ensures len { vec_len order.new ≡ vec_len order.old }
     ensures capacity { vec_capacity order.old ≤ vec_capacity order.new }
 {
-    take_out(order, effects, i);
-    place(order, slot(i as u32 + 1, now));
+    let number = i as u32 + 1;
+    let old = slot(number, &effects[i]);
+    let new = slot(number, now);
+    let from = place_of(order, &old);
+    let to = place_of(order, &new);
+    if to <= from {
+        move_back(order, from, to, new);
+    } else {
+        move_on(order, from, to - 1, new);
+    }
 }

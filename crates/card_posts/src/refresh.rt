@@ -97,7 +97,6 @@ fn refresh_one(
     requires few { length effects.old ≤ post_limit }
     requires known { i < length effects.old }
     requires ordered { AreOrdered order.old.items effects.old }
-    requires room { vec_len order.old ≤ vec_capacity order.old }
     ensures effects { effects.new ≡ slice_set effects.old i now.now }
     ensures small { AreSmall effects.new }
     ensures order { order.new.items ≡ in_order (slots_from 1 effects.new) }
@@ -127,7 +126,6 @@ fn refresh(
     requires corrections { corrections.now ≡ corrections_from history.now 1 history.now }
     requires length { length effects.old ≤ length history.now }
     requires ordered { AreOrdered order.old.items effects.old }
-    requires room { vec_len order.old ≤ vec_capacity order.old }
     ensures effects { effects.new ≡ take (length effects.old) (spec.effects anchor.now calendar.now history.now) }
     ensures small { AreSmall effects.new }
     ensures order { order.new.items ≡ in_order (slots_from 1 effects.new) }
@@ -157,7 +155,6 @@ fn refresh_alone(
     requires corrections { corrections.now ≡ corrections_from history.now 1 history.now }
     requires length { length effects.old ≤ length history.now }
     requires ordered { AreOrdered order.old.items effects.old }
-    requires room { vec_len order.old ≤ vec_capacity order.old }
     requires alone { IsAlone number effects.old (take (length effects.old) (spec.effects anchor.now calendar.now history.now)) }
     ensures effects { effects.new ≡ take (length effects.old) (spec.effects anchor.now calendar.now history.now) }
     ensures small { AreSmall effects.new }
@@ -190,7 +187,6 @@ pub fn update(
     requires corrections { corrections.now ≡ corrections_from history.now 1 history.now }
     requires length { length effects.old ≤ length history.now }
     requires ordered { AreOrdered order.old.items effects.old }
-    requires room { vec_len order.old ≤ vec_capacity order.old }
     requires alone { (n : ℕ) → alone ≡ Some n → IsAlone n effects.old (take (length effects.old) (spec.effects anchor.now calendar.now history.now)) }
     ensures effects { effects.new ≡ take (length effects.old) (spec.effects anchor.now calendar.now history.now) }
     ensures small { AreSmall effects.new }
