@@ -1,4 +1,4 @@
-use Rattle.std.proofs.Common.{◌≡◌, ◌+◌, ◌<◌, ◌≤◌, length, refl, sym, ap, subst, ◌∙◌, arith, None}
+use Rattle.std.proofs.Common.{◌≡◌, ◌+◌, ◌<◌, ◌≤◌, length, sym, ap, subst, ◌∙◌, arith, None}
 use Rattle.std.specs.Prelude.{IfOk, IfSome}
 use Rattle.card_events.specs.History.{anchor_of, corrected}
 use Rattle.card_events.specs.Keys.{with_key}
