@@ -21,7 +21,7 @@ pub fn ok_text(alloc: Global, number: u32) -> Result<String, NoMemory>
 }
 
 // A value in JSON.
-#[derive(Clone, Copy, Debug)]
+#[derive(Drop)]
 struct JsonValue(RefusalValue);
 
 impl fmt::Display for JsonValue {

@@ -78,31 +78,31 @@ impl Field {
         ensures { result ≡ is_number self }
     {
         match self {
-            Field::Account => false,
-            Field::Key => false,
-            Field::Day => false,
-            Field::Place => false,
-            Field::Category => false,
-            Field::Channel => false,
-            Field::Plan => false,
-            Field::End => false,
-            Field::Effective => false,
-            Field::Finding => false,
-            Field::Minute => true,
-            Field::Cents => true,
-            Field::Rate => true,
-            Field::After => true,
-            Field::First => true,
-            Field::Repeat => true,
-            Field::Target => true,
-            Field::Cycle => true,
-            Field::Close => true,
-            Field::Purchase => true,
-            Field::Cash => true,
-            Field::Transfer => true,
-            Field::Penalty => true,
-            Field::Floor => true,
-            Field::Pct => true,
+            Field::Minute
+            | Field::Cents
+            | Field::Rate
+            | Field::After
+            | Field::First
+            | Field::Repeat
+            | Field::Target
+            | Field::Cycle
+            | Field::Close
+            | Field::Purchase
+            | Field::Cash
+            | Field::Transfer
+            | Field::Penalty
+            | Field::Floor
+            | Field::Pct => true,
+            Field::Account
+            | Field::Key
+            | Field::Day
+            | Field::Place
+            | Field::Category
+            | Field::Channel
+            | Field::Plan
+            | Field::End
+            | Field::Effective
+            | Field::Finding => false,
         }
     }
 }
