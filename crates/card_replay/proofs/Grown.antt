@@ -1,14 +1,12 @@
--- Pasts that begin with another, and its room.
+-- Pasts that begin with another.
 use Rattle.std.proofs.Common.{◌≡◌, ℕ, ◌≤◌, List, length, length-take, take, refl, sym, ap, ◌∙◌, arith, Option}
-use Rattle.std.specs.Prelude.{vec_capacity}
 use Rattle.std.specs.Global.{Vec}
 use Rattle.std.proofs.lemmas.List.{take-take}
-use Rattle.card_daily.proofs.Standing.{begins-same, room-same}
+use Rattle.card_daily.proofs.Standing.{begins-same}
 use Rattle.card_daily.specs.Stands.{Begins}
 use Rattle.card_daily.specs.declared.track.Track.{Track}
 use Rattle.card_book.proofs.Steps.{begins-then}
-use Rattle.card_book.specs.declared.marks.Accruing.{Accruing}
-use Rattle.card_replay.specs.Pasts.{KeepsRooms, PastBegins}
+use Rattle.card_replay.specs.Pasts.{PastBegins}
 use Rattle.card_replay.specs.declared.past.Past.{Past}
 
 pub track-begins : (t : Track) → Begins t t
@@ -22,16 +20,9 @@ track-begins t = record {
 pub past-same : (p : Past) → PastBegins p p
 past-same p = record { track = track-begins p.track; since = begins-same p.since.items p.since.items refl; accrued = begins-same p.accrued.items p.accrued.items refl }
 
-pub rooms-same : (p : Past) → KeepsRooms p p
-rooms-same p = record { track = room-same p.track; since = omega arith; accrued = omega arith }
-
 -- one with the same days in a list of its own
 pub grown-since : (p : Past) (since : Vec (Option ℕ)) → since.items ≡ p.since.items → PastBegins p (record { track = p.track; since = since; accrued = p.accrued })
 grown-since p since e = record { track = track-begins p.track; since = begins-same p.since.items since.items e; accrued = begins-same p.accrued.items p.accrued.items refl }
-
-pub since-only : (p : Past) (since : Vec (Option ℕ)) (accrued : Vec Accruing) → vec_capacity p.since ≤ vec_capacity since → vec_capacity p.accrued ≤ vec_capacity accrued
-    → KeepsRooms p (record { track = p.track; since = since; accrued = accrued })
-since-only p since accrued l m = record { track = room-same p.track; since = l; accrued = m }
 
 -- ---- one after the other
 list-then : {A : Type 0} (xs ys zs : List A) → take (length xs) ys ≡ xs → take (length ys) zs ≡ ys → length xs ≤ length ys → take (length xs) zs ≡ xs

@@ -1,10 +1,7 @@
--- A past that grew, its front, and its room.
+-- A past that grew, and its front.
 use Rattle.std.proofs.Common.{◌≡◌, ℕ, ◌≤◌, List, length, take, ap, ◌∙◌, arith}
-use Rattle.card_daily.proofs.Standing.{room-then}
-use Rattle.card_daily.specs.Stands.{KeepsRoom}
-use Rattle.card_daily.specs.declared.track.Track.{Track}
 use Rattle.card_replay.proofs.Grown.{no-longer}
-use Rattle.card_replay.specs.Pasts.{AreEnds, AreSame, AreWithin, IsFront, KeepsRooms, PastBegins}
+use Rattle.card_replay.specs.Pasts.{AreEnds, AreSame, AreWithin, IsFront, PastBegins}
 use Rattle.card_replay.specs.declared.past.Ends.{Ends}
 use Rattle.card_replay.specs.declared.past.Past.{Past}
 
@@ -34,18 +31,6 @@ begins-same e p q r h b is = record {
   since = is.since ∙ front-is e.cycles p.since.items q.since.items h.since b.since;
   accrued = is.accrued ∙ front-is e.accrued p.accrued.items q.accrued.items h.accrued b.accrued;
 }
-
--- ---- room
-pub rooms-then : (p q r : Past) → KeepsRooms p q → KeepsRooms q r → KeepsRooms p r
-rooms-then p q r h k = record {
-  track = room-then p.track q.track r.track h.track k.track;
-  since = omega (arith, h.since, k.since);
-  accrued = omega (arith, h.accrued, k.accrued);
-}
-
--- where the track alone has more
-pub rooms-with : (p : Past) (t : Track) → KeepsRoom p.track t → KeepsRooms p (record { track = t; since = p.since; accrued = p.accrued })
-rooms-with p t h = record { track = h; since = omega arith; accrued = omega arith }
 
 -- the front of what stayed the same
 pub same-front : (e : Ends) (p q front : Past) → AreSame p q → IsFront e q front → IsFront e p front

@@ -1,6 +1,6 @@
 -- What is recorded of an account up to the day last reached, and its front up to an earlier day.
-use Rattle.std.specs.Prelude.{◌≡◌, ◌≤◌, [], length, take, vec_capacity}
-use Rattle.card_daily.specs.Stands.{Begins, KeepsRoom}
+use Rattle.std.specs.Prelude.{◌≡◌, ◌≤◌, [], length, take}
+use Rattle.card_daily.specs.Stands.{Begins}
 use Rattle.card_replay.specs.declared.change.Recorded.{Recorded}
 use Rattle.card_replay.specs.declared.change.Recorded.TheVariants as recorded
 use Rattle.card_replay.specs.declared.past.Ends.{Ends}
@@ -56,9 +56,3 @@ pub record PastBegins (old new : Past) : Type 0 where
   pub track : Begins old.track new.track
   pub since : take (length old.since.items) new.since.items ≡ old.since.items
   pub accrued : take (length old.accrued.items) new.accrued.items ≡ old.accrued.items
-
--- no list has less room than in another
-pub record KeepsRooms (old new : Past) : Type 0 where
-  pub track : KeepsRoom old.track new.track
-  pub since : vec_capacity old.since ≤ vec_capacity new.since
-  pub accrued : vec_capacity old.accrued ≤ vec_capacity new.accrued

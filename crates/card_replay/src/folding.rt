@@ -6,7 +6,7 @@ ghost use Rattle.card_events.specs.History.{anchor_of};
 ghost use Rattle.card_model.specs.CycleDays.{IsOpening};
 ghost use Rattle.card_daily.specs.Given.{opened_in};
 ghost use Rattle.card_book.specs.Stands.{StandsFor, day_to_fold, steps_over};
-ghost use Rattle.card_replay.specs.Pasts.{IsEmpty, KeepsRooms, PastBegins};
+ghost use Rattle.card_replay.specs.Pasts.{IsEmpty, PastBegins};
 ghost use Rattle.card_replay.specs.Replays.{ClosesLast, HasMarks, IsFoldedBefore, IsFolding};
 
 use crate::past::Past;
@@ -37,7 +37,6 @@ fn mark(inputs: &Inputs, book: &Book, past: &mut Past) -> Result<(), NoMemory>
     ensures marked { OnOk result (HasMarks inputs.now past.new) }
     ensures track { past.new.track ≡ past.old.track }
     ensures begins { PastBegins past.old past.new }
-    ensures room { KeepsRooms past.old past.new }
 {
     let _opened = inputs.anchor();
     let cycle = past.track.cycles.len() as u32;
@@ -50,8 +49,7 @@ fn mark(inputs: &Inputs, book: &Book, past: &mut Past) -> Result<(), NoMemory>
 // One more, for which room was made.
 fn push_day(list: &mut Vec<Option<Day>>, day: Option<Day>)
     requires { vec_len list.old < vec_capacity list.old }
-    ensures items { list.new.items ≡ list.old.items ++ day ∷ [] }
-    ensures capacity { vec_capacity list.old ≤ vec_capacity list.new }
+    ensures { list.new.items ≡ list.old.items ++ day ∷ [] }
 {
     let _ = list.extend_from_slice(&[day]);
 }
@@ -76,7 +74,6 @@ fn fold_closing<L: Ledger>(
     ensures steps { OnOk result (steps.new ≡ steps.old + steps_over inputs.now day (day_to_fold inputs.now book.old.day)) }
     ensures most { steps.new ≤ steps.old + steps_over inputs.now day (day_to_fold inputs.now book.old.day) }
     ensures begins { PastBegins past.old past.new }
-    ensures room { KeepsRooms past.old past.new }
 {
     let _opened = inputs.anchor();
     book.advance(alloc, inputs, &mut past.track, day, steps)?;
@@ -87,7 +84,7 @@ fn fold_closing<L: Ledger>(
 /// Folds to the end of a day, closing by closing, and keeps of each closing what a Book needs to be taken back to it. A closing is
 /// a break day, so that takes no step more. The Book is whole; with the past it stands for the book of these inputs, and has the
 /// marks of all closings. The day isn't before the last one folded or the opening day, and at most 2099-12-31. After want of memory
-/// the Book is only dropped, and each list begins with what it held. No list loses room.
+/// the Book is only dropped, and each list begins with what it held.
 pub fn fold_on<L: Ledger>(
     alloc: Global,
     inputs: &Inputs,
@@ -105,7 +102,6 @@ pub fn fold_on<L: Ledger>(
     ensures steps { OnOk result (steps.new ≡ steps.old + steps_over inputs.now to (day_to_fold inputs.now book.old.day)) }
     ensures most { steps.new ≤ steps.old + steps_over inputs.now to (day_to_fold inputs.now book.old.day) }
     ensures begins { PastBegins past.old past.new }
-    ensures room { KeepsRooms past.old past.new }
 {
     let anchor = inputs.anchor();
     while let Some(closing) = closing_by(&anchor, past.track.cycles.len(), to) {

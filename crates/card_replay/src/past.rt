@@ -2,7 +2,7 @@
 ghost use Rattle.std.specs.Prelude.{◌≡◌, ◌-◌, ◌≤◌, nat_le, length, slice_index_or};
 ghost use Rattle.std.specs.List.{filter};
 ghost use Rattle.card_model.specs.Cycles.{Cycle};
-ghost use Rattle.card_replay.specs.Pasts.{AreEnds, IsEmpty, IsFront, KeepsRooms};
+ghost use Rattle.card_replay.specs.Pasts.{AreEnds, IsEmpty, IsFront};
 
 use card_book::{Accruing, Track, fees_up_to};
 use card_days::Day;
@@ -99,8 +99,7 @@ pub fn ends_at(past: &Past, cycle: u32) -> Ends
 
 /// Drops what lies behind these ends. It takes no memory.
 pub fn cut(past: &mut Past, ends: &Ends)
-    ensures front { IsFront ends.now past.old past.new }
-    ensures room { KeepsRooms past.old past.new }
+    ensures { IsFront ends.now past.old past.new }
 {
     past.track.entries.truncate(ends.entries);
     past.track.cycles.truncate(ends.cycles);

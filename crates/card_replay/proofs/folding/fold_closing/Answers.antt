@@ -3,7 +3,6 @@ use Rattle.card_daily.specs.declared.track.Track.{Track}
 use Rattle.card_book.specs.Stands.{StandsFor}
 use Rattle.card_replay.proofs.Grown.{past-then, past-with}
 use Rattle.card_replay.proofs.NextClosing.{closes-last, count-more}
-use Rattle.card_replay.proofs.Parts.{rooms-then, rooms-with}
 use Rattle.card_replay.specs.declared.past.Past.{Past}
 use Rattle.card_replay.proofs.folding.fold_closing.Goals as goal
 
@@ -39,26 +38,11 @@ returns-clause-begins g c =
     let mid : Past = record { track = c.advance.new.track; since = p.since; accrued = p.accrued } in
     past-then p mid c.mark.new.past (past-with p c.advance.new.track c.advance.ensures.begins) c.mark.ensures.begins
 
-pub returns-clause-room : goal.returns-clause-room
-returns-clause-room g c =
-    let p = c.args.past.now in
-    let mid : Past = record { track = c.advance.new.track; since = p.since; accrued = p.accrued } in
-    rooms-then p mid c.mark.new.past (rooms-with p c.advance.new.track c.advance.ensures.room) c.mark.ensures.room
-
 pub returns-in_err-advance-clause-begins : goal.returns-in_err-advance-clause-begins
 returns-in_err-advance-clause-begins g c = past-with c.args.past.now c.advance.new.track c.advance.ensures.begins
-
-pub returns-in_err-advance-clause-room : goal.returns-in_err-advance-clause-room
-returns-in_err-advance-clause-room g c = rooms-with c.args.past.now c.advance.new.track c.advance.ensures.room
 
 pub returns-in_err-mark-clause-begins : goal.returns-in_err-mark-clause-begins
 returns-in_err-mark-clause-begins g c =
     let p = c.args.past.now in
     let mid : Past = record { track = c.advance.new.track; since = p.since; accrued = p.accrued } in
     past-then p mid c.mark.new.past (past-with p c.advance.new.track c.advance.ensures.begins) c.mark.ensures.begins
-
-pub returns-in_err-mark-clause-room : goal.returns-in_err-mark-clause-room
-returns-in_err-mark-clause-room g c =
-    let p = c.args.past.now in
-    let mid : Past = record { track = c.advance.new.track; since = p.since; accrued = p.accrued } in
-    rooms-then p mid c.mark.new.past (rooms-with p c.advance.new.track c.advance.ensures.room) c.mark.ensures.room

@@ -5,9 +5,8 @@ use Rattle.card_events.specs.History.{anchor_of}
 use Rattle.card_model.specs.CycleDays.{IsOpening}
 use Rattle.card_book.specs.Marks.{AreMarks}
 use Rattle.card_book.specs.Stands.{day_to_fold, steps_over}
-use Rattle.card_replay.proofs.Grown.{past-same, past-then, past-with, rooms-same}
+use Rattle.card_replay.proofs.Grown.{past-same, past-then, past-with}
 use Rattle.card_replay.proofs.NextClosing.{closed-through, first-closing, next-is, same-cycles}
-use Rattle.card_replay.proofs.Parts.{rooms-then, rooms-with}
 use Rattle.card_replay.proofs.Reaching.{steps-on}
 use Rattle.card_replay.specs.declared.past.Past.{Past}
 use Rattle.card_replay.proofs.folding.fold_on.Goals as goal
@@ -18,7 +17,6 @@ loop-closing-init g c = record {
   folded = c.requires.folded;
   steps = refl;
   begins = past-same c.args.past.now;
-  room = rooms-same c.args.past.now;
 }
 
 pub closing_by-requires-clause-opening : goal.closing_by-requires-clause-opening
@@ -74,7 +72,6 @@ loop-closing-preserved g c =
           ∙ (steps-on given (day_to_fold given l.book.day) c.in-Some.closing c.args.to l.steps c.fold_closing.new.steps sound.opening next.opened next.dated (omega (arith, next.upto)) next.within next.last did.steps
           ∙ l.invariant.steps);
       begins = past-then c.args.past.now l.past c.fold_closing.new.past l.invariant.begins c.fold_closing.ensures.begins;
-      room = rooms-then c.args.past.now l.past c.fold_closing.new.past l.invariant.room c.fold_closing.ensures.room;
     }
 
 pub loop-closing-smaller : goal.loop-closing-smaller
@@ -101,9 +98,6 @@ returns-in_err-fold_closing-clause-most g c =
 
 pub returns-in_err-fold_closing-clause-begins : goal.returns-in_err-fold_closing-clause-begins
 returns-in_err-fold_closing-clause-begins g c = past-then c.args.past.now c.loop-closing.past c.fold_closing.new.past c.loop-closing.invariant.begins c.fold_closing.ensures.begins
-
-pub returns-in_err-fold_closing-clause-room : goal.returns-in_err-fold_closing-clause-room
-returns-in_err-fold_closing-clause-room g c = rooms-then c.args.past.now c.loop-closing.past c.fold_closing.new.past c.loop-closing.invariant.room c.fold_closing.ensures.room
 
 -- ---- to the last day
 pub advance-requires-clause-stands : goal.advance-requires-clause-stands
@@ -140,12 +134,6 @@ returns-clause-begins g c =
     let new : Past = record { track = c.advance.new.track; since = p.since; accrued = p.accrued } in
     past-then c.args.past.now p new c.loop-closing.invariant.begins (past-with p c.advance.new.track c.advance.ensures.begins)
 
-pub returns-clause-room : goal.returns-clause-room
-returns-clause-room g c =
-    let p = c.loop-closing.past in
-    let new : Past = record { track = c.advance.new.track; since = p.since; accrued = p.accrued } in
-    rooms-then c.args.past.now p new c.loop-closing.invariant.room (rooms-with p c.advance.new.track c.advance.ensures.room)
-
 pub returns-in_err-advance-clause-most : goal.returns-in_err-advance-clause-most
 returns-in_err-advance-clause-most g c = omega (arith, c.advance.ensures.most_spans, c.loop-closing.invariant.steps)
 
@@ -154,9 +142,3 @@ returns-in_err-advance-clause-begins g c =
     let p = c.loop-closing.past in
     let new : Past = record { track = c.advance.new.track; since = p.since; accrued = p.accrued } in
     past-then c.args.past.now p new c.loop-closing.invariant.begins (past-with p c.advance.new.track c.advance.ensures.begins)
-
-pub returns-in_err-advance-clause-room : goal.returns-in_err-advance-clause-room
-returns-in_err-advance-clause-room g c =
-    let p = c.loop-closing.past in
-    let new : Past = record { track = c.advance.new.track; since = p.since; accrued = p.accrued } in
-    rooms-then c.args.past.now p new c.loop-closing.invariant.room (rooms-with p c.advance.new.track c.advance.ensures.room)

@@ -1,6 +1,6 @@
 use Rattle.std.proofs.Common.{◌≡◌, ◌+◌, ◌-◌, true}
 use Rattle.card_book.specs.Stands.{day_to_fold, steps_over}
-use Rattle.card_replay.specs.Pasts.{KeepsRooms, PastBegins}
+use Rattle.card_replay.specs.Pasts.{PastBegins}
 use Rattle.card_replay.specs.Replays.{IsFoldedBefore}
 use Rattle.card_replay.proofs.folding.fold_on.Given as goal
 
@@ -10,7 +10,6 @@ invariant-loop-closing g l = record {
   folded : IsFoldedBefore l.inputs l.book l.past l.to;
   steps : l.steps + steps_over l.inputs l.to (day_to_fold l.inputs l.book.day) ≡ l.fn.steps + steps_over l.inputs l.to (day_to_fold l.inputs l.fn.book.day);
   begins : PastBegins l.fn.past l.past;
-  room : KeepsRooms l.fn.past l.past;
 }
 
 -- each closing makes the days that are left fewer

@@ -1,7 +1,7 @@
 use Rattle.std.proofs.Common.{◌≡◌, ◌+◌, [], ◌∷◌, ◌++◌, refl, ap, ◌∙◌, arith}
-use Rattle.card_daily.proofs.Standing.{begins-with, room-same}
+use Rattle.card_daily.proofs.Standing.{begins-with}
 use Rattle.card_book.specs.Stands.{day_to_fold}
-use Rattle.card_replay.proofs.Grown.{grown-since, since-only, track-begins}
+use Rattle.card_replay.proofs.Grown.{grown-since, track-begins}
 use Rattle.card_replay.proofs.Marked.{marks-more}
 use Rattle.card_replay.proofs.NextClosing.{few-closed}
 use Rattle.card_replay.specs.declared.past.Past.{Past}
@@ -22,7 +22,7 @@ returns-clause-marked c =
     let ok = p.track.cycles.ok.0 in
     let new : Past = record { track = p.track; since = c.push_day.new.list; accrued = c.mark.new.list } in
     marks-more c.args.inputs.now c.args.book.now p new c.requires.closed c.len-cycle.result c.requires.stands (omega (arith, c.len-cycle.ensures, ok)) refl
-    (c.push_day.ensures.items ∙ (ap (λ l. l ++ c.credit_since.result ∷ []) c.reserve.ensures.items ∙ ap (λ d. p.since.items ++ d ∷ []) c.credit_since.ensures))
+    (c.push_day.ensures ∙ (ap (λ l. l ++ c.credit_since.result ∷ []) c.reserve.ensures.items ∙ ap (λ d. p.since.items ++ d ∷ []) c.credit_since.ensures))
     (c.in_ok-mark.ensures.items c.requires.closed.last.closing c.requires.closed.day)
 
 pub returns-clause-begins : goal.returns-clause-begins
@@ -30,30 +30,15 @@ returns-clause-begins c =
     let p = c.args.past.now in
     record {
       track = track-begins p.track;
-      since = begins-with p.since.items c.push_day.new.list.items (c.credit_since.result ∷ []) (c.push_day.ensures.items ∙ ap (λ l. l ++ c.credit_since.result ∷ []) c.reserve.ensures.items);
+      since = begins-with p.since.items c.push_day.new.list.items (c.credit_since.result ∷ []) (c.push_day.ensures ∙ ap (λ l. l ++ c.credit_since.result ∷ []) c.reserve.ensures.items);
       accrued = c.mark.ensures.begins;
-    }
-
-pub returns-clause-room : goal.returns-clause-room
-returns-clause-room c =
-    let p = c.args.past.now in
-    record {
-      track = room-same p.track;
-      since = omega (arith, c.push_day.ensures.capacity, c.reserve.ensures.capacity);
-      accrued = c.mark.ensures.capacity;
     }
 
 pub returns-in_err-reserve-clause-begins : goal.returns-in_err-reserve-clause-begins
 returns-in_err-reserve-clause-begins c = grown-since c.args.past.now c.reserve.new.self c.reserve.ensures.items
-
-pub returns-in_err-reserve-clause-room : goal.returns-in_err-reserve-clause-room
-returns-in_err-reserve-clause-room c = since-only c.args.past.now c.reserve.new.self c.args.past.now.accrued c.reserve.ensures.capacity (omega arith)
 
 pub returns-in_err-mark-clause-begins : goal.returns-in_err-mark-clause-begins
 returns-in_err-mark-clause-begins c =
     let p = c.args.past.now in
     let first = grown-since p c.reserve.new.self c.reserve.ensures.items in
     record { track = first.track; since = first.since; accrued = c.mark.ensures.begins }
-
-pub returns-in_err-mark-clause-room : goal.returns-in_err-mark-clause-room
-returns-in_err-mark-clause-room c = since-only c.args.past.now c.reserve.new.self c.mark.new.list c.reserve.ensures.capacity c.mark.ensures.capacity

@@ -43,4 +43,4 @@ returns-in-Err-clause-most g c =
     omega (arith, c.fold_on.ensures.most, same)
 
 pub returns-in-Err-clause-err : goal.returns-in-Err-clause-err
-returns-in-Err-clause-err g c = begins-same c.ends_of-ends.result c.args.past.now c.fold_on.new.past c.cut.new.past c.ends_of-ends.ensures c.fold_on.ensures.begins c.cut.ensures.front
+returns-in-Err-clause-err g c = begins-same c.ends_of-ends.result c.args.past.now c.fold_on.new.past c.cut.new.past c.ends_of-ends.ensures c.fold_on.ensures.begins c.cut.ensures
