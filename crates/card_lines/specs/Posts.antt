@@ -8,6 +8,14 @@ use Rattle.card_lines.specs.declared.word.PostKind.TheVariants as post_kind
 use Rattle.card_lines.specs.Fields.{◌>>=◌, field, end_at}
 use Rattle.card_lines.specs.Forms.{number_of, day_of, place_of, category_of, channel_of, plan_kind_of, finding_of}
 
+-- the penalty rate, floor and percentage
+unfoldable pub last_terms_of : List (List ℕ) → Result ((ℕ × ℕ × ℕ) × List (List ℕ)) ℕ
+last_terms_of fs = do
+  penalty ← field number_of 9 fs
+  floor ← field number_of 10 penalty.1
+  pct ← field number_of 11 floor.1
+  Ok ((penalty.0, floor.0, pct.0), pct.1)
+
 -- closing day, the four rates, floor and percentage
 unfoldable pub terms_of : List (List ℕ) → Result (Terms × List (List ℕ)) ℕ
 terms_of fs = do
@@ -15,10 +23,8 @@ terms_of fs = do
   purchase ← field number_of 6 close.1
   cash ← field number_of 7 purchase.1
   transfer ← field number_of 8 cash.1
-  penalty ← field number_of 9 transfer.1
-  floor ← field number_of 10 penalty.1
-  pct ← field number_of 11 floor.1
-  Ok (record { close = close.0; purchase = purchase.0; cash = cash.0; transfer = transfer.0; penalty = penalty.0; floor = floor.0; pct = pct.0 }, pct.1)
+  last ← last_terms_of transfer.1
+  Ok (record { close = close.0; purchase = purchase.0; cash = cash.0; transfer = transfer.0; penalty = last.0.0; floor = last.0.1; pct = last.0.2 }, last.1)
 
 -- day, terms
 unfoldable pub open_of : List (List ℕ) → Result Post ℕ

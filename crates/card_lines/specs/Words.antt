@@ -6,6 +6,20 @@ use Rattle.card_lines.specs.declared.word.PostKind.TheVariants as kind
 use Rattle.card_lines.specs.declared.word.Word.{Word}
 use Rattle.card_lines.specs.declared.word.Word.TheVariants as word
 
+-- the kind of post that a word names, of those that follow up on others
+unfoldable pub follow_up_of : List ℕ → Option PostKind
+follow_up_of bs =
+    if bytes_eq bs (codes "penalty") then Some kind.Penalty
+    else if bytes_eq bs (codes "review") then Some kind.Review
+    else if bytes_eq bs (codes "dispute") then Some kind.Dispute
+    else if bytes_eq bs (codes "ack") then Some kind.Ack
+    else if bytes_eq bs (codes "resolve") then Some kind.Resolve
+    else if bytes_eq bs (codes "askrefund") then Some kind.AskRefund
+    else if bytes_eq bs (codes "refund") then Some kind.Refund
+    else if bytes_eq bs (codes "amend") then Some kind.Amend
+    else if bytes_eq bs (codes "bill") then Some kind.Bill
+    else None
+
 -- the kind of post that a word names
 unfoldable pub post_kind_of : List ℕ → Option PostKind
 post_kind_of bs =
@@ -17,16 +31,7 @@ post_kind_of bs =
     else if bytes_eq bs (codes "plan") then Some kind.Plan
     else if bytes_eq bs (codes "notice") then Some kind.Notice
     else if bytes_eq bs (codes "lower") then Some kind.Lower
-    else if bytes_eq bs (codes "penalty") then Some kind.Penalty
-    else if bytes_eq bs (codes "review") then Some kind.Review
-    else if bytes_eq bs (codes "dispute") then Some kind.Dispute
-    else if bytes_eq bs (codes "ack") then Some kind.Ack
-    else if bytes_eq bs (codes "resolve") then Some kind.Resolve
-    else if bytes_eq bs (codes "askrefund") then Some kind.AskRefund
-    else if bytes_eq bs (codes "refund") then Some kind.Refund
-    else if bytes_eq bs (codes "amend") then Some kind.Amend
-    else if bytes_eq bs (codes "bill") then Some kind.Bill
-    else None
+    else follow_up_of bs
 
 -- the word that a posted request begins with
 abbrev pub posted_word : Option PostKind → Option Word

@@ -1,6 +1,6 @@
 // The fields of each kind of post, behind the account and the key.
 ghost use Rattle.card_lines.specs.Fields.{fields_left, Reads, ReadsAll};
-ghost use Rattle.card_lines.specs.Posts.{post_of, terms_of, open_of, charge_of, credit_of, payment_of, return_of, plan_of, notice_of, lower_of, penalty_of, review_of, dispute_of, ack_of, resolve_of, ask_refund_of, refund_of, amend_of, bill_of};
+ghost use Rattle.card_lines.specs.Posts.{post_of, terms_of, last_terms_of, open_of, charge_of, credit_of, payment_of, return_of, plan_of, notice_of, lower_of, penalty_of, review_of, dispute_of, ack_of, resolve_of, ask_refund_of, refund_of, amend_of, bill_of};
 
 use crate::fields::{
     at_end, category_field, channel_field, day_field, finding_field, number_field, place_field,
@@ -8,7 +8,7 @@ use crate::fields::{
 };
 use crate::line::BadField;
 use crate::word::PostKind;
-use card_events::{Post, Terms};
+use card_events::{Num, Post, Terms};
 
 /// The post of this kind that the rest of a line gives.
 #[tactic(auto, unfolding(crate::specs::Posts::post_of))]
@@ -36,6 +36,19 @@ pub fn read_post(kind: PostKind, text: &[u8]) -> Result<Post, BadField>
     }
 }
 
+// The penalty rate, the floor and the percentage.
+#[tactic(auto, unfolding(crate::specs::Posts::last_terms_of))]
+fn read_last_terms(rest: &mut &[u8]) -> Result<(Num, Num, Num), BadField>
+    ensures { Reads result (fields_left rest.new.now) (last_terms_of (fields_left rest.old.now)) }
+{
+    let mut left = *rest;
+    let penalty = number_field(9, &mut left)?;
+    let floor = number_field(10, &mut left)?;
+    let pct = number_field(11, &mut left)?;
+    *rest = left;
+    Ok((penalty, floor, pct))
+}
+
 #[tactic(auto, unfolding(crate::specs::Posts::terms_of))]
 fn read_terms(rest: &mut &[u8]) -> Result<Terms, BadField>
     ensures { Reads result (fields_left rest.new.now) (terms_of (fields_left rest.old.now)) }
@@ -45,9 +58,7 @@ fn read_terms(rest: &mut &[u8]) -> Result<Terms, BadField>
     let purchase = number_field(6, &mut left)?;
     let cash = number_field(7, &mut left)?;
     let transfer = number_field(8, &mut left)?;
-    let penalty = number_field(9, &mut left)?;
-    let floor = number_field(10, &mut left)?;
-    let pct = number_field(11, &mut left)?;
+    let (penalty, floor, pct) = read_last_terms(&mut left)?;
     let terms = Terms {
         close,
         purchase,

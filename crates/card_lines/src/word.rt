@@ -1,6 +1,6 @@
 ghost use Rattle.std.specs.Prelude.{◌≡◌};
 ghost use Rattle.std.specs.Str.{bytes_eq};
-ghost use Rattle.card_lines.specs.Words.{word_of, post_kind_of};
+ghost use Rattle.card_lines.specs.Words.{word_of, post_kind_of, follow_up_of};
 
 /// A word that a line begins with.
 #[derive(Clone, Copy, Debug, PartialEq, Eq)]
@@ -82,7 +82,17 @@ fn read_post_kind(text: &[u8]) -> Option<PostKind>
         Some(PostKind::Notice)
     } else if is_word(text, b"lower") {
         Some(PostKind::Lower)
-    } else if is_word(text, b"penalty") {
+    } else {
+        read_follow_up(text)
+    }
+}
+
+// Of the kinds that follow up on other posts.
+#[tactic(auto, unfolding(crate::specs::Words::follow_up_of))]
+fn read_follow_up(text: &[u8]) -> Option<PostKind>
+    ensures { result ≡ follow_up_of text.now }
+{
+    if is_word(text, b"penalty") {
         Some(PostKind::Penalty)
     } else if is_word(text, b"review") {
         Some(PostKind::Review)
