@@ -12,7 +12,7 @@ mod request;
 
 pub use kept::{Kept, Slot};
 pub use limits::POST_LIMIT;
-pub use name::Name;
+pub use name::{Name, is_name};
 pub use number::Num;
 pub use post::{Category, Finding, Place, PlanKind, Post, Terms};
 pub use reply::{Refusal, Reply};

@@ -6,7 +6,6 @@ mod byte;
 mod framing;
 mod head;
 mod heading;
-mod name;
 mod path;
 mod route;
 mod sending;

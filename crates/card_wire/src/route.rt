@@ -3,8 +3,8 @@ ghost use Rattle.std.specs.Prelude.{◌≡◌, ◌∷◌, [], option_map};
 ghost use Rattle.card_wire.specs.Routes.{route_of, below_account, of_account, behind_slash, parts_behind};
 ghost use Rattle.card_wire.specs.Routes as spec;
 
-use crate::name::is_name;
 use crate::path::split_part;
+use card_events::is_name;
 use card_lines::read_number;
 
 /// What a path names.
