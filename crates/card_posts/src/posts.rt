@@ -201,8 +201,7 @@ impl Posts {
     /// The first day on which the corrected list differs once this post stands behind the others, accepted on this day under any
     /// key; told without entering it, and without memory. None comes only for a post that corrects others, where a Return, a
     /// Dispute or a Resolve stands among them: then `draft` tells it. The corrected list must be that of the posts under this
-    /// calendar. The post is about no later one. A payment came in by
-    /// the day of acceptance, and an Amend gives no later day.
+    /// calendar. The post is about no later one. A payment came in by the day of acceptance, and an Amend gives no later day.
     pub fn first_change(&self, accepted: Day, post: &Post, calendar: &Calendar) -> Option<Day>
         requires few { length self.now.history < post_limit }
         requires stands { StandsFor calendar.now self.now }
