@@ -3,3 +3,4 @@ pub mod Statements
 pub mod Order
 pub mod Loading
 pub mod Tells
+pub mod Fit
