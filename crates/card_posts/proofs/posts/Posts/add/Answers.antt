@@ -1,10 +1,11 @@
-use Rattle.std.proofs.Common.{◌≡◌, ℕ, Bool, ◌||◌, List, [], ◌∷◌, ◌++◌, refl, sym, ap, subst, ◌∙◌}
+use Rattle.std.proofs.Common.{◌≡◌, Bool, ◌||◌, List, [], ◌∷◌, ◌++◌, refl, sym, ap, subst, ◌∙◌}
 use Rattle.card_events.specs.History.{anchor_of, corrected}
 use Rattle.card_events.specs.declared.kept.Kept.{Kept}
 use Rattle.card_posts.specs.Corrections.{some_waits, waits}
 use Rattle.card_posts.specs.Effect.{corrected_with}
 use Rattle.card_posts.specs.Posted.{Posted, StandsFor}
 use Rattle.card_posts.specs.Index.{IsIndex}
+use Rattle.card_posts.specs.declared.index.HashedKey.{HashedKey}
 use Rattle.card_posts.proofs.Alone.{waits-more}
 use Rattle.card_posts.proofs.Following.{corrected-is, effects-back}
 use Rattle.card_posts.proofs.posts.Posts.add.Goals as goal
@@ -31,7 +32,7 @@ invariant_of-self c = (
   waits-with c.self.inside.history.items c.enter-from.new.history.items _ c.self.inside.waits _ c.self.invariant.4 c.enter-from.ensures.history c.waits_with-self-inside.ensures,
 )
   where
-    index-with : (h d g : List Kept) (k : Kept) (ns : List ℕ) → d ≡ h → g ≡ h ++ k ∷ [] → IsIndex (d ++ k ∷ []) ns → IsIndex g ns
+    index-with : (h d g : List Kept) (k : Kept) (ns : List HashedKey) → d ≡ h → g ≡ h ++ k ∷ [] → IsIndex (d ++ k ∷ []) ns → IsIndex g ns
     index-with h d g k ns same is index = subst (λ u. IsIndex u ns) (ap (λ u. u ++ k ∷ []) same ∙ sym is) index
 
     waits-with : (h g : List Kept) (k : Kept) (w v : Bool) → w ≡ some_waits h → g ≡ h ++ k ∷ [] → v ≡ (w || waits k.post) → v ≡ some_waits g
