@@ -16,36 +16,6 @@ returns-in-Err-handle-clause-err g c =
     let first : Some c.in-Ok-Some.item ≡ slice_get c.loop-item.records 0 = cc (c.in-Ok-Some.ensures.item, c.in-Ok-Some.field-0-is) in
     fell_item _ _ _ c.args.run.now c.loop-item.run _ c.loop-item.invariant.done c.loop-item.records c.in-Ok-Some.item c.in-Err-handle.end c.loop-item.invariant.parts first c.loop-item.invariant.handled c.in-Err-handle.ensures.err
 
-pub loop-item-preserved-in-Ok-handle : goal.loop-item-preserved-in-Ok-handle
-loop-item-preserved-in-Ok-handle g c =
-    let first : Some c.in-Ok-Some.item ≡ slice_get c.loop-item.records 0 = cc (c.in-Ok-Some.ensures.item, c.in-Ok-Some.field-0-is) in
-    let parts = left_more _ c.loop-item.invariant.done c.loop-item.records c.in-Ok-Some.item c.loop-item.invariant.parts first in
-    record {
-      done = c.loop-item.invariant.done ++ c.in-Ok-Some.item ∷ [];
-      parts = parts ∙ ap (λ l. (c.loop-item.invariant.done ++ c.in-Ok-Some.item ∷ []) ++ l) (sym c.in-Ok-Some.ensures.left);
-      handled = handled_more _ _ _ c.args.run.now c.loop-item.run _ c.loop-item.invariant.done c.in-Ok-Some.item c.loop-item.invariant.handled c.in-Ok-handle.ensures.ok;
-    }
-
-pub loop-item-preserved-in-Ok-handle-2 : goal.loop-item-preserved-in-Ok-handle-2
-loop-item-preserved-in-Ok-handle-2 g c =
-    let first : Some c.in-Ok-Some.item ≡ slice_get c.loop-item.records 0 = cc (c.in-Ok-Some.ensures.item, c.in-Ok-Some.field-0-is) in
-    let parts = left_more _ c.loop-item.invariant.done c.loop-item.records c.in-Ok-Some.item c.loop-item.invariant.parts first in
-    record {
-      done = c.loop-item.invariant.done ++ c.in-Ok-Some.item ∷ [];
-      parts = parts ∙ ap (λ l. (c.loop-item.invariant.done ++ c.in-Ok-Some.item ∷ []) ++ l) (sym c.in-Ok-Some.ensures.left);
-      handled = handled_more _ _ _ c.args.run.now c.loop-item.run _ c.loop-item.invariant.done c.in-Ok-Some.item c.loop-item.invariant.handled c.in-Ok-handle.ensures.ok;
-    }
-
-pub loop-item-preserved-in-Ok-handle-3 : goal.loop-item-preserved-in-Ok-handle-3
-loop-item-preserved-in-Ok-handle-3 g c =
-    let first : Some c.in-Ok-Some.item ≡ slice_get c.loop-item.records 0 = cc (c.in-Ok-Some.ensures.item, c.in-Ok-Some.field-0-is) in
-    let parts = left_more _ c.loop-item.invariant.done c.loop-item.records c.in-Ok-Some.item c.loop-item.invariant.parts first in
-    record {
-      done = c.loop-item.invariant.done ++ c.in-Ok-Some.item ∷ [];
-      parts = parts ∙ ap (λ l. (c.loop-item.invariant.done ++ c.in-Ok-Some.item ∷ []) ++ l) (sym c.in-Ok-Some.ensures.left);
-      handled = handled_more _ _ _ c.args.run.now c.loop-item.run _ c.loop-item.invariant.done c.in-Ok-Some.item c.loop-item.invariant.handled c.in-Ok-handle.ensures.ok;
-    }
-
 pub loop-item-preserved : goal.loop-item-preserved
 loop-item-preserved g c =
     let first : Some c.in-Ok-Some.item ≡ slice_get c.loop-item.records 0 = cc (c.in-Ok-Some.ensures.item, c.in-Ok-Some.field-0-is) in

@@ -13,7 +13,7 @@ returns-in-Ok-handle-clause-ok g c =
     let item = c.item_of-item.ensures.item ∙ ap (λ (l : Line). item_of (c.self.inside.number + 1) l) (c.in-Ok.ensures.line ∙ ap ended_line c.deref.ensures.value) in
     fed_line_feed_of _ _ _ _ _ c.handle.new.self _ c.self.view_is item c.in-Ok-handle.ensures.ok c.clear.ensures.items
 
-pub returns-clause-err : goal.returns-clause-err
-returns-clause-err g c =
+pub returns-in-Err-handle-clause-err : goal.returns-in-Err-handle-clause-err
+returns-in-Err-handle-clause-err g c =
     let item = c.item_of-item.ensures.item ∙ ap (λ (l : Line). item_of (c.self.inside.number + 1) l) (c.in-Ok.ensures.line ∙ ap ended_line c.deref.ensures.value) in
     fell_line_feed_of _ _ _ _ _ c.in-Err-handle.end c.self.view_is item c.in-Err-handle.ensures.err
