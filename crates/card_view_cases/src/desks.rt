@@ -286,14 +286,13 @@ fn statement(
 ) -> Result<Statement, Fail>
     ensures { desk.new.state ≡ desk.old.state }
 {
-    let account = name(rt, alloc, "a")?;
     let cycle = Num::new(cycle).expect(rt, "a number");
-    let ask = if as_issued {
-        Ask::Issued(account, cycle)
+    let view = if as_issued {
+        uncounted::see(alloc, desk, &Ask::Issued(name(rt, alloc, "a")?, cycle))?
     } else {
-        Ask::Restated(account, cycle)
+        uncounted::see(alloc, desk, &Ask::Restated(name(rt, alloc, "a")?, cycle))?
     };
-    match uncounted::see(alloc, desk, &ask)? {
+    match view {
         View::Statement(statement) => Ok(statement),
         _ => Err(Fail::from("no statement")),
     }
