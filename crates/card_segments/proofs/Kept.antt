@@ -1,5 +1,5 @@
 -- What always holds of balances holds after the entries of each call.
-use Rattle.std.proofs.Common.{◌≡◌, ℕ, zero, suc, ◌-◌, ◌<◌, ◌≤◌, Bool, true, false, cond, List, length, refl, sym, ◌∙◌, subst, arith, ℤ, pos, negsuc, ◌+ℤ◌, eqb, get_or}
+use Rattle.std.proofs.Common.{◌≡◌, ℕ, zero, suc, ◌-◌, ◌<◌, ◌≤◌, Bool, true, false, cond, List, [], ◌∷◌, ◌++◌, length, length-append, refl, sym, ◌∙◌, subst, arith, ℤ, pos, negsuc, ◌+ℤ◌, eqb, get_or}
 use Rattle.std.specs.Prelude.{min, ◌≤ℤ◌, neg_ℤ}
 use Rattle.std.specs.List.{All}
 use Rattle.std.proofs.lemmas.Int.{ints}
@@ -34,6 +34,28 @@ enough_cents (negsuc n) b a h = absurd (omega (arith, ints, a.low))
 negated-is : (x : ℕ) → negated x ≡ neg_ℤ (pos x)
 negated-is zero = refl
 negated-is (suc n) = refl
+
+-- ---- one more segment, with nothing owed on it
+at-more : (bs : List ℤ) (s : ℕ) → get_or (bs ++ pos 0 ∷ []) s (pos 0) ≡ get_or bs s (pos 0)
+at-more [] zero = refl
+at-more [] (suc s) = refl
+at-more (b ∷ bs) zero = refl
+at-more (b ∷ bs) (suc s) = at-more bs s
+
+pub kept-more : (ss : List Segment) (bs : List ℤ) (s : Segment) → length ss < 64 → AreKept ss bs → AreKept (ss ++ s ∷ []) (bs ++ pos 0 ∷ [])
+kept-more ss bs s few a =
+    let segments = length-append ss (s ∷ []) in
+    let balances = length-append bs (pos 0 ∷ []) in
+    record {
+      equal = omega (arith, segments, balances, a.equal);
+      five = omega (arith, balances, a.five);
+      few = omega (arith, balances, few, a.equal);
+      small = λ k. rw (at-more bs k) (a.small k);
+      signs = record {
+        credit = rw (at-more bs 0) a.signs.credit;
+        owing = λ k l. rw (at-more bs k) (a.signs.owing k l);
+      };
+    }
 
 -- ---- one balance
 -- the balance of a segment moves and keeps its range and sign

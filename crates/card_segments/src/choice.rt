@@ -7,7 +7,7 @@ use card_model::Holding;
 
 // What is looked for: the least rate, the greatest rate, the soonest end in the last two cycles, or a segment of the place.
 // Among equals the holding that stands first is taken.
-#[derive(Clone, Copy, Debug, PartialEq, Eq)]
+#[derive(Clone, Copy)]
 pub enum Choice {
     LowerRate,
     HigherRate,

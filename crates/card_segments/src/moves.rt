@@ -28,7 +28,7 @@ fn post(balances: &mut Vec<Cents>, out: &mut Vec<Entry>, note: &Note, id: u8, ce
             post: note.post,
             cents,
         };
-        let _ = out.push(entry);
+        out.push_reserved(entry);
     }
 }
 

@@ -6,7 +6,7 @@ use crate::choice::{Choice, best};
 use card_model::Holding;
 
 // A cent of the minimum payment, one above it, or one of a merchant's credit.
-#[derive(Clone, Copy, Debug, PartialEq, Eq)]
+#[derive(Clone, Copy)]
 pub enum Rule {
     Minimum,
     Excess,

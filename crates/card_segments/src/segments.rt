@@ -86,7 +86,7 @@ impl Segments {
         let number = self.len();
         self.balances.reserve(1)?;
         self.segments.extend_from_slice(&[segment])?;
-        let _ = self.balances.push(0);
+        self.balances.push_reserved(0);
         Ok(number)
     }
 
