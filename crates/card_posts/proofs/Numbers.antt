@@ -1,5 +1,5 @@
 -- Numbers of posts.
-use Rattle.std.proofs.Common.{◌≡◌, ℕ, suc, ◌+◌, ◌<◌, ◌≤◌, List, [], ◌∷◌, ◌++◌, length, length-append, arith, refl}
+use Rattle.std.proofs.Common.{◌≡◌, ℕ, suc, ◌+◌, ◌<◌, ◌≤◌, List, [], ◌∷◌, ◌++◌, length, length-append, arith}
 use Rattle.card_events.specs.Limits.{post_limit}
 use Rattle.card_events.specs.declared.kept.Kept.{Kept}
 use Rattle.card_posts.specs.Posted.{AreNumbered}
@@ -14,7 +14,3 @@ pub one-more : (new old : List Kept) (k : Kept) → new ≡ old ++ k ∷ [] → 
 one-more new old k is few h e =
     let long : length (old ++ k ∷ []) ≡ length old + 1 = length-append old (k ∷ []) in
     rw is (omega (arith, long, few), numbered-more 1 old k h (omega (arith, e)))
-
-pub first-one : (new old : List Kept) (k : Kept) → new ≡ old ++ k ∷ [] → old ≡ [] → k.number ≡ length old + 1 → (length new ≤ post_limit) × AreNumbered 1 new
-unfolding AreNumbered
-first-one new old k is none e = let zero : length old ≡ 0 = rw none refl in one-more new old k is (omega (arith, zero)) (rw none tt) e

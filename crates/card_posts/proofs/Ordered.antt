@@ -8,9 +8,6 @@ use Rattle.card_posts.specs.Order.{before, placed, in_order, HaveNumbers, IsAsce
 use Rattle.card_events.specs.declared.kept.Slot.{Slot}
 
 -- the order on days and numbers
-key_before : ℕ → ℕ → ℕ → ℕ → Bool
-key_before d n e m = nat_lt d e || ((d == e) && nat_lt n m)
-
 total : (d n e m : ℕ) → (n ≡ m → ⊥) → (nat_lt e d || ((e == d) && nat_lt m n)) ≡ not (nat_lt d e || ((d == e) && nat_lt n m))
 total d n e m h = grind (arith, nat_tests)
 

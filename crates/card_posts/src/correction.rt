@@ -10,7 +10,7 @@ use card_days::Day;
 use card_events::{Kept, Num, Post};
 
 // What later posts say of a post: the day and cents of the last Amend, and the sum that was confirmed as an error in it.
-#[derive(Clone, Copy, Debug, PartialEq, Eq)]
+#[derive(Clone, Copy)]
 pub struct Correction {
     pub amend: Option<(Day, Num)>,
     pub confirmed: u64,

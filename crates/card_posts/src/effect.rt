@@ -19,7 +19,7 @@ use card_days::{Anchor, Calendar, Channel, Day, credit_day};
 use card_events::{Kept, Num, Post};
 
 // What counts for a post now: its effective day and its corrected cents.
-#[derive(Clone, Copy, Debug, PartialEq, Eq)]
+#[derive(Clone, Copy)]
 pub struct Effect {
     pub day: Day,
     pub cents: Num,

@@ -32,11 +32,11 @@ fn append(history: &mut Vec<Kept>, corrections: &mut Vec<Correction>, anchor: &A
     ensures corrections { corrections.new.items ≡ corrections_from history.new.items 1 history.new.items }
 {
     note(history, corrections, &kept.post);
-    let _ = corrections.push(Correction {
+    corrections.push_reserved(Correction {
         amend: None,
         confirmed: 0,
     });
-    let _ = history.push(kept);
+    history.push_reserved(kept);
 }
 
 // Brings the corrected list up to the last post of the history, where it is known that something else may count for one other
@@ -76,7 +76,7 @@ fn follow(
     let effect = effect_now(history, corrections, effects, count, anchor, calendar);
     let from = sooner(effect.day, changed);
     place(order, slot(count as u32 + 1, &effect));
-    let _ = effects.push(effect);
+    effects.push_reserved(effect);
     from
 }
 

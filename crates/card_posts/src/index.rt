@@ -13,7 +13,7 @@ use card_events::{Kept, Name};
 const HASHES: u64 = 4_294_967_296;
 
 // The hash of the key of a post, and the post's number.
-#[derive(Clone, Copy, Debug, PartialEq, Eq)]
+#[derive(Clone, Copy)]
 pub struct HashedKey {
     pub hash: u32,
     pub number: u32,

@@ -4,7 +4,7 @@ use crate::effect::{Effect, no_cents};
 use crate::enter::enter;
 use crate::foretold::first_with;
 use crate::index::{HashedKey, enter_key, find, hashed_key};
-use crate::make::{copy_history, one_correction, one_effect, one_kept, one_key, one_slot, opening};
+use crate::make::{one, opening};
 use crate::order::{slot, slot_with};
 use crate::refresh::{is_correction, waits_with};
 use card_days::{Anchor, Calendar, Day};
@@ -81,12 +81,16 @@ impl Posts {
             day: anchor.opened,
             cents: no_cents(),
         };
+        let nothing = Correction {
+            amend: None,
+            confirmed: 0,
+        };
         Ok(Posts {
-            index: one_key(alloc, hashed_key(key.bytes(), 1))?,
-            corrections: one_correction(alloc)?,
-            order: one_slot(alloc, slot(1, &effect))?,
-            effects: one_effect(alloc, effect)?,
-            history: one_kept(alloc, kept)?,
+            index: one(alloc, hashed_key(key.bytes(), 1))?,
+            corrections: one(alloc, nothing)?,
+            order: one(alloc, slot(1, &effect))?,
+            effects: one(alloc, effect)?,
+            history: one(alloc, kept)?,
             anchor,
             waits: false,
             has_room: false,
@@ -307,22 +311,6 @@ impl Posts {
     {
         self.make_room()?;
         Ok(self.add(key, accepted, post, calendar))
-    }
-
-    /// The same posts in memory of their own, without room for one more.
-    pub fn copy(&self, alloc: Global) -> Result<Posts, NoMemory>
-        ensures { IfOk result (λ posts. posts ≡ record self.now { has_room = false }) }
-    {
-        Ok(Posts {
-            history: copy_history(alloc, &self.history)?,
-            index: Vec::from_slice(alloc, &self.index)?,
-            corrections: Vec::from_slice(alloc, &self.corrections)?,
-            effects: Vec::from_slice(alloc, &self.effects)?,
-            order: Vec::from_slice(alloc, &self.order)?,
-            anchor: self.anchor,
-            waits: self.waits,
-            has_room: false,
-        })
     }
 
     /// What fixes the cycles of the account: its opening day, and the day of the month on which they close, 1 to 28.

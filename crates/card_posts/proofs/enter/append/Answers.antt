@@ -10,16 +10,16 @@ use Rattle.card_posts.proofs.enter.append.Goals as goal
 
 pub returns-clause-kept : goal.returns-clause-kept
 returns-clause-kept c =
-    let items : c.push-2.new.self.items ≡ more c.args.history.now.items c.args.kept = grind (arith, common_steps) in
+    let items : c.push_reserved-2.new.self.items ≡ more c.args.history.now.items c.args.kept = c.push_reserved-2.ensures.items in
     subst (λ (h : List Kept). IsKept c.args.anchor.now h) (sym items) (kept-more c.args.anchor.now c.args.history.now.items c.args.kept c.requires.kept c.requires.few c.requires.number c.requires.earlier c.requires.timely)
 
 pub returns-clause-corrections : goal.returns-clause-corrections
 returns-clause-corrections c =
     let h : List Kept = c.args.history.now.items in
-    let items : c.push-2.new.self.items ≡ more h c.args.kept = grind (arith, common_steps) in
+    let items : c.push_reserved-2.new.self.items ≡ more h c.args.kept = c.push_reserved-2.ensures.items in
     let noted : c.note.new.corrections ≡ corrections_from (more h c.args.kept) 1 h = c.note.ensures c.args.kept refl ∙ ap (λ u. corrections_from (more u c.args.kept) 1 u) c.deref.ensures.value in
     let last : correction_of (more h c.args.kept) (1 + length h) ≡ by_parts None 0 = new-kept h c.args.kept c.requires.kept.names c.requires.earlier in
     let all : c.note.new.corrections ++ by_parts None 0 ∷ [] ≡ corrections_from (more h c.args.kept) 1 (more h c.args.kept) =
     rw (noted, ← last) (sym (corrections-append (more h c.args.kept) 1 h c.args.kept)) in
-    let pushed : c.push.new.self.items ≡ c.note.new.corrections ++ by_parts None 0 ∷ [] = grind (arith, common_steps) in
+    let pushed : c.push_reserved.new.self.items ≡ c.note.new.corrections ++ by_parts None 0 ∷ [] = grind (arith, common_steps) in
     pushed ∙ (all ∙ ap (λ u. corrections_from u 1 u) (sym items))

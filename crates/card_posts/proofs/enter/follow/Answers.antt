@@ -24,8 +24,8 @@ returns-clause-effects c =
     let long = effects-length c.args.anchor.now c.args.calendar.now c.args.history.now 1 c.args.history.now in
     let count : c.len-count.result ≡ length c.args.effects.now.items = grind (arith, common_steps) in
     let front : c.update-changed.new.effects ≡ take (length c.args.effects.now.items) (effects c.args.anchor.now c.args.calendar.now c.args.history.now) = grind (arith, common_steps) in
-    let pushed : c.push.new.self.items ≡ c.update-changed.new.effects ++ c.effect_now-effect.result ∷ [] = grind (arith, common_steps) in
-    all-is c.args.effects.now.items c.update-changed.new.effects (effects c.args.anchor.now c.args.calendar.now c.args.history.now) c.push.new.self.items c.len-count.result c.effect_now-effect.result (long ∙ c.requires.length) count front (c.effect_now-effect.ensures c.effect_now-effect.result) pushed
+    let pushed : c.push_reserved.new.self.items ≡ c.update-changed.new.effects ++ c.effect_now-effect.result ∷ [] = grind (arith, common_steps) in
+    all-is c.args.effects.now.items c.update-changed.new.effects (effects c.args.anchor.now c.args.calendar.now c.args.history.now) c.push_reserved.new.self.items c.len-count.result c.effect_now-effect.result (long ∙ c.requires.length) count front (c.effect_now-effect.ensures c.effect_now-effect.result) pushed
 
 pub returns-clause-order : goal.returns-clause-order
 returns-clause-order c =
@@ -35,7 +35,7 @@ returns-clause-order c =
     let front : c.update-changed.new.effects ≡ take (length c.args.effects.now.items) now = grind (arith, common_steps) in
     let enough : length c.args.effects.now.items ≤ length now = omega (arith, long, c.requires.length) in
     let many : c.len-count.result ≡ length c.update-changed.new.effects = count ∙ sym (ap length front ∙ front-length (length c.args.effects.now.items) now enough) in
-    let pushed : c.push.new.self.items ≡ c.update-changed.new.effects ++ c.effect_now-effect.result ∷ [] = grind (arith, common_steps) in
+    let pushed : c.push_reserved.new.self.items ≡ c.update-changed.new.effects ++ c.effect_now-effect.result ∷ [] = grind (arith, common_steps) in
     c.place.ensures.order
     ∙ (ap (λ s. placed s c.update-changed.new.order.items) (c.slot.ensures.value ∙ ap (λ n. slot_by (n + 1) c.effect_now-effect.result) many)
     ∙ (ap (placed (slot_by (length c.update-changed.new.effects + 1) c.effect_now-effect.result)) c.update-changed.ensures.order
@@ -48,7 +48,7 @@ returns-clause-from c h k is =
     let front : c.update-changed.new.effects ≡ take (length c.args.effects.now.items) now = grind (arith, common_steps) in
     let enough : length c.args.effects.now.items ≤ length now = omega (arith, long, c.requires.length) in
     let many : length c.args.effects.now.items ≡ length c.update-changed.new.effects = sym (ap length front ∙ front-length (length c.args.effects.now.items) now enough) in
-    let pushed : c.push.new.self.items ≡ c.update-changed.new.effects ++ c.effect_now-effect.result ∷ [] = grind (arith, common_steps) in
+    let pushed : c.push_reserved.new.self.items ≡ c.update-changed.new.effects ++ c.effect_now-effect.result ∷ [] = grind (arith, common_steps) in
     let longer : length (h ++ k ∷ []) ≡ length h + 1 = length-append h (k ∷ []) in
     let whole_length : length c.args.history.now ≡ length (h ++ k ∷ []) = ap length is in
     let before : length h ≡ length c.args.effects.now.items = omega (arith, longer, whole_length, c.requires.length) in

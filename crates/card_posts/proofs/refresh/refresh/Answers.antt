@@ -3,7 +3,7 @@ use Rattle.card_days.specs.Range.{last_calendar_day}
 use Rattle.card_posts.specs.Change.{after_one, first_change}
 use Rattle.card_posts.specs.Effect.{effects}
 use Rattle.card_posts.specs.declared.effect.Effect.{Effect}
-use Rattle.card_posts.proofs.Changed.{renew, renewed-at, change-step}
+use Rattle.card_posts.proofs.Changed.{renew, renewed-at, renewed-front, change-step}
 use Rattle.card_posts.proofs.OneMore.{effects-length}
 use Rattle.card_posts.proofs.refresh.refresh.Goals as goal
 
@@ -17,6 +17,14 @@ loop-i-init c = record {
   len = refl;
   capacity = omega arith;
 }
+
+pub effect_now-now-requires-clause-front : goal.effect_now-now-requires-clause-front
+effect_now-now-requires-clause-front c =
+    let new : List Effect = effects c.args.anchor.now c.args.calendar.now c.args.history.now in
+    let long = effects-length c.args.anchor.now c.args.calendar.now c.args.history.now 1 c.args.history.now in
+    let within : c.loop-i.i < length c.args.effects.now = omega (arith, c.loop-i-test.true) in
+    let enough : length c.args.effects.now ≤ length new = omega (arith, long, c.requires.length) in
+    ap (take c.loop-i.i) c.loop-i.invariant.renewed ∙ renewed-front c.loop-i.i new c.args.effects.now (omega arith) enough
 
 -- one more post is looked at
 step : (here : ℕ) (first i : ℕ) (now : Effect) (current new old : List Effect) → i < length old → length old ≤ length new → current ≡ take i new ++ drop i old
