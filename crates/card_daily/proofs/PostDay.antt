@@ -405,16 +405,6 @@ end-later slots day place end s h l within at later = by (cases_lt place end)
         absurd (omega (arith, front, same, later))
     by (inr m) = omega (arith, l, m)
 
-pub end-further : (slots : List Slot) (day place end : ℕ) (s : Slot) → IsCut slots (day + 1) end → place ≤ end → place < length slots → s ≡ get_or slots place s → s.day ≤ day → place + 1 ≤ end
-end-further slots day place end s h l within at early = by (cases_lt place end)
-  where
-    by : (place < end) ⊎ (end ≤ place) → place + 1 ≤ end
-    by (inl m) = omega (arith, m)
-    by (inr m) =
-        let back = h.back place s m within in
-        let same = ap (λ (t : Slot). t.day) at in
-        absurd (omega (arith, back, same, early))
-
 -- the place that is found so is that of the next day
 pub end-found : (g : Given) (day first found : ℕ) (posts : Posted) (slots : List Slot) → StandsFor g.shared.holidays posts → posts.history ≡ g.history → first ≡ place_of day posts.corrected
     → slots ≡ folding_order posts.corrected → ((end : ℕ) → IsCut slots (day + 1) end → first ≤ end → found ≡ end) → found ≡ place_in g (day + 1)
