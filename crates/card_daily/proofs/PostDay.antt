@@ -1,8 +1,8 @@
 -- The posts of a day in turn: the book after each, and what stands for it.
-use Rattle.std.proofs.Common.{◌≡◌, ℕ, eqb, ◌+◌, ◌-◌, ◌≤◌, ◌<◌, Bool, true, false, cond, ◌||◌, List, [], ◌∷◌, ◌++◌, map, take, drop, length, refl, sym, ap, ◌∙◌, subst, arith, get_or, Option, Some, None, Result, Ok, Err, pos}
+use Rattle.std.proofs.Common.{◌≡◌, ℕ, eqb, ◌+◌, ◌-◌, ◌≤◌, ◌<◌, Bool, true, false, cond, ◌||◌, List, [], ◌∷◌, ◌++◌, map, take, drop, length, refl, sym, ap, ◌∙◌, subst, arith, get_or, Option, Some, None, Result, Ok, Err, pos, ◌⊎◌, inl, inr}
 use Rattle.std.specs.Prelude.{◌≤ℤ◌, OnOk, OnErr}
 use Rattle.std.specs.List.{All, Contains, filter}
-use Rattle.std.proofs.lemmas.Bool.{eqb-true, false≢true}
+use Rattle.std.proofs.lemmas.Bool.{cases_lt, eqb-true, false≢true}
 use Rattle.std.proofs.lemmas.Int.{ints}
 use Rattle.std.proofs.lemmas.List.{append_assoc, length-drop, length-map, take-append-drop, take_all}
 use Rattle.std.proofs.lemmas.List.Elements.{All-cons, All-filter, All-get_or, All-head, All-nil, All-tail, filter_passes}
@@ -14,6 +14,7 @@ use Rattle.card_effects.specs.Returned.{AreOfThose}
 use Rattle.card_effects.specs.Standing.{StandsAt}
 use Rattle.card_events.specs.History.{CorrectedPost, anchor_of, corrected, is_folded}
 use Rattle.card_events.specs.Limits.{post_limit}
+use Rattle.card_events.specs.declared.kept.Slot.{Slot}
 use Rattle.card_events.specs.declared.post.Post.{Post}
 use Rattle.card_events.specs.declared.post.Post.TheVariants as post
 use Rattle.card_grace.specs.Accruals.{Accrued, nothing_accrued}
@@ -26,11 +27,12 @@ use Rattle.card_model.specs.Payments.{returns}
 use Rattle.card_model.specs.Segments.{SegmentTerms, kept_segment}
 use Rattle.card_model.specs.declared.segment.Segment.{Segment}
 use Rattle.card_posts.specs.Change.{on}
-use Rattle.card_posts.specs.Posted.{Posted, StandsFor}
+use Rattle.card_posts.specs.Posted.{Posted, StandsFor, folding_order}
 use Rattle.card_rates.specs.RateBooks.{Rates, rates_of}
 use Rattle.card_slots.proofs.Places.{of_days}
 use Rattle.card_slots.proofs.Turns.{in_turn, of_a_day}
 use Rattle.card_slots.specs.Days.{day_post, folded_post, place_of}
+use Rattle.card_slots.specs.Laws.{IsCut}
 use Rattle.card_slots.specs.declared.day.DayPost.{DayPost}
 use Rattle.card_daily.proofs.Books.{day-is}
 use Rattle.card_daily.proofs.Following.{begun-by}
@@ -391,6 +393,29 @@ place-is g day r posts stands history e = e ∙ ap (place_of day) (stands ∙ ap
 
 pub end-is : (g : Given) (day : ℕ) → place_in g (day + 1) ≡ place_in g day + length (posts_of g day)
 end-is g day = of_days.next (corrected (anchor_of g.history) g.shared.holidays g.history) day
+
+-- a slot of a later day, behind slots that aren't, has the place of the next day; where there is none, that is behind all
+pub end-later : (slots : List Slot) (day place end : ℕ) (s : Slot) → IsCut slots (day + 1) end → place ≤ end → place < length slots → s ≡ get_or slots place s → day < s.day → place ≡ end
+end-later slots day place end s h l within at later = by (cases_lt place end)
+  where
+    by : (place < end) ⊎ (end ≤ place) → place ≡ end
+    by (inl m) =
+        let front = h.front place s m within in
+        let same = ap (λ (t : Slot). t.day) at in
+        absurd (omega (arith, front, same, later))
+    by (inr m) = omega (arith, l, m)
+
+-- the place that is found so is that of the next day
+pub end-found : (g : Given) (day first found : ℕ) (posts : Posted) (slots : List Slot) → StandsFor g.shared.holidays posts → posts.history ≡ g.history → first ≡ place_of day posts.corrected
+    → slots ≡ folding_order posts.corrected → ((end : ℕ) → IsCut slots (day + 1) end → first ≤ end → found ≡ end) → found ≡ place_in g (day + 1)
+end-found g day first found posts slots stands history e order h =
+    let a = anchor_of g.history in
+    let cs = corrected a g.shared.holidays g.history in
+    let list : posts.corrected ≡ cs = stands ∙ ap (λ h. corrected (anchor_of h) g.shared.holidays h) history in
+    let start = place-is g day first posts stands history e in
+    let next = end-is g day in
+    h (place_in g (day + 1)) (subst (λ (xs : List Slot). IsCut xs (day + 1) (place_in g (day + 1))) (sym (order ∙ ap folding_order list)) (of_days.cut a g.shared.holidays g.history (day + 1)))
+    (omega (arith, start, next))
 
 pub done-none : (g : Given) (day place : ℕ) → place ≡ place_in g day → [] ≡ done_by g day place
 done-none g day place e = let none : 0 ≡ place - place_in g day = omega (arith, e) in ap (λ n. take n (posts_of g day)) none

@@ -1,7 +1,10 @@
 // What a due date brings on the day after it.
 ghost use Rattle.std.specs.Prelude.{◌≡◌, ◌+◌, ◌-◌, ◌<◌, ◌≤◌, ◌==◌, ℕ, List, [], ◌∷◌, ◌++◌, Some, None, OnOk, OnErr, pos, ◌≤ℤ◌, option_copied, option_map, vec_len, vec_capacity};
 ghost use Rattle.card_model.specs.Limits.{balance_limit};
+ghost use Rattle.card_days.specs.Billing.{due as due_of};
 ghost use Rattle.card_days.specs.Range.{last_request_day, last_calendar_day};
+ghost use Rattle.card_days.specs.declared.anchor.Anchor.{Anchor};
+ghost use Rattle.card_fees.specs.Asked.{is_due_by};
 ghost use Rattle.card_effects.specs.Entering.{ChargesFee, MayMove};
 ghost use Rattle.card_model.specs.Books.{Account, Book, with_fee};
 ghost use Rattle.card_segments.specs.Balances.{AreWithin};
@@ -21,8 +24,9 @@ use crate::{Inputs, Issued, State, Track};
 use card_closing::Cycle;
 use card_days::Day;
 use card_effects::fee;
-use card_fees::{DueCycle, due_fee, has_due_payment};
+use card_fees::{DueCycle, due_fee};
 use card_model::Fee;
+use card_statement::has_due_payment;
 use card_units::{Cents, NoMemory};
 
 // The day of an issued statement.
@@ -61,6 +65,16 @@ fn with_due_payment(cycle: &Cycle, has_due_payment: bool) -> DueCycle
     }
 }
 
+// Whether a statement was issued before a day, and at least 21 days before its due date.
+fn is_due(issued: Option<Day>, due: Day, day: Day) -> bool
+    ensures { (a : Anchor) (cycle : ℕ) → due ≡ due_of a cycle → result ≡ is_due_by a cycle day issued }
+{
+    match issued {
+        Some(issue) => issue < day && has_due_payment(issue, due),
+        None => false,
+    }
+}
+
 /// A closed cycle as its due date sees it on a day: its minimum payment and grace amount in cents, and whether it has a due
 /// payment by that day (12 CFR 1026.5(b)(2)(ii)). The cycle is one of the calendar, with a due date up to 2102-12-31.
 pub fn due_cycle(inputs: &Inputs, day: Day, cycle: &Cycle) -> DueCycle
@@ -69,9 +83,9 @@ pub fn due_cycle(inputs: &Inputs, day: Day, cycle: &Cycle) -> DueCycle
     requires last { cycle.now.due ≤ last_calendar_day }
     ensures { result ≡ due_cycle_of (seen_in inputs.now day) cycle.now }
 {
-    let anchor = inputs.anchor();
+    let _anchor = inputs.anchor();
     let issued = issue_day(inputs.issued_for(cycle.number as u64));
-    with_due_payment(cycle, has_due_payment(&anchor, cycle.number, issued, day))
+    with_due_payment(cycle, is_due(issued, cycle.due, day))
 }
 
 // The penalty fees that an issued statement has.

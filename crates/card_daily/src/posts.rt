@@ -1,5 +1,5 @@
 // The posts of a day, in turn.
-ghost use Rattle.std.specs.Prelude.{◌≡◌, ◌+◌, ◌-◌, ◌<◌, ◌≤◌, ℕ, Bool, true, false, List, [], length, min, Option, OnOk, OnErr, option_copied, pos, ◌≤ℤ◌, slice_index_or, unsigned_abs};
+ghost use Rattle.std.specs.Prelude.{◌≡◌, ◌+◌, ◌-◌, ◌<◌, ◌≤◌, ℕ, Bool, true, false, nat_lt, List, [], length, min, Option, OnOk, OnErr, option_copied, pos, ◌≤ℤ◌, slice_index_or, unsigned_abs};
 ghost use Rattle.card_events.specs.Limits.{post_limit};
 ghost use Rattle.card_model.specs.Limits.{balance_limit};
 ghost use Rattle.card_days.specs.Range.{last_request_day};
@@ -22,6 +22,7 @@ ghost use Rattle.card_model.specs.Payments.{returns};
 ghost use Rattle.card_model.specs.Segments.{SegmentTerms};
 ghost use Rattle.card_segments.specs.Balances.{AreWithin};
 ghost use Rattle.card_slots.specs.Days.{day_post};
+ghost use Rattle.card_slots.specs.Laws.{IsCut};
 ghost use Rattle.card_daily.specs.Given.{IsDayOf, seen_in};
 ghost use Rattle.card_daily.specs.Posts.{EntersIf, EntersPost, EntersWith, HasBegun, IsUnreturned, LeavesRest, done_by, is_penalty, place_in};
 ghost use Rattle.card_daily.specs.Returns.{SeesPayment};
@@ -37,7 +38,7 @@ use card_days::{Anchor, Day, closing, cycle_of};
 use card_effects::{charge, credit, payment, refund, repay};
 use card_events::{Place, Post, Slot};
 use card_fees::minimum_left;
-use card_slots::{DayPost, end_place, first_place, folded_at};
+use card_slots::{DayPost, first_place, folded_at};
 use card_units::{Cents, NoMemory};
 use std::alloc::Global;
 
@@ -249,6 +250,25 @@ fn enter(
     }
 }
 
+// Whether a slot is of a later day.
+fn is_after(slot: &Slot, day: Day) -> bool
+    ensures { result ≡ nat_lt day slot.now.day }
+{
+    slot.day > day
+}
+
+// The place behind a day's last slot, from that of its first on.
+fn end_of(slots: &[Slot], first: usize, day: Day) -> usize
+    ensures { (end : ℕ) → IsCut slots.now (day + 1) end → first ≤ end → result ≡ end }
+{
+    for place in first..slots.len() {
+        if is_after(&slots[place], day) {
+            return place;
+        }
+    }
+    slots.len()
+}
+
 /// Enters the posts of a day, in order of number: charges, refunds, payments, merchants' credits, returned payments, disputes and
 /// their resolutions (12 CFR 1026.10, .11(a), .13, .52(b), .53), and the kinds that change no balance. A Penalty begins 45 days
 /// later where the account is sixty days late (12 CFR 1026.9(g), .55(b)(4)). The day isn't before the opening day and at most
@@ -269,7 +289,7 @@ pub fn post_day(
 {
     let posts = inputs.posts();
     let first = first_place(posts, day);
-    let end = end_place(posts, day);
+    let end = end_of(posts.in_order(), first, day);
     for place in first..end {
         enter(alloc, inputs, day, place, state, track)?;
     }

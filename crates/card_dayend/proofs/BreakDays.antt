@@ -56,6 +56,10 @@ next-only p number first end day h only there = record {
         absurd (cc)
     by x l m false e = refl
 
+-- between a day and itself there is none
+pub next-at-once : (p : ℕ → Bool) (first : ℕ) → IsNext p first first first
+next-at-once p first = next-never p first first (omega arith) (λ x l m. absurd (omega (arith, l, m)))
+
 -- the next of one day isn't behind it, where that day isn't before the first
 pub next-within : (number first end day : ℕ) → first ≤ number → IsNext (λ x. eqb number x) first end day → day ≤ number
 next-within number first end day l h = by (cases_lt number day)

@@ -79,9 +79,12 @@ pub fn span_end(inputs: &Inputs, rates: &RateBook, first: Day, to: Day) -> Day
     requires rates { rates.now.segments ≡ (rates_of inputs.now.shared.holidays inputs.now.history []).segments }
     ensures { IsNext (breaks_by inputs.now rates.now.penalties) first to result }
 {
+    let posted = next_post(inputs.posts(), first, to);
+    if posted == first {
+        return first;
+    }
     let anchor = inputs.anchor();
     let number = cycle_of(anchor, first);
-    let posted = next_post(inputs.posts(), first, to);
     let closing = next_closing(&anchor, number, first, posted);
     let due = next_after_due(&anchor, number, first, closing);
     let issued = next_issue(inputs.issued(), first, due);

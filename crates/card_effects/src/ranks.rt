@@ -69,7 +69,7 @@ pub fn ranks(
     ensures items { IfOk result (λ v. v.items ≡ ranks_on rates.now until day) }
     ensures all { IfOk result (λ v. length v.items ≡ length segments.now.balances) }
 {
-    let mut list = Vec::new(alloc);
+    let mut list = Vec::with_capacity(alloc, segments.len() as usize)?;
     add(&mut list, 0, None)?;
     add(&mut list, 0, None)?;
     for id in 2..segments.len() {

@@ -8,3 +8,4 @@ pub mod OneMore
 pub mod Penalties
 pub mod Runs
 pub mod Spans
+pub mod Unchanged

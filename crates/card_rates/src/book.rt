@@ -2,8 +2,8 @@ use crate::change::{penalties_change, segments_change};
 use crate::make::{add_all, first_segments, penalty_rate_in, post_of};
 use crate::past::penalties_at;
 use crate::rate::{
-    BegunRate, capped_as, is_running, is_to_come, least_of, newest_of, no_rate, raised,
-    rate_in_period, vintage_rate,
+    BegunRate, bears_its_own, capped_as, is_running, is_to_come, least_of, newest_of, no_rate,
+    raised, rate_in_period, vintage_rate,
 };
 use crate::segment::{RateCap, RatedSegment, accrues, after_end, is_plan_sort, sort_of};
 use card_days::Day;
@@ -35,7 +35,7 @@ impl Model for RateBook {
 }
 
 impl RateBook {
-    ghost use Rattle.std.specs.Prelude.{◌≡◌, ℕ, ◌+◌, ◌<◌, ◌≤◌, ◌++◌, List, [], ◌∷◌, Some, None, length, slice_index_or, slice_set, option_copied, IfOk, OnOk, OnErr};
+    ghost use Rattle.std.specs.Prelude.{◌≡◌, ℕ, true, ◌+◌, ◌<◌, ◌≤◌, ◌++◌, List, [], ◌∷◌, Some, None, length, slice_index_or, slice_set, option_copied, IfOk, OnOk, OnErr};
     ghost use Rattle.std.specs.List.{All, Contains, fold};
     ghost use Rattle.card_events.specs.History.{terms_of};
     ghost use Rattle.card_model.specs.Accepted.{AreInRange, HasFewRates, HasFewSegments};
@@ -150,7 +150,7 @@ impl RateBook {
         ensures unbilled { segment < 2 → result ≡ 0 }
     {
         match self.segment_with(segment) {
-            Some(g) => self.rate_for(g, day),
+            Some(g) => self.rate_of_its(g, day),
             None => no_rate(),
         }
     }
@@ -227,6 +227,27 @@ impl RateBook {
             day,
             base,
         )
+    }
+
+    // whether a vintage bears its own rate, with no Lower and no penalty to change it
+    fn bears_unchanged(&self, g: &RatedSegment, day: Day) -> bool
+        ensures { result ≡ true → Contains self.now.segments g.now → rate_of self.now day g.now ≡ g.now.rate }
+    {
+        if !self.caps.is_empty() || !self.penalties.is_empty() {
+            return false;
+        }
+        bears_its_own(g, day)
+    }
+
+    // the rate of one of its segments, which most often is its own
+    fn rate_of_its(&self, g: &RatedSegment, day: Day) -> Bp
+        ensures { Contains self.now.segments g.now → result ≡ rate_of self.now day g.now }
+    {
+        if self.bears_unchanged(g, day) {
+            g.rate
+        } else {
+            self.rate_for(g, day)
+        }
     }
 
     /// The rate of one of its segments on a day, in basis points (12 CFR 1026.55(b)(1), (b)(3), (b)(4)). It takes no memory.

@@ -64,6 +64,13 @@ fn bears(g: &RatedSegment, sort: Sort, id: u8, day: Day) -> bool
     g.sort == sort && g.id <= id && g.begins <= number_of(day) && g.effective <= day
 }
 
+// Whether a vintage bears its own rate on a day.
+pub fn bears_its_own(g: &RatedSegment, day: Day) -> bool
+    ensures { result ≡ (not (is_plan g.now) && nat_le g.now.effective day && nat_le g.now.begins day) }
+{
+    !is_plan_sort(g.sort) && g.effective <= day && g.begins <= number_of(day)
+}
+
 // The rate of the newest vintage of a sort that isn't newer than this number and bears its own rate.
 pub fn vintage_rate(segments: &[RatedSegment], sort: Sort, id: u8, day: Day) -> BegunRate
     ensures { result ≡ begun_of (last_that (bears_in day sort id) segments.now) }

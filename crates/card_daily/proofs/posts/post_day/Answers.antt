@@ -1,5 +1,5 @@
 use Rattle.std.proofs.Common.{◌+◌, arith, subst, refl}
-use Rattle.card_daily.proofs.PostDay.{begins-twice, done-all, done-none, end-is, place-is}
+use Rattle.card_daily.proofs.PostDay.{begins-twice, done-all, done-none, end-found, end-is, place-is}
 use Rattle.card_daily.proofs.Posting.{begins-kept}
 use Rattle.card_daily.proofs.Standing.{room-same, room-then}
 use Rattle.card_daily.specs.Stands.{AreAmid}
@@ -25,7 +25,7 @@ enter-requires-clause-from c =
 pub enter-requires-clause-within : goal.enter-requires-clause-within
 enter-requires-clause-within c =
     let g = c.args.inputs.now in
-    let end = place-is g (c.args.day + 1) c.end_place-end.result c.posts-posts.result.now c.posts-posts.ensures.stands c.posts-posts.ensures.history (c.end_place-end.ensures.place g.shared.holidays c.posts-posts.ensures.stands) in
+    let end = end-found g c.args.day c.first_place-first.result c.end_of-end.result c.posts-posts.result.now c.in_order.result.now c.posts-posts.ensures.stands c.posts-posts.ensures.history (c.first_place-first.ensures.place g.shared.holidays c.posts-posts.ensures.stands) c.in_order.ensures.order c.end_of-end.ensures in
     let next = end-is g c.args.day in
     let less = c.loop-place-test.true in
     omega (arith, end, next, less)
@@ -40,7 +40,7 @@ loop-place-preserved c = record {
 pub returns-clause-posted : goal.returns-clause-posted
 returns-clause-posted c =
     let g = c.args.inputs.now in
-    let end = place-is g (c.args.day + 1) c.end_place-end.result c.posts-posts.result.now c.posts-posts.ensures.stands c.posts-posts.ensures.history (c.end_place-end.ensures.place g.shared.holidays c.posts-posts.ensures.stands) in
+    let end = end-found g c.args.day c.first_place-first.result c.end_of-end.result c.posts-posts.result.now c.in_order.result.now c.posts-posts.ensures.stands c.posts-posts.ensures.history (c.first_place-first.ensures.place g.shared.holidays c.posts-posts.ensures.stands) c.in_order.ensures.order c.end_of-end.ensures in
     let next = end-is g c.args.day in
     let past = c.loop-place-test.false in
     subst (λ done. AreAmid g c.args.day done c.loop-place.state c.loop-place.track) (done-all g c.args.day c.loop-place.place (omega (arith, end, next, past))) c.loop-place.invariant.amid

@@ -1,0 +1,6 @@
+use Rattle.std.proofs.Common.{ℕ, ◌+◌, ◌≤◌}
+use Rattle.card_slots.specs.Laws.{IsCut}
+use Rattle.card_daily.proofs.posts.end_of.Given as goal
+
+abbrev pub invariant-loop-place : goal.invariant-loop-place
+invariant-loop-place l = (end : ℕ) → IsCut l.slots (l.day + 1) end → l.first ≤ end → l.place ≤ end
