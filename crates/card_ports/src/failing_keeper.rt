@@ -1,4 +1,4 @@
-use crate::row::copies;
+use crate::row::{add_copies, copies};
 use crate::{Calls, Keeper, KeeperFault, Row};
 use std::alloc::Global;
 use std::marker::Model;
@@ -79,8 +79,7 @@ impl Keeper for FailingKeeper {
         if self.calls.fails_now() {
             return Err(KeeperFault::Failed);
         }
-        let mut added = copies(alloc, more)?;
-        self.rows.append(&mut added)?;
+        add_copies(alloc, &mut self.rows, more)?;
         Ok(())
     }
 }

@@ -1,4 +1,4 @@
-use crate::row::copies;
+use crate::row::{add_copies, copies};
 use crate::{Keeper, KeeperFault, Row};
 use std::alloc::Global;
 use std::marker::Model;
@@ -60,8 +60,7 @@ impl Keeper for MemoryKeeper {
         ensures err { OnErr result (self.new ≡ self.old) }
         ensures never { IsErrOf result KeeperFault.Failed → ⊥ }
     {
-        let mut added = copies(alloc, more)?;
-        self.rows.append(&mut added)?;
+        add_copies(alloc, &mut self.rows, more)?;
         Ok(())
     }
 }

@@ -1,4 +1,4 @@
-ghost use Rattle.std.specs.Prelude.{◌≡◌, IfOk};
+ghost use Rattle.std.specs.Prelude.{◌≡◌, ◌++◌, IfOk, OnOk, OnErr, length, take};
 
 use card_units::NoMemory;
 use std::alloc::Global;
@@ -70,9 +70,31 @@ impl Row {
 pub fn copies(alloc: Global, rows: &[Row]) -> Result<Vec<Row>, NoMemory>
     ensures { IfOk result (λ all. all.items ≡ rows.now) }
 {
-    let mut all = Vec::new(alloc);
-    for row in rows {
+    let mut all = Vec::with_capacity(alloc, rows.len())?;
+    push_copies(alloc, &mut all, rows)?;
+    Ok(all)
+}
+
+// Adds the same rows at the end. Where memory is wanted, some of them stand there.
+fn push_copies(alloc: Global, all: &mut Vec<Row>, more: &[Row]) -> Result<(), NoMemory>
+    ensures ok { OnOk result (all.new.items ≡ all.old.items ++ more.now) }
+    ensures err { OnErr result (take (length all.old.items) all.new.items ≡ all.old.items) }
+{
+    for row in more {
         all.push(row.copy(alloc)?)?;
     }
-    Ok(all)
+    Ok(())
+}
+
+/// Adds the same rows at the end: all of them, or none where memory is wanted.
+pub fn add_copies(alloc: Global, all: &mut Vec<Row>, more: &[Row]) -> Result<(), NoMemory>
+    ensures ok { OnOk result (all.new.items ≡ all.old.items ++ more.now) }
+    ensures err { OnErr result (all.new.items ≡ all.old.items) }
+{
+    let count = all.len();
+    let pushed = push_copies(alloc, all, more);
+    if pushed.is_err() {
+        all.truncate(count);
+    }
+    pushed
 }

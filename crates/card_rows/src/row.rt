@@ -12,13 +12,16 @@ use card_events::Request;
 use card_units::NoMemory;
 use std::alloc::Global;
 
+// The bytes of the longest row: an opening, whose account and key have 32 bytes each.
+const LONGEST: usize = 128;
+
 /// The body of the row that is kept for the request: the one spelling that it has. Condition: every day in the request is
 /// a day of requests, at most 2099-12-31.
 pub fn encode(alloc: Global, request: &Request) -> Result<Body, NoMemory>
     requires dated { is_dated request.now ≡ true }
     ensures { IfOk result (λ body. IsSpelling body request.now) }
 {
-    let mut bytes = Vec::new(alloc);
+    let mut bytes = Vec::with_capacity(alloc, LONGEST)?;
     put_request(&mut bytes, request)?;
     Ok(Body::new(bytes))
 }
