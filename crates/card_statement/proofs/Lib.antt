@@ -7,3 +7,4 @@ pub mod MoveSums
 pub mod SeenLines
 pub mod Steps
 pub mod YearSteps
+pub mod DayBalances

@@ -62,7 +62,7 @@ by-tests true false x z r l h = omega (arith, ints, h)
 by-tests false true x z r l h = omega (arith, ints, h)
 by-tests false false x z r l h = h
 
-sum-first : (s day : ℕ) (e : Entry) (es : List Entry) → sum_of (λ e. eqb e.segment s) (filter (λ e. leb e.day day) (e ∷ es))
+pub sum-first : (s day : ℕ) (e : Entry) (es : List Entry) → sum_of (λ e. eqb e.segment s) (filter (λ e. leb e.day day) (e ∷ es))
     ≡ cond (leb e.day day) (cond (eqb e.segment s) e.cents (pos 0) +ℤ sum_of (λ e. eqb e.segment s) (filter (λ e. leb e.day day) es)) (sum_of (λ e. eqb e.segment s) (filter (λ e. leb e.day day) es))
 sum-first s day e es = by (leb e.day day) (filter (λ e. leb e.day day) es)
   where
@@ -98,7 +98,7 @@ more-than r l = by (pos r -ℤ pos l) refl
     by (pos (suc n)) e = let f : l < r = omega (arith, ints, e) in grind (arith, nat_tests)
     by (negsuc n) e = let f : r ≤ l = omega (arith, ints, e) in grind (arith, nat_tests)
 
-owed-then : (s day : ℕ) (es : List Entry) → is_owed_on (entries_on s es) day ≡ ltb 0 (owing_on s day es)
+pub owed-then : (s day : ℕ) (es : List Entry) → is_owed_on (entries_on s es) day ≡ ltb 0 (owing_on s day es)
 unfolding raised_through lowered_through
 owed-then s day es =
     more-than (sum_by (raised day) (entries_on s es)) (sum_by (lowered day) (entries_on s es)) ∙ ap (λ z. ltb 0 (at_least_zero z)) (sym (signed s day es))

@@ -1,3 +1,4 @@
 pub mod Gathering
 pub mod Laws
 pub mod Lines
+pub mod Standing

@@ -1,10 +1,10 @@
 // The lines of rates.
-ghost use Rattle.std.specs.Prelude.{◌≡◌, ◌++◌, [], IfOk, OnOk};
-ghost use Rattle.std.specs.List.{cons_option, filter_map};
+ghost use Rattle.std.specs.Prelude.{◌≡◌, ◌<◌, ◌++◌, [], IfOk, OnOk};
+ghost use Rattle.std.specs.List.{All, cons_option, filter_map};
 ghost use Rattle.card_statement.specs.Lines as spec;
 
 use crate::RateLine;
-use crate::standing::{entries_on, was_owed};
+use crate::standing::{count_before, was_owed};
 use card_closing::Cycle;
 use card_model::Entry;
 use card_rates::{RateBook, RatedSegment};
@@ -24,20 +24,20 @@ fn line_of(rates: &RateBook, cycle: &Cycle, g: &RatedSegment) -> RateLine
     }
 }
 
-// Adds the line of a segment, where it had a balance.
+// Adds the line of a segment, where it had a balance by the entries of the days before the cycle and those behind them.
 #[tactic(auto, unfolding(crate::specs::Lines::kept_rate_line))]
 fn add_line(
-    alloc: Global,
     lines: &mut Vec<RateLine>,
     rates: &RateBook,
     cycle: &Cycle,
+    earlier: &[Entry],
     entries: &[Entry],
     g: &RatedSegment,
 ) -> Result<(), NoMemory>
-    ensures { OnOk result (lines.new.items ≡ lines.old.items ++ cons_option (spec.kept_rate_line rates.now cycle.now entries.now g.now) []) }
+    requires { All (λ e. e.day < cycle.now.first) earlier.now }
+    ensures { OnOk result (lines.new.items ≡ lines.old.items ++ cons_option (spec.kept_rate_line rates.now cycle.now (earlier.now ++ entries.now) g.now) []) }
 {
-    let on = entries_on(alloc, entries, g.id)?;
-    if was_owed(&on, cycle.first, cycle.closing) {
+    if was_owed(earlier, entries, g.id, cycle.first, cycle.closing) {
         lines.push(line_of(rates, cycle, g))?;
     }
     Ok(())
@@ -49,13 +49,15 @@ fn lines_of(
     segments: &[RatedSegment],
     rates: &RateBook,
     cycle: &Cycle,
+    earlier: &[Entry],
     entries: &[Entry],
 ) -> Result<Vec<RateLine>, NoMemory>
-    ensures { IfOk result (λ lines. lines.items ≡ filter_map (spec.kept_rate_line rates.now cycle.now entries.now) segments.now) }
+    requires { All (λ e. e.day < cycle.now.first) earlier.now }
+    ensures { IfOk result (λ lines. lines.items ≡ filter_map (spec.kept_rate_line rates.now cycle.now (earlier.now ++ entries.now)) segments.now) }
 {
     let mut lines = Vec::new(alloc);
     for g in segments {
-        add_line(alloc, &mut lines, rates, cycle, entries, g)?;
+        add_line(&mut lines, rates, cycle, earlier, entries, g)?;
     }
     Ok(lines)
 }
@@ -72,5 +74,7 @@ pub fn rate_lines(
 ) -> Result<Vec<RateLine>, NoMemory>
     ensures { IfOk result (λ lines. lines.items ≡ spec.kept_rate_lines rates.now cycle.now entries.now) }
 {
-    lines_of(alloc, rates.segments(), rates, cycle, entries)
+    let count = count_before(entries, cycle.first);
+    let (earlier, entries) = entries.split_at(count);
+    lines_of(alloc, rates.segments(), rates, cycle, earlier, entries)
 }

@@ -1,133 +1,133 @@
 // Whether a segment had a balance on the days of a cycle.
-ghost use Rattle.std.specs.Prelude.{◌≡◌, ◌+◌, ◌-◌, ◌++◌, ◌==◌, ◌≤◌, [], ◌∷◌, if◌then◌else◌, IfOk, OnOk, neg_ℤ};
-ghost use Rattle.std.specs.List.{list_any, range_with_len};
-ghost use Rattle.card_days.specs.Range.{last_calendar_day};
-ghost use Rattle.card_model.specs.Entries as model;
-ghost use Rattle.card_statement.specs.Lines as spec;
+ghost use Rattle.std.specs.Prelude.{◌≡◌, ℕ, ◌+◌, ◌-◌, ◌*◌, ◌<◌, ◌≤◌, ◌^◌, ◌==◌, ◌&&◌, ◌||◌, ◌++◌, [], ◌∷◌, length, nat_le, nat_lt, take, ◌+ℤ◌};
+ghost use Rattle.std.specs.List.{All, list_any};
+ghost use Rattle.card_segments.specs.Balances.{IsWithin};
+ghost use Rattle.card_statement.specs.Lines as lines;
+ghost use Rattle.card_statement.specs.Standing as spec;
 
 use card_days::Day;
 use card_model::Entry;
-use card_units::{Cents, NoMemory};
-use std::alloc::Global;
+use card_units::Cents;
 
-// Keeps an entry, where it is on a segment.
-fn keep(on: &mut Vec<Entry>, segment: u8, entry: &Entry) -> Result<(), NoMemory>
-    ensures { OnOk result (on.new.items ≡ on.old.items ++ (if entry.now.segment == segment then entry.now ∷ [] else [])) }
+/// How many of the first entries are of a day before this one.
+pub fn count_before(entries: &[Entry], first: Day) -> usize
+    ensures count { result ≤ length entries.now }
+    ensures earlier { All (λ e. e.day < first) (take result entries.now) }
 {
-    if entry.segment == segment {
-        on.push(*entry)?;
-    }
-    Ok(())
-}
-
-/// The entries that are on a segment, in their order.
-pub fn entries_on(alloc: Global, entries: &[Entry], segment: u8) -> Result<Vec<Entry>, NoMemory>
-    ensures { IfOk result (λ on. on.items ≡ spec.entries_on segment entries.now) }
-{
-    let mut on = Vec::new(alloc);
+    let mut count = 0;
     for entry in entries {
-        keep(&mut on, segment, entry)?;
+        if entry.day >= first {
+            return count;
+        }
+        count += 1;
     }
-    Ok(on)
+    count
 }
 
-// What an amount has above 0.
-fn above_zero(cents: Cents) -> u64
-    ensures { result ≡ model.at_least_zero cents }
+// Whether an entry is on a segment, and of a day up to this one.
+fn is_by(entry: &Entry, segment: u8, day: Day) -> bool
+    ensures { result ≡ ((entry.now.segment == segment) && nat_le entry.now.day day) }
 {
-    if cents < 0 { 0 } else { cents as u64 }
+    entry.segment == segment && entry.day <= day
 }
 
-// What it has below 0.
-fn below_zero(cents: Cents) -> u64
-    ensures { result ≡ model.at_least_zero (neg_ℤ cents) }
+// What an entry moves on a segment by the end of a day.
+fn moved_by(entry: &Entry, segment: u8, day: Day) -> Cents
+    ensures { result ≡ spec.moved_through segment day (entry.now ∷ []) }
 {
-    if cents < 0 { cents.unsigned_abs() } else { 0 }
-}
-
-// What an entry raises by the end of a day.
-fn raised(entry: &Entry, day: Day) -> u64
-    ensures { result ≡ spec.raised day entry.now }
-{
-    if entry.day <= day {
-        above_zero(entry.cents)
+    if is_by(entry, segment, day) {
+        entry.cents
     } else {
         0
     }
 }
 
-// What it lowers.
-fn lowered(entry: &Entry, day: Day) -> u64
-    ensures { result ≡ spec.lowered day entry.now }
+// A sum with more cents.
+fn plus(sum: i128, cents: Cents) -> i128
+    requires room { IsWithin (2 ^ 127 - 2 ^ 64) sum }
+    ensures value { result ≡ sum +ℤ cents }
+    ensures bound { (n : ℕ) → IsWithin n sum → IsWithin (n + 2 ^ 63) result }
 {
-    if entry.day <= day {
-        below_zero(entry.cents)
-    } else {
-        0
-    }
+    sum + i128::from(cents)
 }
 
-// What entries raise by the end of a day.
-#[tactic(auto, unfolding(crate::specs::Lines::raised_through))]
-fn raised_through(on: &[Entry], day: Day) -> u128
-    ensures { result ≡ spec.raised_through day on.now }
+// What is owed on a segment at the end of a day, where so much was owed before these entries.
+fn owed_then(before: i128, entries: &[Entry], segment: u8, day: Day) -> i128
+    requires { IsWithin (2 ^ 126) before }
+    ensures value { result ≡ before +ℤ spec.moved_through segment day entries.now }
+    ensures bound { (n : ℕ) → IsWithin n before → IsWithin (n + length entries.now * 2 ^ 63) result }
 {
-    let mut sum = 0;
-    for entry in on {
-        sum += raised(entry, day) as u128;
-    }
-    sum
-}
-
-// What they lower.
-#[tactic(auto, unfolding(crate::specs::Lines::lowered_through))]
-fn lowered_through(on: &[Entry], day: Day) -> u128
-    ensures { result ≡ spec.lowered_through day on.now }
-{
-    let mut sum = 0;
-    for entry in on {
-        sum += lowered(entry, day) as u128;
+    let mut sum = before;
+    for entry in entries {
+        sum = plus(sum, moved_by(entry, segment, day));
     }
     sum
 }
 
-// Whether something is owed at the end of a day.
-fn is_owed_on(on: &[Entry], day: Day) -> bool
-    ensures { result ≡ spec.is_owed_on on.now day }
+// Whether something is owed on it then.
+#[tactic(auto, unfolding(crate::specs::Standing::is_owed_then))]
+fn is_owed_then(before: i128, entries: &[Entry], segment: u8, day: Day) -> bool
+    requires { IsWithin (2 ^ 126) before }
+    ensures { result ≡ spec.is_owed_then before entries.now segment day }
 {
-    lowered_through(on, day) < raised_through(on, day)
+    owed_then(before, entries, segment, day) > 0
 }
 
-// Whether something is owed at the end of one of so many days.
-fn is_owed_among(on: &[Entry], first: Day, count: u32) -> bool
-    requires { first + count ≤ last_calendar_day + 1 }
-    ensures { result ≡ list_any (spec.is_owed_on on.now) (range_with_len first count) }
+// Whether an entry is on a segment, and of a day from one to another.
+fn is_within(entry: &Entry, segment: u8, first: Day, last: Day) -> bool
+    ensures { result ≡ spec.is_within segment first last entry.now }
 {
-    for i in 0..count {
-        if is_owed_on(on, first.plus(i)) {
+    entry.segment == segment && first <= entry.day && entry.day <= last
+}
+
+// Whether something is owed on a segment at the end of a day from one to another that one of the entries on it is of.
+fn is_owed_after_any(before: i128, entries: &[Entry], segment: u8, first: Day, last: Day) -> bool
+    requires { IsWithin (2 ^ 126) before }
+    ensures { result ≡ list_any (spec.is_owed_after before entries.now segment first last) entries.now }
+{
+    for entry in entries {
+        if is_within(entry, segment, first, last)
+            && is_owed_then(before, entries, segment, entry.day)
+        {
             return true;
         }
     }
     false
 }
 
-// How many days there are from one to another, with both of them.
-fn day_count(first: Day, last: Day) -> u32
-    ensures count { result ≡ last + 1 - first }
-    ensures within { first + result ≤ last_calendar_day + 1 }
+// Whether something is owed at the end of the first of these days, or at the end of one that changes it.
+fn is_owed_from(before: i128, entries: &[Entry], segment: u8, first: Day, last: Day) -> bool
+    requires { IsWithin (2 ^ 126) before }
+    ensures { result ≡ (spec.is_owed_then before entries.now segment first || list_any (spec.is_owed_after before entries.now segment first last) entries.now) }
 {
-    let past = last.number() + 1;
-    if first.number() < past {
-        (past - first.number()) as u32
-    } else {
-        0
-    }
+    is_owed_then(before, entries, segment, first)
+        || is_owed_after_any(before, entries, segment, first, last)
 }
 
-/// Whether something was owed at the end of some day from one to another, by the entries on a segment.
-#[tactic(auto, unfolding(crate::specs::Lines::was_owed))]
-pub fn was_owed(on: &[Entry], first: Day, last: Day) -> bool
-    ensures { result ≡ spec.was_owed first last on.now }
+// What is owed on a segment after entries.
+fn owed_by(entries: &[Entry], segment: u8, day: Day) -> i128
+    ensures value { result ≡ spec.moved_through segment day entries.now }
+    ensures small { IsWithin (2 ^ 126) result }
 {
-    is_owed_among(on, first, day_count(first, last))
+    owed_then(0, entries, segment, day)
+}
+
+// Whether a day comes after another.
+fn is_after(day: Day, other: Day) -> bool
+    ensures { result ≡ nat_lt other day }
+{
+    day > other
+}
+
+/// Whether something was owed on a segment at the end of some day from one to another, by the entries of the days before and
+/// those behind them.
+pub fn was_owed(earlier: &[Entry], entries: &[Entry], segment: u8, first: Day, last: Day) -> bool
+    requires { All (λ e. e.day < first) earlier.now }
+    ensures { result ≡ lines.was_owed first last (lines.entries_on segment (earlier.now ++ entries.now)) }
+{
+    if is_after(first, last) {
+        return false;
+    }
+    let before = owed_by(earlier, segment, first);
+    is_owed_from(before, entries, segment, first, last)
 }

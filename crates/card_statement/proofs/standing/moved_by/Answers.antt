@@ -1,0 +1,12 @@
+use Rattle.std.proofs.Common.{true, false, sym, ◌∙◌, rules, w64, FitsSigned}
+use Rattle.std.proofs.lemmas.Int.{to_z-of_z}
+use Rattle.card_statement.proofs.DayBalances.{moved-by}
+use Rattle.card_statement.proofs.standing.moved_by.Goals as goal
+
+pub returns-then-is_by : goal.returns-then-is_by
+returns-then-is_by c =
+    let fits : FitsSigned w64 c.args.entry.now.cents = search rules in
+    to_z-of_z w64 c.args.entry.now.cents fits ∙ moved-by c.args.segment c.args.day c.args.entry.now true (sym c.is_by.ensures ∙ c.if-is_by.true)
+
+pub returns-else-is_by : goal.returns-else-is_by
+returns-else-is_by c = moved-by c.args.segment c.args.day c.args.entry.now false (sym c.is_by.ensures ∙ c.if-is_by.false)
