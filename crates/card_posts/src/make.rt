@@ -1,5 +1,5 @@
 // The lists of an account that was just opened, and copies of them.
-ghost use Rattle.std.specs.Prelude.{◌≡◌, ◌++◌, [], ◌∷◌, true, IfOk, None};
+ghost use Rattle.std.specs.Prelude.{◌≡◌, ◌<◌, ◌++◌, [], ◌∷◌, true, IfOk, OnOk, None, vec_len, vec_capacity};
 ghost use Rattle.card_days.specs.Billing.{IsCloseDay};
 ghost use Rattle.card_events.specs.History.{opening_in, terms_in};
 ghost use Rattle.card_posts.specs.Posted.{opens};
@@ -25,6 +25,18 @@ pub fn opening(post: &Post) -> Anchor
         },
         _ => unreachable!(),
     }
+}
+
+// Room for one more in a list, which most often is there.
+pub fn make_room_in<T: Drop>(list: &mut Vec<T>) -> Result<(), NoMemory>
+    ensures items { list.new.items ≡ list.old.items }
+    ensures room { OnOk result (vec_len list.new < vec_capacity list.new) }
+{
+    if list.len() < list.capacity() {
+        return Ok(());
+    }
+    list.reserve(1)?;
+    Ok(())
 }
 
 // A list of one key.

@@ -4,7 +4,9 @@ use crate::effect::{Effect, no_cents};
 use crate::enter::enter;
 use crate::foretold::first_with;
 use crate::index::{HashedKey, enter_key, find, hashed_key};
-use crate::make::{copy_history, one_correction, one_effect, one_kept, one_key, one_slot, opening};
+use crate::make::{
+    copy_history, make_room_in, one_correction, one_effect, one_kept, one_key, one_slot, opening,
+};
 use crate::order::{slot, slot_with};
 use crate::refresh::{is_correction, waits_with};
 use card_days::{Anchor, Calendar, Day};
@@ -150,11 +152,11 @@ impl Posts {
         if self.has_room {
             return Ok(());
         }
-        self.history.reserve(1)?;
-        self.index.reserve(1)?;
-        self.corrections.reserve(1)?;
-        self.effects.reserve(1)?;
-        self.order.reserve(1)?;
+        make_room_in(&mut self.history)?;
+        make_room_in(&mut self.index)?;
+        make_room_in(&mut self.corrections)?;
+        make_room_in(&mut self.effects)?;
+        make_room_in(&mut self.order)?;
         self.has_room = true;
         Ok(())
     }
