@@ -143,14 +143,15 @@ fn account(rt: &impl Abort, alloc: Global, calendar: &Calendar) -> Result<Posts,
 fn later_posts_correct_earlier_ones(rt: HostRuntime) -> Result<(), Fail> {
     let alloc = rt.alloc();
     let posts = account(&rt, alloc, &Calendar::new(alloc))?;
-    assert_eq!(rt; posts.in_order().len(), 9);
-    for (slot, &(number, day, cents)) in posts.in_order().iter().zip(&ORDER) {
+    let copy = posts.copy(alloc)?;
+    assert_eq!(rt; copy.in_order().len(), 9);
+    for (slot, &(number, day, cents)) in copy.in_order().iter().zip(&ORDER) {
         assert_eq!(rt;
             (slot.number, slot.day.number(), slot.cents),
             (number, day, cents)
         );
     }
     let key = name(&rt, alloc, "C")?;
-    assert_eq!(rt; posts.with_key(&key), Some(5));
+    assert_eq!(rt; copy.with_key(&key), Some(5));
     Ok(())
 }

@@ -1,11 +1,11 @@
-// The lists of an account that was just opened.
-ghost use Rattle.std.specs.Prelude.{◌≡◌, [], ◌∷◌, true, IfOk};
+// The lists of an account that was just opened, room in them, and copies of them.
+ghost use Rattle.std.specs.Prelude.{◌≡◌, ◌<◌, [], ◌∷◌, true, IfOk, OnOk, vec_len, vec_capacity};
 ghost use Rattle.card_days.specs.Billing.{IsCloseDay};
 ghost use Rattle.card_events.specs.History.{opening_in, terms_in};
 ghost use Rattle.card_posts.specs.Posted.{opens};
 
 use card_days::Anchor;
-use card_events::Post;
+use card_events::{Kept, Post};
 use card_units::NoMemory;
 use std::alloc::Global;
 
@@ -24,6 +24,18 @@ pub fn opening(post: &Post) -> Anchor
     }
 }
 
+// Room for one more in a list, which most often is there.
+pub fn make_room_in<T: Drop>(list: &mut Vec<T>) -> Result<(), NoMemory>
+    ensures items { list.new.items ≡ list.old.items }
+    ensures room { OnOk result (vec_len list.new < vec_capacity list.new) }
+{
+    if list.len() < list.capacity() {
+        return Ok(());
+    }
+    list.reserve(1)?;
+    Ok(())
+}
+
 // A list of one item.
 pub fn one<T: Drop>(alloc: Global, item: T) -> Result<Vec<T>, NoMemory>
     ensures { IfOk result (λ v. v.items ≡ item ∷ []) }
@@ -31,4 +43,27 @@ pub fn one<T: Drop>(alloc: Global, item: T) -> Result<Vec<T>, NoMemory>
     let mut list = Vec::new(alloc);
     list.push(item)?;
     Ok(list)
+}
+
+fn copy_kept(alloc: Global, kept: &Kept) -> Result<Kept, NoMemory>
+    ensures { IfOk result (λ k. k ≡ kept.now) }
+{
+    Ok(Kept {
+        number: kept.number,
+        key: kept.key.copy(alloc)?,
+        accepted: kept.accepted,
+        post: kept.post,
+    })
+}
+
+// The same posts.
+pub fn copy_history(alloc: Global, history: &[Kept]) -> Result<Vec<Kept>, NoMemory>
+    ensures { IfOk result (λ v. v.items ≡ history.now) }
+{
+    let mut copied = Vec::new(alloc);
+    for i in 0..history.len() {
+        let kept = copy_kept(alloc, &history[i])?;
+        copied.push(kept)?;
+    }
+    Ok(copied)
 }

@@ -43,11 +43,23 @@ fn is_before(a: &Slot, b: &Slot) -> bool
 }
 
 // where a slot belongs, behind those that come before it
-fn place_of(order: &[Slot], slot: &Slot) -> usize
+fn place_among(order: &[Slot], slot: &Slot) -> usize
     requires { IsAscending order.now }
     ensures { IsPlace slot.now order.now result }
 {
     order.partition_point(|other| is_before(other, slot))
+}
+
+// where a slot belongs, which most often is behind the last
+fn place_of(order: &[Slot], slot: &Slot) -> usize
+    requires { IsAscending order.now }
+    ensures { IsPlace slot.now order.now result }
+{
+    let count = order.len();
+    if count > 0 && is_before(&order[count - 1], slot) {
+        return count;
+    }
+    place_among(order, slot)
 }
 
 // Puts a slot into its place, with room for it.

@@ -4,7 +4,7 @@ use crate::effect::{Effect, no_cents};
 use crate::enter::enter;
 use crate::foretold::first_with;
 use crate::index::{HashedKey, enter_key, find, hashed_key};
-use crate::make::{one, opening};
+use crate::make::{copy_history, make_room_in, one, opening};
 use crate::order::{slot, slot_with};
 use crate::refresh::{is_correction, waits_with};
 use card_days::{Anchor, Calendar, Day};
@@ -154,11 +154,11 @@ impl Posts {
         if self.has_room {
             return Ok(());
         }
-        self.history.reserve(1)?;
-        self.index.reserve(1)?;
-        self.corrections.reserve(1)?;
-        self.effects.reserve(1)?;
-        self.order.reserve(1)?;
+        make_room_in(&mut self.history)?;
+        make_room_in(&mut self.index)?;
+        make_room_in(&mut self.corrections)?;
+        make_room_in(&mut self.effects)?;
+        make_room_in(&mut self.order)?;
         self.has_room = true;
         Ok(())
     }
@@ -311,6 +311,22 @@ impl Posts {
     {
         self.make_room()?;
         Ok(self.add(key, accepted, post, calendar))
+    }
+
+    /// The same posts in memory of their own, without room for one more.
+    pub fn copy(&self, alloc: Global) -> Result<Posts, NoMemory>
+        ensures { IfOk result (λ posts. posts ≡ record self.now { has_room = false }) }
+    {
+        Ok(Posts {
+            history: copy_history(alloc, &self.history)?,
+            index: Vec::from_slice(alloc, &self.index)?,
+            corrections: Vec::from_slice(alloc, &self.corrections)?,
+            effects: Vec::from_slice(alloc, &self.effects)?,
+            order: Vec::from_slice(alloc, &self.order)?,
+            anchor: self.anchor,
+            waits: self.waits,
+            has_room: false,
+        })
     }
 
     /// What fixes the cycles of the account: its opening day, and the day of the month on which they close, 1 to 28.
