@@ -1,5 +1,5 @@
 // The texts of replies, each a whole line.
-ghost use Rattle.std.specs.Prelude.{◌≡◌, IfOk};
+ghost use Rattle.std.specs.Prelude.{◌≡◌, ◌++◌, [], ◌∷◌, codes, decimal, IfOk};
 ghost use Rattle.std.specs.String.{string_bytes};
 ghost use Rattle.card_lines.specs.Replies as spec;
 
@@ -7,8 +7,12 @@ use crate::refusal::{refusal_name, refusal_value};
 use card_days::Day;
 use card_events::{Name, Refusal, Reply};
 use card_units::{Cents, NoMemory};
+use itoa::Buffer;
 use std::alloc::Global;
 use std::fmt;
+
+// The bytes of the longest line of an accepted post, whose number has at most ten digits.
+const ACCEPTED: usize = 14;
 
 /// The line of a reply, with its line feed: `ok`, `ok NUMBER`, or `no NUMBER NAME` and the refusal's value where it has one.
 #[tactic(auto, using(crate::proofs::TextRules::texts), unfolding(crate::specs::Replies::reply_text))]
@@ -17,9 +21,22 @@ pub fn reply_text(alloc: Global, reply: &Reply) -> Result<String, NoMemory>
 {
     match reply {
         Reply::Done => Ok(String::from_str(alloc, "ok\n")?),
-        Reply::Accepted(number) => Ok(format!(in alloc; "ok {number}\n")?),
+        Reply::Accepted(number) => accepted_text(alloc, *number),
         Reply::Refused(refusal) => refusal_text(alloc, refusal),
     }
+}
+
+// The line of a post that was accepted under a number, as most replies are.
+#[tactic(auto, using(crate::proofs::TextRules::texts))]
+fn accepted_text(alloc: Global, number: u32) -> Result<String, NoMemory>
+    ensures { IfOk result (λ text. string_bytes text ≡ codes "ok " ++ decimal number ++ 10 ∷ []) }
+{
+    let mut digits = Buffer::new();
+    let mut text = String::with_capacity(alloc, ACCEPTED)?;
+    text.push_str("ok ")?;
+    text.push_str(digits.format(number))?;
+    text.push_str("\n")?;
+    Ok(text)
 }
 
 #[tactic(auto, using(crate::proofs::TextRules::texts), unfolding(crate::specs::Replies::refusal_text))]
