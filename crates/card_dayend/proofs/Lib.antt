@@ -1,3 +1,4 @@
+pub mod Accruing
 pub mod AtClosing
 pub mod BreakDays
 pub mod Closed

@@ -1,13 +1,13 @@
 ghost use Rattle.std.specs.Prelude.{◌≡◌, ℕ, ◌+◌, ◌-◌, ◌<◌, ◌≤◌, length, pos, slice_index_or, OnOk};
 ghost use Rattle.card_model.specs.Limits.{balance_limit};
 ghost use Rattle.card_days.specs.Range.{last_request_day};
-ghost use Rattle.std.specs.List.{All, Contains};
+ghost use Rattle.std.specs.List.{All, Contains, list_any};
 ghost use Rattle.card_effects.specs.Standing.{AreRated};
 ghost use Rattle.card_grace.specs.Accruals.{Accrued};
 ghost use Rattle.card_grace.specs.BookRows.{rate_of};
 ghost use Rattle.card_grace.specs.Rows.{Rows};
 ghost use Rattle.card_model.specs.Entries.{at_least_zero};
-ghost use Rattle.card_model.specs.Segments.{SegmentTerms};
+ghost use Rattle.card_model.specs.Segments.{SegmentTerms, is_deferred_on};
 ghost use Rattle.card_rates.specs.RateBooks.{rate_of as rate_in_force};
 ghost use Rattle.card_segments.specs.Balances.{AreWithin};
 ghost use Rattle.card_daily.specs.Given.{Given, IsSound, opened_in};
@@ -19,7 +19,7 @@ ghost use Rattle.card_daily.specs.declared.track.Track.{Track};
 use card_daily::State;
 use card_days::Day;
 use card_grace::{Accrual, CycleRows};
-use card_rates::RateBook;
+use card_rates::{RateBook, RatedSegment, is_deferred_on};
 use card_segments::Segments;
 use card_units::{Bp, Cents, NoMemory};
 
@@ -103,8 +103,8 @@ fn accrue(accrual: &mut Accrual, days: u32, owed: u64, rate: Option<Bp>)
     }
 }
 
-// What all segments accrue on so many days, at the rates of one of them.
-fn accrue_all(
+// What each segment accrues on so many days, at the rates of one of them.
+fn accrue_each(
     accruals: &mut Vec<Accrual>,
     segments: &Segments,
     rates: &RateBook,
@@ -124,6 +124,40 @@ fn accrue_all(
         let rate = rates.accrual_on(id, day);
         accrue(&mut accruals[place], days, owed, rate);
     }
+}
+
+// Whether some segment is a deferred plan in its period on a day.
+fn is_any_deferred(segments: &[RatedSegment], day: Day) -> bool
+    ensures { result ≡ list_any (is_deferred_on day) segments.now }
+{
+    for g in segments {
+        if is_deferred_on(g, day) {
+            return true;
+        }
+    }
+    false
+}
+
+// What all segments accrue on so many days, at the rates of one of them. Most often none does.
+fn accrue_all(
+    accruals: &mut Vec<Accrual>,
+    segments: &Segments,
+    rates: &RateBook,
+    day: Day,
+    days: u32,
+)
+    requires rated { AreRated segments.now.segments rates.now }
+    requires equal { length accruals.old.items ≡ length rates.now.segments }
+    requires small { AreWithin balance_limit segments.now.balances }
+    requires few { All (λ (a : Accrued). a.days + days ≤ 40_000) accruals.old.items }
+    ensures accruals { accruals.new.items ≡ with_accruals days rates.now segments.now.balances day accruals.old.items }
+    ensures balances { length segments.now.balances ≡ length rates.now.segments + 2 }
+{
+    let _count = segments.len();
+    if !is_any_deferred(rates.segments(), day) {
+        return;
+    }
+    accrue_each(accruals, segments, rates, day, days);
 }
 
 /// The rows of a day, up to 2099-12-31, once its posts are folded: of each segment but Credit and Held what is owed at the

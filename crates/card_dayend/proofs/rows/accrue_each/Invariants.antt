@@ -1,6 +1,6 @@
 use Rattle.std.proofs.Common.{◌≡◌, ◌-◌, ◌≤◌, ◌++◌, take, drop}
 use Rattle.card_dayend.specs.Rows.{with_accruals}
-use Rattle.card_dayend.proofs.rows.accrue_all.Given as goal
+use Rattle.card_dayend.proofs.rows.accrue_each.Given as goal
 
 abbrev pub invariant-loop-id : goal.invariant-loop-id
 invariant-loop-id l = record {

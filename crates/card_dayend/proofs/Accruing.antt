@@ -1,0 +1,22 @@
+-- Where no deferred plan is in its period, nothing accrues.
+use Rattle.std.proofs.Common.{◌≡◌, ℕ, Bool, true, false, ◌||◌, List, [], ◌∷◌, ℤ, refl, ap, ◌∙◌}
+use Rattle.std.specs.List.{list_any}
+use Rattle.card_grace.specs.Accruals.{Accrued}
+use Rattle.card_model.specs.Rates.{accrual_rate}
+use Rattle.card_model.specs.Segments.{SegmentTerms, is_deferred_on}
+use Rattle.card_dayend.specs.Rows.{each_with, owed_on, with_accrual_at}
+
+or-false : (a b : Bool) → (a || b) ≡ false → (a ≡ false) × (b ≡ false)
+or-false true b h = cc
+or-false false b h = (refl, h)
+
+pub none-accrues : (days day : ℕ) (balances : List ℤ) (ts : List SegmentTerms) (xs : List Accrued) → list_any (is_deferred_on day) ts ≡ false
+    → each_with (λ t x. with_accrual_at days (accrual_rate day t) (owed_on balances t) x) ts xs ≡ xs
+unfolding each_with
+none-accrues days day balances [] xs h = refl
+none-accrues days day balances (t ∷ ts) [] h = refl
+none-accrues days day balances (t ∷ ts) (x ∷ xs) h =
+    let parts = or-false (is_deferred_on day t) (list_any (is_deferred_on day) ts) h in
+    let here : with_accrual_at days (accrual_rate day t) (owed_on balances t) x ≡ x = rw parts.0 refl in
+    let rest = none-accrues days day balances ts xs parts.1 in
+    ap (λ y. y ∷ each_with (λ t x. with_accrual_at days (accrual_rate day t) (owed_on balances t) x) ts xs) here ∙ ap (λ ys. x ∷ ys) rest
