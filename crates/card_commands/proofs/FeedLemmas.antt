@@ -67,16 +67,6 @@ text_none a p = subst (Appends a a) (sym (text_empty p)) (Appends-nil a)
 pub rows_none : (a : Option (List Row)) (p : Progress) → AddsRows a a (rows_all p [])
 rows_none a p = subst (AddsRows a a) (sym (rows_empty p)) (AddsRows-nil a)
 
--- one byte more
-pub feed_more : (p : Progress) (bytes : List ℕ) (i : ℕ) → i < length bytes → feed_all p (take (i + 1) bytes) ≡ feed (feed_all p (take i bytes)) (get_or bytes i 0)
-feed_more p bytes i low = ap (feed_all p) (take_more bytes i 0 low) ∙ feed_all-append p (take i bytes) (get_or bytes i 0 ∷ []) ∙ feed_one _ _
-
-pub text_more : (p : Progress) (bytes : List ℕ) (i : ℕ) → i < length bytes → text_all p (take (i + 1) bytes) ≡ text_all p (take i bytes) ++ feed_text (feed_all p (take i bytes)) (get_or bytes i 0)
-text_more p bytes i low = ap (text_all p) (take_more bytes i 0 low) ∙ text_all-append p (take i bytes) (get_or bytes i 0 ∷ []) ∙ ap (λ l. text_all p (take i bytes) ++ l) (text_one _ _)
-
-pub rows_more : (p : Progress) (bytes : List ℕ) (i : ℕ) → i < length bytes → rows_all p (take (i + 1) bytes) ≡ rows_all p (take i bytes) ++ feed_rows (feed_all p (take i bytes)) (get_or bytes i 0)
-rows_more p bytes i low = ap (rows_all p) (take_more bytes i 0 low) ∙ rows_all-append p (take i bytes) (get_or bytes i 0 ∷ []) ∙ ap (λ l. rows_all p (take i bytes) ++ l) (rows_one _ _)
-
 -- what some first bytes give is a front of what all give
 pub text_front : (p : Progress) (n : ℕ) (bytes : List ℕ) → IsFront (text_all p (take n bytes)) (text_all p bytes)
 text_front p n bytes =
@@ -105,17 +95,12 @@ fed_then a b c p q r xs ys one two = record {
   fits = two.fits;
 }
 
--- one byte more
-pub fed_byte : (a b c : Sides) (p q r : Progress) (bytes : List ℕ) (i : ℕ) → i < length bytes → Fed a b p (take i bytes) q → Fed b c q (get_or bytes i 0 ∷ []) r → Fed a c p (take (i + 1) bytes) r
-fed_byte a b c p q r bytes i low one two =
-    subst (λ (l : List ℕ). Fed a c p l r) (sym (take_more bytes i 0 low)) (fed_then a b c p q r (take i bytes) (get_or bytes i 0 ∷ []) one two)
-
 -- all bytes, at the end
 pub fed_whole : (a b : Sides) (p q : Progress) (bytes : List ℕ) (i : ℕ) → take i bytes ≡ bytes → Fed a b p (take i bytes) q → Fed a b p bytes q
 fed_whole a b p q bytes i same fed = subst (λ (l : List ℕ). Fed a b p l q) same fed
 
 -- a line feed: its line was handled
-fed_line_feed : (a b : Sides) (p : Progress) (x : Item) (next : Run) (line : List ℕ) → x ≡ next_item p (ended_line p.line) → Handled a b (record { ledger = p.ledger; refused = p.refused }) x next → line ≡ []
+pub fed_line_feed : (a b : Sides) (p : Progress) (x : Item) (next : Run) (line : List ℕ) → x ≡ next_item p (ended_line p.line) → Handled a b (record { ledger = p.ledger; refused = p.refused }) x next → line ≡ []
     → Fed a b p (10 ∷ []) (record { ledger = next.ledger; number = p.number + 1; refused = next.refused; line = line })
 unfolding line_done line_text line_kept
 fed_line_feed a b p x next line item done empty =
@@ -130,23 +115,6 @@ fed_line_feed a b p x next line item done empty =
       counts = done.counts;
       fits = done.fits;
     }
-
--- the same, where q is p
-pub fed_line_feed_of : (a b : Sides) (p q : Progress) (x : Item) (next : Run) (line : List ℕ) → p ≡ q → x ≡ next_item p (ended_line p.line) → Handled a b (record { ledger = p.ledger; refused = p.refused }) x next → line ≡ []
-    → Fed a b q (10 ∷ []) (record { ledger = next.ledger; number = p.number + 1; refused = next.refused; line = line })
-fed_line_feed_of a b p q x next line is item done empty =
-    subst (λ (o : Progress). Fed a b o (10 ∷ []) (record { ledger = next.ledger; number = p.number + 1; refused = next.refused; line = line })) is (fed_line_feed a b p x next line item done empty)
-
--- another byte: nothing was done
-pub fed_other : (a : Sides) (p q : Progress) (byte : ℕ) → eqb byte 10 ≡ false → q ≡ record p { line = longer_line p.line byte } → Fits a.keeper.rows p.ledger → Fed a a p (byte ∷ []) q
-fed_other a p q byte other is fits = record {
-  progress = is ∙ sym (feed_one p byte ∙ feed_other p byte other);
-  number = omega (arith, ap (λ (r : Progress). r.number) is);
-  did = did_same a a [] (text_all p (byte ∷ [])) [] (rows_all p (byte ∷ []))
-      (sym (text_one p byte ∙ text_other p byte other)) (sym (rows_one p byte ∙ rows_other p byte other)) (did_none a);
-  counts = counts_refl a;
-  fits = subst (λ (r : Progress). Fits a.keeper.rows r.ledger) (sym is) fits;
-}
 
 -- ---- a byte that ended the run
 
@@ -183,15 +151,12 @@ stopped_line a b p x item (inr part) =
     (ap (λ (y : Item). answer_text p.ledger y) item ∙ sym (text_lf p 10 refl)) (ap (λ (y : Item). item_rows p.ledger y) item ∙ sym (rows_lf p 10 refl)) part)
 
 -- a line feed, whose line ended the run
-fell_line_feed : (a b : Sides) (p : Progress) (x : Item) (e : End) → x ≡ next_item p (ended_line p.line) → FellIn a b (answer_text p.ledger x) (item_rows p.ledger x) e → FellAt a b p (10 ∷ []) e
+pub fell_line_feed : (a b : Sides) (p : Progress) (x : Item) (e : End) → x ≡ next_item p (ended_line p.line) → FellIn a b (answer_text p.ledger x) (item_rows p.ledger x) e → FellAt a b p (10 ∷ []) e
 fell_line_feed a b p x end.Source item fell = absurd fell.cause
 fell_line_feed a b p x end.Sink item fell = record { did = stopped_line a b p x item fell.did; cause = fell.cause }
 fell_line_feed a b p x end.Keeper item fell = record { did = held_first a b p (10 ∷ []) fell.did; cause = fell.cause }
 fell_line_feed a b p x end.Memory item fell = record { did = stopped_line a b p x item fell.did; cause = fell.cause }
 fell_line_feed a b p x end.Endless item fell = absurd fell.cause
-
-pub fell_line_feed_of : (a b : Sides) (p q : Progress) (x : Item) (e : End) → p ≡ q → x ≡ next_item p (ended_line p.line) → FellIn a b (answer_text p.ledger x) (item_rows p.ledger x) e → FellAt a b q (10 ∷ []) e
-fell_line_feed_of a b p q x e is item fell = subst (λ (o : Progress). FellAt a b o (10 ∷ []) e) is (fell_line_feed a b p x e item fell)
 
 -- memory was wanted before anything was done
 pub fell_first : (a : Sides) (p : Progress) (bytes : List ℕ) → FellAt a a p bytes end.Memory
@@ -259,7 +224,7 @@ did_after a b c p q xs ys end.Keeper fed did = held_after a b c p q xs ys fed di
 did_after a b c p q xs ys end.Memory fed did = stopped_after a b c p q xs ys fed did
 did_after a b c p q xs ys end.Endless fed did = absurd did
 
-fell_then : (a b c : Sides) (p q : Progress) (xs ys : List ℕ) (e : End) → Fed a b p xs q → FellAt b c q ys e → FellAt a c p (xs ++ ys) e
+pub fell_then : (a b c : Sides) (p q : Progress) (xs ys : List ℕ) (e : End) → Fed a b p xs q → FellAt b c q ys e → FellAt a c p (xs ++ ys) e
 fell_then a b c p q xs ys e fed fell = record { did = did_after a b c p q xs ys e fed fell.did; cause = failed_after a b c e fed.counts fell.cause }
 
 -- more bytes stand behind those
@@ -284,22 +249,12 @@ stopped_longer a b p xs ys stop =
       kept = subst (λ (x : List ℕ). AddsRows a.keeper.rows b.keeper.rows (rows_all p x)) same stop.kept;
     }
 
-fell_longer : (a b : Sides) (p : Progress) (xs ys : List ℕ) (e : End) → FellAt a b p xs e → FellAt a b p (xs ++ ys) e
+pub fell_longer : (a b : Sides) (p : Progress) (xs ys : List ℕ) (e : End) → FellAt a b p xs e → FellAt a b p (xs ++ ys) e
 fell_longer a b p xs ys end.Source fell = absurd fell.cause
 fell_longer a b p xs ys end.Sink fell = record { did = stopped_longer a b p xs ys fell.did; cause = fell.cause }
 fell_longer a b p xs ys end.Keeper fell = record { did = held_longer a b p xs ys fell.did; cause = fell.cause }
 fell_longer a b p xs ys end.Memory fell = record { did = stopped_longer a b p xs ys fell.did; cause = fell.cause }
 fell_longer a b p xs ys end.Endless fell = absurd fell.cause
-
--- the bytes up to place i, byte i, and those behind it
-parts_at : (bytes : List ℕ) (i : ℕ) → i < length bytes → (take i bytes ++ get_or bytes i 0 ∷ []) ++ drop (i + 1) bytes ≡ bytes
-parts_at bytes i low = ap (λ l. l ++ drop (i + 1) bytes) (sym (take_more bytes i 0 low)) ∙ take-append-drop (i + 1) bytes
-
--- byte i ended the run
-pub fell_byte : (a b c : Sides) (p q : Progress) (bytes : List ℕ) (i : ℕ) (e : End) → i < length bytes → Fed a b p (take i bytes) q → FellAt b c q (get_or bytes i 0 ∷ []) e → FellAt a c p bytes e
-fell_byte a b c p q bytes i e low fed fell =
-    subst (λ (l : List ℕ). FellAt a c p l e) (parts_at bytes i low)
-    (fell_longer a c p (take i bytes ++ get_or bytes i 0 ∷ []) (drop (i + 1) bytes) e (fell_then a b c p q (take i bytes) (get_or bytes i 0 ∷ []) e fed fell))
 
 -- ---- with the source
 

@@ -3,6 +3,7 @@ pub mod RowLemmas
 pub mod SideLemmas
 pub mod DamagedLemmas
 pub mod FeedLemmas
+pub mod PieceLemmas
 pub mod ApplyLemmas
 pub mod EndLemmas
 pub mod LoadedLemmas

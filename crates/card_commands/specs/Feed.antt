@@ -1,5 +1,6 @@
 -- A run over bytes, one by one.
-use Rattle.std.specs.Prelude.{ℕ, ◌+◌, Bool, false, ◌||◌, nat_lt, ◌==◌, if◌then◌else◌, List, [], ◌∷◌, ◌++◌, length}
+use Rattle.std.specs.Prelude.{◌≢◌, ℕ, ◌+◌, ◌-◌, Bool, false, ◌||◌, nat_lt, ◌==◌, if◌then◌else◌, List, [], ◌∷◌, ◌++◌, length, take}
+use Rattle.std.specs.List.{All}
 use Rattle.card_ports.specs.declared.row.Row.{Row}
 use Rattle.card_model.specs.Machine.{State}
 use Rattle.card_lines.specs.Lines.{line_of}
@@ -27,6 +28,14 @@ pub record Progress : Type 0 where
 -- of a line, no more is kept than shows that it is too long
 abbrev pub longer_line : List ℕ → ℕ → List ℕ
 longer_line line b = if nat_lt 512 (length line) then line else line ++ b ∷ []
+
+-- no byte of a run ends a line
+abbrev pub HasNoLineFeed : List ℕ → Type 0
+HasNoLineFeed run = All (λ b. b ≢ 10) run
+
+-- of a run behind a line, as much is kept as shows that the line is too long
+abbrev pub kept_of : List ℕ → List ℕ → List ℕ
+kept_of line run = take (513 - length line) run
 
 -- the item of the next line
 abbrev pub next_item : Progress → Line → Item

@@ -1,5 +1,5 @@
 // A run over the bytes of an input.
-ghost use Rattle.std.specs.Prelude.{◌≡◌, IfOk};
+ghost use Rattle.std.specs.Prelude.{◌≡◌, IfOk, take};
 ghost use Rattle.std.specs.Str.Lines.{strip_carriage_return};
 ghost use Rattle.card_lines.specs.Lines.{IsDatedLine};
 ghost use Rattle.card_commands.specs.Input.{ended_line};
@@ -11,6 +11,7 @@ use card_desk::Desk;
 use card_lines::{Line, read_line};
 use card_ports::{Keeper, Sink};
 use card_units::NoMemory;
+use memchr::memchr;
 use std::alloc::Global;
 use std::marker::Model;
 
@@ -54,10 +55,21 @@ fn without_return(raw: &[u8]) -> &[u8]
     }
 }
 
+// The first bytes, at most so many.
+fn front_of(bytes: &[u8], count: usize) -> &[u8]
+    ensures { result.now ≡ take count bytes.now }
+{
+    if count < bytes.len() {
+        &bytes[..count]
+    } else {
+        bytes
+    }
+}
+
 impl Progress {
-    ghost use Rattle.std.specs.Prelude.{◌≡◌, ◌<◌, ◌+◌, ◌^◌, [], ◌∷◌, length, IfOk, OnOk, IfErr};
+    ghost use Rattle.std.specs.Prelude.{◌≡◌, ◌<◌, ◌≤◌, ◌+◌, ◌^◌, [], ◌∷◌, ◌++◌, length, take, IfOk, OnOk, IfErr};
     ghost use Rattle.card_desk.specs.Kept.{Fits};
-    ghost use Rattle.card_commands.specs.Feed.{longer_line, end_text, end_rows, new_run};
+    ghost use Rattle.card_commands.specs.Feed.{HasNoLineFeed, kept_of, end_text, end_rows, new_run};
     ghost use Rattle.card_commands.specs.Ran.{Fed, FellAt, Finished};
     ghost use Rattle.card_commands.specs.Written.{sides, FellIn};
 
@@ -72,21 +84,48 @@ impl Progress {
         }
     }
 
-    // Handles the line that is there, which a line feed ends.
+    // Keeps a run behind the line that is there, as much of it as shows that the line is too long.
+    fn keep(&mut self, run: &[u8]) -> Result<(), NoMemory>
+        ensures { OnOk result (self.new ≡ record self.old { line = self.old.line ++ kept_of self.old.line run.now }) }
+    {
+        let room = (LONGEST + 1).saturating_sub(self.line.len());
+        self.line.extend_from_slice(front_of(run, room))?;
+        Ok(())
+    }
+
+    // Takes the line that is there away, with a run behind it that a line feed ends, and says what it says. A line that
+    // lies whole in the run isn't copied.
+    fn take_line(&mut self, alloc: Global, run: &[u8]) -> Result<Line, NoMemory>
+        ensures line { IfOk result (λ l. l ≡ ended_line (self.old.line ++ run.now)) }
+        ensures dated { IfOk result IsDatedLine }
+        ensures taken { OnOk result (self.new ≡ record self.old { line = [] }) }
+    {
+        if self.line.is_empty() {
+            return read_ended(alloc, run);
+        }
+        self.keep(run)?;
+        let line = read_ended(alloc, &self.line)?;
+        self.line.clear();
+        Ok(line)
+    }
+
+    // Takes a run and the line feed behind it, and handles the line that ends there.
     fn end_line<O: Sink, K: Keeper>(
         &mut self,
         alloc: Global,
+        run: &[u8],
         output: &mut O,
         keeper: &mut K,
     ) -> Result<(), End>
+        requires run { HasNoLineFeed run.now }
         requires number { self.old.number < 2 ^ 63 }
         requires fits { Fits (K.rows keeper.old) self.old.ledger }
         ensures ok { let at = sides O.taken O.faults K.rows K.faults in
-            OnOk result (Fed (at output.old keeper.old) (at output.new keeper.new) self.old (10 ∷ []) self.new) }
+            OnOk result (Fed (at output.old keeper.old) (at output.new keeper.new) self.old (run.now ++ 10 ∷ []) self.new) }
         ensures err { let at = sides O.taken O.faults K.rows K.faults in
-            IfErr result (FellAt (at output.old keeper.old) (at output.new keeper.new) self.old (10 ∷ [])) }
+            IfErr result (FellAt (at output.old keeper.old) (at output.new keeper.new) self.old (run.now ++ 10 ∷ [])) }
     {
-        let line = match read_ended(alloc, &self.line) {
+        let line = match self.take_line(alloc, run) {
             Ok(line) => line,
             Err(NoMemory) => return Err(End::Memory),
         };
@@ -94,43 +133,39 @@ impl Progress {
         match self.run.handle(alloc, &item, output, keeper) {
             Ok(()) => {
                 self.number += 1;
-                self.line.clear();
                 Ok(())
             }
             Err(end) => Err(end),
         }
     }
 
-    fn keep(&mut self, byte: u8) -> Result<(), NoMemory>
-        ensures { OnOk result (self.new ≡ record self.old { line = longer_line self.old.line byte }) }
-    {
-        if self.line.len() <= LONGEST {
-            self.line.push(byte)?;
-        }
-        Ok(())
-    }
-
-    // Takes the next byte of the input.
-    fn feed<O: Sink, K: Keeper>(
+    // Takes the bytes up to the first line feed and it, or all where there is none, and says how many they were.
+    fn feed_line<O: Sink, K: Keeper>(
         &mut self,
         alloc: Global,
-        byte: u8,
+        bytes: &[u8],
         output: &mut O,
         keeper: &mut K,
-    ) -> Result<(), End>
+    ) -> Result<usize, End>
+        requires some { 0 < length bytes.now }
         requires number { self.old.number < 2 ^ 63 }
         requires fits { Fits (K.rows keeper.old) self.old.ledger }
+        ensures some { IfOk result (λ n. 0 < n) }
+        ensures within { IfOk result (λ n. n ≤ length bytes.now) }
         ensures ok { let at = sides O.taken O.faults K.rows K.faults in
-            OnOk result (Fed (at output.old keeper.old) (at output.new keeper.new) self.old (byte ∷ []) self.new) }
+            IfOk result (λ n. Fed (at output.old keeper.old) (at output.new keeper.new) self.old (take n bytes.now) self.new) }
         ensures err { let at = sides O.taken O.faults K.rows K.faults in
-            IfErr result (FellAt (at output.old keeper.old) (at output.new keeper.new) self.old (byte ∷ [])) }
+            IfErr result (FellAt (at output.old keeper.old) (at output.new keeper.new) self.old bytes.now) }
     {
-        if byte == b'\n' {
-            return self.end_line(alloc, output, keeper);
-        }
-        match self.keep(byte) {
-            Ok(()) => Ok(()),
-            Err(NoMemory) => Err(End::Memory),
+        match memchr(b'\n', bytes) {
+            Some(n) => match self.end_line(alloc, &bytes[..n], output, keeper) {
+                Ok(()) => Ok(n + 1),
+                Err(end) => Err(end),
+            },
+            None => match self.keep(bytes) {
+                Ok(()) => Ok(bytes.len()),
+                Err(NoMemory) => Err(End::Memory),
+            },
         }
     }
 
@@ -150,9 +185,10 @@ impl Progress {
         ensures err { let at = sides O.taken O.faults K.rows K.faults in
             IfErr result (FellAt (at output.old keeper.old) (at output.new keeper.new) self.old bytes.now) }
     {
-        for byte in bytes {
-            match self.feed(alloc, *byte, output, keeper) {
-                Ok(()) => {}
+        let mut fed = 0;
+        while fed < bytes.len() {
+            match self.feed_line(alloc, &bytes[fed..], output, keeper) {
+                Ok(n) => fed += n,
                 Err(end) => return Err(end),
             }
         }

@@ -1,11 +1,16 @@
-use Rattle.card_commands.proofs.FeedLemmas.{fed_none, fed_byte, fell_byte}
+use Rattle.std.proofs.Common.{arith}
+use Rattle.card_commands.proofs.FeedLemmas.{fed_none}
+use Rattle.card_commands.proofs.PieceLemmas.{length_rest, fed_on, fell_on}
 use Rattle.card_commands.proofs.progress.Progress.feed_bytes.Goals as goal
 
-pub loop-byte-init : goal.loop-byte-init
-loop-byte-init g c = fed_none _ c.args.self.now c.requires.fits
+pub loop-fed-init : goal.loop-fed-init
+loop-fed-init g c = record { done = fed_none _ c.args.self.now c.requires.fits; within = omega arith }
 
-pub loop-byte-preserved : goal.loop-byte-preserved
-loop-byte-preserved g c = fed_byte _ _ _ c.args.self.now c.loop-byte.self _ c.args.bytes.now c.loop-byte.byte-index c.loop-byte-test.true c.loop-byte.invariant c.in-Ok.ensures.ok
+pub loop-fed-preserved : goal.loop-fed-preserved
+loop-fed-preserved g c = record {
+  done = fed_on _ _ _ c.args.self.now c.loop-fed.self _ c.args.bytes.now c.loop-fed.fed c.in-Ok.n c.loop-fed.invariant.done c.in-Ok.ensures.ok;
+  within = omega (arith, c.loop-fed.invariant.within, c.in-Ok.ensures.within, length_rest c.args.bytes.now c.loop-fed.fed);
+}
 
 pub returns-in-Err-clause-err : goal.returns-in-Err-clause-err
-returns-in-Err-clause-err g c = fell_byte _ _ _ c.args.self.now c.loop-byte.self c.args.bytes.now c.loop-byte.byte-index _ c.loop-byte-test.true c.loop-byte.invariant c.in-Err.ensures.err
+returns-in-Err-clause-err g c = fell_on _ _ _ c.args.self.now c.loop-fed.self c.args.bytes.now c.loop-fed.fed c.in-Err.end c.loop-fed.invariant.done c.in-Err.ensures.err
