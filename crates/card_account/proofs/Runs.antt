@@ -30,8 +30,8 @@ use Rattle.card_model.proofs.Accepting.{runs_are_accepted}
 use Rattle.card_posts.specs.Posted.{last_accepted, opens}
 use Rattle.card_posts.specs.Stored.{AreTimely}
 use Rattle.card_rates.proofs.Runs.{runs_have_few_segments}
-use Rattle.card_slots.proofs.Dates.{runs_keep_dates}
-use Rattle.card_slots.specs.Segments.{ArePostsDated}
+use Rattle.card_rates.proofs.Dates.{runs_keep_dates}
+use Rattle.card_rates.specs.Segments.{ArePostsDated}
 
 -- ---- all accounts
 abbrev AllHeld : ℕ → List NamedAccount → Type 0

@@ -21,7 +21,7 @@ use Rattle.card_model.specs.Refusals.{Lists, Present, book_today}
 use Rattle.card_model.specs.Sheets.{sheet_of}
 use Rattle.card_replay.specs.Replays.{Folding, IsReplay, MayReach, Replay, present_of}
 use Rattle.card_replay.specs.Steps.{steps_to}
-use Rattle.card_slots.specs.Segments.{account_segments}
+use Rattle.card_rates.specs.Segments.{account_segments}
 
 -- the account as the machine has it, with the corrected list that is kept of it, whether there is room for one more post with its
 -- statement, and what is kept of its book

@@ -4,7 +4,7 @@ use Rattle.std.specs.List.{All}
 use Rattle.card_model.specs.Refusals.{Present, book_today}
 use Rattle.card_model.specs.declared.entry.Entry.{Entry}
 use Rattle.card_model.specs.declared.segment.Segment.{Segment}
-use Rattle.card_slots.specs.Segments.{account_segments}
+use Rattle.card_rates.specs.Segments.{account_segments}
 
 pub record AccountEntries : Type 0 where
   pub entries : List Entry

@@ -2,7 +2,7 @@
 ghost use Rattle.std.specs.Prelude.{◌≡◌, IfOk};
 ghost use Rattle.card_account.specs.Entries.{entries_today};
 ghost use Rattle.card_model.specs.Refusals.{book_today};
-ghost use Rattle.card_slots.specs.Segments.{account_segments};
+ghost use Rattle.card_rates.specs.Segments.{account_segments};
 
 use card_book::{Entry, Folded, Present};
 use card_model::Segment;

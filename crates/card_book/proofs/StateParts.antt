@@ -7,7 +7,7 @@ use Rattle.card_grace.specs.Rows.{Rows, no_rows}
 use Rattle.card_model.specs.Segments.{SegmentTerms, kept_segment}
 use Rattle.card_model.specs.declared.segment.Segment.{Segment}
 use Rattle.card_rates.specs.RateBooks.{rates_of}
-use Rattle.card_slots.specs.Segments.{account_segments}
+use Rattle.card_rates.specs.Segments.{account_segments}
 use Rattle.card_daily.specs.Given.{Given}
 use Rattle.card_daily.specs.declared.track.Track.{Track}
 use Rattle.card_book.proofs.NewSegments.{rated-grow}

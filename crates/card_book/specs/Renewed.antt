@@ -7,7 +7,7 @@ use Rattle.card_events.specs.declared.kept.Kept.{Kept}
 use Rattle.card_grace.specs.Accruals.{nothing_accrued}
 use Rattle.card_grace.specs.Rows.{no_rows}
 use Rattle.card_rates.specs.RateBooks.{rates_of}
-use Rattle.card_slots.specs.Segments.{account_segments}
+use Rattle.card_rates.specs.Segments.{account_segments}
 use Rattle.card_daily.specs.Given.{Given, IsSound}
 use Rattle.card_daily.specs.declared.track.Track.{Track}
 use Rattle.card_book.specs.GoingOn.{Continues}

@@ -13,7 +13,7 @@ use Rattle.card_model.specs.declared.fee.Fee.{Fee}
 use Rattle.card_model.specs.declared.segment.Interval.{Interval}
 use Rattle.card_model.specs.declared.segment.Segment.{Segment}
 use Rattle.card_rates.specs.RateBooks.{Rates, rates_of}
-use Rattle.card_slots.specs.Segments.{account_segments}
+use Rattle.card_rates.specs.Segments.{account_segments}
 use Rattle.card_daily.specs.Given.{Given, book_on, opened_in}
 use Rattle.card_daily.specs.Stands.{AreBefore, HaveAccrued}
 use Rattle.card_daily.specs.declared.state.State.{State}

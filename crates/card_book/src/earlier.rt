@@ -6,7 +6,7 @@ ghost use Rattle.card_grace.specs.Rows.{no_rows};
 ghost use Rattle.card_model.specs.Cuts.{penalties_at};
 ghost use Rattle.card_rates.specs.RateBooks.{AreByNumber, rates_of, with_penalties};
 ghost use Rattle.card_segments.specs.Unposted.{AreBefore, MayGoBack};
-ghost use Rattle.card_slots.specs.Segments.{account_segments};
+ghost use Rattle.card_rates.specs.Segments.{account_segments};
 ghost use Rattle.card_book.specs.Marks.{accrued_by};
 
 use crate::marks::{Accruing, accruals_at};
@@ -14,8 +14,8 @@ use card_daily::{Entry, Inputs, State};
 use card_dayend::empty_rows;
 use card_days::Day;
 use card_grace::Accrual;
+use card_rates::segments_of;
 use card_segments::Segments;
-use card_slots::segments_of;
 use card_units::NoMemory;
 use std::alloc::Global;
 

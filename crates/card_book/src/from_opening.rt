@@ -7,7 +7,7 @@ ghost use Rattle.card_daily.specs.Stands.{HaveAccrued};
 ghost use Rattle.card_model.specs.Deadlines.{credit_since};
 ghost use Rattle.card_model.specs.Entries.{AreBalances};
 ghost use Rattle.card_rates.specs.RateBooks.{rates_of};
-ghost use Rattle.card_slots.specs.Segments.{account_segments};
+ghost use Rattle.card_rates.specs.Segments.{account_segments};
 ghost use Rattle.card_steps.specs.Blanks.{IsBlankOf};
 
 use crate::Book;

@@ -85,7 +85,7 @@ impl Book {
     ghost use Rattle.card_model.specs.Folds.{cycle_at};
     ghost use Rattle.card_model.specs.Payments.{sixty_days_late};
     ghost use Rattle.card_rates.specs.Laws.{AreQuiet};
-    ghost use Rattle.card_slots.specs.Segments.{account_segments};
+    ghost use Rattle.card_rates.specs.Segments.{account_segments};
 
     /// The book before the opening day. It stands beside a track without entries, cycles and fees.
     pub fn start(alloc: Global, inputs: &Inputs) -> Result<Book, NoMemory>

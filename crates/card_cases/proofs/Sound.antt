@@ -8,7 +8,7 @@ use Rattle.card_events.specs.declared.post.PlanKind.TheVariants as kind
 use Rattle.card_events.specs.declared.post.Post.{Post}
 use Rattle.std.proofs.Math.Nat.{le-max_left, le-max_right, max-le}
 use Rattle.card_posts.specs.Posted.{last_accepted}
-use Rattle.card_slots.specs.Segments.{ArePostsDated}
+use Rattle.card_rates.specs.Segments.{ArePostsDated}
 use Rattle.card_cases.specs.Account.{IsOfAccount, asked, bill, cash, dispute, notice, opening, plan, posts, purchase}
 
 -- ---- each of its posts

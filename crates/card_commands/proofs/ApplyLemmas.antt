@@ -10,7 +10,7 @@ use Rattle.card_commands.specs.Input.{first_part, other_parts, unended, ended_li
 use Rattle.card_commands.specs.Feed.{Progress, next_item, feed_all, text_all, rows_all, new_run, end_text, end_rows, end_refused}
 use Rattle.card_commands.specs.Answers.{next, answer_text, is_refused, item_rows}
 use Rattle.card_commands.specs.Items.{item_of, numbered}
-use Rattle.card_import.specs.declared.item.Item.{Item}
+use Rattle.card_text.specs.declared.item.Item.{Item}
 use Rattle.card_commands.specs.Outside.{AreFirst, but_last}
 use Rattle.card_commands.specs.Run.{after, text_of, rows_kept, any_refused}
 use Rattle.card_commands.proofs.LineLemmas.{fed, cut, cut_is, cut-append, left_over, left_over_is, kept_last}

@@ -17,7 +17,7 @@ use Rattle.card_commands.specs.declared.end.End.{End}
 use Rattle.card_commands.specs.declared.end.End.TheVariants as end
 use Rattle.card_commands.specs.declared.ended.Ended.{Ended}
 use Rattle.card_commands.specs.declared.ended.Ended.TheVariants as ended
-use Rattle.card_import.specs.declared.item.Item.{Item}
+use Rattle.card_text.specs.declared.item.Item.{Item}
 use Rattle.card_commands.proofs.ApplyLemmas.{text_is, rows_are, whole_text, whole_rows, whole_refused, first_items, all_first, OneMore, one_byte, low_front, last_more, none_more}
 use Rattle.card_commands.proofs.FeedLemmas.{cause_of, cause_after}
 use Rattle.card_commands.proofs.RowLemmas.{AddsRows-trans}

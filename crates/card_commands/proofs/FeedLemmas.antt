@@ -17,7 +17,7 @@ use Rattle.card_commands.specs.Ran.{Handled, Fed, HeldAt, StoppedAt, DidAt, Fell
 use Rattle.card_commands.specs.Written.{Sides, Did, DidPart, SameCounts, Failed, FellIn}
 use Rattle.card_commands.specs.declared.end.End.{End}
 use Rattle.card_commands.specs.declared.end.End.TheVariants as end
-use Rattle.card_import.specs.declared.item.Item.{Item}
+use Rattle.card_text.specs.declared.item.Item.{Item}
 use Rattle.card_commands.proofs.LineLemmas.{feed_lf, feed_other, text_lf, text_other, rows_lf, rows_other}
 use Rattle.card_commands.proofs.RowLemmas.{AddsRows-nil, AddsRows-trans}
 use Rattle.card_commands.proofs.SideLemmas.{front_refl, front_none, front_trans, front_after, front_append, did_none, did_then, did_same, did_part_same, counts_refl, counts_then, failed_after}

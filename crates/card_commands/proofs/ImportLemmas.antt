@@ -2,8 +2,8 @@
 use Rattle.std.proofs.Common.{◌≡◌, ℕ, ◌+◌, ◌<◌, Bool, true, false, ◌||◌, ◌⊎◌, inl, inr, Ok, List, [], ◌∷◌, ◌++◌, length, slice_get, drop, refl, ap, sym, ◌∙◌, subst, arith, append_assoc, append-nil, length-append, Option, None, Some}
 use Rattle.std.proofs.KnownBytes.{Appends-nil, Consumes-nil, Consumes-trans}
 use Rattle.card_desk.specs.Kept.{Fits}
-use Rattle.card_import.specs.Import.{items_of_bytes}
-use Rattle.card_import.specs.declared.item.Item.{Item}
+use Rattle.card_text.specs.Import.{items_of_bytes}
+use Rattle.card_text.specs.declared.item.Item.{Item}
 use Rattle.card_model.specs.Machine.{State}
 use Rattle.card_ports.specs.Rows.{AddsRows}
 use Rattle.card_ports.specs.declared.row.Row.{Row}

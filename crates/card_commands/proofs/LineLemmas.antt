@@ -9,7 +9,7 @@ use Rattle.card_lines.specs.declared.line.Line.{Line}
 use Rattle.card_commands.specs.Answers.{answer_text, item_rows}
 use Rattle.card_commands.specs.Items.{numbered}
 use Rattle.card_commands.specs.Run.{after, text_of, rows_kept, any_refused}
-use Rattle.card_import.specs.declared.item.Item.{Item}
+use Rattle.card_text.specs.declared.item.Item.{Item}
 
 -- the parts that line feeds end, where u came before; and what none ends
 abbrev pub cut : List ℕ → List ℕ → List (List ℕ)

@@ -7,7 +7,7 @@ use Rattle.card_daily.specs.declared.track.Statement.{Statement}
 use Rattle.card_demo.specs.Demonstrations.{Demonstration}
 use Rattle.card_demo.specs.Summary.{demo_text}
 use Rattle.card_desk.specs.Views.{issued, listed, restated, seen, stated}
-use Rattle.card_views.specs.Told.{entries_told, statement_told, text_of_statement, told}
+use Rattle.card_http.specs.Told.{entries_told, statement_told, text_of_statement, told}
 use Rattle.card_desk.specs.declared.view.Ask.TheVariants as ask
 use Rattle.card_ports.specs.Rows.{KeepsRows}
 use Rattle.card_model.specs.Machine.{State, lists_of}

@@ -10,7 +10,7 @@ use Rattle.card_commands.specs.Answers.{answer_text, item_rows}
 use Rattle.card_commands.specs.Ran.{Handled, Fed, FellAt}
 use Rattle.card_commands.specs.Written.{Sides, FellIn}
 use Rattle.card_commands.specs.declared.end.End.{End}
-use Rattle.card_import.specs.declared.item.Item.{Item}
+use Rattle.card_text.specs.declared.item.Item.{Item}
 use Rattle.card_commands.proofs.LineLemmas.{feed_other, text_other, rows_other}
 use Rattle.card_commands.proofs.SideLemmas.{did_none, did_same, counts_refl}
 use Rattle.card_commands.proofs.FeedLemmas.{fed_then, fell_then, fell_longer, fed_line_feed, fell_line_feed}

@@ -6,7 +6,7 @@ use Rattle.card_commands.specs.Input.{ended_line, ended_lines, ended_items, all_
 use Rattle.card_commands.specs.Items.{numbered}
 use Rattle.card_commands.specs.Outside.{Outside, AreFirst, ReadFirst, ReadAll, Wrote}
 use Rattle.card_commands.specs.Run.{any_refused}
-use Rattle.card_import.specs.declared.item.Item.{Item}
+use Rattle.card_text.specs.declared.item.Item.{Item}
 use Rattle.card_commands.proofs.ApplyLemmas.{items-append, all_are, rest_of}
 use Rattle.card_commands.proofs.LineLemmas.{cut, left_over}
 

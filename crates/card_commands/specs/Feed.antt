@@ -5,7 +5,7 @@ use Rattle.card_ports.specs.declared.row.Row.{Row}
 use Rattle.card_model.specs.Machine.{State}
 use Rattle.card_lines.specs.Lines.{line_of}
 use Rattle.card_lines.specs.declared.line.Line.{Line}
-use Rattle.card_import.specs.declared.item.Item.{Item}
+use Rattle.card_text.specs.declared.item.Item.{Item}
 use Rattle.card_commands.specs.Answers.{next, answer_text, is_refused, item_rows}
 use Rattle.card_commands.specs.Input.{ended_line}
 use Rattle.card_commands.specs.Items.{item_of}

@@ -4,8 +4,8 @@ use Rattle.std.specs.Str.Lines.{strip_carriage_return}
 use Rattle.card_lines.specs.declared.line.Line.{Line}
 use Rattle.card_lines.specs.declared.line.Line.TheVariants as line
 use Rattle.card_lines.specs.Lines.{line_of}
-use Rattle.card_import.specs.declared.item.Item.{Item}
-use Rattle.card_import.specs.Import.{items_of_bytes}
+use Rattle.card_text.specs.declared.item.Item.{Item}
+use Rattle.card_text.specs.Import.{items_of_bytes}
 use Rattle.card_commands.specs.Items.{numbered}
 
 -- the bytes before the first line feed, and the parts behind it, cut at line feeds

@@ -7,7 +7,7 @@ use Rattle.card_account.specs.Accounts.{issued_statement, restated_statement}
 use Rattle.card_demo.specs.Summary.{demo_text}
 use Rattle.card_model.specs.Refusals.{Lists, book_today}
 use Rattle.card_model.specs.Work.{present_in, work}
-use Rattle.card_slots.specs.Segments.{account_segments}
+use Rattle.card_rates.specs.Segments.{account_segments}
 use Rattle.card_text.specs.Export.{export_text}
 use Rattle.card_text.specs.Tasks.{tasks_text}
 use Rattle.card_ports.specs.Rows.{AddsRows, KeepsRows}
@@ -19,13 +19,13 @@ use Rattle.card_commands.specs.Run.{text_of, rows_kept, any_refused}
 use Rattle.card_commands.specs.Words.{usage_line, TookLine}
 use Rattle.card_commands.specs.Views.{Loaded, NotLoaded, Tells}
 use Rattle.card_ports.specs.Written.{TookFront}
-use Rattle.card_views.specs.Told.{text_of_statement}
+use Rattle.card_http.specs.Told.{text_of_statement}
 use Rattle.card_commands.specs.Written.{Sides, TookBetween, SameCounts}
 use Rattle.card_commands.specs.declared.command.Command.{Command}
 use Rattle.card_commands.specs.declared.command.Command.TheVariants as command
 use Rattle.card_commands.specs.declared.ended.Ended.{Ended}
 use Rattle.card_commands.specs.declared.ended.Ended.TheVariants as ended
-use Rattle.card_import.specs.declared.item.Item.{Item}
+use Rattle.card_text.specs.declared.item.Item.{Item}
 
 -- the source and the bytes left in it, the bytes that the sink took, the keeper and its rows; and how often each failed
 pub record Outside (I K : Type 0) : Type 0 where

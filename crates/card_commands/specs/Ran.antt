@@ -9,7 +9,7 @@ use Rattle.card_commands.specs.Outside.{Outside, HasCause, sides_of}
 use Rattle.card_commands.specs.Written.{Sides, TookBetween, Did, SameCounts, Failed, FellIn}
 use Rattle.card_commands.specs.declared.end.End.{End}
 use Rattle.card_commands.specs.declared.end.End.TheVariants as end
-use Rattle.card_import.specs.declared.item.Item.{Item}
+use Rattle.card_text.specs.declared.item.Item.{Item}
 use Rattle.card_ports.specs.Rows.{AddsRows}
 
 -- an item was handled: its text was written, and its rows were kept

@@ -2,7 +2,7 @@
 use Rattle.std.specs.Prelude.{ℕ, Bool, false, ◌||◌, List, [], ◌∷◌, ◌++◌}
 use Rattle.card_ports.specs.declared.row.Row.{Row}
 use Rattle.card_model.specs.Machine.{State}
-use Rattle.card_import.specs.declared.item.Item.{Item}
+use Rattle.card_text.specs.declared.item.Item.{Item}
 use Rattle.card_commands.specs.Answers.{next, answer_text, is_refused, item_rows}
 
 -- the ledger after items

@@ -9,13 +9,13 @@ ghost use Rattle.card_ports.specs.Rows.{AddsRows, KeepsRows};
 ghost use Rattle.card_model.specs.Machine.{State};
 ghost use Rattle.card_commands.specs.Answers.{answer_text, is_refused, item_rows, next, reply_in};
 ghost use Rattle.card_commands.specs.Answers as spec;
-ghost use Rattle.card_import.specs.Items.{IsDatedItem};
+ghost use Rattle.card_text.specs.Items.{IsDatedItem};
 
 use card_desk::{Desk, Fault, View, uncounted};
 use card_events::{Name, Refusal, Reply};
-use card_import::Item;
 use card_lines::{bad_text, reply_text, show_text};
 use card_ports::Keeper;
+use card_text::Item;
 use card_units::NoMemory;
 use std::alloc::Global;
 

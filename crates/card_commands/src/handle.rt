@@ -4,8 +4,8 @@ ghost use Rattle.std.specs.Prelude.{◌≡◌, ◌||◌};
 use crate::answer::{answer, carry_out};
 use crate::end::End;
 use card_desk::{Desk, Fault};
-use card_import::Item;
 use card_ports::{Keeper, Sink, SinkFault, write_all};
+use card_text::Item;
 use card_units::NoMemory;
 use std::alloc::Global;
 use std::marker::Model;
@@ -28,7 +28,7 @@ impl Model for Run {
 impl Run {
     ghost use Rattle.std.specs.Prelude.{◌≡◌, false, OnOk, IfErr};
     ghost use Rattle.card_desk.specs.Kept.{Fits};
-    ghost use Rattle.card_import.specs.Items.{IsDatedItem};
+    ghost use Rattle.card_text.specs.Items.{IsDatedItem};
     ghost use Rattle.card_commands.specs.Ran.{FellOn, Handled};
     ghost use Rattle.card_ports.specs.Written.{sink_side, TookAll, TookPart};
     ghost use Rattle.card_commands.specs.Written.{sides};

@@ -1,7 +1,7 @@
 // A run over the records of an input.
 ghost use Rattle.std.specs.Prelude.{◌≡◌, ◌≤◌, ◌<◌, false, IfOk, OnOk, IfErr};
 ghost use Rattle.card_desk.specs.Kept.{Fits};
-ghost use Rattle.card_import.specs.Import.{items_of_bytes};
+ghost use Rattle.card_text.specs.Import.{items_of_bytes};
 ghost use Rattle.card_commands.specs.Imported.{source_side, FellAmong, FellInPiece, FellTaking, HandledAll, TookAllLeft, TookMore};
 ghost use Rattle.card_commands.specs.Input.{records};
 ghost use Rattle.card_commands.specs.Outside.{outside, Runs, HasCause};
@@ -10,8 +10,8 @@ ghost use Rattle.card_commands.specs.Written.{sides};
 use crate::end::End;
 use crate::ended::{Ended, ended_by, ended_of};
 use crate::handle::Run;
-use card_import::Records;
 use card_ports::{Failed, Keeper, Sink, Source};
+use card_text::Records;
 use card_units::NoMemory;
 use std::alloc::Global;
 

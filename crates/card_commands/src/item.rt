@@ -1,11 +1,11 @@
 // Lines as items.
 ghost use Rattle.std.specs.Prelude.{◌≡◌};
 ghost use Rattle.card_lines.specs.Lines.{IsDatedLine};
-ghost use Rattle.card_import.specs.Items.{IsDatedItem};
+ghost use Rattle.card_text.specs.Items.{IsDatedItem};
 ghost use Rattle.card_commands.specs.Items as spec;
 
-use card_import::Item;
 use card_lines::Line;
+use card_text::Item;
 
 /// The item of a line that has this number.
 pub fn item_of(number: u64, line: Line) -> Item

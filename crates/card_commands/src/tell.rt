@@ -1,7 +1,7 @@
 // Texts of the ledger.
 ghost use Rattle.std.specs.Prelude.{Some, option_map};
 ghost use Rattle.std.specs.String.{string_bytes};
-ghost use Rattle.card_views.specs.Told.{told};
+ghost use Rattle.card_http.specs.Told.{told};
 ghost use Rattle.card_commands.specs.Views.{Told, Viewed};
 ghost use Rattle.card_ports.specs.Written.{sink_side};
 ghost use Rattle.card_commands.specs.Written.{sides};
@@ -9,9 +9,9 @@ ghost use Rattle.card_commands.specs.Written.{sides};
 use crate::ended::{Ended, ended_by_sink};
 use crate::load::load;
 use card_desk::Ask;
+use card_http::told_text;
 use card_ports::{Keeper, Sink, write_all};
 use card_units::NoMemory;
-use card_views::told_text;
 use std::alloc::Global;
 
 const NONE: &str = "none\n";

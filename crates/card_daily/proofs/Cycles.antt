@@ -20,7 +20,7 @@ use Rattle.card_model.specs.Cycles.{Cycle, last_cycle, posts_on}
 use Rattle.card_model.specs.DueDates.{on_due}
 use Rattle.card_model.specs.Effects.{after_posts}
 use Rattle.card_model.proofs.Calendar.{is-anchor}
-use Rattle.card_slots.proofs.Turns.{of_a_day}
+use Rattle.card_rates.proofs.Turns.{of_a_day}
 use Rattle.card_daily.specs.Given.{Given, IsSound, account_in, opened_in, row_in, seen_in}
 use Rattle.card_daily.specs.Stands.{amid, before, first_in, posted, posts_of}
 use Rattle.card_daily.proofs.Books.{amid-small, day-is}

@@ -34,7 +34,7 @@ use Rattle.card_model.specs.declared.entry.EntryKind.TheVariants as kind
 use Rattle.card_rates.proofs.ByNumber.{number-above}
 use Rattle.card_rates.proofs.DayLaws.{segments_of_a_day}
 use Rattle.card_rates.specs.RateBooks.{rates_of}
-use Rattle.card_slots.proofs.Turns.{of_a_day}
+use Rattle.card_rates.proofs.Turns.{of_a_day}
 use Rattle.card_daily.proofs.Books.{amid-small, day-is}
 use Rattle.card_daily.proofs.Returning.{Names, all-name, named}
 use Rattle.card_daily.proofs.Standing.{one-each}

@@ -27,8 +27,8 @@ use Rattle.card_model.specs.declared.entry.EntryKind.TheVariants as kind
 use Rattle.card_model.specs.declared.segment.Sort.TheVariants as sort
 use Rattle.card_rates.proofs.Added.{segments-are}
 use Rattle.card_rates.specs.RateBooks.{Rates}
-use Rattle.card_slots.proofs.Turns.{of_a_day}
-use Rattle.card_slots.specs.declared.day.DayPost.{DayPost}
+use Rattle.card_rates.proofs.Turns.{of_a_day}
+use Rattle.card_rates.specs.declared.day.DayPost.{DayPost}
 use Rattle.card_daily.proofs.Books.{day-is}
 use Rattle.card_daily.proofs.Fronts.{due_left, without-idle}
 use Rattle.card_daily.proofs.PostDay.{IsAtPlace, any_post}

@@ -29,11 +29,11 @@ use Rattle.card_model.specs.declared.segment.Segment.{Segment}
 use Rattle.card_posts.specs.Change.{on}
 use Rattle.card_posts.specs.Posted.{Posted, StandsFor, folding_order}
 use Rattle.card_rates.specs.RateBooks.{Rates, rates_of}
-use Rattle.card_slots.proofs.Places.{of_days}
-use Rattle.card_slots.proofs.Turns.{in_turn, of_a_day}
-use Rattle.card_slots.specs.Days.{day_post, folded_post, place_of}
-use Rattle.card_slots.specs.Laws.{IsCut}
-use Rattle.card_slots.specs.declared.day.DayPost.{DayPost}
+use Rattle.card_rates.proofs.Places.{of_days}
+use Rattle.card_rates.proofs.Turns.{in_turn, of_a_day}
+use Rattle.card_rates.specs.Days.{day_post, folded_post, place_of}
+use Rattle.card_rates.specs.SlotLaws.{IsCut}
+use Rattle.card_rates.specs.declared.day.DayPost.{DayPost}
 use Rattle.card_daily.proofs.Books.{day-is}
 use Rattle.card_daily.proofs.Following.{begun-by}
 use Rattle.card_daily.proofs.Posting.{IsAdded, begins-more, each-same, effect-adds, same-returned}

@@ -33,8 +33,8 @@ use Rattle.card_model.specs.declared.entry.EntryKind.TheVariants as kind
 use Rattle.card_model.specs.declared.fee.Fee.{Fee}
 use Rattle.card_rates.specs.RateBooks.{AreByNumber, Rates}
 use Rattle.card_segments.proofs.Totals.{within-fits}
-use Rattle.card_slots.specs.Days.{day_post}
-use Rattle.card_slots.specs.declared.day.DayPost.{DayPost}
+use Rattle.card_rates.specs.Days.{day_post}
+use Rattle.card_rates.specs.declared.day.DayPost.{DayPost}
 use Rattle.card_daily.proofs.Repaying.{IsOther, others-bring, same-brought}
 use Rattle.card_daily.proofs.Standing.{begins-same, begins-with}
 use Rattle.card_daily.specs.Posts.{StandWith, is_penalty, returned_after}

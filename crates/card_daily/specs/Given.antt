@@ -18,7 +18,7 @@ use Rattle.card_model.specs.Cycles.{IssuedRow, Seen, seen_on}
 use Rattle.card_model.specs.Folds.{book, book_after}
 use Rattle.card_model.specs.Refusals.{Present, plan_days}
 use Rattle.card_posts.specs.Posted.{last_accepted}
-use Rattle.card_slots.specs.Segments.{ArePostsDated}
+use Rattle.card_rates.specs.Segments.{ArePostsDated}
 
 -- the accepted posts of an account, its issued statements, and what all accounts share
 pub record Given : Type 0 where

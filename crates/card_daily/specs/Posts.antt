@@ -15,8 +15,8 @@ use Rattle.card_model.specs.Effects.{effect}
 use Rattle.card_model.specs.Payments.{is_payment, returns}
 use Rattle.card_model.specs.Segments.{SegmentTerms}
 use Rattle.card_rates.specs.RateBooks.{Rates}
-use Rattle.card_slots.specs.Days.{day_post, place_of}
-use Rattle.card_slots.specs.declared.day.DayPost.{DayPost}
+use Rattle.card_rates.specs.Days.{day_post, place_of}
+use Rattle.card_rates.specs.declared.day.DayPost.{DayPost}
 use Rattle.card_daily.specs.Given.{Given, account_in, opened_in, row_in, seen_in}
 use Rattle.card_daily.specs.Stands.{Begins, before, posts_of}
 use Rattle.card_daily.specs.declared.state.State.{State}

@@ -16,8 +16,8 @@ use Rattle.card_model.specs.Payments.{is_returned, returns}
 use Rattle.card_model.specs.Segments.{SegmentTerms, is_over, is_sort}
 use Rattle.card_model.specs.declared.segment.Sort.TheVariants as sort
 use Rattle.card_rates.specs.RateBooks.{rates_of}
-use Rattle.card_slots.specs.Laws.{day_posts}
-use Rattle.card_slots.specs.Segments.{account_segments}
+use Rattle.card_rates.specs.SlotLaws.{day_posts}
+use Rattle.card_rates.specs.Segments.{account_segments}
 use Rattle.card_daily.specs.Given.{Given, IsDayOf, account_in, book_in, opened_in, seen_in}
 use Rattle.card_daily.specs.declared.state.State.{State}
 use Rattle.card_daily.specs.declared.track.Track.{Track}

@@ -24,9 +24,9 @@ use Rattle.card_posts.specs.Posted.{folding_order}
 use Rattle.card_rates.specs.Next.{IsNext, changes}
 use Rattle.card_rates.specs.RateBooks.{Rates, rates_of}
 use Rattle.card_rates.proofs.Nearest.{next-both, next-elsewhere, next-never, next-same, next-there}
-use Rattle.card_slots.specs.Days.{place_of}
-use Rattle.card_slots.specs.Laws.{IsCut}
-use Rattle.card_slots.proofs.Places.{of_days}
+use Rattle.card_rates.specs.Days.{place_of}
+use Rattle.card_rates.specs.SlotLaws.{IsCut}
+use Rattle.card_rates.proofs.Places.{of_days}
 use Rattle.card_daily.proofs.ClosingDay.{grows-to}
 use Rattle.card_daily.proofs.Cycles.{closing-within}
 use Rattle.card_daily.proofs.Following.{due-most}

@@ -16,7 +16,7 @@ use Rattle.card_model.specs.Interest.{accrual, days_from, row}
 use Rattle.card_model.specs.Segments.{SegmentTerms, kept_segment}
 use Rattle.card_rates.specs.RateBooks.{Rates, rates_of}
 use Rattle.card_segments.proofs.Sums.{sums-start}
-use Rattle.card_slots.specs.Segments.{AreUnused, account_segments}
+use Rattle.card_rates.specs.Segments.{AreUnused, account_segments}
 use Rattle.card_units.specs.Money.{daily}
 use Rattle.card_daily.specs.Given.{Given, IsSound, account_in, book_in, opened_in, seen_in}
 use Rattle.card_daily.specs.Stands.{AreBefore, HaveAccrued, IsBlank, StandFor, before, rows_through}

@@ -9,8 +9,7 @@ ghost use Rattle.card_daily.specs.declared.track.Track.{Track};
 use card_daily::{Inputs, State};
 use card_days::Day;
 use card_grace::{Accrual, CycleRows};
-use card_rates::RateBook;
-use card_slots::segments_of;
+use card_rates::{RateBook, segments_of};
 use card_units::NoMemory;
 use std::alloc::Global;
 

@@ -12,8 +12,7 @@ ghost use Rattle.card_dayend.specs.Spans.{IsCycleOf, breaks_by, closes, follows_
 use card_daily::{Inputs, Issued};
 use card_days::{Anchor, Day, closing_date, cycle_of, due_date};
 use card_posts::Posts;
-use card_rates::RateBook;
-use card_slots::first_place;
+use card_rates::{RateBook, first_place};
 
 // A day, where it comes before the end.
 fn next_at(first: Day, end: Day, day: Day) -> Day

@@ -50,7 +50,7 @@ use Rattle.card_model.specs.declared.segment.Segment.{Segment}
 use Rattle.card_posts.specs.Posted.{opens}
 use Rattle.card_posts.proofs.Holidays.{same-corrected}
 use Rattle.card_rows.specs.Held.{are_terms, is_day, is_number, is_place, is_post, is_request, is_shared}
-use Rattle.card_slots.specs.Segments.{account_segments}
+use Rattle.card_rates.specs.Segments.{account_segments}
 
 -- ---- requests that are taken
 day_parts : (day : ℕ) → is_day day ≡ true → (first_calendar_day ≤ day) × (is_request_day day ≡ true)

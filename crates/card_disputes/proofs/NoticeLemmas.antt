@@ -18,7 +18,7 @@ use Rattle.card_events.specs.declared.post.Post.TheVariants as post
 use Rattle.card_model.specs.Deadlines.{bills_from, last_notice_day, notice_end, notice_end_of, reflects}
 use Rattle.card_model.specs.Effects.{charge_at, is_charge}
 use Rattle.card_posts.specs.Posted.{last_accepted}
-use Rattle.card_slots.specs.Segments.{ArePostsDated}
+use Rattle.card_rates.specs.Segments.{ArePostsDated}
 
 -- ---- the last Amend
 -- by the first i + 1 posts, where the one in place i is this

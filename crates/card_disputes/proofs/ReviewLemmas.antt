@@ -17,7 +17,7 @@ use Rattle.card_events.specs.declared.kept.Kept.{Kept}
 use Rattle.card_events.specs.declared.post.Post.{Post}
 use Rattle.card_events.specs.declared.post.Post.TheVariants as post
 use Rattle.card_model.specs.Deadlines.{increase_of, review_by, review_of, reviewed}
-use Rattle.card_slots.specs.Segments.{ArePostsDated}
+use Rattle.card_rates.specs.Segments.{ArePostsDated}
 
 -- ---- the posts up to a place
 map-step : (h : Kept → Option ℕ) (i : ℕ) (ks : List Kept) (k : Kept) → slice_get ks i ≡ Some k → filter_map h (take (suc i) ks) ≡ filter_map h (take i ks) ++ cons_option (h k) []

@@ -6,7 +6,7 @@ use Rattle.card_days.specs.declared.anchor.Anchor.{Anchor}
 use Rattle.card_events.specs.History.{anchor_of}
 use Rattle.card_events.specs.declared.kept.Kept.{Kept}
 use Rattle.card_posts.specs.Posted.{last_accepted}
-use Rattle.card_slots.specs.Segments.{ArePostsDated}
+use Rattle.card_rates.specs.Segments.{ArePostsDated}
 
 -- the posts of an account with these cycles, whose days, those of acceptance too, are days of requests
 pub record AreInCalendar (a : Anchor) (history : List Kept) : Type 0 where

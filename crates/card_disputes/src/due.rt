@@ -7,7 +7,7 @@ ghost use Rattle.card_events.specs.Dated.{is_dated_post};
 ghost use Rattle.card_events.specs.History.{at_number};
 ghost use Rattle.card_model.specs.Deadlines as spec;
 ghost use Rattle.card_posts.specs.Posted.{StandsFor};
-ghost use Rattle.card_slots.specs.Segments.{ArePostsDated};
+ghost use Rattle.card_rates.specs.Segments.{ArePostsDated};
 
 use crate::deadline::{ack_by, lower_by, refund_by, resolve_by};
 use crate::end::{is_acknowledged, is_lowered, is_refunded, is_resolved};

@@ -6,7 +6,7 @@ ghost use Rattle.card_disputes.specs.Increases.{increase_at, increase_by, increa
 ghost use Rattle.card_events.specs.History.{at_number};
 ghost use Rattle.card_model.specs.Deadlines as spec;
 ghost use Rattle.card_posts.specs.Posted.{StandsFor};
-ghost use Rattle.card_slots.specs.Segments.{ArePostsDated};
+ghost use Rattle.card_rates.specs.Segments.{ArePostsDated};
 
 use card_days::{Day, six_months_after};
 use card_events::{Kept, Post};

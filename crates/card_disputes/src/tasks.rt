@@ -8,7 +8,7 @@ ghost use Rattle.card_events.specs.History.{anchor_of};
 ghost use Rattle.card_model.specs.Deadlines.{open_tasks};
 ghost use Rattle.card_model.specs.Deadlines as spec;
 ghost use Rattle.card_posts.specs.Posted.{StandsFor};
-ghost use Rattle.card_slots.specs.Segments.{ArePostsDated};
+ghost use Rattle.card_rates.specs.Segments.{ArePostsDated};
 
 use crate::due::{credit_due, due_at};
 use crate::order::by_day;

@@ -19,8 +19,8 @@ use Rattle.card_model.specs.declared.segment.Sort.TheVariants as sort
 use Rattle.card_rates.proofs.DayLaws.{segments_of_a_day}
 use Rattle.card_rates.specs.Laws.{segments_on}
 use Rattle.card_rates.specs.RateBooks.{AreByNumber, Rates, rates_of}
-use Rattle.card_slots.specs.Days.{day_post}
-use Rattle.card_slots.specs.declared.day.DayPost.{DayPost}
+use Rattle.card_rates.specs.Days.{day_post}
+use Rattle.card_rates.specs.declared.day.DayPost.{DayPost}
 use Rattle.card_effects.specs.Accounts.{AreOf}
 use Rattle.card_effects.specs.Seen.{cents_of, charge_named, segment_of}
 

@@ -15,9 +15,9 @@ use Rattle.card_model.specs.Cycles.{IssuedRow, post_at}
 use Rattle.card_model.specs.Effects.{charge_at, is_charge}
 use Rattle.card_posts.specs.Posted.{slot_with}
 use Rattle.card_rates.specs.Laws.{seen_in}
-use Rattle.card_slots.proofs.Posts.{Stands}
-use Rattle.card_slots.specs.Days.{day_post, found_for, only_folded, slot_post}
-use Rattle.card_slots.specs.declared.day.DayPost.{DayPost}
+use Rattle.card_rates.proofs.Posts.{Stands}
+use Rattle.card_rates.specs.Days.{day_post, found_for, only_folded, slot_post}
+use Rattle.card_rates.specs.declared.day.DayPost.{DayPost}
 use Rattle.card_effects.specs.Seen.{charge_seen, if_charge, post_by, post_seen}
 
 absent : (low n : ℕ) (ps : List CorrectedPost) → Numbers low ps → n < low → post_at n ps ≡ None

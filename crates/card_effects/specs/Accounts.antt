@@ -7,7 +7,7 @@ use Rattle.card_model.specs.Segments.{SegmentTerms}
 use Rattle.card_model.specs.declared.segment.Segment.{Segment}
 use Rattle.card_rates.specs.Laws.{segments_on}
 use Rattle.card_rates.specs.RateBooks.{Rates, rates_of}
-use Rattle.card_slots.specs.Segments.{account_segments}
+use Rattle.card_rates.specs.Segments.{account_segments}
 
 -- They are those that the posts of the account add. The holidays count for none of them
 pub record AreOf (history : List Kept) (kept : List Segment) (rated : Rates) : Type 0 where

@@ -6,8 +6,8 @@ use Rattle.card_events.specs.declared.post.Post.{Post}
 use Rattle.card_model.specs.Cycles.{Seen, post_at}
 use Rattle.card_model.specs.Effects.{charge_at, charge_disputed, is_charge, place_charged, place_segment}
 use Rattle.card_model.specs.Segments.{SegmentTerms}
-use Rattle.card_slots.specs.Days.{day_post, found_for, only_folded}
-use Rattle.card_slots.specs.declared.day.DayPost.{DayPost}
+use Rattle.card_rates.specs.Days.{day_post, found_for, only_folded}
+use Rattle.card_rates.specs.declared.day.DayPost.{DayPost}
 
 -- ---- of the posts seen on a day
 -- the post with a number

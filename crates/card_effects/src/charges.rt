@@ -6,9 +6,8 @@ ghost use Rattle.card_effects.specs.Seen.{cents_of, segment_in, segment_of};
 
 use card_days::Day;
 use card_events::Post;
-use card_rates::RateBook;
+use card_rates::{DayPost, RateBook, segment_at};
 use card_segments::Segments;
-use card_slots::{DayPost, segment_at};
 
 // The segment of a post's place on a day, as the fold of this or a later day sees it.
 fn segment_in(rates: &RateBook, segments: &Segments, post: &Post, day: Day, today: Day) -> u8

@@ -22,9 +22,8 @@ use crate::disputes::note_of;
 use crate::seen::{charge_seen, post_seen};
 use card_events::{Num, Post, Slot};
 use card_posts::Posts;
-use card_rates::RateBook;
+use card_rates::{DayPost, RateBook};
 use card_segments::{Entry, EntryKind, Segments};
-use card_slots::DayPost;
 use card_units::{Cents, NoMemory};
 
 // What an entry moves to Held, if it is of a post.

@@ -4,13 +4,13 @@ ghost use Rattle.card_events.specs.SharedRows.{SharedRows};
 ghost use Rattle.card_model.specs.Cycles.{IssuedRow};
 ghost use Rattle.card_posts.specs.Posted.{StandsFor};
 ghost use Rattle.card_rates.specs.Laws.{seen_in};
-ghost use Rattle.card_slots.specs.Days.{found_for, only_folded};
+ghost use Rattle.card_rates.specs.Days.{found_for, only_folded};
 ghost use Rattle.card_effects.specs.Seen as seen;
 
 use card_days::Day;
 use card_events::{Post, Slot};
 use card_posts::Posts;
-use card_slots::{DayPost, is_folded};
+use card_rates::{DayPost, is_folded};
 
 // A post of a kind that is folded.
 fn if_folded(post: DayPost) -> Option<DayPost>

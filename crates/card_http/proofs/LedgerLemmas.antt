@@ -6,9 +6,9 @@ use Rattle.card_desk.specs.Kept.{Fits}
 use Rattle.card_events.specs.declared.reply.Reply.{Reply}
 use Rattle.card_events.specs.declared.reply.Reply.TheVariants as reply
 use Rattle.card_events.specs.declared.request.Request.{Request}
-use Rattle.card_json.specs.Bodies.{FailsBody, Says, request, bad}
-use Rattle.card_json.specs.declared.body.BodyFault.{BodyFault}
-use Rattle.card_json.specs.declared.body.BodyFault.TheVariants as body_fault
+use Rattle.card_wire.specs.Bodies.{FailsBody, Says, request, bad}
+use Rattle.card_wire.specs.declared.json_body.BodyFault.{BodyFault}
+use Rattle.card_wire.specs.declared.json_body.BodyFault.TheVariants as body_fault
 use Rattle.card_ports.specs.Rows.{AddsRows, KeepsRows, SameRowsTold}
 use Rattle.card_ports.specs.declared.row.Row.{Row}
 use Rattle.card_model.specs.Machine.{State, step}

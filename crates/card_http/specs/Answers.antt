@@ -4,7 +4,7 @@ use Rattle.std.specs.Option.{unwrap_or}
 use Rattle.http.specs.StatusCode.{reason_phrase}
 use Rattle.card_events.specs.declared.reply.Reply.{Reply}
 use Rattle.card_events.specs.declared.reply.Reply.TheVariants as reply
-use Rattle.card_json.specs.Answers.{ok_text, refused_text}
+use Rattle.card_wire.specs.Answers.{ok_text, refused_text}
 use Rattle.card_wire.specs.declared.wanted.Early.{Early}
 use Rattle.card_wire.specs.declared.wanted.Early.TheVariants as early
 use Rattle.card_http.specs.declared.status.Status.{Status}

@@ -4,16 +4,16 @@ use Rattle.card_desk.specs.Kept.{Fits, new_rows}
 use Rattle.card_desk.specs.declared.view.Ask.{Ask}
 use Rattle.card_desk.specs.declared.view.Ask.TheVariants as ask
 use Rattle.card_events.specs.declared.request.Request.{Request}
-use Rattle.card_json.specs.Answers.{member_text}
-use Rattle.card_json.specs.Bodies.{IsNoJson, Said, Says, request, bad}
-use Rattle.card_json.specs.declared.body.BodyFault.{BodyFault}
-use Rattle.card_json.specs.declared.body.BodyFault.TheVariants as body_fault
+use Rattle.card_wire.specs.Answers.{member_text}
+use Rattle.card_wire.specs.Bodies.{IsNoJson, Said, Says, request, bad}
+use Rattle.card_wire.specs.declared.json_body.BodyFault.{BodyFault}
+use Rattle.card_wire.specs.declared.json_body.BodyFault.TheVariants as body_fault
 use Rattle.card_ports.specs.Rows.{AddsRows}
 use Rattle.card_ports.specs.declared.row.Row.{Row}
 use Rattle.card_lines.specs.Forms.{name_of, number_of}
 use Rattle.card_model.specs.Machine.{State, step}
 use Rattle.card_ports.specs.Counts.{Rose}
-use Rattle.card_views.specs.Told.{told}
+use Rattle.card_http.specs.Told.{told}
 use Rattle.card_wire.specs.Heads.{HeadParts}
 use Rattle.card_wire.specs.Routes.{part, path_of}
 use Rattle.card_wire.specs.Wants.{wanted}

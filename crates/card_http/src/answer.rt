@@ -5,9 +5,8 @@ ghost use Rattle.card_http.specs.Answers as spec;
 
 use crate::status::Status;
 use card_events::Reply;
-use card_json::{ok_text, refused_text};
 use card_units::NoMemory;
-use card_wire::Early;
+use card_wire::{Early, ok_text, refused_text};
 use std::alloc::Global;
 
 /// The bytes of an answer: its status with its phrase, the type and length of the body, that the connection is closed, and the

@@ -2,18 +2,17 @@
 ghost use Rattle.std.specs.Prelude.{◌≡◌, ◌⊎◌, true};
 ghost use Rattle.card_desk.specs.Kept.{Fits};
 ghost use Rattle.card_events.specs.Dated.{is_dated};
-ghost use Rattle.card_json.specs.Bodies as said;
+ghost use Rattle.card_wire.specs.Bodies as said;
 ghost use Rattle.card_http.specs.Outcomes.{Comes, IsFaultOf, IsLookedUp, IsPosted, IsRouted, asked, ledger, posted, told_asked};
 
 use crate::asking::read_ask;
 use crate::outcome::Outcome;
+use crate::told_text;
 use card_desk::{Desk, Fault, uncounted};
 use card_events::Request;
-use card_json::read_body;
 use card_ports::Keeper;
 use card_units::NoMemory;
-use card_views::told_text;
-use card_wire::Route;
+use card_wire::{Route, read_json_body};
 use std::alloc::Global;
 
 /// What a request of this route comes to, whose body was read whole. A POST is carried out, and its row kept where it is newly
@@ -46,7 +45,7 @@ fn post<K: Keeper>(alloc: Global, desk: &mut Desk, keeper: &mut K, body: &[u8]) 
     ensures { let at = ledger K.rows K.faults in
         Comes (λ a. IsPosted desk.old.state body.now a ⊎ IsFaultOf Route.Posts a) (at desk.old.state keeper.old) (at desk.new.state keeper.new) result }
 {
-    match read_body(alloc, body) {
+    match read_json_body(alloc, body) {
         Ok(request) => carry_out(alloc, desk, keeper, &request),
         Err(fault) => Outcome::unread(fault),
     }

@@ -9,9 +9,11 @@ mod sending;
 mod served;
 mod serving;
 mod status;
+mod texts;
 
 pub use answer::{answer_text, early_text, reply_json};
 pub use outcome::Outcome;
 pub use served::Served;
 pub use serving::serve_one;
 pub use status::Status;
+pub use texts::{told_text, view_text};

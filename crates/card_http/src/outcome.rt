@@ -1,7 +1,7 @@
 // What a request comes to.
 use crate::status::Status;
 use card_events::Reply;
-use card_json::BodyFault;
+use card_wire::BodyFault;
 
 /// What a request that was read whole comes to.
 #[derive(Drop)]

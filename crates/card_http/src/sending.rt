@@ -8,10 +8,9 @@ use crate::answer::{answer_text, early_text, reply_json};
 use crate::outcome::Outcome;
 use crate::served::Served;
 use crate::status::Status;
-use card_json::member_text;
 use card_ports::{Link, SinkFault};
 use card_units::NoMemory;
-use card_wire::{Early, send};
+use card_wire::{Early, member_text, send};
 use std::alloc::Global;
 
 const KEEPER_FAILED: &str = "{\"fault\":\"keeper\"}";

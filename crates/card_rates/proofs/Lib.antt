@@ -9,3 +9,10 @@ pub mod Penalties
 pub mod Runs
 pub mod Spans
 pub mod Unchanged
+pub mod Ordered
+pub mod Posts
+pub mod Turns
+pub mod Places
+pub mod SlotsAdded
+pub mod Plans
+pub mod Dates

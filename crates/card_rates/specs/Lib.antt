@@ -2,3 +2,6 @@ pub mod Added
 pub mod Laws
 pub mod Next
 pub mod RateBooks
+pub mod Days
+pub mod SlotLaws
+pub mod Segments

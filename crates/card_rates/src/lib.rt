@@ -3,11 +3,18 @@
 
 mod book;
 mod change;
+mod day;
 pub mod laws;
 mod make;
 mod past;
+mod plan;
 mod rate;
 mod segment;
+mod segments;
+pub mod slot_laws;
 
 pub use book::RateBook;
+pub use day::{DayPost, end_place, first_place, folded_at, is_folded};
+pub use plan::{plan_segment, segment_at};
 pub use segment::{RatedSegment, is_deferred_on, plan_sort, sort_of};
+pub use segments::segments_of;

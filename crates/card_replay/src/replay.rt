@@ -90,7 +90,7 @@ impl Replay {
     ghost use Rattle.card_model.specs.Refusals.{book_today, reason_against};
     ghost use Rattle.card_model.specs.Deadlines.{credit_since};
     ghost use Rattle.card_posts.specs.Posted.{opens};
-    ghost use Rattle.card_slots.specs.Segments.{account_segments};
+    ghost use Rattle.card_rates.specs.Segments.{account_segments};
     ghost use Rattle.card_daily.specs.Given.{IsSound};
     ghost use Rattle.card_book.specs.Stands.{steps_over};
     ghost use Rattle.card_replay.specs.Changes.{IsChangeOf, IsCommitted, IsPrepared, IsReadyFor, IsRefoldedBy, MayPrepare, issued_as};

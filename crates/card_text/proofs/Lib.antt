@@ -1,2 +1,6 @@
 mod RowText
 mod EntryLemmas
+mod DatedLemmas
+mod RecordLemmas
+mod ItemLemmas
+mod HeaderLemmas

@@ -2,3 +2,8 @@ pub mod Tasks
 pub mod Export
 pub mod Records
 pub mod Statements
+pub mod Items
+pub mod Kinds
+pub mod Columns
+pub mod Import
+pub mod Reading

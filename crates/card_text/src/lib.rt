@@ -3,6 +3,14 @@
 
 mod columns;
 mod export;
+mod header;
+mod item;
+mod kind;
+mod post;
+mod reading;
+mod record;
+mod record_columns;
+mod records;
 mod statement;
 mod tasks;
 
@@ -12,5 +20,8 @@ pub use card_lines::{
     refusal_value, reply_text, show_text,
 };
 pub use export::export_text;
+pub use item::Item;
+pub use record::import_record;
+pub use records::Records;
 pub use statement::statement_text;
 pub use tasks::tasks_text;

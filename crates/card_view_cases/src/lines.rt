@@ -4,11 +4,10 @@ ghost use Rattle.card_events.specs.Dated.{is_dated};
 
 use card_days::Day;
 use card_events::{Name, Refusal, Reply, Request};
-use card_import::{Item, Records};
 use card_lines::{Line, bad_text, read_line, reply_text, show_text};
 use card_model::{Entry, EntryKind, Segment, Sort};
 use card_rows::{decode, encode};
-use card_text::export_text;
+use card_text::{Item, Records, export_text};
 use std::alloc::Global;
 use std::fmt::Write;
 use std::process::Abort;

@@ -3,3 +3,7 @@ pub mod Heads
 pub mod Framing
 pub mod Routes
 pub mod Wants
+pub mod Fields
+pub mod Bodies
+pub mod Joined
+pub mod Answers

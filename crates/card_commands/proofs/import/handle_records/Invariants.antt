@@ -1,6 +1,6 @@
 use Rattle.std.proofs.Common.{◌≡◌, List, ◌++◌, length}
-use Rattle.card_import.specs.Import.{items_of_bytes}
-use Rattle.card_import.specs.declared.item.Item.{Item}
+use Rattle.card_text.specs.Import.{items_of_bytes}
+use Rattle.card_text.specs.declared.item.Item.{Item}
 use Rattle.card_commands.specs.Imported.{HandledAll}
 use Rattle.card_commands.specs.Written.{sides}
 use Rattle.card_commands.proofs.import.handle_records.Given as goal

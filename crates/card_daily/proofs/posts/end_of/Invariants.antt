@@ -1,5 +1,5 @@
 use Rattle.std.proofs.Common.{ℕ, ◌+◌, ◌≤◌}
-use Rattle.card_slots.specs.Laws.{IsCut}
+use Rattle.card_rates.specs.SlotLaws.{IsCut}
 use Rattle.card_daily.proofs.posts.end_of.Given as goal
 
 abbrev pub invariant-loop-place : goal.invariant-loop-place

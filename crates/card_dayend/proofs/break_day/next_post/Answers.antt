@@ -5,7 +5,7 @@ use Rattle.card_events.specs.History.{CorrectedPost, anchor_of, corrected}
 use Rattle.card_events.specs.declared.kept.Slot.{Slot}
 use Rattle.card_posts.specs.Posted.{folding_order}
 use Rattle.card_rates.specs.Next.{IsNext}
-use Rattle.card_slots.specs.Days.{place_of}
+use Rattle.card_rates.specs.Days.{place_of}
 use Rattle.card_dayend.specs.Spans.{has_post}
 use Rattle.card_dayend.proofs.BreakDays.{post-next, post-none}
 use Rattle.card_dayend.proofs.break_day.next_post.Goals as goal

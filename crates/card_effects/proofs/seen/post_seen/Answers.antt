@@ -1,7 +1,7 @@
 use Rattle.std.proofs.Common.{◌≤◌, sym, ap, ◌∙◌, subst, Option}
 use Rattle.std.specs.Prelude.{IfSome}
 use Rattle.card_posts.specs.Posted.{slot_with}
-use Rattle.card_slots.specs.declared.day.DayPost.{DayPost}
+use Rattle.card_rates.specs.declared.day.DayPost.{DayPost}
 use Rattle.card_effects.specs.Seen.{post_by}
 use Rattle.card_effects.proofs.Numbered.{seen-by, seen-is}
 use Rattle.card_effects.proofs.seen.post_seen.Goals as goal

@@ -6,7 +6,7 @@ use Rattle.card_account.proofs.Told.{is-today, on-any}
 use Rattle.card_model.specs.Machine.{NamedAccount}
 use Rattle.card_model.specs.Refusals.{Present, book_today}
 use Rattle.card_replay.specs.Replays.{present_of}
-use Rattle.card_slots.specs.Segments.{account_segments}
+use Rattle.card_rates.specs.Segments.{account_segments}
 use Rattle.card_account.proofs.account.Account.entries.Goals as goal
 
 pub folded-folded-requires : goal.folded-folded-requires

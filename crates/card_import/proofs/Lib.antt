@@ -1,4 +1,0 @@
-mod DatedLemmas
-mod RecordLemmas
-mod ItemLemmas
-mod HeaderLemmas

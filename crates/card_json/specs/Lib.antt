@@ -1,4 +1,0 @@
-pub mod Fields
-pub mod Bodies
-pub mod Joined
-pub mod Answers

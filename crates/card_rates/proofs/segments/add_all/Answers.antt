@@ -1,0 +1,29 @@
+use Rattle.std.proofs.Common.{◌+◌, ◌++◌, length-append, sym, ◌∙◌, arith}
+use Rattle.card_rates.specs.Segments.{kept_from}
+use Rattle.card_rates.proofs.SlotsAdded.{add-next, add-none, room}
+use Rattle.card_rates.proofs.segments.add_all.Goals as goal
+
+pub add-requires-clause-few : goal.add-requires-clause-few
+add-requires-clause-few c =
+    let history = c.args.posts.now.history in
+    let whole = c.args.segments.now.segments ++ kept_from 1 history in
+    let long = length-append c.args.segments.now.segments (kept_from 1 history) in
+    let few = c.requires.few in
+    room c.loop-i.segments.segments whole history c.loop-i.i c.post_of.result.now c.post_of.ensures c.loop-i.invariant.segments (omega (arith, long, few))
+
+pub loop-i-preserved : goal.loop-i-preserved
+loop-i-preserved c =
+    let history = c.args.posts.now.history in
+    record {
+      segments =
+          add-next c.loop-i.segments.segments c.add.new.segments.segments (c.args.segments.now.segments ++ kept_from 1 history) history c.loop-i.i c.post_of.result.now c.post_of.ensures
+          c.in_ok-add.ensures.segments c.loop-i.invariant.segments;
+      unused = λ none. c.in_ok-add.ensures.unused (c.loop-i.invariant.unused none);
+    }
+
+pub returns-clause-segments : goal.returns-clause-segments
+returns-clause-segments c =
+    let here = c.loop-i-test.false in
+    let within = c.loop-i.auto.i-end in
+    let all = c.len-i-end.ensures.value in
+    sym (add-none c.loop-i.segments.segments c.args.posts.now.history c.loop-i.i (c.loop-i.i + 1) (omega (arith, here, within, all))) ∙ c.loop-i.invariant.segments

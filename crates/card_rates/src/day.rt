@@ -1,0 +1,117 @@
+// The posts of a day, in turn.
+ghost use Rattle.std.specs.Prelude.{◌≡◌, ◌+◌, ℕ, List, nat_le, nat_lt, slice_get};
+ghost use Rattle.card_events.specs.History as history;
+ghost use Rattle.card_posts.specs.Order.{IsAscending};
+ghost use Rattle.card_posts.specs.Posted.{StandsFor, folding_order};
+ghost use Rattle.card_rates.specs.Days.{IsFoldedAt, found_for, only_folded, place_of, slots_before, slots_through};
+
+use card_days::Day;
+use card_events::{Post, Slot};
+use card_posts::Posts;
+use card_units::Cents;
+
+/// A post as it counts now: its number, its effective day, its corrected cents (0 for kinds without cents), and its content.
+#[derive(Clone, Copy, Debug, PartialEq, Eq)]
+pub struct DayPost {
+    pub number: u32,
+    pub day: Day,
+    pub cents: Cents,
+    pub post: Post,
+}
+
+/// Whether the fold of its effective day reads a post. An Open, a Review, an Ack, an AskRefund, an Amend and a Bill change
+/// no balance on a day of their own.
+pub fn is_folded(post: &Post) -> bool
+    ensures { result ≡ history.is_folded post.now }
+{
+    match post {
+        Post::Open { .. } => false,
+        Post::Review { .. } => false,
+        Post::Ack { .. } => false,
+        Post::AskRefund { .. } => false,
+        Post::Amend { .. } => false,
+        Post::Bill { .. } => false,
+        _ => true,
+    }
+}
+
+fn is_before(slot: &Slot, day: Day) -> bool
+    ensures { result ≡ nat_lt slot.now.day day }
+{
+    slot.day < day
+}
+
+fn is_by(slot: &Slot, day: Day) -> bool
+    ensures { result ≡ nat_le slot.now.day day }
+{
+    slot.day <= day
+}
+
+// how many slots are of earlier days
+fn count_before(slots: &[Slot], day: Day) -> usize
+    requires { IsAscending slots.now }
+    ensures { result ≡ slots_before day slots.now }
+{
+    slots.partition_point(|slot| is_before(slot, day))
+}
+
+// how many slots are of the day or of earlier ones
+fn count_through(slots: &[Slot], day: Day) -> usize
+    requires { IsAscending slots.now }
+    ensures { result ≡ slots_through day slots.now }
+{
+    slots.partition_point(|slot| is_by(slot, day))
+}
+
+/// The place of a day in the order in which posts are folded: that of its first post or, where it has none, of the first
+/// post of a later day. Places count from 0. It takes no memory.
+pub fn first_place(posts: &Posts, day: Day) -> usize
+    ensures place { (holidays : List ℕ) → StandsFor holidays posts.now → result ≡ place_of day posts.now.corrected }
+{
+    count_before(posts.in_order(), day)
+}
+
+/// The place behind a day's last post: that of the next day.
+pub fn end_place(posts: &Posts, day: Day) -> usize
+    ensures place { (holidays : List ℕ) → StandsFor holidays posts.now → result ≡ place_of (day + 1) posts.now.corrected }
+{
+    count_through(posts.in_order(), day)
+}
+
+// the post of the slot at a place
+fn found(posts: &Posts, place: usize) -> Option<DayPost>
+    ensures { result ≡ found_for posts.now.history (slice_get (folding_order posts.now.corrected) place) }
+{
+    let slot = posts.in_order().get(place)?;
+    let kept = posts.get(slot.number)?;
+    Some(DayPost {
+        number: slot.number,
+        day: slot.day,
+        cents: slot.cents,
+        post: kept.post,
+    })
+}
+
+// a post of a kind that is folded
+fn only_folded(found: Option<DayPost>) -> Option<DayPost>
+    ensures { result ≡ only_folded found }
+{
+    match found {
+        Some(post) => {
+            if is_folded(&post.post) {
+                Some(post)
+            } else {
+                None
+            }
+        }
+        None => None,
+    }
+}
+
+/// The post at a place, where the fold of its day reads its kind, and None otherwise. From the place of a day on stand the
+/// posts of that day, by number. It takes no memory.
+pub fn folded_at(posts: &Posts, place: usize) -> Option<DayPost>
+    ensures { IsFoldedAt place posts.now result }
+{
+    only_folded(found(posts, place))
+}

@@ -1,5 +1,0 @@
-use Rattle.card_slots.proofs.Turns.{of_a_day}
-use Rattle.card_slots.proofs.laws.posts_of_a_day.Goals as goal
-
-pub returns : goal.returns
-returns c = of_a_day
