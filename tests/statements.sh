@@ -1,8 +1,8 @@
 #!/bin/sh
 # Statements of whole examples over rows in a file, held against those of the independent model (examples/NAME.statements, the
-# statements of all cycles of the account one behind the other). Then an old charge of `two-years` is corrected, and the
-# correction is taken back: what was issued stays as it was, and the cycles as recomputed are the model's
-# (two-years.restated) in between, and those from before at the end.
+# statements of all cycles of the account one behind the other). Then a charge is dated back to a cycle of `returned-payment`, and
+# an old charge of `two-years` is corrected, and the correction is taken back: what was issued stays as it was, and the cycles as
+# recomputed are the model's (NAME.restated), and those from before at the end.
 #
 #     tests/statements.sh
 top=$(cd "$(dirname "$0")/.." && pwd) || exit 1
@@ -50,18 +50,20 @@ for expected in "$top"/examples/*.statements; do
     count=$((count + cycles))
 done
 
-name=two-years
-rows="$room/$name"
-account=anna
-cycles=24
-say 'amend anna m1 4 2024-02-10 2000' 'ok 51'
-texts statement
-same "$top/examples/$name.statements" "what was issued, after a correction"
-texts restate
-same "$top/examples/$name.restated" "the cycles as recomputed after a correction"
-say 'amend anna m2 4 2024-02-10 1000' 'ok 52'
-texts statement
-same "$top/examples/$name.statements" "what was issued, after the correction was taken back"
-texts restate
-same "$top/examples/$name.statements" "the cycles as recomputed after the correction was taken back"
-echo "statements: $count of them, those of the model; a correction of an old charge and back leaves them"
+# Has a line accepted for an example, and holds its statements as issued and as recomputed against files of examples/.
+after() {
+    name=$1
+    rows="$room/$name"
+    account=anna
+    cycles=$2
+    say "$3" "$4"
+    texts statement
+    same "$top/examples/$name.statements" "what was issued, after $3,"
+    texts restate
+    same "$top/examples/$5" "the cycles as recomputed after $3"
+}
+
+after returned-payment 2 'charge anna d 2024-02-10 purchase 5000' 'ok 7' returned-payment.restated
+after two-years 24 'amend anna m1 4 2024-02-10 2000' 'ok 51' two-years.restated
+after two-years 24 'amend anna m2 4 2024-02-10 1000' 'ok 52' two-years.statements
+echo "statements: $count of them, those of the model; a charge that is dated back, a correction of an old charge and back leave them"

@@ -1,4 +1,4 @@
-//! The rate of each segment of an account on each day (12 CFR 1026.55).
+//! The rate of each segment of an account on each day (12 CFR 1026.55), the segments that posts add, and the posts of a day.
 #![tactic(auto)]
 
 mod book;

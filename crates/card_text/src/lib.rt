@@ -1,4 +1,4 @@
-//! Texts: lines of requests and replies, open tasks, statements, and the entries of an account as CSV.
+//! Texts: lines of requests and replies, open tasks, statements, and the entries of an account as CSV; and the records of CSV.
 #![tactic(auto)]
 
 mod columns;

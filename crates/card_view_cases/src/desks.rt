@@ -1,10 +1,10 @@
 // The desk, and through it an account's calls. Requests are told as lines.
-ghost use Rattle.std.specs.Prelude.{OnOk, ◌≡◌};
+ghost use Rattle.std.specs.Prelude.{OnOk};
 ghost use Rattle.card_desk.specs.Kept.{Fits};
 
 use crate::lines::{day, digits, name, request};
-use card_desk::{Ask, Desk, Fault, LoadFault, Statement, View, uncounted};
-use card_events::{Num, Refusal, Reply};
+use card_desk::{Ask, Desk, Fault, LoadFault, View, uncounted};
+use card_events::{Refusal, Reply};
 use card_ports::{Body, FailingKeeper, Keeper, MemoryKeeper, Row};
 use card_text::tasks_text;
 use std::alloc::Global;
@@ -57,13 +57,13 @@ fn enter_all<K: Keeper>(
 }
 
 // Has a desk of the kept rows accept lines.
-pub fn accept_all<K: Keeper>(alloc: Global, keeper: &mut K, lines: &[&str]) -> Result<(), Fail> {
+fn accept_all<K: Keeper>(alloc: Global, keeper: &mut K, lines: &[&str]) -> Result<(), Fail> {
     let mut desk = uncounted::load(alloc, keeper)?;
     enter_all(alloc, &mut desk, keeper, lines)
 }
 
 // What the desk of the kept rows says of a question.
-pub fn seen(alloc: Global, keeper: &mut MemoryKeeper, ask: &Ask) -> Result<View, Fail> {
+fn seen(alloc: Global, keeper: &mut MemoryKeeper, ask: &Ask) -> Result<View, Fail> {
     let mut desk = uncounted::load(alloc, keeper)?;
     Ok(uncounted::see(alloc, &mut desk, ask)?)
 }
@@ -218,180 +218,5 @@ fn disputes_of_two_accounts_have_their_tasks(rt: HostRuntime) -> Result<(), Fail
     let want =
         "2024-05-16 b ACK 4\n2024-05-16 d ACK 4\n2024-07-15 b RESOLVE 4\n2024-07-15 d RESOLVE 4\n";
     assert_eq!(rt; text.as_str(), want);
-    Ok(())
-}
-
-// An account of two years.
-static OPENING: [&str; 4] = [
-    "feerow 2011-01-02 3000 4100",
-    "roll 2024-01-10",
-    "open a o 2024-01-06 5 1999 2499 2199 2999 2500 100",
-    "charge a c0 2024-01-10 purchase 1000",
-];
-
-static MONTHS: [&str; 24] = [
-    "2024-02", "2024-03", "2024-04", "2024-05", "2024-06", "2024-07", "2024-08", "2024-09",
-    "2024-10", "2024-11", "2024-12", "2025-01", "2025-02", "2025-03", "2025-04", "2025-05",
-    "2025-06", "2025-07", "2025-08", "2025-09", "2025-10", "2025-11", "2025-12", "2026-01",
-];
-
-// On the 6th of a month the Bill of the cycle that closed on the 5th, and on the 10th a charge of 10.00.
-fn pass_month<K: Keeper>(
-    alloc: Global,
-    desk: &mut Desk,
-    keeper: &mut K,
-    month: &str,
-    cycle: u32,
-) -> Result<(), Fail>
-    requires fits { Fits (K.rows keeper.old) desk.old.state }
-    ensures fits { OnOk result (Fits (K.rows keeper.new) desk.new.state) }
-{
-    let sixth = format!(in alloc; "roll {month}-06")?;
-    let bill = format!(in alloc; "bill a b{cycle} {cycle}")?;
-    let tenth = format!(in alloc; "roll {month}-10")?;
-    let charge = format!(in alloc; "charge a c{cycle} {month}-10 purchase 1000")?;
-    enter_all(
-        alloc,
-        desk,
-        keeper,
-        &[
-            sixth.as_str(),
-            bill.as_str(),
-            tenth.as_str(),
-            charge.as_str(),
-        ],
-    )
-}
-
-fn two_years<K: Keeper>(alloc: Global, desk: &mut Desk, keeper: &mut K) -> Result<(), Fail>
-    requires fits { Fits (K.rows keeper.old) desk.old.state }
-    ensures fits { OnOk result (Fits (K.rows keeper.new) desk.new.state) }
-{
-    enter_all(alloc, desk, keeper, &OPENING)?;
-    let mut cycle = 1;
-    for month in &MONTHS {
-        pass_month(alloc, desk, keeper, month, cycle)?;
-        cycle += 1;
-    }
-    Ok(())
-}
-
-// The statement of a cycle, as it was issued or as it is now.
-fn statement(
-    rt: &impl Abort,
-    alloc: Global,
-    desk: &mut Desk,
-    cycle: u64,
-    as_issued: bool,
-) -> Result<Statement, Fail>
-    ensures { desk.new.state ≡ desk.old.state }
-{
-    let cycle = Num::new(cycle).expect(rt, "a number");
-    let view = if as_issued {
-        uncounted::see(alloc, desk, &Ask::Issued(name(rt, alloc, "a")?, cycle))?
-    } else {
-        uncounted::see(alloc, desk, &Ask::Restated(name(rt, alloc, "a")?, cycle))?
-    };
-    match view {
-        View::Statement(statement) => Ok(statement),
-        _ => Err(Fail::from("no statement")),
-    }
-}
-
-// The statements of 24 cycles.
-fn statements(
-    rt: &impl Abort,
-    alloc: Global,
-    desk: &mut Desk,
-    as_issued: bool,
-) -> Result<Vec<Statement>, Fail>
-    ensures { desk.new.state ≡ desk.old.state }
-{
-    let mut list = Vec::new(alloc);
-    for cycle in 1..25u64 {
-        list.push(statement(rt, alloc, desk, cycle, as_issued)?)?;
-    }
-    Ok(list)
-}
-
-fn is_same(one: &Statement, other: &Statement) -> bool {
-    let (a, b) = (&one.cycle, &other.cycle);
-    (a.number, a.first, a.closing, a.due) == (b.number, b.first, b.closing, b.due)
-        && (a.previous, a.new_balance, a.held) == (b.previous, b.new_balance, b.held)
-        && (a.minimum, a.grace_amount, a.entries) == (b.minimum, b.grace_amount, b.entries)
-        && a.interest.items() == b.interest.items()
-        && a.average.items() == b.average.items()
-        && a.fees.items() == b.fees.items()
-        && one.issue == other.issue
-        && one.sheet.due_payment == other.sheet.due_payment
-        && (one.sheet.previous, one.sheet.corrections)
-            == (other.sheet.previous, other.sheet.corrections)
-}
-
-fn are_same(list: &[Statement], other: &[Statement]) -> bool {
-    list.len() == other.len() && list.iter().zip(other).all(|(a, b)| is_same(a, b))
-}
-
-// Whether the statements as they were issued are these, and whether those of now are.
-fn stay(
-    rt: &impl Abort,
-    alloc: Global,
-    desk: &mut Desk,
-    issued: &[Statement],
-) -> Result<(bool, bool), Fail>
-    ensures { desk.new.state ≡ desk.old.state }
-{
-    let as_issued = statements(rt, alloc, desk, true)?;
-    let of_now = statements(rt, alloc, desk, false)?;
-    Ok((are_same(&as_issued, issued), are_same(&of_now, issued)))
-}
-
-// Has a line accepted, and answers whether the statements stay.
-fn stay_after<K: Keeper>(
-    rt: &impl Abort,
-    alloc: Global,
-    desk: &mut Desk,
-    keeper: &mut K,
-    line: &str,
-    issued: &[Statement],
-) -> Result<(bool, bool), Fail>
-    requires fits { Fits (K.rows keeper.old) desk.old.state }
-    ensures fits { OnOk result (Fits (K.rows keeper.new) desk.new.state) }
-{
-    enter(alloc, desk, keeper, line)?;
-    stay(rt, alloc, desk, issued)
-}
-
-// The desk of two years, and the statements that it issued.
-fn issued<K: Keeper>(
-    rt: &impl Abort,
-    alloc: Global,
-    desk: &mut Desk,
-    keeper: &mut K,
-) -> Result<Vec<Statement>, Fail>
-    requires fits { Fits (K.rows keeper.old) desk.old.state }
-    ensures fits { OnOk result (Fits (K.rows keeper.new) desk.new.state) }
-{
-    two_years(alloc, desk, keeper)?;
-    let issued = statements(rt, alloc, desk, true)?;
-    assert_eq!(rt; issued.len(), 24);
-    assert_eq!(rt; issued[23].cycle.new_balance, 133_923);
-    Ok(issued)
-}
-
-// A charge of the second cycle is corrected after two years, and corrected back: each statement is as before, and what was
-// issued never changes.
-#[test]
-fn a_correction_that_is_taken_back(rt: HostRuntime) -> Result<(), Fail> {
-    let alloc = rt.alloc();
-    let mut keeper = MemoryKeeper::new(alloc);
-    let mut desk = uncounted::load(alloc, &mut keeper)?;
-    let issued = issued(&rt, alloc, &mut desk, &mut keeper)?;
-    let raised = "amend a m1 4 2024-02-10 2000";
-    let stay = stay_after(&rt, alloc, &mut desk, &mut keeper, raised, &issued)?;
-    assert_eq!(rt; stay, (true, false));
-    let back = "amend a m2 4 2024-02-10 1000";
-    let stay = stay_after(&rt, alloc, &mut desk, &mut keeper, back, &issued)?;
-    assert_eq!(rt; stay, (true, true));
     Ok(())
 }

@@ -10,5 +10,3 @@ mod desks;
 mod forms;
 #[cfg(test)]
 mod lines;
-#[cfg(test)]
-mod statements;

@@ -1,13 +1,11 @@
-// Lines, kept rows and replies.
+// Lines and kept rows.
 ghost use Rattle.std.specs.Prelude.{◌≡◌, true, IfOk};
 ghost use Rattle.card_events.specs.Dated.{is_dated};
 
 use card_days::Day;
-use card_events::{Name, Refusal, Reply, Request};
-use card_lines::{Line, bad_text, read_line, reply_text, show_text};
-use card_model::{Entry, EntryKind, Segment, Sort};
+use card_events::{Name, Request};
+use card_lines::{Line, read_line};
 use card_rows::{decode, encode};
-use card_text::{Item, Records, export_text};
 use std::alloc::Global;
 use std::fmt::Write;
 use std::process::Abort;
@@ -142,89 +140,5 @@ fn what_spells_nothing(rt: HostRuntime) -> Result<(), Fail> {
     ] {
         assert!(rt; decode(rt.alloc(), bytes)?.is_none());
     }
-    Ok(())
-}
-
-#[test]
-fn texts_of_replies(rt: HostRuntime) -> Result<(), Fail> {
-    let alloc = rt.alloc();
-    let refused = Reply::Refused(Refusal::NoticeTooShort(day(&rt, 20_193)));
-    let text = reply_text(alloc, &refused)?;
-    assert_eq!(rt; text.as_str(), "no 15 NoticeTooShort 2025-04-15\n");
-    let text = bad_text(alloc, 17, 3)?;
-    assert_eq!(rt; text.as_str(), "bad 17 3\n");
-    let account = name(&rt, alloc, "h-1")?;
-    let text = show_text(alloc, &account, day(&rt, 19_783), -250, 250, 0)?;
-    assert_eq!(rt;
-        text.as_str(),
-        "show h-1 2024-03-01 owed -250 credit 250 held 0\n"
-    );
-    Ok(())
-}
-
-const RECORDS: &[u8] =
-    b"account,key,kind,day,place,cents,minute,channel\na,c1,charge,2024-01-08,purchase,1100,,\na,p1,payment,2024-01-09,,500,600,online\n";
-
-// The body of the row of the next record.
-fn next_row(alloc: Global, records: &mut Records) -> Result<String, Fail> {
-    match records.next_item(alloc)? {
-        Some(Item::Request(request)) => row_of(alloc, &request),
-        _ => Err(Fail::from("no request")),
-    }
-}
-
-#[test]
-fn requests_of_records(rt: HostRuntime) -> Result<(), Fail> {
-    let alloc = rt.alloc();
-    let mut records = Records::of(alloc, RECORDS)?;
-    for row in [
-        "0105016102633100004d1200000000000000044c",
-        "0107016102703100004d1300000000000002580100000000000001f4",
-    ] {
-        assert_eq!(rt; next_row(alloc, &mut records)?.as_str(), row);
-    }
-    assert!(rt; records.next_item(alloc)?.is_none());
-    Ok(())
-}
-
-// A segment of an account of 2024-01-06.
-fn segment(rt: &impl Abort, sort: Sort) -> Segment {
-    Segment {
-        sort,
-        post: 1,
-        begins: day(rt, 19_728),
-        ends: None,
-    }
-}
-
-fn entry(rt: &impl Abort, on: u16, kind: EntryKind, post: u32, cents: i64) -> Entry
-    ensures { result.segment ≡ 3 }
-{
-    Entry {
-        day: day(rt, on),
-        segment: 3,
-        kind,
-        post,
-        cents,
-    }
-}
-
-// A cash advance and its interest.
-#[test]
-fn text_of_entries(rt: HostRuntime) -> Result<(), Fail> {
-    let segments = [
-        segment(&rt, Sort::Credit),
-        segment(&rt, Sort::Held),
-        segment(&rt, Sort::Purchase),
-        segment(&rt, Sort::Cash),
-    ];
-    let entries = [
-        entry(&rt, 19_732, EntryKind::Charge, 3, 30_000),
-        entry(&rt, 19_758, EntryKind::Interest, 0, 555),
-    ];
-    let text = export_text(rt.alloc(), &entries, &segments)?;
-    let want =
-        "day,segment,kind,post,cents\n2024-01-10,cash:3,charge,3,30000\n2024-02-05,cash:3,interest,0,555\n";
-    assert_eq!(rt; text.as_str(), want);
     Ok(())
 }

@@ -1,4 +1,5 @@
-//! Requests of HTTP/1.0 and 1.1 as they come over a connection: the head, what it asks for, and the body.
+//! Requests of HTTP/1.0 and 1.1 as they come over a connection: the head, what it asks for, and the body; and requests and
+//! replies as JSON.
 #![tactic(auto)]
 
 mod answer;
