@@ -1,6 +1,6 @@
-use Rattle.std.proofs.Common.{◌≡◌, List, false, not, sym, ap, ◌∙◌, arith}
+use Rattle.std.proofs.Common.{sym, ap, ◌∙◌, arith}
 use Rattle.std.specs.List.{list_any}
-use Rattle.card_model.specs.Segments.{SegmentTerms, is_deferred_on}
+use Rattle.card_model.specs.Segments.{is_deferred_on}
 use Rattle.card_dayend.proofs.Each.{segment-count}
 use Rattle.card_dayend.proofs.Accruing.{none-accrues}
 use Rattle.card_dayend.proofs.rows.accrue_all.Goals as goal
