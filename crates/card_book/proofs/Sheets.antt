@@ -1,12 +1,13 @@
 -- What a sheet is made of stands for the book of the cycle's closing.
-use Rattle.std.proofs.Common.{◌≡◌, ℕ, zero, suc, ◌+◌, ◌-◌, ◌<◌, ◌≤◌, ◌^◌, ◌⊎◌, inl, inr, Bool, true, false, cond, ◌&&◌, not, eqb, List, [], ◌∷◌, length, refl, sym, ap, ◌∙◌, subst, arith, Option, Some, None, ℤ}
+use Rattle.std.proofs.Common.{◌≡◌, ℕ, zero, suc, ◌+◌, ◌-◌, ◌<◌, ◌≤◌, ◌^◌, ◌⊎◌, inl, inr, Bool, true, false, cond, ◌&&◌, not, eqb, List, [], ◌∷◌, length, take, refl, sym, ap, ◌∙◌, subst, arith, Option, Some, None, ℤ}
 use Rattle.std.specs.Prelude.{nat_abs, nat_le}
 use Rattle.std.specs.List.{All, Contains, filter}
 use Rattle.std.specs.Option.{option_map_or}
 use Rattle.std.proofs.lemmas.Bool.{cases_lt}
-use Rattle.std.proofs.lemmas.List.Elements.{All-weaker}
+use Rattle.std.proofs.lemmas.List.Elements.{All-nil, All-weaker}
 use Rattle.std.proofs.lemmas.List.Sums.{sum_by-cons}
 use Rattle.card_bounds.proofs.CycleAmounts.{amounts_small}
+use Rattle.card_bounds.proofs.OnDays.{entries_have_days}
 use Rattle.card_bounds.proofs.OnSegments.{entries_have_segments}
 use Rattle.card_bounds.specs.Bounds.{IsLimited, moved, moves, most_interest, most_moved}
 use Rattle.card_closing.specs.Interest.{statement_of}
@@ -21,6 +22,7 @@ use Rattle.card_fees.proofs.Days.{opened-before}
 use Rattle.card_model.proofs.Calendar.{cycles_are_of_the_calendar, is-anchor}
 use Rattle.card_model.proofs.Cuts.{closings_are_cuts}
 use Rattle.card_model.proofs.Settled.{book-settled}
+use Rattle.card_model.specs.Books.{Book}
 use Rattle.card_model.specs.Caps.{row_for}
 use Rattle.card_model.specs.Cycles.{Cycle, IssuedRow, Sheet, amounts_sum}
 use Rattle.card_model.specs.Entries.{is_kind}
@@ -40,7 +42,7 @@ use Rattle.card_statement.proofs.Chains.{cycle-take}
 use Rattle.card_statement.specs.Gathering.{sizes}
 use Rattle.card_statement.specs.Laws.{StandsAtClosing}
 use Rattle.card_statement.specs.Lines.{AreKeptOf}
-use Rattle.card_model.specs.Sheets.{cycle_entries, previous_balance}
+use Rattle.card_model.specs.Sheets.{cycle_entries, entries_by, previous_balance}
 use Rattle.card_daily.proofs.ClosingDay.{at-count, grows-to}
 use Rattle.card_daily.specs.Given.{Given, IsDayOf, IsSound, account_in, book_in, book_on, opened_in, seen_in}
 use Rattle.card_dayend.proofs.AtClosing.{none-on}
@@ -113,6 +115,28 @@ limits g day s l = let o = s.opening.first in record { count = s.accepted.count;
 
 pub entries-small : (g : Given) (c : Cycle) → IsSound g → IsDayOf g c.closing → StandsAtClosing g.history g.issued g.shared c → sizes (cycle_entries c (book_on g c.closing)) ≤ 10 ^ 17
 entries-small g c s d h = h.small post_limit (limits g c.closing s d.last) (omega arith) s.segments
+
+-- what stood at the closing before a cycle is of the days before it
+pub earlier-days : (g : Given) (c : Cycle) → IsSound g → IsDayOf g c.closing → StandsAtClosing g.history g.issued g.shared c
+    → All (λ e. e.day < c.first) (take (entries_by (cycle_at (c.number - 1) (book_on g c.closing).cycles)) (book_on g c.closing).entries)
+earlier-days g c s d h = by (cycle_at (c.number - 1) at.cycles) refl
+  where
+    at : Book
+    at = book_on g c.closing
+
+    by : (o : Option Cycle) → cycle_at (c.number - 1) at.cycles ≡ o → All (λ e. e.day < c.first) (take (entries_by o) at.entries)
+    by None q = All-nil (λ (e : Entry). e.day < c.first)
+    by (Some p) q =
+        let last = d.last in
+        let calendar = cycles_are_of_the_calendar.days g.history g.issued g.shared c.closing in
+        let own = calendar c.number c s.opening (omega (arith, last)) h.there in
+        let before = calendar (c.number - 1) p s.opening (omega (arith, last)) q in
+        let first = own.first in
+        let closing = before.closing in
+        let cut = closings_are_cuts g.history g.issued g.shared c.closing (c.number - 1) p q in
+        let dated = entries_have_days.days g.history g.issued g.shared p.closing in
+        subst (All (λ (e : Entry). e.day < c.first)) (sym cut.entries)
+        (All-weaker (λ (e : Entry). e.day ≤ p.closing) (λ (e : Entry). e.day < c.first) (λ e l. omega (arith, l, first, closing)) (book_on g p.closing).entries dated)
 
 pub interest-small : (g : Given) (day : ℕ) → IsSound g → All (λ c. amounts_sum c.interest ≤ 10 ^ 17) (book_on g day).cycles
 interest-small g day s =

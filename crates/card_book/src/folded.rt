@@ -94,10 +94,10 @@ fn cycle_of(cycles: &[Cycle], number: u32) -> Option<&Cycle>
 }
 
 impl<'a> Folded<'a> {
-    ghost use Rattle.std.specs.Prelude.{◌≡◌, ◌<◌, ◌≤◌, ℕ, IfOk, length, pos, option_copied, Some};
+    ghost use Rattle.std.specs.Prelude.{◌≡◌, ◌<◌, ◌≤◌, ℕ, IfOk, length, pos, option_copied, slice_index_or, Some};
     ghost use Rattle.std.specs.List.{All};
     ghost use Rattle.card_model.specs.Cycles.{Cycle};
-    ghost use Rattle.card_model.specs.Entries.{AreBalances, credit_balance, owed, owing};
+    ghost use Rattle.card_model.specs.Entries.{AreBalances, balance, credit_balance, owed, owing};
     ghost use Rattle.card_model.specs.Limits.{balance_limit};
     ghost use Rattle.card_segments.specs.Balances.{AreWithin};
     ghost use Rattle.card_model.specs.Folds.{cycle_at};
@@ -215,9 +215,10 @@ impl<'a> Folded<'a> {
         self.cycles
     }
 
-    // The segments with their balances.
+    // The segments with their balances, which the entries left.
     pub(crate) fn balances(&self) -> &Segments
-        ensures { result.now.balances ≡ self.now.balances }
+        ensures kept { result.now.balances ≡ self.now.balances }
+        ensures sums { (s : ℕ) → slice_index_or result.now.balances s (pos 0) ≡ balance s self.now.book.entries }
     {
         self.book.segments()
     }

@@ -1,5 +1,5 @@
 // The sheet of a statement, read from the book of its closing day.
-ghost use Rattle.std.specs.Prelude.{◌≡◌, ◌-◌, ◌-ℤ◌, ◌≤◌, ◌^◌, IfOk, option_copied, pos};
+ghost use Rattle.std.specs.Prelude.{◌≡◌, ◌-◌, ◌-ℤ◌, ◌<◌, ◌≤◌, ◌^◌, IfOk, option_copied, pos, take};
 ghost use Rattle.std.specs.List.{All};
 ghost use Rattle.card_book.specs.Stands.{IsFoldedTo};
 ghost use Rattle.card_book.specs.Statements.{IsClosedCycle};
@@ -9,6 +9,7 @@ ghost use Rattle.card_events.specs.History.{terms_of};
 ghost use Rattle.card_model.specs.Caps.{row_for};
 ghost use Rattle.card_model.specs.Cycles.{amounts_sum};
 ghost use Rattle.card_model.specs.Fees.{fees_sum};
+ghost use Rattle.card_model.specs.Folds.{cycle_at};
 ghost use Rattle.card_statement.specs.Gathering.{sizes};
 ghost use Rattle.card_statement.specs.Laws.{StandsAtClosing};
 ghost use Rattle.card_statement.specs.Lines as lines;
@@ -77,6 +78,7 @@ struct Listed {
 // What it lists of a cycle, of which the book is that of the closing.
 fn listed_of(alloc: Global, folded: &Folded, cycle: &Cycle) -> Result<Listed, NoMemory>
     requires small { sizes (spec.cycle_entries cycle.now folded.now.book) ≤ 10 ^ 17 }
+    requires earlier { All (λ e. e.day < cycle.now.first) (take (spec.entries_by (cycle_at (cycle.now.number - 1) folded.now.book.cycles)) folded.now.book.entries) }
     ensures moves { IfOk result (λ l. l.moves.items ≡ spec.moves_of (spec.cycle_entries cycle.now folded.now.book)) }
     ensures rates { IfOk result (λ l. l.rates.items ≡ lines.kept_rate_lines folded.now.rates cycle.now folded.now.book.entries) }
     ensures deferred { IfOk result (λ l. l.deferred.items ≡ lines.kept_deferred_lines cycle.now.closing folded.now.balances folded.now.accruals folded.now.rates.segments) }
@@ -84,10 +86,11 @@ fn listed_of(alloc: Global, folded: &Folded, cycle: &Cycle) -> Result<Listed, No
 {
     let rates = folded.rates();
     let balances = folded.balances();
-    let entries = cycle_entries(cycle, folded.cycles(), folded.entries());
+    let cycles = folded.cycles();
+    let entries = folded.entries();
     Ok(Listed {
-        moves: moves_of(alloc, entries)?,
-        rates: rate_lines(alloc, rates, cycle, folded.entries())?,
+        moves: moves_of(alloc, cycle_entries(cycle, cycles, entries))?,
+        rates: rate_lines(alloc, rates, balances, cycle, cycles, entries)?,
         deferred: deferred_lines(alloc, rates, balances, folded.accruals(), cycle.closing)?,
         closing: closing_amounts(alloc, rates, balances)?,
     })

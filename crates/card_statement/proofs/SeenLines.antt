@@ -62,7 +62,7 @@ by-tests true false x z r l h = omega (arith, ints, h)
 by-tests false true x z r l h = omega (arith, ints, h)
 by-tests false false x z r l h = h
 
-pub sum-first : (s day : ℕ) (e : Entry) (es : List Entry) → sum_of (λ e. eqb e.segment s) (filter (λ e. leb e.day day) (e ∷ es))
+sum-first : (s day : ℕ) (e : Entry) (es : List Entry) → sum_of (λ e. eqb e.segment s) (filter (λ e. leb e.day day) (e ∷ es))
     ≡ cond (leb e.day day) (cond (eqb e.segment s) e.cents (pos 0) +ℤ sum_of (λ e. eqb e.segment s) (filter (λ e. leb e.day day) es)) (sum_of (λ e. eqb e.segment s) (filter (λ e. leb e.day day) es))
 sum-first s day e es = by (leb e.day day) (filter (λ e. leb e.day day) es)
   where

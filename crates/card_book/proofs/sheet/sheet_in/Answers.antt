@@ -1,17 +1,18 @@
-use Rattle.std.proofs.Common.{◌≡◌, ◌+◌, ◌≤◌, ◌^◌, refl, sym, ap, ◌∙◌, subst, pos, of_z, rules, to_z, w64}
+use Rattle.std.proofs.Common.{◌≡◌, ◌+◌, ◌-◌, ◌<◌, ◌≤◌, ◌^◌, take, refl, sym, ap, ◌∙◌, subst, pos, of_z, rules, to_z, w64}
 use Rattle.std.specs.List.{All}
 use Rattle.std.specs.Prelude.{nat_le}
 use Rattle.card_effects.specs.Standing.{is_added}
 use Rattle.card_model.specs.Books.{Book}
 use Rattle.card_model.specs.Cycles.{Cycle, amounts_sum}
 use Rattle.card_model.specs.Fees.{fees_sum}
+use Rattle.card_model.specs.Folds.{cycle_at}
 use Rattle.card_rates.specs.RateBooks.{Rates}
 use Rattle.card_daily.specs.Given.{account_in, book_on, seen_in}
 use Rattle.card_statement.proofs.SeenLines.{lines_are_of_the_book}
 use Rattle.card_statement.specs.Gathering.{sizes}
 use Rattle.card_statement.specs.Lines.{kept_rate_lines}
-use Rattle.card_model.specs.Sheets.{cycle_entries, moves_of, sheet_in, sheet_of, year_sum}
-use Rattle.card_book.proofs.Sheets.{alike-same, entries-small, fees-small, interest-small, kept-of}
+use Rattle.card_model.specs.Sheets.{cycle_entries, entries_by, moves_of, sheet_in, sheet_of, year_sum}
+use Rattle.card_book.proofs.Sheets.{alike-same, earlier-days, entries-small, fees-small, interest-small, kept-of}
 use Rattle.card_book.proofs.sheet.sheet_in.Goals as goal
 
 pub years_of-years-requires : goal.years_of-years-requires
@@ -29,7 +30,13 @@ pub listed_of-requires : goal.listed_of-requires
 listed_of-requires c =
     let g = c.args.inputs.now in
     let cycle = c.args.cycle.now in
-    record { small = subst (λ (b : Book). sizes (cycle_entries cycle b) ≤ 10 ^ 17) (sym c.requires.folded.book) (entries-small g cycle c.anchor-anchor.ensures.sound c.requires.dated c.requires.stands) }
+    let s = c.anchor-anchor.ensures.sound in
+    record {
+      small = subst (λ (b : Book). sizes (cycle_entries cycle b) ≤ 10 ^ 17) (sym c.requires.folded.book) (entries-small g cycle s c.requires.dated c.requires.stands);
+      earlier =
+          subst (λ (b : Book). All (λ e. e.day < cycle.first) (take (entries_by (cycle_at (cycle.number - 1) b.cycles)) b.entries)) (sym c.requires.folded.book)
+          (earlier-days g cycle s c.requires.dated c.requires.stands);
+    }
 
 pub returns : goal.returns
 unfolding sheet_of sheet_in
