@@ -1,8 +1,7 @@
 -- The posts of a day are told by its slots.
-use Rattle.std.proofs.Common.{◌≡◌, ℕ, suc, ◌+◌, ◌<◌, Bool, true, false, cond, ◌==◌, nat_lt, nat_le, List, [], ◌∷◌, length, map, Some, refl, sym, ap, ◌∙◌, subst, arith, get_or, ℤ, pos}
+use Rattle.std.proofs.Common.{◌≡◌, ℕ, suc, ◌+◌, ◌<◌, Bool, true, false, cond, ◌==◌, nat_lt, List, [], ◌∷◌, length, map, Some, refl, sym, ap, ◌∙◌, subst, arith, get_or, ℤ, pos}
 use Rattle.std.specs.Prelude.{option_map, slice_get}
-use Rattle.std.specs.List.{All, count_by}
-use Rattle.std.proofs.lemmas.Bool.Decides.{nat_tests}
+use Rattle.std.specs.List.{All}
 use Rattle.std.proofs.lemmas.List.{get_or-map, length-map}
 use Rattle.std.proofs.lemmas.List.Elements.{All-cons, All-filter, All-get_or, All-nil}
 use Rattle.card_days.specs.declared.anchor.Anchor.{Anchor}
@@ -16,9 +15,9 @@ use Rattle.card_posts.specs.Posted.{folding_order}
 use Rattle.card_posts.proofs.Following.{days-in-order}
 use Rattle.card_posts.proofs.Ordered.{ascending-in_order}
 use Rattle.card_posts.specs.Posted.{Posted, StandsFor}
-use Rattle.card_rates.specs.Days.{day_post, found_for, place_of, slot_post, slots_before, slots_through}
+use Rattle.card_rates.specs.Days.{day_post, found_for, place_of, slot_post, slots_before}
 use Rattle.card_rates.specs.declared.day.DayPost.{DayPost}
-use Rattle.card_rates.proofs.Ordered.{count-cons, count-in_order, count-map, day-slot}
+use Rattle.card_rates.proofs.Ordered.{count-in_order, count-map, day-slot}
 
 -- ---- a post of the corrected list has the content of the post with its number
 pub record Stands (history : List Kept) (p : CorrectedPost) : Type 0 where
@@ -45,23 +44,6 @@ stands-on a holidays history day i d l =
 -- ---- places
 pub before-is : (day : ℕ) (posts : List CorrectedPost) → slots_before day (folding_order posts) ≡ place_of day posts
 before-is day posts = count-in_order (λ (s : Slot). nat_lt s.day day) (map slot_of posts) ∙ count-map (λ (s : Slot). nat_lt s.day day) slot_of posts
-
-count-same : (p q : CorrectedPost → Bool) (xs : List CorrectedPost) → ((x : CorrectedPost) → p x ≡ q x) → count_by p xs ≡ count_by q xs
-count-same p q [] h = refl
-count-same p q (x ∷ xs) h =
-    let one = count-cons p x xs in
-    let two = count-cons q x xs in
-    let rest = count-same p q xs h in
-    let same : cond {A = ℕ} (p x) 1 0 ≡ cond (q x) 1 0 = rw (h x) refl in
-    omega (arith, one, two, rest, same)
-
-pub through-is : (day : ℕ) (posts : List CorrectedPost) → slots_through day (folding_order posts) ≡ place_of (day + 1) posts
-through-is day posts =
-    count-in_order (λ (s : Slot). nat_le s.day day) (map slot_of posts) ∙ (count-map (λ (s : Slot). nat_le s.day day) slot_of posts
-    ∙ count-same (λ (p : CorrectedPost). nat_le p.day day) (λ p. nat_lt p.day (day + 1)) posts (λ p. by p.day))
-  where
-    by : (d : ℕ) → nat_le d day ≡ nat_lt d (day + 1)
-    by d = grind (arith, nat_tests)
 
 -- ---- the slots of a day
 day-map : (day : ℕ) (posts : List CorrectedPost) → on_day day (map slot_of posts) ≡ map slot_of (on day posts)

@@ -1,5 +1,5 @@
 -- The posts of a day, in the order in which they are folded.
-use Rattle.std.specs.Prelude.{◌≡◌, ℕ, ◌+◌, ◌<◌, nat_le, nat_lt, if◌then◌else◌, List, length, slice_index_or, Option, Some, None, pos}
+use Rattle.std.specs.Prelude.{◌≡◌, ℕ, ◌+◌, ◌<◌, nat_lt, List, length, slice_index_or, Option, Some, None, pos}
 use Rattle.std.specs.List.{count_by}
 use Rattle.std.specs.Prelude.{option_map}
 use Rattle.card_events.specs.History.{CorrectedPost, at_number, is_folded}
@@ -16,10 +16,6 @@ place_of day posts = count_by (λ p. nat_lt p.day day) posts
 -- how many slots are of earlier days
 abbrev pub slots_before : ℕ → List Slot → ℕ
 slots_before day slots = count_by (λ s. nat_lt s.day day) slots
-
--- how many are of the day or of earlier ones
-abbrev pub slots_through : ℕ → List Slot → ℕ
-slots_through day slots = count_by (λ s. nat_le s.day day) slots
 
 -- a corrected post without what its fold doesn't read
 abbrev pub day_post : CorrectedPost → DayPost

@@ -1,9 +1,9 @@
 // The posts of a day, in turn.
-ghost use Rattle.std.specs.Prelude.{◌≡◌, ◌+◌, ℕ, List, nat_le, nat_lt, slice_get};
+ghost use Rattle.std.specs.Prelude.{◌≡◌, ℕ, List, nat_lt, slice_get};
 ghost use Rattle.card_events.specs.History as history;
 ghost use Rattle.card_posts.specs.Order.{IsAscending};
 ghost use Rattle.card_posts.specs.Posted.{StandsFor, folding_order};
-ghost use Rattle.card_rates.specs.Days.{IsFoldedAt, found_for, only_folded, place_of, slots_before, slots_through};
+ghost use Rattle.card_rates.specs.Days.{IsFoldedAt, found_for, only_folded, place_of, slots_before};
 
 use card_days::Day;
 use card_events::{Post, Slot};
@@ -41,12 +41,6 @@ fn is_before(slot: &Slot, day: Day) -> bool
     slot.day < day
 }
 
-fn is_by(slot: &Slot, day: Day) -> bool
-    ensures { result ≡ nat_le slot.now.day day }
-{
-    slot.day <= day
-}
-
 // how many slots are of earlier days
 fn count_before(slots: &[Slot], day: Day) -> usize
     requires { IsAscending slots.now }
@@ -55,27 +49,12 @@ fn count_before(slots: &[Slot], day: Day) -> usize
     slots.partition_point(|slot| is_before(slot, day))
 }
 
-// how many slots are of the day or of earlier ones
-fn count_through(slots: &[Slot], day: Day) -> usize
-    requires { IsAscending slots.now }
-    ensures { result ≡ slots_through day slots.now }
-{
-    slots.partition_point(|slot| is_by(slot, day))
-}
-
 /// The place of a day in the order in which posts are folded: that of its first post or, where it has none, of the first
 /// post of a later day. Places count from 0. It takes no memory.
 pub fn first_place(posts: &Posts, day: Day) -> usize
     ensures place { (holidays : List ℕ) → StandsFor holidays posts.now → result ≡ place_of day posts.now.corrected }
 {
     count_before(posts.in_order(), day)
-}
-
-/// The place behind a day's last post: that of the next day.
-pub fn end_place(posts: &Posts, day: Day) -> usize
-    ensures place { (holidays : List ℕ) → StandsFor holidays posts.now → result ≡ place_of (day + 1) posts.now.corrected }
-{
-    count_through(posts.in_order(), day)
 }
 
 // the post of the slot at a place
