@@ -1,5 +1,5 @@
 -- The posts of a day, in the order in which they are folded.
-use Rattle.std.specs.Prelude.{◌≡◌, ℕ, ◌+◌, ◌<◌, nat_lt, List, length, slice_index_or, Option, Some, None, pos}
+use Rattle.std.specs.Prelude.{◌≡◌, ℕ, ◌+◌, ◌<◌, nat_lt, if◌then◌else◌, List, length, slice_index_or, Option, Some, None, pos}
 use Rattle.std.specs.List.{count_by}
 use Rattle.std.specs.Prelude.{option_map}
 use Rattle.card_events.specs.History.{CorrectedPost, at_number, is_folded}
