@@ -1,6 +1,6 @@
 -- Bytes that are fed in pieces.
-use Rattle.std.proofs.Common.{◌≡◌, ℕ, zero, suc, ◌+◌, ◌-◌, ◌<◌, ◌≤◌, ◌⊎◌, inl, inr, eqb, false, List, [], ◌∷◌, ◌++◌, length, take, drop, get_or, refl, ap, sym, ◌∙◌, subst, arith, append_assoc, append-nil, length-append, take-append-drop, Option, None, Some}
-use Rattle.std.proofs.lemmas.List.{take_more, take-append-le}
+use Rattle.std.proofs.Common.{◌≡◌, ℕ, zero, suc, ◌+◌, ◌-◌, ◌≤◌, ◌⊎◌, inl, inr, List, [], ◌∷◌, ◌++◌, length, take, drop, refl, ap, sym, ◌∙◌, subst, arith, append_assoc, append-nil, length-append, take-append-drop, Option, None, Some}
+use Rattle.std.proofs.lemmas.List.{take-append-le}
 use Rattle.std.specs.Io.KnownBytes.{Appends, Consumes, Keeps}
 use Rattle.std.proofs.KnownBytes.{Appends-nil, Appends-trans, Consumes-trans, Consumes-nil}
 use Rattle.card_desk.specs.Kept.{Fits}
@@ -10,7 +10,7 @@ use Rattle.card_ports.specs.Bytes.{IsFront}
 use Rattle.card_ports.specs.Counts.{Rose}
 use Rattle.card_commands.specs.Answers.{answer_text, item_rows}
 use Rattle.card_commands.specs.Commands.{ended_by}
-use Rattle.card_commands.specs.Feed.{Run, Progress, after_item, next_item, longer_line, feed, feed_text, feed_rows, feed_all, text_all, rows_all, line_done, line_text, line_kept}
+use Rattle.card_commands.specs.Feed.{Run, Progress, after_item, next_item, feed, feed_text, feed_rows, feed_all, text_all, rows_all, line_done, line_text, line_kept}
 use Rattle.card_commands.specs.Input.{ended_line}
 use Rattle.card_commands.specs.Outside.{Outside, HasCause, sides_of}
 use Rattle.card_commands.specs.Ran.{Handled, Fed, HeldAt, StoppedAt, DidAt, FellAt, Ran, FellReading}
@@ -18,7 +18,7 @@ use Rattle.card_commands.specs.Written.{Sides, Did, DidPart, SameCounts, Failed,
 use Rattle.card_commands.specs.declared.end.End.{End}
 use Rattle.card_commands.specs.declared.end.End.TheVariants as end
 use Rattle.card_text.specs.declared.item.Item.{Item}
-use Rattle.card_commands.proofs.LineLemmas.{feed_lf, feed_other, text_lf, text_other, rows_lf, rows_other}
+use Rattle.card_commands.proofs.LineLemmas.{feed_lf, text_lf, rows_lf}
 use Rattle.card_commands.proofs.RowLemmas.{AddsRows-nil, AddsRows-trans}
 use Rattle.card_commands.proofs.SideLemmas.{front_refl, front_none, front_trans, front_after, front_append, did_none, did_then, did_same, did_part_same, counts_refl, counts_then, failed_after}
 
@@ -94,10 +94,6 @@ fed_then a b c p q r xs ys one two = record {
   counts = counts_then a b c one.counts two.counts;
   fits = two.fits;
 }
-
--- all bytes, at the end
-pub fed_whole : (a b : Sides) (p q : Progress) (bytes : List ℕ) (i : ℕ) → take i bytes ≡ bytes → Fed a b p (take i bytes) q → Fed a b p bytes q
-fed_whole a b p q bytes i same fed = subst (λ (l : List ℕ). Fed a b p l q) same fed
 
 -- a line feed: its line was handled
 pub fed_line_feed : (a b : Sides) (p : Progress) (x : Item) (next : Run) (line : List ℕ) → x ≡ next_item p (ended_line p.line) → Handled a b (record { ledger = p.ledger; refused = p.refused }) x next → line ≡ []

@@ -1,10 +1,10 @@
 -- Runs of bytes without a line feed, which are taken at once.
-use Rattle.std.proofs.Common.{◌≡◌, ℕ, zero, suc, ◌+◌, ◌-◌, ◌<◌, ◌≤◌, Bool, true, false, eqb, ltb, ◌⊎◌, inl, inr, List, [], ◌∷◌, ◌++◌, length, take, drop, get_or, refl, ap, sym, ◌∙◌, subst, arith, append_assoc, append-nil, length-append, take-append-drop}
-use Rattle.std.proofs.lemmas.Bool.{ltb-true, ltb-false, lt-ltb, ne_eqb, eqb-true, eq-eqb}
-use Rattle.std.proofs.lemmas.List.{take_more, take_all, take_rest, length-take, length-drop, length-take-le, get_or-take, get_or_default}
+use Rattle.std.proofs.Common.{◌≡◌, ℕ, suc, ◌+◌, ◌-◌, ◌<◌, ◌≤◌, Bool, true, false, eqb, ltb, ◌⊎◌, inl, inr, List, [], ◌∷◌, ◌++◌, length, take, drop, get_or, refl, ap, sym, ◌∙◌, subst, arith, append_assoc, append-nil, length-append, take-append-drop}
+use Rattle.std.proofs.lemmas.Bool.{ltb-true, ltb-false, lt-ltb, ne_eqb, eq-eqb}
+use Rattle.std.proofs.lemmas.List.{take_all, take_rest, length-take, length-drop, length-take-le, get_or-take, get_or_default}
 use Rattle.std.proofs.Math.Seq.{take-add}
 use Rattle.card_desk.specs.Kept.{Fits}
-use Rattle.card_commands.specs.Feed.{Run, Progress, next_item, longer_line, kept_of, HasNoLineFeed, feed, feed_text, feed_rows, feed_all, text_all, rows_all}
+use Rattle.card_commands.specs.Feed.{Run, Progress, next_item, longer_line, kept_of, HasNoLineFeed, feed, feed_all, text_all, rows_all}
 use Rattle.card_commands.specs.Input.{ended_line}
 use Rattle.card_commands.specs.Answers.{answer_text, item_rows}
 use Rattle.card_commands.specs.Ran.{Handled, Fed, FellAt}
@@ -13,7 +13,7 @@ use Rattle.card_commands.specs.declared.end.End.{End}
 use Rattle.card_text.specs.declared.item.Item.{Item}
 use Rattle.card_commands.proofs.LineLemmas.{feed_other, text_other, rows_other}
 use Rattle.card_commands.proofs.SideLemmas.{did_none, did_same, counts_refl}
-use Rattle.card_commands.proofs.FeedLemmas.{fed_then, fell_then, fell_longer, fed_line_feed, fell_line_feed}
+use Rattle.card_commands.proofs.FeedLemmas.{fed_then, fell_then, fed_line_feed, fell_line_feed}
 use Rattle.memchr.specs.Find.{Nowhere, Passes, is_byte}
 
 -- ---- what is kept of a run
@@ -136,26 +136,11 @@ none_before bytes n within nowhere = λ k d low same.
 none_at_all : (bytes : List ℕ) → Nowhere (Passes (is_byte 10) bytes) 0 (length bytes) → HasNoLineFeed bytes
 none_at_all bytes nowhere = subst HasNoLineFeed (take_all (length bytes) bytes (omega arith)) (none_before bytes (length bytes) (omega arith) nowhere)
 
-pub none_in_front : (bytes : List ℕ) (n : ℕ) → n < length bytes → Nowhere (Passes (is_byte 10) bytes) 0 n → HasNoLineFeed (take n bytes)
-none_in_front bytes n low nowhere = none_before bytes n (omega (arith, low)) nowhere
-
--- a run and the line feed behind it are the first bytes
-pub front_is : (bytes : List ℕ) (n : ℕ) → n < length bytes → Passes (is_byte 10) bytes n → take n bytes ++ 10 ∷ [] ≡ take (n + 1) bytes
-front_is bytes n low hit = sym (take_more bytes n 0 low ∙ ap (λ (b : ℕ). take n bytes ++ b ∷ []) (eqb-true (get_or bytes n 0) 10 hit))
-
 -- all bytes, where none is a line feed
 pub fed_all : (a : Sides) (p q : Progress) (bytes : List ℕ) → Nowhere (Passes (is_byte 10) bytes) 0 (length bytes) → q ≡ record p { line = p.line ++ kept_of p.line bytes } → Fits a.keeper.rows p.ledger → Fed a a p (take (length bytes) bytes) q
 fed_all a p q bytes nowhere is fits = subst (λ (l : List ℕ). Fed a a p l q) (sym (take_all (length bytes) bytes (omega arith))) (fed_run a p q bytes (none_at_all bytes nowhere) is fits)
 
 -- ---- pieces one after the other
-
-pub fed_front : (a b : Sides) (p q : Progress) (bytes : List ℕ) (n : ℕ) → n < length bytes → Passes (is_byte 10) bytes n → Fed a b p (take n bytes ++ 10 ∷ []) q → Fed a b p (take (n + 1) bytes) q
-fed_front a b p q bytes n low hit fed = subst (λ (l : List ℕ). Fed a b p l q) (front_is bytes n low hit) fed
-
-pub fell_front : (a b : Sides) (p : Progress) (bytes : List ℕ) (n : ℕ) (e : End) → n < length bytes → Passes (is_byte 10) bytes n → FellAt a b p (take n bytes ++ 10 ∷ []) e → FellAt a b p bytes e
-fell_front a b p bytes n e low hit fell =
-    subst (λ (l : List ℕ). FellAt a b p l e) (ap (λ (l : List ℕ). l ++ drop (n + 1) bytes) (front_is bytes n low hit) ∙ take-append-drop (n + 1) bytes)
-    (fell_longer a b p (take n bytes ++ 10 ∷ []) (drop (n + 1) bytes) e fell)
 
 -- the bytes behind place m
 abbrev rest_of : List ℕ → ℕ → List ℕ

@@ -2,7 +2,6 @@
 use Rattle.std.specs.Prelude.{◌≡◌, ◌⊎◌, ℕ, ◌-◌, Bool, true, false, List, ◌++◌, length, take, Option, Some, None, ⊤}
 use Rattle.std.specs.Io.KnownBytes.{Appends, Consumes, IsAtEnd}
 use Rattle.std.specs.Option.{option_map}
-use Rattle.std.specs.String.{string_bytes}
 use Rattle.card_account.specs.Accounts.{issued_statement, restated_statement}
 use Rattle.card_demo.specs.Summary.{demo_text}
 use Rattle.card_model.specs.Refusals.{Lists, book_today}
