@@ -15,13 +15,14 @@ cd "$model" || exit 1
 if [ -d /dev/shm ]; then
     export TMPDIR=/dev/shm
 fi
-PYTHONDONTWRITEBYTECODE=1 exec "${PYTHON:-python3}" - "${PROGRAM:-$top/crates/billctl/out/billctl}" "${1:-1}" "${2:-20}" <<'END_OF_PYTHON'
+PYTHONDONTWRITEBYTECODE=1 PYTHONPATH="$top/tests" exec "${PYTHON:-python3}" - "${PROGRAM:-$top/crates/billctl/out/billctl}" "${1:-1}" "${2:-20}" <<'END_OF_PYTHON'
 import os
 import sys
 import tempfile
 import time
 
-from oracle import cli, compare, generate
+import loaded_once  # the model carries out the rows of a keeper once
+from oracle import compare, generate
 from oracle.days import closing, cycle_of, day_text, due
 from oracle.stages import Stage
 
@@ -63,22 +64,6 @@ class Writer(generate.Writer):
         while self.today < opened + YEARS * 366:
             self.step()
         return self.lines
-
-
-# the model carries out its rows anew for each command; those that look at an account change none, so once is enough
-carry_out = cli.load
-loaded = {}
-
-
-def load(keeper, stage):
-    key = id(keeper), len(keeper.rows)
-    if key not in loaded:
-        loaded.clear()
-        loaded[key] = carry_out(keeper, stage)
-    return loaded[key]
-
-
-cli.load = compare.load = load
 
 
 def difference(program, folder, lines):

@@ -29,28 +29,14 @@ while [ "$seed" -le 60 ]; do
     seed=$((seed + 1))
 done
 echo "compare: 60 inputs, the same replies and statuses"
-PYTHONDONTWRITEBYTECODE=1 exec python3 - "$program" <<'END'
+PYTHONDONTWRITEBYTECODE=1 PYTHONPATH="$top/tests" exec python3 - "$program" <<'END'
 import subprocess
 import sys
 
-from oracle import cli, compare
+import loaded_once  # the model carries out the rows of a keeper once
+from oracle import compare
 from oracle.demo import demo_text
 from oracle.stages import Stage
-
-# the model carries out its rows anew for each command; those that look at accounts change none, so once is enough
-carry_out = cli.load
-loaded = {}
-
-
-def load(keeper, stage):
-    key = id(keeper), len(keeper.rows)
-    if key not in loaded:
-        loaded.clear()
-        loaded[key] = carry_out(keeper, stage)
-    return loaded[key]
-
-
-cli.load = compare.load = load
 
 # the open tasks, and of every account the entries and, of every cycle and the one behind the last, both statements; the last
 # account isn't there
