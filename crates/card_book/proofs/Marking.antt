@@ -7,7 +7,7 @@ use Rattle.std.proofs.lemmas.List.{drop_more, map-append, take-append-drop, take
 use Rattle.std.proofs.lemmas.List.Elements.{filter-append}
 use Rattle.std.proofs.lemmas.List.Folds.{find-append}
 use Rattle.std.proofs.lemmas.List.FromFn.{map-range_with_len_more}
-use Rattle.card_grace.specs.Accruals.{Accrued, nothing_accrued}
+use Rattle.card_closing.specs.Accruals.{Accrued, nothing_accrued}
 use Rattle.card_model.specs.Rates.{accrual_rate}
 use Rattle.card_model.specs.Segments.{SegmentTerms}
 use Rattle.card_rates.specs.RateBooks.{AreByNumber}

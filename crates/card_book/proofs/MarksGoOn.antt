@@ -6,7 +6,7 @@ use Rattle.std.specs.Option.{option_map_or}
 use Rattle.std.proofs.lemmas.Bool.{and_right, cases_lt, ne_eqb}
 use Rattle.std.proofs.lemmas.List.{get_or-map}
 use Rattle.std.proofs.lemmas.List.Elements.{All-cons, All-head, All-nil, All-tail, All-weaker}
-use Rattle.card_grace.specs.Accruals.{Accrued, nothing_accrued}
+use Rattle.card_closing.specs.Accruals.{Accrued, nothing_accrued}
 use Rattle.card_model.specs.Books.{Book}
 use Rattle.card_model.specs.Cycles.{Cycle}
 use Rattle.card_model.specs.Deadlines.{credit_since}

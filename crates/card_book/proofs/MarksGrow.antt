@@ -8,7 +8,7 @@ use Rattle.std.proofs.lemmas.Bool.Decides.{nat_tests}
 use Rattle.std.proofs.lemmas.List.{take-append-le, take_all}
 use Rattle.std.proofs.lemmas.Option.{same_Some}
 use Rattle.std.proofs.lemmas.List.Elements.{All-append, All-head, All-tail, All-weaker, filter-append}
-use Rattle.card_grace.specs.Accruals.{nothing_accrued}
+use Rattle.card_closing.specs.Accruals.{nothing_accrued}
 use Rattle.card_model.specs.Cycles.{Cycle}
 use Rattle.card_model.specs.Folds.{cycle_at}
 use Rattle.card_model.specs.Segments.{SegmentTerms}

@@ -10,7 +10,7 @@ use Rattle.card_days.specs.declared.anchor.Anchor.{Anchor}
 use Rattle.card_events.specs.History.{anchor_of, corrected, next_segment, terms_of}
 use Rattle.card_events.specs.declared.kept.Kept.{Kept}
 use Rattle.card_events.specs.declared.post.Terms.{Terms}
-use Rattle.card_grace.proofs.Cases.{without_entries}
+use Rattle.card_closing.proofs.Cases.{without_entries}
 use Rattle.card_model.specs.Books.{Book}
 use Rattle.card_model.specs.Cycles.{Seen}
 use Rattle.card_model.specs.Interest.{accrual, days_from, row}

@@ -8,8 +8,8 @@ use Rattle.card_bounds.proofs.Whole.{balances_small}
 use Rattle.card_bounds.specs.Bounds.{IsLimited, IsOrderly}
 use Rattle.card_days.specs.Range.{last_request_day}
 use Rattle.card_events.specs.Limits.{post_limit}
-use Rattle.card_grace.specs.Accruals.{Accrued}
-use Rattle.card_grace.specs.Rows.{no_rows}
+use Rattle.card_closing.specs.Accruals.{Accrued}
+use Rattle.card_closing.specs.Rows.{no_rows}
 use Rattle.card_model.specs.Books.{Book}
 use Rattle.card_model.specs.Cuts.{penalties_at}
 use Rattle.card_model.specs.Cycles.{Cycle}

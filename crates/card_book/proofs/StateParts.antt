@@ -2,8 +2,8 @@
 use Rattle.std.proofs.Common.{◌≡◌, ℕ, suc, ◌+◌, ◌-◌, ◌≤◌, List, [], ◌∷◌, ◌++◌, append-nil, append_assoc, drop, length, length-append, map, replicate, refl, sym, ap, ◌∙◌, arith, ℤ, pos}
 use Rattle.std.proofs.lemmas.List.{drop-replicate, length-map, replicate_more}
 use Rattle.card_events.specs.declared.kept.Kept.{Kept}
-use Rattle.card_grace.specs.Accruals.{Accrued, nothing_accrued}
-use Rattle.card_grace.specs.Rows.{Rows, no_rows}
+use Rattle.card_closing.specs.Accruals.{Accrued, nothing_accrued}
+use Rattle.card_closing.specs.Rows.{Rows, no_rows}
 use Rattle.card_model.specs.Segments.{SegmentTerms, kept_segment}
 use Rattle.card_model.specs.declared.segment.Segment.{Segment}
 use Rattle.card_rates.specs.RateBooks.{rates_of}

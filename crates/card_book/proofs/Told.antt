@@ -7,7 +7,7 @@ use Rattle.card_bounds.proofs.Whole.{balances_small}
 use Rattle.card_bounds.specs.Bounds.{IsLimited}
 use Rattle.card_days.specs.Range.{last_request_day}
 use Rattle.card_events.specs.Limits.{post_limit}
-use Rattle.card_grace.specs.Accruals.{Accrued}
+use Rattle.card_closing.specs.Accruals.{Accrued}
 use Rattle.card_model.specs.Books.{Book}
 use Rattle.card_model.specs.Cycles.{Cycle}
 use Rattle.card_model.specs.Entries.{AreBalances, at_least_zero, balance, owed}

@@ -4,7 +4,7 @@ use Rattle.std.specs.List.{All, filter, find}
 use Rattle.std.specs.Option.{option_map_or}
 use Rattle.card_events.specs.History.{anchor_of, terms_of}
 use Rattle.card_events.specs.declared.kept.Kept.{Kept}
-use Rattle.card_grace.specs.Accruals.{Accrued, nothing_accrued}
+use Rattle.card_closing.specs.Accruals.{Accrued, nothing_accrued}
 use Rattle.card_model.specs.Cycles.{Cycle}
 use Rattle.card_model.specs.Folds.{cycle_at}
 use Rattle.card_model.specs.Rates.{accrual_rate}

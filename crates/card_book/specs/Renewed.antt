@@ -4,8 +4,8 @@ use Rattle.card_days.specs.Civil.{day_of_month}
 use Rattle.card_days.specs.Range.{last_request_day}
 use Rattle.card_events.specs.History.{anchor_of}
 use Rattle.card_events.specs.declared.kept.Kept.{Kept}
-use Rattle.card_grace.specs.Accruals.{nothing_accrued}
-use Rattle.card_grace.specs.Rows.{no_rows}
+use Rattle.card_closing.specs.Accruals.{nothing_accrued}
+use Rattle.card_closing.specs.Rows.{no_rows}
 use Rattle.card_rates.specs.RateBooks.{rates_of}
 use Rattle.card_rates.specs.Segments.{account_segments}
 use Rattle.card_daily.specs.Given.{Given, IsSound}

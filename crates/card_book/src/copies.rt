@@ -1,8 +1,8 @@
 // A state in memory of its own.
 ghost use Rattle.std.specs.Prelude.{◌≡◌, IfOk};
 
+use card_closing::CycleRows;
 use card_daily::State;
-use card_grace::CycleRows;
 use card_units::NoMemory;
 use std::alloc::Global;
 

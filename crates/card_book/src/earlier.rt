@@ -1,8 +1,8 @@
 // The state of a Book at an earlier closing, and over more posts.
 ghost use Rattle.std.specs.Prelude.{◌≡◌, ◌+◌, ◌-◌, ◌<◌, ◌≤◌, ℕ, ◌++◌, length, map, pos, replicate, IfOk};
 ghost use Rattle.card_days.specs.Range.{last_calendar_day};
-ghost use Rattle.card_grace.specs.Accruals.{nothing_accrued};
-ghost use Rattle.card_grace.specs.Rows.{no_rows};
+ghost use Rattle.card_closing.specs.Accruals.{nothing_accrued};
+ghost use Rattle.card_closing.specs.Rows.{no_rows};
 ghost use Rattle.card_model.specs.Cuts.{penalties_at};
 ghost use Rattle.card_rates.specs.RateBooks.{AreByNumber, rates_of, with_penalties};
 ghost use Rattle.card_segments.specs.Unposted.{AreBefore, MayGoBack};
@@ -10,10 +10,10 @@ ghost use Rattle.card_rates.specs.Segments.{account_segments};
 ghost use Rattle.card_book.specs.Marks.{accrued_by};
 
 use crate::marks::{Accruing, accruals_at};
+use card_closing::Accrual;
 use card_daily::{Entry, Inputs, State};
 use card_dayend::empty_rows;
 use card_days::Day;
-use card_grace::Accrual;
 use card_rates::segments_of;
 use card_segments::Segments;
 use card_units::NoMemory;

@@ -10,9 +10,9 @@ ghost use Rattle.card_model.specs.Refusals.{book_today, seen_today};
 
 use crate::Book;
 use crate::statement::cycle_in;
+use card_closing::Accrual;
 use card_daily::{Cycle, Entry, Fee, Present, Track, is_sixty_days_late};
 use card_days::Day;
-use card_grace::Accrual;
 use card_rates::RateBook;
 use card_segments::{Segment, Segments};
 use card_units::{Cents, NoMemory};

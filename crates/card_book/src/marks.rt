@@ -6,9 +6,9 @@ ghost use Rattle.card_model.specs.Segments.{SegmentTerms};
 ghost use Rattle.card_rates.specs.RateBooks.{AreByNumber};
 ghost use Rattle.card_book.specs.Marks.{accrued_at, accrued_by, accruing_of, accruing_on};
 
+use card_closing::Accrual;
 use card_daily::State;
 use card_days::Day;
-use card_grace::Accrual;
 use card_units::NoMemory;
 use std::alloc::Global;
 

@@ -1,9 +1,9 @@
 -- What a call of `close` does is what the definition says.
 use Rattle.std.proofs.Common.{◌≡◌, ℕ, ◌+◌, ◌≤◌, Bool, List, [], ◌∷◌, ◌++◌, drop, length, sym, ap, ◌∙◌, subst, arith, Option}
 use Rattle.std.proofs.lemmas.List.{length-map}
-use Rattle.card_grace.specs.Accruals.{Accrued}
-use Rattle.card_grace.specs.BookRows.{rows_of}
-use Rattle.card_grace.specs.Rows.{Rows}
+use Rattle.card_closing.specs.Accruals.{Accrued}
+use Rattle.card_closing.specs.BookRows.{rows_of}
+use Rattle.card_closing.specs.Rows.{Rows}
 use Rattle.card_model.specs.Books.{Account, Book}
 use Rattle.card_model.specs.Closing.{close, first_day_of, purchase_case_in}
 use Rattle.card_model.specs.Cycles.{Amounts, Cycle, IssuedRow, Seen, amount_at}

@@ -1,3 +1,13 @@
+pub mod Accruing
+pub mod Cases
+pub mod Days
+pub mod Growing
+pub mod Lowering
+pub mod OfBook
+pub mod Repaid
+pub mod Spreads
+pub mod Sums
+pub mod Turns
 pub mod Bridge
 pub mod ByNumber
 pub mod Closed

@@ -4,13 +4,13 @@ use Rattle.std.specs.List.{Contains, filter, range_with_len, sum_by}
 use Rattle.std.proofs.lemmas.List.{get_or-map, length-map}
 use Rattle.std.proofs.lemmas.List.Sums.{sum_by-cons}
 use Rattle.card_units.specs.Money.{daily, interest}
-use Rattle.card_grace.specs.Accruals.{Accrued, nothing_accrued}
-use Rattle.card_grace.specs.BookRows.{rows_of}
-use Rattle.card_grace.specs.Rows.{DayRow, Rows, bearing, interest_on, no_rows, row_of, with_days}
-use Rattle.card_grace.proofs.Days.{sum_by-map}
-use Rattle.card_grace.proofs.Growing.{rows_grow}
-use Rattle.card_grace.proofs.OfBook.{rows_of_a_book}
-use Rattle.card_grace.proofs.Turns.{interest_in_turn}
+use Rattle.card_closing.specs.Accruals.{Accrued, nothing_accrued}
+use Rattle.card_closing.specs.BookRows.{rows_of}
+use Rattle.card_closing.specs.Rows.{DayRow, Rows, bearing, interest_on, no_rows, row_of, with_days}
+use Rattle.card_closing.proofs.Days.{sum_by-map}
+use Rattle.card_closing.proofs.Growing.{rows_grow}
+use Rattle.card_closing.proofs.OfBook.{rows_of_a_book}
+use Rattle.card_closing.proofs.Turns.{interest_in_turn}
 use Rattle.card_model.specs.Books.{Account, Book}
 use Rattle.card_model.specs.Closing.{Posting, closing_interest, first_day_of, interest_note, post_interest, post_one, posted_for, purchase_case_in}
 use Rattle.card_model.specs.Cycles.{IssuedRow, Seen}

@@ -6,10 +6,10 @@ use Rattle.std.proofs.lemmas.Bool.{ne_eqb}
 use Rattle.std.proofs.lemmas.List.{get_or-drop, get_or-map, length-drop, length-map}
 use Rattle.std.proofs.lemmas.List.Elements.{Contains-get_or}
 use Rattle.std.proofs.lemmas.List.Sums.{sum_by-cons}
-use Rattle.card_grace.specs.Accruals.{Accrued}
-use Rattle.card_grace.specs.Rows.{Rows, average_of, no_rows, with_days}
-use Rattle.card_grace.proofs.Growing.{rows_grow}
-use Rattle.card_grace.proofs.OfBook.{rows_of_a_book}
+use Rattle.card_closing.specs.Accruals.{Accrued}
+use Rattle.card_closing.specs.Rows.{Rows, average_of, no_rows, with_days}
+use Rattle.card_closing.proofs.Growing.{rows_grow}
+use Rattle.card_closing.proofs.OfBook.{rows_of_a_book}
 use Rattle.card_model.specs.Books.{Account, Book, all_segments, present_cycle}
 use Rattle.card_model.specs.Caps.{capped_by, issued_grace, issued_minimum}
 use Rattle.card_model.specs.Closing.{Posting, by_segment, closed_cycle, closing_interest, ends_after, first_day_of, grace_amount, interest_note, minimum_of, minimum_payment, net_balance, nonzero, purchase_case_in}

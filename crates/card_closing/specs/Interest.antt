@@ -3,10 +3,10 @@
 use Rattle.std.specs.Prelude.{ℕ, ◌≡◌, ◌+◌, ◌-◌, ◌==◌, ◌&&◌, true, false, Bool, if◌then◌else◌, nat_lt, drop, map, length, List, [], ◌∷◌, Option, Some, None, slice_index_or}
 use Rattle.std.specs.List.{All, Contains, filter}
 use Rattle.card_units.specs.Money.{interest}
-use Rattle.card_grace.specs.Accruals.{Accrued, nothing_accrued}
-use Rattle.card_grace.specs.BookRows.{AreLowering, HasOneCase, rows_of}
-use Rattle.card_grace.specs.Cases.{case_in, is_deferred_in}
-use Rattle.card_grace.specs.Rows.{Rows, interest_on}
+use Rattle.card_closing.specs.Accruals.{Accrued, nothing_accrued}
+use Rattle.card_closing.specs.BookRows.{AreLowering, HasOneCase, rows_of}
+use Rattle.card_closing.specs.Cases.{case_in, is_deferred_in}
+use Rattle.card_closing.specs.Rows.{Rows, interest_on}
 use Rattle.card_model.specs.Books.{Account, Book, all_segments}
 use Rattle.card_model.specs.Closing.{Posting, closing_interest, first_day_of, purchase_case_in}
 use Rattle.card_model.specs.Cycles.{Cycle, IssuedRow, Seen, amount_at, amounts_sum}

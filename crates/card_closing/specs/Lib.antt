@@ -1,3 +1,10 @@
+pub mod Accruals
+pub mod BookRows
+pub mod Cases
+pub mod Growth
+pub mod GraceLaws
+pub mod Rows
+pub mod Runs
 pub mod Closes
 pub mod Interest
 pub mod Record

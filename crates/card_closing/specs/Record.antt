@@ -1,8 +1,8 @@
 -- The record of a closed cycle, from what the ledger keeps (12 CFR 1026.7(b), .54(a)(1)). Days are day numbers, amounts cents.
 use Rattle.std.specs.Prelude.{ℕ, ◌+◌, ◌-◌, ◌==◌, ◌≤◌, ◌&&◌, if◌then◌else◌, drop, length, List, Option, Some, None, ℤ, pos, ◌-ℤ◌, ◌≤ℤ◌, slice_index_or, unsigned_abs}
 use Rattle.std.specs.List.{filter_map, range_with_len, sum_by}
-use Rattle.card_grace.specs.Cases.{case_in}
-use Rattle.card_grace.specs.Rows.{Rows, average_of}
+use Rattle.card_closing.specs.Cases.{case_in}
+use Rattle.card_closing.specs.Rows.{Rows, average_of}
 use Rattle.card_model.specs.Caps.{capped_by, issued_grace, issued_minimum}
 use Rattle.card_model.specs.Closing.{ends_after, minimum_of}
 use Rattle.card_model.specs.Cycles.{Amounts, Cycle, amount_at, amounts_sum}

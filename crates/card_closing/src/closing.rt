@@ -7,9 +7,8 @@ ghost use Rattle.card_closing.specs.Turns.{AreInStep, BeginsWith};
 
 use crate::interest::{charge_accruals, charge_interest};
 use crate::record::{averages, charged_amounts, grace_of, held, minimum_of, owed};
-use crate::{Amounts, Cycle, Fee, Fees};
+use crate::{Accrual, Amounts, Cycle, CycleRows, Fee, Fees, GraceCase};
 use card_days::Day;
-use card_grace::{Accrual, CycleRows, GraceCase};
 use card_segments::{Entry, Segments};
 use card_units::{Cents, NoMemory};
 use std::alloc::Global;

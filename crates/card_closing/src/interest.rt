@@ -8,9 +8,8 @@ ghost use Rattle.card_closing.specs.Turns.{AreInStep, BeginsWith, StayInStep, tu
 
 use crate::fees::at_least_zero;
 use crate::turn::charge;
-use crate::{Amounts, Closing, Cycle};
+use crate::{Accrual, Amounts, Closing, Cycle, CycleRows, GraceCase, case_of, is_deferred};
 use card_days::Day;
-use card_grace::{Accrual, CycleRows, GraceCase, case_of, is_deferred};
 use card_segments::{Entry, EntryKind, Note, Segment, Segments};
 use card_units::{NoMemory, interest};
 

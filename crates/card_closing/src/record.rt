@@ -14,10 +14,9 @@ ghost use Rattle.card_closing.specs.Record.{AreSmall, HasTermsInRange, averages_
 
 use crate::fees::at_least_zero;
 use crate::turn::add;
-use crate::{Amounts, Closing, Cycle, Fees};
+use crate::{Amounts, Closing, Cycle, CycleRows, Fees, case_of};
 use card_days::Day;
 use card_fees::minimum;
-use card_grace::{CycleRows, case_of};
 use card_segments::{Segment, Segments, Sort};
 use card_units::{Cents, NoMemory};
 use std::alloc::Global;

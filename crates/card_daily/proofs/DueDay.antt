@@ -1,6 +1,6 @@
 -- The day after a due date: the book with its late fee.
 use Rattle.std.proofs.lemmas.Int.{ints}
-use Rattle.card_grace.specs.Accruals.{Accrued, nothing_accrued}
+use Rattle.card_closing.specs.Accruals.{Accrued, nothing_accrued}
 use Rattle.card_model.specs.Limits.{balance_limit}
 use Rattle.card_model.specs.declared.fee.FeeKind.TheVariants as fee
 use Rattle.card_rates.specs.RateBooks.{Rates, rates_of}
@@ -10,8 +10,8 @@ use Rattle.std.specs.Prelude.{◌≤ℤ◌}
 use Rattle.card_bounds.proofs.Steps.{Limits, late-small}
 use Rattle.card_bounds.proofs.Whole.{folded-few, limits-on}
 use Rattle.card_events.specs.History.{anchor_of}
-use Rattle.card_grace.specs.BookRows.{brought, rows_of}
-use Rattle.card_grace.specs.Growth.{with_repaid}
+use Rattle.card_closing.specs.BookRows.{brought, rows_of}
+use Rattle.card_closing.specs.Growth.{with_repaid}
 use Rattle.card_model.proofs.EntryFacts.{all-debit}
 use Rattle.card_model.specs.Books.{Account, Book, newest_purchase, present_cycle, with_fee, with_penalties}
 use Rattle.card_model.specs.Caps.{capped_by, charged_fee, fee_above, issued_fee}

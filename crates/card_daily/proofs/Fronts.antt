@@ -21,7 +21,7 @@ use Rattle.card_events.specs.declared.kept.Kept.{Kept}
 use Rattle.card_events.specs.declared.post.Post.{Post}
 use Rattle.card_events.specs.declared.post.Post.TheVariants as post
 use Rattle.card_fees.specs.Counting.{is_payment_at}
-use Rattle.card_grace.specs.Growth.{IsOfNoCredit}
+use Rattle.card_closing.specs.Growth.{IsOfNoCredit}
 use Rattle.card_model.specs.Books.{Account, Book}
 use Rattle.card_model.specs.Cycles.{IssuedRow, Seen, last_cycle, posts_on}
 use Rattle.card_model.specs.DueDates.{on_due}

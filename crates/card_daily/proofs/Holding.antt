@@ -11,7 +11,7 @@ use Rattle.card_events.specs.History.{CorrectedPost, anchor_of, is_folded, terms
 use Rattle.card_events.specs.Limits.{post_limit}
 use Rattle.card_events.specs.declared.kept.Kept.{Kept}
 use Rattle.card_events.specs.declared.post.Post.TheVariants as post
-use Rattle.card_grace.specs.Rows.{Rows}
+use Rattle.card_closing.specs.Rows.{Rows}
 use Rattle.card_effects.proofs.Covers.{held_covers_releases}
 use Rattle.card_effects.specs.Accounts.{AreOf}
 use Rattle.card_model.proofs.EntryFacts.{all-holds, all-releases}

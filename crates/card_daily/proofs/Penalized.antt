@@ -15,7 +15,7 @@ use Rattle.card_events.specs.History.{CorrectedPost, anchor_of, corrected}
 use Rattle.card_events.specs.declared.post.Post.{Post}
 use Rattle.card_events.specs.declared.post.Post.TheVariants as post
 use Rattle.card_fees.proofs.Days.{due-later}
-use Rattle.card_grace.specs.Rows.{Rows}
+use Rattle.card_closing.specs.Rows.{Rows}
 use Rattle.card_model.proofs.Calendar.{cycles_are_of_the_calendar, is-anchor}
 use Rattle.card_model.specs.Books.{Account, Book, with_penalties}
 use Rattle.card_model.specs.CycleDays.{HasItsDays}

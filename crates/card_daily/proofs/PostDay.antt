@@ -17,9 +17,9 @@ use Rattle.card_events.specs.Limits.{post_limit}
 use Rattle.card_events.specs.declared.kept.Slot.{Slot}
 use Rattle.card_events.specs.declared.post.Post.{Post}
 use Rattle.card_events.specs.declared.post.Post.TheVariants as post
-use Rattle.card_grace.specs.Accruals.{Accrued, nothing_accrued}
-use Rattle.card_grace.specs.Growth.{with_repaid}
-use Rattle.card_grace.specs.Rows.{Rows}
+use Rattle.card_closing.specs.Accruals.{Accrued, nothing_accrued}
+use Rattle.card_closing.specs.Growth.{with_repaid}
+use Rattle.card_closing.specs.Rows.{Rows}
 use Rattle.card_model.specs.Books.{Book, with_penalties}
 use Rattle.card_model.specs.Effects.{effect}
 use Rattle.card_model.specs.Limits.{balance_limit}

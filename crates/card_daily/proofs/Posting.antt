@@ -14,10 +14,10 @@ use Rattle.card_events.specs.declared.kept.Slot.{Slot}
 use Rattle.card_events.specs.declared.post.Place.{Place}
 use Rattle.card_events.specs.declared.post.Post.{Post}
 use Rattle.card_events.specs.declared.post.Post.TheVariants as post
-use Rattle.card_grace.specs.BookRows.{brought}
-use Rattle.card_grace.proofs.Growing.{rows_grow}
-use Rattle.card_grace.specs.Growth.{IsOfNoCredit, or_post, with_repaid}
-use Rattle.card_grace.specs.Rows.{Rows, without_post}
+use Rattle.card_closing.specs.BookRows.{brought}
+use Rattle.card_closing.proofs.Growing.{rows_grow}
+use Rattle.card_closing.specs.Growth.{IsOfNoCredit, or_post, with_repaid}
+use Rattle.card_closing.specs.Rows.{Rows, without_post}
 use Rattle.card_model.proofs.EntryFacts.{all-debit}
 use Rattle.card_model.specs.Books.{Account, Book, all_segments, newest_purchase, note_of, with_fee}
 use Rattle.card_model.specs.Cycles.{IssuedRow, Seen}

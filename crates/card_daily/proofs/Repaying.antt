@@ -3,8 +3,8 @@ use Rattle.std.proofs.Common.{◌≡◌, ℕ, Bool, true, false, ◌&&◌, ◌||
 use Rattle.std.specs.Prelude.{◌==◌, nat_le}
 use Rattle.std.specs.List.{All, filter}
 use Rattle.std.proofs.lemmas.List.Elements.{All-head, All-tail}
-use Rattle.card_grace.proofs.Growing.{rows_grow}
-use Rattle.card_grace.specs.BookRows.{brought, is_brought, repayment_of, repays}
+use Rattle.card_closing.proofs.Growing.{rows_grow}
+use Rattle.card_closing.specs.BookRows.{brought, is_brought, repayment_of, repays}
 use Rattle.card_model.specs.Entries.{is_kind}
 use Rattle.card_model.specs.declared.entry.Entry.{Entry}
 use Rattle.card_model.specs.declared.entry.EntryKind.TheVariants as kind

@@ -14,7 +14,7 @@ use Rattle.card_effects.specs.Laws.{HaveNone}
 use Rattle.card_effects.specs.Standing.{AreRated, StandsAt, is_added}
 use Rattle.card_events.specs.History.{CorrectedPost}
 use Rattle.card_model.specs.Books.{Book}
-use Rattle.card_grace.specs.Rows.{Rows}
+use Rattle.card_closing.specs.Rows.{Rows}
 use Rattle.card_model.specs.Entries.{AreBalances, balance}
 use Rattle.card_model.specs.Limits.{balance_limit}
 use Rattle.card_model.specs.declared.entry.Entry.{Entry}

@@ -7,8 +7,8 @@ use Rattle.card_events.specs.History.{CorrectedPost, anchor_of, corrected}
 use Rattle.card_events.specs.declared.kept.Slot.{Slot}
 use Rattle.card_events.specs.declared.post.Post.{Post}
 use Rattle.card_events.specs.declared.post.Post.TheVariants as post
-use Rattle.card_grace.specs.Growth.{IsOfNoCredit, or_post}
-use Rattle.card_grace.specs.Rows.{Rows}
+use Rattle.card_closing.specs.Growth.{IsOfNoCredit, or_post}
+use Rattle.card_closing.specs.Rows.{Rows}
 use Rattle.card_model.specs.Books.{Account, Book}
 use Rattle.card_model.specs.Cycles.{IssuedRow, Seen}
 use Rattle.card_model.specs.Effects.{effect}

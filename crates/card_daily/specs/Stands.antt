@@ -3,11 +3,11 @@ use Rattle.std.specs.Prelude.{ℕ, ◌+◌, ◌-◌, ◌≡◌, ◌≤◌, ◌||
 use Rattle.std.specs.List.{All, Contains, filter, list_any}
 use Rattle.card_bounds.specs.Bounds.{book_amid}
 use Rattle.card_events.specs.History.{CorrectedPost, is_folded}
-use Rattle.card_grace.specs.Accruals.{Accrued, nothing_accrued}
+use Rattle.card_closing.specs.Accruals.{Accrued, nothing_accrued}
 use Rattle.card_model.specs.Interest.{accrual}
-use Rattle.card_grace.specs.BookRows.{brought, rows_of}
-use Rattle.card_grace.specs.Growth.{with_repaid}
-use Rattle.card_grace.specs.Rows.{Rows}
+use Rattle.card_closing.specs.BookRows.{brought, rows_of}
+use Rattle.card_closing.specs.Growth.{with_repaid}
+use Rattle.card_closing.specs.Rows.{Rows}
 use Rattle.card_model.specs.Books.{Book}
 use Rattle.card_model.specs.Closing.{first_day_of}
 use Rattle.card_model.specs.Cycles.{Cycle}

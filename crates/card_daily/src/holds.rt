@@ -5,7 +5,7 @@ ghost use Rattle.card_bounds.specs.Bounds.{moved};
 ghost use Rattle.card_effects.specs.Standing.{IsSlotOf};
 ghost use Rattle.card_events.specs.History.{CorrectedPost};
 ghost use Rattle.card_events.specs.declared.post.Post.TheVariants as post;
-ghost use Rattle.card_grace.specs.Rows.{Rows};
+ghost use Rattle.card_closing.specs.Rows.{Rows};
 ghost use Rattle.card_effects.specs.Accounts.{AreOf};
 ghost use Rattle.card_model.specs.Books.{Book};
 ghost use Rattle.card_model.specs.Cycles.{IssuedRow};

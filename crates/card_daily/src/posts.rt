@@ -10,7 +10,7 @@ ghost use Rattle.card_effects.specs.Returned.{AreReturnable, parts_of};
 ghost use Rattle.card_effects.specs.Entering.{MayMove};
 ghost use Rattle.card_events.specs.History.{CorrectedPost, anchor_of};
 ghost use Rattle.card_events.specs.declared.post.Post.TheVariants as post;
-ghost use Rattle.card_grace.specs.Rows.{Rows};
+ghost use Rattle.card_closing.specs.Rows.{Rows};
 ghost use Rattle.card_effects.specs.Accounts.{AreOf};
 ghost use Rattle.card_model.specs.Books.{Account, Book};
 ghost use Rattle.card_model.specs.CycleDays.{IsOpening};

@@ -6,8 +6,8 @@ ghost use Rattle.card_effects.specs.Returned.{AreOfThose, AreReturnable, parts_o
 ghost use Rattle.card_effects.specs.Standing.{AreRated, IsSlotOf};
 ghost use Rattle.card_events.specs.History.{CorrectedPost, slot_of};
 ghost use Rattle.card_events.specs.declared.post.Post.TheVariants as post;
-ghost use Rattle.card_grace.specs.Growth.{IsOfNoCredit, or_post};
-ghost use Rattle.card_grace.specs.Rows.{Rows};
+ghost use Rattle.card_closing.specs.Growth.{IsOfNoCredit, or_post};
+ghost use Rattle.card_closing.specs.Rows.{Rows};
 ghost use Rattle.card_model.specs.Books.{Book, penalty_fee};
 ghost use Rattle.card_model.specs.Cycles.{Cycle};
 ghost use Rattle.card_model.specs.Effects as model;

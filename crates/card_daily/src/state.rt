@@ -1,4 +1,4 @@
-use card_grace::{Accrual, CycleRows};
+use card_closing::{Accrual, CycleRows};
 use card_rates::RateBook;
 use card_segments::Segments;
 

@@ -1,7 +1,7 @@
 -- Where no deferred plan is in its period, nothing accrues.
 use Rattle.std.proofs.Common.{◌≡◌, ℕ, Bool, true, false, ◌||◌, List, [], ◌∷◌, ℤ, refl, ap, ◌∙◌}
 use Rattle.std.specs.List.{list_any}
-use Rattle.card_grace.specs.Accruals.{Accrued}
+use Rattle.card_closing.specs.Accruals.{Accrued}
 use Rattle.card_model.specs.Rates.{accrual_rate}
 use Rattle.card_model.specs.Segments.{SegmentTerms, is_deferred_on}
 use Rattle.card_dayend.specs.Rows.{each_with, owed_on, with_accrual_at}

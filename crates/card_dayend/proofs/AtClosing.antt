@@ -13,9 +13,9 @@ use Rattle.card_days.specs.Range.{last_request_day}
 use Rattle.card_effects.proofs.DayLaws.{books_of_a_day}
 use Rattle.card_effects.specs.Standing.{is_added}
 use Rattle.card_events.specs.History.{anchor_of}
-use Rattle.card_grace.proofs.Cases.{one_case, without_entries}
-use Rattle.card_grace.proofs.Lowering.{book_after-lowers, due-lowers, posts-lower}
-use Rattle.card_grace.specs.BookRows.{AreLowering, HasOneCase, rows_of}
+use Rattle.card_closing.proofs.Cases.{one_case, without_entries}
+use Rattle.card_closing.proofs.Lowering.{book_after-lowers, due-lowers, posts-lower}
+use Rattle.card_closing.specs.BookRows.{AreLowering, HasOneCase, rows_of}
 use Rattle.card_model.proofs.Calendar.{is-anchor}
 use Rattle.card_model.specs.Books.{Book}
 use Rattle.card_model.specs.Closing.{first_day_of, purchase_case_in}

@@ -10,8 +10,8 @@ use Rattle.card_days.specs.Civil.{day_of_month}
 use Rattle.card_days.specs.Range.{last_request_day}
 use Rattle.card_effects.specs.Standing.{is_added}
 use Rattle.card_events.specs.History.{anchor_of}
-use Rattle.card_grace.specs.Accruals.{Accrued, nothing_accrued}
-use Rattle.card_grace.specs.Rows.{Rows, no_rows}
+use Rattle.card_closing.specs.Accruals.{Accrued, nothing_accrued}
+use Rattle.card_closing.specs.Rows.{Rows, no_rows}
 use Rattle.card_model.specs.Books.{Book, present_cycle}
 use Rattle.card_model.specs.Caps.{row_for}
 use Rattle.card_model.specs.Cycles.{Cycle}

@@ -6,9 +6,9 @@ use Rattle.std.proofs.lemmas.List.Elements.{All-weaker}
 use Rattle.card_bounds.proofs.Dated.{Before, posted_on}
 use Rattle.card_days.specs.Civil.{day_of_month}
 use Rattle.card_events.specs.History.{anchor_of}
-use Rattle.card_grace.proofs.Growing.{rows_grow}
-use Rattle.card_grace.proofs.Turns.{interest_in_turn}
-use Rattle.card_grace.specs.Rows.{no_rows}
+use Rattle.card_closing.proofs.Growing.{rows_grow}
+use Rattle.card_closing.proofs.Turns.{interest_in_turn}
+use Rattle.card_closing.specs.Rows.{no_rows}
 use Rattle.card_model.specs.Books.{Account, Book, all_segments}
 use Rattle.card_model.specs.Closing.{Posting, close, closing_interest, first_day_of, first_of, post_interest, purchase_case_in}
 use Rattle.card_model.specs.Cycles.{Cycle, IssuedRow, Seen}

@@ -4,9 +4,9 @@ use Rattle.std.specs.List.{All, sum_by}
 use Rattle.std.proofs.lemmas.List.{length-map, length-replicate}
 use Rattle.std.proofs.lemmas.List.Elements.{All-nil, All-replicate}
 use Rattle.std.proofs.lemmas.List.Sums.{sum_by-cons}
-use Rattle.card_grace.proofs.Growing.{rows_grow}
-use Rattle.card_grace.specs.Accruals.{Accrued, nothing_accrued}
-use Rattle.card_grace.specs.Rows.{Rows, no_rows}
+use Rattle.card_closing.proofs.Growing.{rows_grow}
+use Rattle.card_closing.specs.Accruals.{Accrued, nothing_accrued}
+use Rattle.card_closing.specs.Rows.{Rows, no_rows}
 use Rattle.card_model.specs.Books.{Book, empty_book}
 use Rattle.card_model.specs.Closing.{first_day_of}
 use Rattle.card_model.specs.Cycles.{Seen}

@@ -10,12 +10,12 @@ use Rattle.card_days.specs.Business.{is_due}
 use Rattle.card_days.specs.Civil.{day_of_month}
 use Rattle.card_days.specs.Range.{last_calendar_day, last_request_day}
 use Rattle.card_events.specs.History.{CorrectedPost, anchor_of, corrected}
-use Rattle.card_grace.proofs.Accruing.{accrual_of_a_book}
-use Rattle.card_grace.proofs.Growing.{rows_grow}
-use Rattle.card_grace.specs.Accruals.{Accrued, accrued_in, nothing_accrued}
-use Rattle.card_grace.specs.BookRows.{day_row, rate_of, repayments, rows_of}
-use Rattle.card_grace.specs.Growth.{with_repaid}
-use Rattle.card_grace.specs.Rows.{Rows, row_of, with_days}
+use Rattle.card_closing.proofs.Accruing.{accrual_of_a_book}
+use Rattle.card_closing.proofs.Growing.{rows_grow}
+use Rattle.card_closing.specs.Accruals.{Accrued, accrued_in, nothing_accrued}
+use Rattle.card_closing.specs.BookRows.{day_row, rate_of, repayments, rows_of}
+use Rattle.card_closing.specs.Growth.{with_repaid}
+use Rattle.card_closing.specs.Rows.{Rows, row_of, with_days}
 use Rattle.card_model.specs.Books.{Account, Book, empty_book, rate_in}
 use Rattle.card_model.specs.Breaks.{breaks_penalty, breaks_segment, is_break}
 use Rattle.card_model.specs.Closing.{first_day_of}

@@ -14,12 +14,12 @@ use Rattle.card_days.specs.Range.{last_request_day}
 use Rattle.card_effects.specs.Standing.{AreRated}
 use Rattle.card_model.specs.Limits.{balance_limit}
 use Rattle.card_units.specs.Money.{daily}
-use Rattle.card_grace.specs.Accruals.{Accrued, accrued_in, nothing_accrued}
-use Rattle.card_grace.specs.BookRows.{day_row, rate_of, rows_of}
-use Rattle.card_grace.specs.Growth.{with_repaid}
-use Rattle.card_grace.specs.Rows.{DayRow, Rows, row_of, with_days}
-use Rattle.card_grace.proofs.Accruing.{accrual_of_a_book}
-use Rattle.card_grace.proofs.Growing.{rows_grow}
+use Rattle.card_closing.specs.Accruals.{Accrued, accrued_in, nothing_accrued}
+use Rattle.card_closing.specs.BookRows.{day_row, rate_of, rows_of}
+use Rattle.card_closing.specs.Growth.{with_repaid}
+use Rattle.card_closing.specs.Rows.{DayRow, Rows, row_of, with_days}
+use Rattle.card_closing.proofs.Accruing.{accrual_of_a_book}
+use Rattle.card_closing.proofs.Growing.{rows_grow}
 use Rattle.card_model.specs.Books.{Book, rate_in}
 use Rattle.card_model.specs.Entries.{AreBalances, at_least_zero, balance, owing, sum_of}
 use Rattle.card_model.specs.Interest.{is_in_row, row}

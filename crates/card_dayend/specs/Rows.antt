@@ -1,9 +1,9 @@
 -- The rows of days: those of each segment, and what a deferred balance accrues (12 CFR 1026.14(b), .55(b)(1), comment
 -- 55(b)(1)-3). Days are day numbers, balances cents, rates basis points.
 use Rattle.std.specs.Prelude.{ℕ, ◌≤◌, List, [], ◌∷◌, Option, Some, None, ℤ, pos, slice_index_or}
-use Rattle.card_grace.specs.Accruals.{Accrued, with_accrual}
-use Rattle.card_grace.specs.BookRows.{rate_of}
-use Rattle.card_grace.specs.Rows.{Rows, with_days}
+use Rattle.card_closing.specs.Accruals.{Accrued, with_accrual}
+use Rattle.card_closing.specs.BookRows.{rate_of}
+use Rattle.card_closing.specs.Rows.{Rows, with_days}
 use Rattle.card_model.specs.Entries.{at_least_zero}
 use Rattle.card_model.specs.Rates.{accrual_rate}
 use Rattle.card_model.specs.Segments.{SegmentTerms}

@@ -1,14 +1,14 @@
 // An account before its opening day.
 ghost use Rattle.std.specs.Prelude.{◌≡◌, IfOk, replicate};
-ghost use Rattle.card_grace.specs.Accruals.{nothing_accrued};
-ghost use Rattle.card_grace.specs.Rows.{no_rows};
+ghost use Rattle.card_closing.specs.Accruals.{nothing_accrued};
+ghost use Rattle.card_closing.specs.Rows.{no_rows};
 ghost use Rattle.card_daily.specs.Given.{IsSound, opened_in};
 ghost use Rattle.card_daily.specs.Stands.{AreBefore, IsBlank};
 ghost use Rattle.card_daily.specs.declared.track.Track.{Track};
 
+use card_closing::{Accrual, CycleRows};
 use card_daily::{Inputs, State};
 use card_days::Day;
-use card_grace::{Accrual, CycleRows};
 use card_rates::{RateBook, segments_of};
 use card_units::NoMemory;
 use std::alloc::Global;

@@ -8,7 +8,7 @@ ghost use Rattle.card_days.specs.Civil.{day_of_month};
 ghost use Rattle.card_fees.specs.Asked.{asks};
 ghost use Rattle.card_fees.specs.DueLaws.{AreDueBy, AreOfTheCalendar, due_cycle_at};
 ghost use Rattle.card_events.specs.History.{anchor_of};
-ghost use Rattle.card_grace.specs.Rows.{Rows, no_rows};
+ghost use Rattle.card_closing.specs.Rows.{Rows, no_rows};
 ghost use Rattle.card_model.specs.Closing as model;
 ghost use Rattle.card_model.specs.Cycles.{Cycle, last_cycle};
 ghost use Rattle.card_model.specs.Folds.{cycle_at};
@@ -17,11 +17,10 @@ ghost use Rattle.card_daily.specs.Closing.{IsClosing, IsClosingOf};
 ghost use Rattle.card_daily.specs.Given.{IsDayOf, account_in, seen_in};
 ghost use Rattle.card_daily.specs.Stands.{AreBefore, ArePosted, Begins, posted, KeepsRoom};
 
-use card_closing::{Closing, Cycle, GraceCase, close};
+use card_closing::{Closing, Cycle, CycleRows, GraceCase, close};
 use card_daily::{Inputs, Issued, State, Track, due_cycle};
 use card_days::{Anchor, Day, closing, cycle_of, due};
 use card_fees::{DueCycle, asked, past_due, purchase_case};
-use card_grace::CycleRows;
 use card_units::{Cents, NoMemory};
 use std::alloc::Global;
 

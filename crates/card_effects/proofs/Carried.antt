@@ -5,11 +5,11 @@ use Rattle.std.proofs.lemmas.Bool.Decides.{nat_tests}
 use Rattle.std.proofs.lemmas.List.{append-nil, append_assoc, length-map, map-set, set-get_or, take_more}
 use Rattle.std.proofs.lemmas.List.Elements.{filter-append}
 use Rattle.card_segments.specs.Parts.{parts_sum}
-use Rattle.card_grace.specs.BookRows.{brought}
-use Rattle.card_grace.specs.Growth.{with_repaid}
-use Rattle.card_grace.specs.Rows.{Rows, others, with_repayment, without_post}
-use Rattle.card_grace.specs.declared.rows.Repayment.{Repayment}
-use Rattle.card_grace.proofs.Growing.{rows_grow}
+use Rattle.card_closing.specs.BookRows.{brought}
+use Rattle.card_closing.specs.Growth.{with_repaid}
+use Rattle.card_closing.specs.Rows.{Rows, others, with_repayment, without_post}
+use Rattle.card_closing.specs.declared.rows.Repayment.{Repayment}
+use Rattle.card_closing.proofs.Growing.{rows_grow}
 use Rattle.card_model.specs.Effects.{parts_entries}
 use Rattle.card_model.specs.Entries.{lowers}
 use Rattle.card_model.specs.Segments.{SegmentTerms}

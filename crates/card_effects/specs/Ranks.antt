@@ -1,7 +1,7 @@
 -- The rank of each segment on a day, for what payments and credits reach.
 use Rattle.std.specs.Prelude.{ℕ, ◌&&◌, nat_le, if◌then◌else◌, unwrap_or, map, List, ◌∷◌, Option, None}
 use Rattle.card_segments.specs.declared.rank.Rank.{Rank}
-use Rattle.card_grace.specs.Cases.{is_deferred_in}
+use Rattle.card_closing.specs.Cases.{is_deferred_in}
 use Rattle.card_model.specs.Segments.{SegmentTerms, kept_segment}
 use Rattle.card_model.specs.declared.segment.Segment.{Segment}
 use Rattle.card_rates.specs.RateBooks.{Rates, rate_of}

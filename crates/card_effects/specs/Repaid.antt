@@ -1,8 +1,8 @@
 -- What the parts of payments and merchants' credits bring to the rows of the cycle (12 CFR 1026.54(a)(1)).
 use Rattle.std.specs.Prelude.{ℕ, ◌≡◌, ◌≤◌, Bool, true, ◌&&◌, ◌||◌, not, map, List, ◌++◌}
-use Rattle.card_grace.specs.BookRows.{brought}
-use Rattle.card_grace.specs.Growth.{with_repaid}
-use Rattle.card_grace.specs.Rows.{Rows}
+use Rattle.card_closing.specs.BookRows.{brought}
+use Rattle.card_closing.specs.Growth.{with_repaid}
+use Rattle.card_closing.specs.Rows.{Rows}
 use Rattle.card_model.specs.Effects.{parts_entries}
 use Rattle.card_model.specs.Entries.{is_kind}
 use Rattle.card_model.specs.Segments.{SegmentTerms}

@@ -4,8 +4,8 @@ ghost use Rattle.card_effects.specs.Ranks.{end_by, no_rank, rank_on, ranks_on};
 ghost use Rattle.card_effects.specs.Standing.{AreRated};
 ghost use Rattle.card_model.specs.Segments.{SegmentTerms};
 
+use card_closing::is_deferred;
 use card_days::Day;
-use card_grace::is_deferred;
 use card_model::Segment;
 use card_rates::RateBook;
 use card_segments::{Rank, Segments};

@@ -3,10 +3,10 @@ ghost use Rattle.std.specs.Prelude.{◌≡◌, ◌+◌, ◌<◌, ◌≤◌, [], 
 ghost use Rattle.card_model.specs.Limits.{balance_limit};
 ghost use Rattle.card_segments.specs.Parts.{AreOnSegments, parts_sum};
 ghost use Rattle.card_effects.specs.Repaid.{AreRepaid};
-ghost use Rattle.card_grace.specs.Rows.{without_post};
+ghost use Rattle.card_closing.specs.Rows.{without_post};
 
+use card_closing::CycleRows;
 use card_events::Slot;
-use card_grace::CycleRows;
 use card_segments::Parts;
 use card_units::{Cents, NoMemory};
 

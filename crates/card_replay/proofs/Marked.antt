@@ -7,8 +7,8 @@ use Rattle.std.proofs.lemmas.Bool.Decides.{nat_tests}
 use Rattle.std.proofs.lemmas.List.{get_or-map}
 use Rattle.std.proofs.lemmas.List.Elements.{All-cons, All-contains, All-filter, All-head, All-nil, All-tail}
 use Rattle.card_dayend.proofs.RowsOfADay.{deferred-by}
-use Rattle.card_grace.proofs.Accruing.{accrual_of_a_book}
-use Rattle.card_grace.specs.Accruals.{Accrued, nothing_accrued}
+use Rattle.card_closing.proofs.Accruing.{accrual_of_a_book}
+use Rattle.card_closing.specs.Accruals.{Accrued, nothing_accrued}
 use Rattle.card_model.specs.Books.{Book}
 use Rattle.card_model.specs.Cycles.{Cycle}
 use Rattle.card_model.specs.Interest.{accrual}

@@ -7,7 +7,7 @@ use Rattle.std.proofs.lemmas.Bool.{and_left, cases_lt, leb-false, leb-true, ne_e
 use Rattle.std.proofs.lemmas.Bool.Decides.{nat_tests}
 use Rattle.std.proofs.lemmas.List.{length-take-le, take-take, take_all}
 use Rattle.std.proofs.lemmas.List.Elements.{All-filter, All-head, All-tail, All-weaker, filter_passes}
-use Rattle.card_grace.specs.Accruals.{nothing_accrued}
+use Rattle.card_closing.specs.Accruals.{nothing_accrued}
 use Rattle.card_model.specs.Cycles.{Cycle}
 use Rattle.card_model.specs.Folds.{cycle_at}
 use Rattle.card_model.specs.Segments.{SegmentTerms}

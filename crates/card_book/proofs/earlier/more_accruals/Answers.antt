@@ -1,5 +1,5 @@
 use Rattle.std.proofs.Common.{◌++◌, [], ◌∷◌, ap, ◌∙◌}
-use Rattle.card_grace.specs.Accruals.{Accrued}
+use Rattle.card_closing.specs.Accruals.{Accrued}
 use Rattle.card_book.proofs.StateParts.{accruals-first, accruals-more}
 use Rattle.card_book.proofs.earlier.more_accruals.Goals as goal
 

@@ -1,5 +1,5 @@
 use Rattle.std.proofs.Common.{◌≡◌, ◌++◌, replicate}
-use Rattle.card_grace.specs.Accruals.{nothing_accrued}
+use Rattle.card_closing.specs.Accruals.{nothing_accrued}
 use Rattle.card_book.proofs.earlier.more_accruals.Given as goal
 
 abbrev pub invariant-loop : goal.invariant-loop

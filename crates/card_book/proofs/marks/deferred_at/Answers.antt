@@ -1,6 +1,6 @@
 use Rattle.std.proofs.Common.{◌-◌, arith}
 use Rattle.std.proofs.lemmas.List.{get_or_read}
-use Rattle.card_grace.specs.Accruals.{nothing_accrued}
+use Rattle.card_closing.specs.Accruals.{nothing_accrued}
 use Rattle.card_book.proofs.Marking.{kept-none, kept-some}
 use Rattle.card_book.proofs.marks.deferred_at.Goals as goal
 

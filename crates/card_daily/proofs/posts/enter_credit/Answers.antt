@@ -6,7 +6,7 @@ use Rattle.card_daily.specs.declared.state.State.{State}
 use Rattle.card_daily.specs.declared.track.Track.{Track}
 use Rattle.std.proofs.lemmas.List.{with_items_is}
 use Rattle.std.specs.Vec.{with_items}
-use Rattle.card_grace.specs.Rows.{Rows}
+use Rattle.card_closing.specs.Rows.{Rows}
 use Rattle.card_daily.proofs.posts.enter_credit.Goals as goal
 
 pub returns-clause-stands : goal.returns-clause-stands

@@ -1,7 +1,7 @@
 use Rattle.std.proofs.Common.{◌-◌, List, [], map, length, sym, ap, ◌∙◌, refl, arith}
 use Rattle.std.proofs.lemmas.List.{with_items_is}
 use Rattle.std.specs.Vec.{with_items}
-use Rattle.card_grace.specs.Rows.{Rows, without_post}
+use Rattle.card_closing.specs.Rows.{Rows, without_post}
 use Rattle.card_model.specs.Books.{Book}
 use Rattle.card_daily.proofs.Charging.{chargeable}
 use Rattle.card_daily.proofs.Posting.{return-stand}

@@ -1,7 +1,7 @@
 use Rattle.std.proofs.Common.{◌-◌, [], length, replicate, ap, ◌∙◌}
 use Rattle.card_days.specs.declared.anchor.Anchor.{Anchor}
-use Rattle.card_grace.specs.Accruals.{nothing_accrued}
-use Rattle.card_grace.specs.Rows.{no_rows}
+use Rattle.card_closing.specs.Accruals.{nothing_accrued}
+use Rattle.card_closing.specs.Rows.{no_rows}
 use Rattle.card_rates.specs.RateBooks.{rates_of}
 use Rattle.card_rates.specs.Segments.{account_segments}
 use Rattle.card_dayend.proofs.Opened.{starts}

@@ -1,5 +1,5 @@
 use Rattle.std.proofs.Common.{◌≤◌, ◌<◌, length, arith}
-use Rattle.card_grace.specs.Rows.{no_rows}
+use Rattle.card_closing.specs.Rows.{no_rows}
 use Rattle.card_dayend.proofs.Closed.{anew-done, anew-next}
 use Rattle.card_dayend.proofs.closing.begin_all.Goals as goal
 

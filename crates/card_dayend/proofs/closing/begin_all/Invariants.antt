@@ -1,5 +1,5 @@
 use Rattle.std.proofs.Common.{◌≡◌, ◌++◌, drop, map, take}
-use Rattle.card_grace.specs.Rows.{Rows, no_rows}
+use Rattle.card_closing.specs.Rows.{Rows, no_rows}
 use Rattle.card_dayend.proofs.closing.begin_all.Given as goal
 
 abbrev pub invariant-loop-i : goal.invariant-loop-i

@@ -3,7 +3,7 @@ use Rattle.std.proofs.lemmas.List.{length-map}
 use Rattle.std.specs.Prelude.{option_copied}
 use Rattle.card_closing.specs.Interest.{statement_of}
 use Rattle.card_effects.specs.Standing.{is_added}
-use Rattle.card_grace.specs.Rows.{Rows, no_rows}
+use Rattle.card_closing.specs.Rows.{Rows, no_rows}
 use Rattle.card_model.specs.Cycles.{Cycle}
 use Rattle.card_model.specs.Entries.{AreBalances}
 use Rattle.card_dayend.proofs.Closed.{closed-of, given-for}

@@ -1,6 +1,6 @@
 use Rattle.std.proofs.Common.{◌≡◌, ◌+◌, ◌-◌, ◌<◌, ◌≤◌, ◌++◌, take, drop, length, get_or, set, sym, ap, ◌∙◌, subst, arith, pos}
 use Rattle.std.proofs.lemmas.List.Elements.{Contains-get_or}
-use Rattle.card_grace.specs.Accruals.{Accrued}
+use Rattle.card_closing.specs.Accruals.{Accrued}
 use Rattle.card_model.specs.Entries.{at_least_zero}
 use Rattle.card_model.specs.Rates.{accrual_rate}
 use Rattle.card_model.specs.Segments.{SegmentTerms}

@@ -1,6 +1,6 @@
 use Rattle.std.proofs.Common.{◌≡◌, ◌+◌, ◌-◌, ◌<◌, ◌++◌, take, drop, length, get_or, set, sym, ap, ◌∙◌, subst, arith, pos}
 use Rattle.std.proofs.lemmas.List.Elements.{Contains-get_or}
-use Rattle.card_grace.specs.Rows.{Rows}
+use Rattle.card_closing.specs.Rows.{Rows}
 use Rattle.card_model.specs.Entries.{at_least_zero}
 use Rattle.card_model.specs.Segments.{SegmentTerms}
 use Rattle.card_dayend.specs.Rows.{owed_on, with_row, with_rows}

@@ -1,8 +1,8 @@
 use Rattle.std.proofs.Common.{◌≡◌, ◌≤◌, ◌-◌, [], ◌∷◌, ℕ, ap, ◌∙◌, sym, subst, refl, inl, inr, arith, w64, to_z, set, get_or, map}
 use Rattle.std.specs.Prelude.{unsigned_abs}
 use Rattle.std.proofs.lemmas.Int.{to_z_pos}
-use Rattle.card_grace.specs.Rows.{Rows, with_repayment, without_post}
-use Rattle.card_grace.specs.declared.rows.Repayment.{Repayment}
+use Rattle.card_closing.specs.Rows.{Rows, with_repayment, without_post}
+use Rattle.card_closing.specs.declared.rows.Repayment.{Repayment}
 use Rattle.card_effects.specs.Repaid.{AreRepaid}
 use Rattle.card_effects.proofs.Carried.{none-repaid, one-repaid, others-stay}
 use Rattle.card_effects.proofs.rows.repay_part.Goals as goal

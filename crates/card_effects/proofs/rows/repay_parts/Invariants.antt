@@ -1,6 +1,6 @@
 use Rattle.std.proofs.Common.{◌≡◌, length, map, take}
 use Rattle.card_effects.specs.Repaid.{AreRepaid}
-use Rattle.card_grace.specs.Rows.{without_post}
+use Rattle.card_closing.specs.Rows.{without_post}
 use Rattle.card_effects.proofs.rows.repay_parts.Given as goal
 
 abbrev pub invariant-loop-i : goal.invariant-loop-i

@@ -1,5 +1,5 @@
 use Rattle.std.proofs.Common.{set, get_or, ap, ◌∙◌, arith}
-use Rattle.card_grace.specs.Rows.{without_post}
+use Rattle.card_closing.specs.Rows.{without_post}
 use Rattle.card_effects.proofs.Carried.{change-all, change-next, changed_to}
 use Rattle.card_effects.proofs.rows.unpay.Goals as goal
 

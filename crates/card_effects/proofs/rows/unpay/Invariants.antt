@@ -1,5 +1,5 @@
 use Rattle.std.proofs.Common.{◌≡◌}
-use Rattle.card_grace.specs.Rows.{without_post}
+use Rattle.card_closing.specs.Rows.{without_post}
 use Rattle.card_effects.proofs.Carried.{changed_to}
 use Rattle.card_effects.proofs.rows.unpay.Given as goal
 

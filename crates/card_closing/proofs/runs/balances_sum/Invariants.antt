@@ -1,0 +1,13 @@
+use Rattle.std.proofs.Common.{◌≡◌, ◌+◌, ◌≤◌, ◌*◌, take}
+use Rattle.std.specs.List.{sum_by}
+use Rattle.card_model.specs.Limits.{balance_limit}
+use Rattle.card_closing.specs.Rows.{bearing}
+use Rattle.card_closing.specs.Runs.{run_days, spread}
+use Rattle.card_closing.proofs.runs.balances_sum.Given as goal
+
+abbrev pub invariant-loop-run : goal.invariant-loop-run
+invariant-loop-run l = record {
+  at : l.day ≡ l.first + run_days (take l.run-index l.runs);
+  summed : l.sum ≡ sum_by (bearing l.case l.repaid) (spread l.first (take l.run-index l.runs));
+  small : l.sum ≤ run_days (take l.run-index l.runs) * balance_limit;
+}

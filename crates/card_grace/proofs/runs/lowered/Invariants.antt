@@ -1,6 +1,0 @@
-use Rattle.std.proofs.Common.{◌≡◌, ◌-◌, take}
-use Rattle.card_grace.specs.Rows.{repaid_later}
-use Rattle.card_grace.proofs.runs.lowered.Given as goal
-
-abbrev pub invariant-loop-r : goal.invariant-loop-r
-invariant-loop-r l = l.left ≡ l.balance - repaid_later (take l.r-index l.repaid) l.day l.due
