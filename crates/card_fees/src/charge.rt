@@ -13,7 +13,7 @@ use card_model::{Fee, FeeKind};
 use card_units::Cents;
 
 // What a fee is charged for: its kind, its due date, and the cycle and the day on which it is charged.
-#[derive(Clone, Copy, Debug, PartialEq, Eq)]
+#[derive(Drop)]
 struct Cause {
     kind: FeeKind,
     due_cycle: u32,

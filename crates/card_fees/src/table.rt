@@ -4,7 +4,7 @@ use std::alloc::Global;
 use std::marker::Model;
 
 // the penalty fees from a day on, in cents
-#[derive(Clone, Copy, Debug, PartialEq, Eq)]
+#[derive(Clone, Copy)]
 struct Row {
     day: Day,
     first: u32,
