@@ -6,6 +6,7 @@ ghost use Rattle.card_desk.specs.Applied.{IsCounted};
 use crate::Fault;
 use card_ports::{Keeper, KeeperFault, Row};
 use std::alloc::Global;
+use std::slice::from_ref;
 
 /// Adds the row at the end, or leaves the rows as they are.
 pub fn keep_row<K: Keeper>(alloc: Global, keeper: &mut K, row: Row) -> Result<(), Fault>
@@ -15,7 +16,7 @@ pub fn keep_row<K: Keeper>(alloc: Global, keeper: &mut K, row: Row) -> Result<()
     ensures told { SameRowsTold (K.rows keeper.old) (K.rows keeper.new) }
     ensures counts { IsCounted Fault.Keeper Fault.Memory (K.faults keeper.old) (K.faults keeper.new) result }
 {
-    match keeper.append(alloc, &[row]) {
+    match keeper.append(alloc, from_ref(&row)) {
         Ok(()) => Ok(()),
         Err(KeeperFault::Failed) => Err(Fault::Keeper),
         Err(KeeperFault::Memory) => Err(Fault::Memory),
