@@ -1,16 +1,17 @@
 // The segments of an account, read from its posts.
-ghost use Rattle.std.specs.Prelude.{◌≡◌, ◌+◌, ◌≤◌, ◌++◌, ℕ, List, [], length, IfOk, OnOk, Some, true};
+ghost use Rattle.std.specs.Prelude.{◌≡◌, ◌+◌, ◌≤◌, ◌++◌, ℕ, List, [], length, IfOk, OnOk, true};
 ghost use Rattle.card_days.specs.Range.{last_request_day};
 ghost use Rattle.std.specs.List.{cons_option};
 ghost use Rattle.card_events.specs.Dated.{is_dated_post};
-ghost use Rattle.card_events.specs.History.{at_number, opening_in, terms_in, terms_of};
+ghost use Rattle.card_events.specs.History.{opening_in, terms_in, terms_of};
 ghost use Rattle.card_model.specs.Accepted.{AreInRange, HasFewSegments};
 ghost use Rattle.card_model.specs.Segments.{sort_of_category, sort_of_plan};
 ghost use Rattle.card_rates.specs.Segments.{ArePostsDated, AreUnused, account_segments, kept_from, kept_of};
 
+use crate::make::post_of;
 use crate::{plan_sort, sort_of};
 use card_days::Day;
-use card_events::{Category, Kept, PlanKind, Post};
+use card_events::{Category, PlanKind, Post};
 use card_model::{Segment, Sort};
 use card_posts::{Posts, VINTAGE_DAYS};
 use card_segments::Segments;
@@ -45,18 +46,6 @@ fn segment_in(number: u32, post: &Post) -> Option<Segment>
             ends: None,
         }),
         _ => None,
-    }
-}
-
-// The post with a number.
-pub fn post_of(posts: &Posts, number: u32) -> &Kept
-    requires low { 1 ≤ number }
-    requires high { number ≤ length posts.now.history }
-    ensures { at_number number posts.now.history ≡ Some result.now }
-{
-    match posts.get(number) {
-        Some(kept) => kept,
-        None => unreachable!(),
     }
 }
 
