@@ -7,6 +7,7 @@ ghost use Rattle.card_model.specs.Folds.{cycle_at};
 ghost use Rattle.card_replay.specs.Changes.{issued_as, issued_from, row_on};
 ghost use Rattle.card_replay.specs.Replays.{HasClosings};
 
+use crate::change::IssuedIfAny;
 use crate::past::Past;
 use crate::statement::statement_at;
 use card_book::{Book, Cycle, Inputs, Issued};
@@ -62,14 +63,17 @@ fn row_of(
     cycle: Num,
     bill: u32,
     day: Day,
-) -> Result<Option<Issued>, NoMemory>
+) -> Result<IssuedIfAny, NoMemory>
     requires closings { HasClosings inputs.now book.now past.now }
     requires small { cycle ≤ last_calendar_day }
     ensures { IfOk result (λ made. issued_as made ≡ issued_from inputs.now past.now.track.cycles.items bill day (variants.Bill cycle)) }
 {
     match closed_number(&past.track.cycles, cycle) {
-        Some(number) => Ok(Some(row_at(alloc, inputs, book, past, number, bill, day)?)),
-        None => Ok(None),
+        Some(number) => {
+            let row = row_at(alloc, inputs, book, past, number, bill, day)?;
+            IssuedIfAny::of(alloc, row)
+        }
+        None => Ok(IssuedIfAny::none()),
     }
 }
 
@@ -83,23 +87,23 @@ pub fn issued_by(
     post: &Post,
     number: u32,
     day: Day,
-) -> Result<Option<Issued>, NoMemory>
+) -> Result<IssuedIfAny, NoMemory>
     requires closings { HasClosings inputs.now book.now past.now }
     requires small { (cycle : ℕ) → post.now ≡ variants.Bill cycle → cycle ≤ last_calendar_day }
     ensures { IfOk result (λ made. issued_as made ≡ issued_from inputs.now past.now.track.cycles.items number day post.now) }
 {
     match post {
         Post::Bill { cycle } => row_of(alloc, inputs, book, past, *cycle, number, day),
-        _ => Ok(None),
+        _ => Ok(IssuedIfAny::none()),
     }
 }
 
 /// Adds what was issued, with room for one more.
-pub fn push_issued(list: &mut Vec<Issued>, made: Option<Issued>)
+pub fn push_issued(list: &mut Vec<Issued>, made: IssuedIfAny)
     requires { vec_len list.old < vec_capacity list.old }
     ensures { list.new.items ≡ list.old.items ++ issued_as made }
 {
-    if let Some(row) = made {
+    if let Some(row) = made.into_option() {
         let _ = list.push(row);
     }
 }

@@ -3,7 +3,7 @@ ghost use Rattle.std.specs.Prelude.{◌≡◌};
 ghost use Rattle.card_replay.specs.Changes.{IsTaken};
 ghost use Rattle.card_replay.specs.Pasts.{IsRecorded};
 
-use crate::change::{Recorded, Refolded};
+use crate::change::{Recorded, RefoldedIfAny};
 use crate::eve::Eve;
 use crate::past::{Past, cut};
 use card_book::Book;
@@ -26,11 +26,11 @@ pub fn take_if_any(
     past: &mut Past,
     eve: &mut Option<Eve>,
     reached: Day,
-    refolded: Option<Refolded>,
+    refolded: RefoldedIfAny,
 ) -> Day
     ensures { IsTaken refolded (record { reached = reached; book = book.old; past = past.old; eve = eve.old }) (record { reached = result; book = book.new; past = past.new; eve = eve.new }) }
 {
-    match refolded {
+    match refolded.into_option() {
         Some(refolded) => {
             *eve = None;
             *book = refolded.book;
