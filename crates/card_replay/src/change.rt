@@ -42,6 +42,7 @@ impl Model for RefoldedIfAny {
 
 impl RefoldedIfAny {
     ghost use Rattle.std.specs.Prelude.{◌≡◌, None, Some, IfOk};
+    ghost use Rattle.std.specs.Option.{option_map};
 
     /// Nothing.
     pub fn none() -> RefoldedIfAny
@@ -58,14 +59,11 @@ impl RefoldedIfAny {
         Ok(RefoldedIfAny { made: Some(made) })
     }
 
-    /// It as an option.
-    pub fn into_option(self) -> Option<Refolded>
-        ensures { result ≡ self }
+    /// It as an option, where it lies.
+    pub fn into_boxed(self) -> Option<Box<Refolded>>
+        ensures { option_map (λ b. b.value) result ≡ self }
     {
-        match self.made {
-            Some(made) => Some(Box::into_inner(made)),
-            None => None,
-        }
+        self.made
     }
 }
 
@@ -88,6 +86,7 @@ impl Model for IssuedIfAny {
 
 impl IssuedIfAny {
     ghost use Rattle.std.specs.Prelude.{◌≡◌, None, Some, IfOk};
+    ghost use Rattle.std.specs.Option.{option_map};
 
     /// None.
     pub fn none() -> IssuedIfAny
@@ -104,14 +103,11 @@ impl IssuedIfAny {
         Ok(IssuedIfAny { made: Some(made) })
     }
 
-    /// It as an option.
-    pub fn into_option(self) -> Option<Issued>
-        ensures { result ≡ self }
+    /// It as an option, where it lies.
+    pub fn into_boxed(self) -> Option<Box<Issued>>
+        ensures { option_map (λ b. b.value) result ≡ self }
     {
-        match self.made {
-            Some(made) => Some(Box::into_inner(made)),
-            None => None,
-        }
+        self.made
     }
 }
 

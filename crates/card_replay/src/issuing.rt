@@ -1,5 +1,5 @@
 // What a Bill issues.
-ghost use Rattle.std.specs.Prelude.{◌≡◌, ◌<◌, ◌≤◌, ℕ, ◌++◌, length, IfOk, None, Some, vec_len, vec_capacity};
+ghost use Rattle.std.specs.Prelude.{◌≡◌, ◌<◌, ◌≤◌, ℕ, ◌++◌, [], ◌∷◌, length, IfOk, None, Some, vec_len, vec_capacity};
 ghost use Rattle.card_days.specs.Range.{last_calendar_day};
 ghost use Rattle.card_events.specs.declared.post.Post.TheVariants as variants;
 ghost use Rattle.card_model.specs.Cycles.{Cycle};
@@ -98,12 +98,20 @@ pub fn issued_by(
     }
 }
 
+// Adds a row, with room for it.
+fn push_row(list: &mut Vec<Issued>, row: Box<Issued>)
+    requires { vec_len list.old < vec_capacity list.old }
+    ensures { list.new.items ≡ list.old.items ++ row.value ∷ [] }
+{
+    list.push_reserved(Box::into_inner(row));
+}
+
 /// Adds what was issued, with room for one more.
 pub fn push_issued(list: &mut Vec<Issued>, made: IssuedIfAny)
     requires { vec_len list.old < vec_capacity list.old }
     ensures { list.new.items ≡ list.old.items ++ issued_as made }
 {
-    if let Some(row) = made.into_option() {
-        let _ = list.push(row);
+    if let Some(row) = made.into_boxed() {
+        push_row(list, row);
     }
 }

@@ -282,8 +282,35 @@ impl Replay {
         }
     }
 
-    // What a post that a fold reads takes the account back to, where the first day is known that it changes. Unless it sets rates, or
-    // that day comes before the first closing, the post isn't entered.
+    // What a post that a fold reads takes the account back to, where the first day is known that it changes, up to the day reached.
+    // Unless it sets rates, or that day comes before the first closing, the post isn't entered.
+    fn gone_back<L: Ledger>(
+        &mut self,
+        alloc: Global,
+        key: &Name,
+        post: &Post,
+        today: Day,
+        from: Day,
+        shared: &SharedRows,
+        steps: &mut Steps<L>,
+    ) -> Result<RefoldedIfAny, NoMemory>
+        requires may { MayPrepare shared.now today key.now post.now self.old }
+        requires first { IsFirstWith shared.now.holidays today post.now (posted_of self.old) from }
+        requires reached { from ≤ self.old.folding.reached }
+        ensures same { SameLists self.old self.new }
+        ensures folding { self.new.folding ≡ self.old.folding }
+        ensures refolded { IfOk result (λ made. IsRefoldedBy shared.now today key.now post.now made self.old) }
+        ensures most { steps.new ≤ steps.old + 1 }
+    {
+        let cycle = cycles_before(&self.posts.anchor(), from);
+        let back = go_back(alloc, post, from, cycle, &self.book, &self.past, &self.eve)?;
+        match back {
+            Some(earlier) => RefoldedIfAny::of(alloc, earlier),
+            None => self.drafted_if_any(alloc, key, post, today, shared, steps),
+        }
+    }
+
+    // What a post that a fold reads takes the account back to, where the first day is known that it changes.
     fn refolded_from<L: Ledger>(
         &mut self,
         alloc: Global,
@@ -304,12 +331,7 @@ impl Replay {
         if self.reached < from {
             return Ok(RefoldedIfAny::none());
         }
-        let cycle = cycles_before(&self.posts.anchor(), from);
-        let back = go_back(alloc, post, from, cycle, &self.book, &self.past, &self.eve)?;
-        match back {
-            Some(earlier) => RefoldedIfAny::of(alloc, earlier),
-            None => self.drafted_if_any(alloc, key, post, today, shared, steps),
-        }
+        self.gone_back(alloc, key, post, today, from, shared, steps)
     }
 
     // What a post takes the account back to, where it changes something up to the day reached. The account stays as it is.
