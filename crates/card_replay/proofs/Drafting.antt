@@ -179,3 +179,9 @@ pub later-refolded : (shared : SharedRows) (today : ℕ) (key : List ℕ) (p : P
     → r.folding.reached < from → IsRefoldedBy shared today key p None r
 later-refolded shared today key p r from h first l =
     made-refolded shared today key p r from None h.read h.no_reason h.replay h.ready (more-told shared today key p r from h first) (λ e. l) tt
+
+-- ---- in memory of its own
+pub if-any-refolded : {E : Type 0} (shared : SharedRows) (today : ℕ) (key : List ℕ) (p : Post) (r : Replay) (made : Option Refolded) (result : Result (Option Refolded) E) → IfOk result (λ x. x ≡ made)
+    → IsRefoldedBy shared today key p made r → IfOk result (λ x. IsRefoldedBy shared today key p x r)
+if-any-refolded shared today key p r made (Ok x) is h = subst (λ m. IsRefoldedBy shared today key p m r) (sym is) h
+if-any-refolded shared today key p r made (Err e) is h = tt

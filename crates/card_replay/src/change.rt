@@ -1,9 +1,11 @@
-ghost use Rattle.std.specs.Prelude.{◌≡◌};
-
+// What a post that was prepared changes.
 use crate::past::{Ends, Past};
 use card_book::{Book, Issued};
 use card_days::Day;
 use card_events::{Name, Post};
+use card_units::NoMemory;
+use std::alloc::Global;
+use std::marker::Model;
 
 /// What is recorded up to an earlier day: the front of what was, or, on the opening day, what was folded anew.
 #[derive(Drop)]
@@ -21,6 +23,94 @@ pub struct Refolded {
     pub recorded: Recorded,
 }
 
+/// What a post takes an account back to, if to anything. It lies in memory of its own, since most posts take it nowhere. Clauses see
+/// it as an option.
+#[derive(Drop)]
+pub struct RefoldedIfAny {
+    made: Option<Box<Refolded>>,
+}
+
+impl Model for RefoldedIfAny {
+    ghost use Rattle.std.specs.Prelude.{Option};
+    ghost use Rattle.std.specs.Option.{option_map};
+    ghost use Rattle.card_replay.specs.declared.change.Refolded.{Refolded};
+
+    ghost Value = { Option Refolded };
+
+    ghost view = { λ r. option_map (λ b. b.value) r.made };
+}
+
+impl RefoldedIfAny {
+    ghost use Rattle.std.specs.Prelude.{◌≡◌, None, Some, IfOk};
+    ghost use Rattle.std.specs.Option.{option_map};
+
+    /// Nothing.
+    pub fn none() -> RefoldedIfAny
+        ensures { result ≡ None }
+    {
+        RefoldedIfAny { made: None }
+    }
+
+    /// This.
+    pub fn of(alloc: Global, made: Refolded) -> Result<RefoldedIfAny, NoMemory>
+        ensures { IfOk result (λ r. r ≡ Some made) }
+    {
+        let made = Box::new(alloc, made)?;
+        Ok(RefoldedIfAny { made: Some(made) })
+    }
+
+    /// It as an option, where it lies.
+    pub fn into_boxed(self) -> Option<Box<Refolded>>
+        ensures { option_map (λ b. b.value) result ≡ self }
+    {
+        self.made
+    }
+}
+
+/// The row that a post issues, if it issues one. It lies in memory of its own, since only a Bill issues one. Clauses see it as an
+/// option.
+#[derive(Drop)]
+pub struct IssuedIfAny {
+    made: Option<Box<Issued>>,
+}
+
+impl Model for IssuedIfAny {
+    ghost use Rattle.std.specs.Prelude.{Option};
+    ghost use Rattle.std.specs.Option.{option_map};
+    ghost use Rattle.card_model.specs.Cycles.{IssuedRow};
+
+    ghost Value = { Option IssuedRow };
+
+    ghost view = { λ r. option_map (λ b. b.value) r.made };
+}
+
+impl IssuedIfAny {
+    ghost use Rattle.std.specs.Prelude.{◌≡◌, None, Some, IfOk};
+    ghost use Rattle.std.specs.Option.{option_map};
+
+    /// None.
+    pub fn none() -> IssuedIfAny
+        ensures { result ≡ None }
+    {
+        IssuedIfAny { made: None }
+    }
+
+    /// This row.
+    pub fn of(alloc: Global, made: Issued) -> Result<IssuedIfAny, NoMemory>
+        ensures { IfOk result (λ r. r ≡ Some made) }
+    {
+        let made = Box::new(alloc, made)?;
+        Ok(IssuedIfAny { made: Some(made) })
+    }
+
+    /// It as an option, where it lies.
+    pub fn into_boxed(self) -> Option<Box<Issued>>
+        ensures { option_map (λ b. b.value) result ≡ self }
+    {
+        self.made
+    }
+}
+
 /// A post that was prepared for an account: its key, the day on which it is accepted, the statement that it issues, and what it
 /// takes the account back to, None where it changes nothing up to the day last reached.
 #[derive(Drop)]
@@ -28,6 +118,6 @@ pub struct Change {
     pub key: Name,
     pub post: Post,
     pub today: Day,
-    pub issued: Option<Issued>,
-    pub refolded: Option<Refolded>,
+    pub issued: IssuedIfAny,
+    pub refolded: RefoldedIfAny,
 }

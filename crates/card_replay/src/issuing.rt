@@ -1,5 +1,5 @@
 // What a Bill issues.
-ghost use Rattle.std.specs.Prelude.{◌≡◌, ◌<◌, ◌≤◌, ℕ, ◌++◌, length, IfOk, None, Some, vec_len, vec_capacity};
+ghost use Rattle.std.specs.Prelude.{◌≡◌, ◌<◌, ◌≤◌, ℕ, ◌++◌, [], ◌∷◌, length, IfOk, None, Some, vec_len, vec_capacity};
 ghost use Rattle.card_days.specs.Range.{last_calendar_day};
 ghost use Rattle.card_events.specs.declared.post.Post.TheVariants as variants;
 ghost use Rattle.card_model.specs.Cycles.{Cycle};
@@ -7,6 +7,7 @@ ghost use Rattle.card_model.specs.Folds.{cycle_at};
 ghost use Rattle.card_replay.specs.Changes.{issued_as, issued_from, row_on};
 ghost use Rattle.card_replay.specs.Replays.{HasClosings};
 
+use crate::change::IssuedIfAny;
 use crate::past::Past;
 use crate::statement::statement_at;
 use card_book::{Book, Cycle, Inputs, Issued};
@@ -62,14 +63,17 @@ fn row_of(
     cycle: Num,
     bill: u32,
     day: Day,
-) -> Result<Option<Issued>, NoMemory>
+) -> Result<IssuedIfAny, NoMemory>
     requires closings { HasClosings inputs.now book.now past.now }
     requires small { cycle ≤ last_calendar_day }
     ensures { IfOk result (λ made. issued_as made ≡ issued_from inputs.now past.now.track.cycles.items bill day (variants.Bill cycle)) }
 {
     match closed_number(&past.track.cycles, cycle) {
-        Some(number) => Ok(Some(row_at(alloc, inputs, book, past, number, bill, day)?)),
-        None => Ok(None),
+        Some(number) => {
+            let row = row_at(alloc, inputs, book, past, number, bill, day)?;
+            IssuedIfAny::of(alloc, row)
+        }
+        None => Ok(IssuedIfAny::none()),
     }
 }
 
@@ -83,23 +87,31 @@ pub fn issued_by(
     post: &Post,
     number: u32,
     day: Day,
-) -> Result<Option<Issued>, NoMemory>
+) -> Result<IssuedIfAny, NoMemory>
     requires closings { HasClosings inputs.now book.now past.now }
     requires small { (cycle : ℕ) → post.now ≡ variants.Bill cycle → cycle ≤ last_calendar_day }
     ensures { IfOk result (λ made. issued_as made ≡ issued_from inputs.now past.now.track.cycles.items number day post.now) }
 {
     match post {
         Post::Bill { cycle } => row_of(alloc, inputs, book, past, *cycle, number, day),
-        _ => Ok(None),
+        _ => Ok(IssuedIfAny::none()),
     }
 }
 
+// Adds a row, with room for it.
+fn push_row(list: &mut Vec<Issued>, row: Box<Issued>)
+    requires { vec_len list.old < vec_capacity list.old }
+    ensures { list.new.items ≡ list.old.items ++ row.value ∷ [] }
+{
+    list.push_reserved(Box::into_inner(row));
+}
+
 /// Adds what was issued, with room for one more.
-pub fn push_issued(list: &mut Vec<Issued>, made: Option<Issued>)
+pub fn push_issued(list: &mut Vec<Issued>, made: IssuedIfAny)
     requires { vec_len list.old < vec_capacity list.old }
     ensures { list.new.items ≡ list.old.items ++ issued_as made }
 {
-    if let Some(row) = made {
-        let _ = list.push(row);
+    if let Some(row) = made.into_boxed() {
+        push_row(list, row);
     }
 }

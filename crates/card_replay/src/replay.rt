@@ -4,7 +4,7 @@ ghost use Rattle.card_book.specs.Stands.{day_to_fold, steps_over};
 ghost use Rattle.card_replay.specs.Pasts.{AreSame, PastBegins};
 ghost use Rattle.card_replay.specs.Replays.{FoldsOn, IsFolding};
 
-use crate::change::{Change, Refolded};
+use crate::change::{Change, IssuedIfAny, Refolded, RefoldedIfAny};
 use crate::eve::Eve;
 use crate::folding::{first_book, fold_on};
 use crate::issuing::{closed_number, issued_by, push_issued};
@@ -212,7 +212,7 @@ impl Replay {
         post: &Post,
         today: Day,
         shared: &SharedRows,
-    ) -> Result<Option<Issued>, NoMemory>
+    ) -> Result<IssuedIfAny, NoMemory>
         requires replay { IsReplay shared.now self.now }
         requires ready { IsReadyFor today post.now self.now }
         requires no_reason { reason_against (present_of today shared.now self.now.lists) post.now ≡ None }
@@ -260,8 +260,57 @@ impl Replay {
         made
     }
 
-    // What a post that a fold reads takes the account back to, where the first day is known that it changes. Unless it sets rates, or
-    // that day comes before the first closing, the post isn't entered.
+    // The same, in memory of its own.
+    fn drafted_if_any<L: Ledger>(
+        &mut self,
+        alloc: Global,
+        key: &Name,
+        post: &Post,
+        today: Day,
+        shared: &SharedRows,
+        steps: &mut Steps<L>,
+    ) -> Result<RefoldedIfAny, NoMemory>
+        requires may { MayPrepare shared.now today key.now post.now self.old }
+        ensures same { SameLists self.old self.new }
+        ensures folding { self.new.folding ≡ self.old.folding }
+        ensures refolded { IfOk result (λ made. IsRefoldedBy shared.now today key.now post.now made self.old) }
+        ensures most { steps.new ≤ steps.old + 1 }
+    {
+        match self.drafted(alloc, key, post, today, shared, steps)? {
+            Some(earlier) => RefoldedIfAny::of(alloc, earlier),
+            None => Ok(RefoldedIfAny::none()),
+        }
+    }
+
+    // What a post that a fold reads takes the account back to, where the first day is known that it changes, up to the day reached.
+    // Unless it sets rates, or that day comes before the first closing, the post isn't entered.
+    fn gone_back<L: Ledger>(
+        &mut self,
+        alloc: Global,
+        key: &Name,
+        post: &Post,
+        today: Day,
+        from: Day,
+        shared: &SharedRows,
+        steps: &mut Steps<L>,
+    ) -> Result<RefoldedIfAny, NoMemory>
+        requires may { MayPrepare shared.now today key.now post.now self.old }
+        requires first { IsFirstWith shared.now.holidays today post.now (posted_of self.old) from }
+        requires reached { from ≤ self.old.folding.reached }
+        ensures same { SameLists self.old self.new }
+        ensures folding { self.new.folding ≡ self.old.folding }
+        ensures refolded { IfOk result (λ made. IsRefoldedBy shared.now today key.now post.now made self.old) }
+        ensures most { steps.new ≤ steps.old + 1 }
+    {
+        let cycle = cycles_before(&self.posts.anchor(), from);
+        let back = go_back(alloc, post, from, cycle, &self.book, &self.past, &self.eve)?;
+        match back {
+            Some(earlier) => RefoldedIfAny::of(alloc, earlier),
+            None => self.drafted_if_any(alloc, key, post, today, shared, steps),
+        }
+    }
+
+    // What a post that a fold reads takes the account back to, where the first day is known that it changes.
     fn refolded_from<L: Ledger>(
         &mut self,
         alloc: Global,
@@ -271,7 +320,7 @@ impl Replay {
         from: Day,
         shared: &SharedRows,
         steps: &mut Steps<L>,
-    ) -> Result<Option<Refolded>, NoMemory>
+    ) -> Result<RefoldedIfAny, NoMemory>
         requires may { MayPrepare shared.now today key.now post.now self.old }
         requires first { IsFirstWith shared.now.holidays today post.now (posted_of self.old) from }
         ensures same { SameLists self.old self.new }
@@ -280,14 +329,9 @@ impl Replay {
         ensures most { steps.new ≤ steps.old + 1 }
     {
         if self.reached < from {
-            return Ok(None);
+            return Ok(RefoldedIfAny::none());
         }
-        let cycle = cycles_before(&self.posts.anchor(), from);
-        let back = go_back(alloc, post, from, cycle, &self.book, &self.past, &self.eve)?;
-        match back {
-            Some(earlier) => Ok(Some(earlier)),
-            None => self.drafted(alloc, key, post, today, shared, steps),
-        }
+        self.gone_back(alloc, key, post, today, from, shared, steps)
     }
 
     // What a post takes the account back to, where it changes something up to the day reached. The account stays as it is.
@@ -299,7 +343,7 @@ impl Replay {
         today: Day,
         shared: &SharedRows,
         steps: &mut Steps<L>,
-    ) -> Result<Option<Refolded>, NoMemory>
+    ) -> Result<RefoldedIfAny, NoMemory>
         requires replay { IsReplay shared.now self.old }
         requires reach { MayReach today self.old }
         requires ready { IsReadyFor today post.now self.old }
@@ -313,12 +357,12 @@ impl Replay {
         ensures most { steps.new ≤ steps.old + 1 }
     {
         if is_unread(post) {
-            return Ok(None);
+            return Ok(RefoldedIfAny::none());
         }
         let told = self.posts.first_change(today, post, shared.calendar());
         match told {
             Some(from) => self.refolded_from(alloc, key, post, today, from, shared, steps),
-            None => self.drafted(alloc, key, post, today, shared, steps),
+            None => self.drafted_if_any(alloc, key, post, today, shared, steps),
         }
     }
 

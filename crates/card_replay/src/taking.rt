@@ -1,9 +1,9 @@
 // Taking an account back to what a post leaves of its book.
 ghost use Rattle.std.specs.Prelude.{◌≡◌};
-ghost use Rattle.card_replay.specs.Changes.{IsTaken};
+ghost use Rattle.card_replay.specs.Changes.{IsRefolded, IsTaken};
 ghost use Rattle.card_replay.specs.Pasts.{IsRecorded};
 
-use crate::change::{Recorded, Refolded};
+use crate::change::{Recorded, Refolded, RefoldedIfAny};
 use crate::eve::Eve;
 use crate::past::{Past, cut};
 use card_book::Book;
@@ -19,6 +19,17 @@ fn take(past: &mut Past, recorded: Recorded)
     }
 }
 
+// Takes a Book and its past back to an earlier day, and answers that day; the eve is dropped. It takes no memory.
+fn take_boxed(book: &mut Book, past: &mut Past, eve: &mut Option<Eve>, boxed: Box<Refolded>) -> Day
+    ensures { IsRefolded boxed.value (record { reached = 0; book = book.old; past = past.old; eve = eve.old }) (record { reached = result; book = book.new; past = past.new; eve = eve.new }) }
+{
+    let refolded = Box::into_inner(boxed);
+    *eve = None;
+    *book = refolded.book;
+    take(past, refolded.recorded);
+    refolded.reached
+}
+
 /// Takes a Book and its past back to an earlier day, where a post asks for it, and answers the day that is then reached; the eve is
 /// dropped. Else all stays. It takes no memory.
 pub fn take_if_any(
@@ -26,17 +37,12 @@ pub fn take_if_any(
     past: &mut Past,
     eve: &mut Option<Eve>,
     reached: Day,
-    refolded: Option<Refolded>,
+    refolded: RefoldedIfAny,
 ) -> Day
     ensures { IsTaken refolded (record { reached = reached; book = book.old; past = past.old; eve = eve.old }) (record { reached = result; book = book.new; past = past.new; eve = eve.new }) }
 {
-    match refolded {
-        Some(refolded) => {
-            *eve = None;
-            *book = refolded.book;
-            take(past, refolded.recorded);
-            refolded.reached
-        }
+    match refolded.into_boxed() {
+        Some(boxed) => take_boxed(book, past, eve, boxed),
         None => reached,
     }
 }

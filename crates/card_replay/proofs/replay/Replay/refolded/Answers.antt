@@ -5,13 +5,15 @@ use Rattle.card_reasons.proofs.Accepted.{few, received, target_there}
 use Rattle.card_posts.specs.Posted.{IsReceived, StandsFor}
 use Rattle.card_replay.proofs.Committing.{unread-refolded}
 use Rattle.card_posts.specs.Draft.{IsFirstWith}
+use Rattle.card_replay.specs.Changes.{IsRefoldedBy}
 use Rattle.card_replay.specs.Replays.{Replay, posted_of, present_of}
 use Rattle.card_replay.proofs.replay.Replay.refolded.Goals as goal
 
 -- ---- what no fold reads
 pub returns-then-is_unread-clause-refolded : goal.returns-then-is_unread-clause-refolded
 returns-then-is_unread-clause-refolded g c =
-    unread-refolded c.args.shared.now c.args.today c.args.key.now c.args.post.now c.args.self.now (sym c.is_unread.ensures ∙ c.if-is_unread.true) c.requires.replay c.requires.reach c.requires.sound
+    subst (λ made. IsRefoldedBy c.args.shared.now c.args.today c.args.key.now c.args.post.now made c.args.self.now) (sym c.none.ensures)
+    (unread-refolded c.args.shared.now c.args.today c.args.key.now c.args.post.now c.args.self.now (sym c.is_unread.ensures ∙ c.if-is_unread.true) c.requires.replay c.requires.reach c.requires.sound)
 
 pub returns-then-is_unread-clause-folding : goal.returns-then-is_unread-clause-folding
 returns-then-is_unread-clause-folding g c = refl
@@ -64,8 +66,8 @@ refolded_from-requires-clause-first g c =
     (subst (λ holidays. IsFirstWith holidays today p c.self.inside.posts from) c.calendar.ensures
     (subst (λ o. IfSome o (IsFirstWith c.calendar.result.now today p c.self.inside.posts)) c.in-Some.is c.first_change-told.ensures.from))
 
-pub drafted-requires : goal.drafted-requires
-drafted-requires g c = record {
+pub drafted_if_any-requires : goal.drafted_if_any-requires
+drafted_if_any-requires g c = record {
   may = record {
     replay = c.requires.replay;
     reach = c.requires.reach;
