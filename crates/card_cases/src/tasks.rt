@@ -9,7 +9,7 @@ ghost use Rattle.card_posts.specs.Posted.{StandsFor, last_accepted};
 use crate::account::posts;
 use crate::values::{day, name, num};
 use card_days::{Anchor, Calendar};
-use card_disputes::{Task, TaskKind, in_work_order, last_notice_day, review_by, work_of};
+use card_disputes::{Task, TaskKind, last_notice_day, review_by, work_of};
 use card_posts::Posts;
 use std::alloc::Global;
 use std::process::Abort;
@@ -95,28 +95,5 @@ fn last_days_of_an_account(rt: HostRuntime) -> Result<(), Fail> {
     let posts = posts(&rt, alloc, &Calendar::new(alloc))?;
     assert_eq!(rt; last_days(&rt, &posts, 20_193), (19_819, 20_376));
     assert_eq!(rt; last_days(&rt, &posts, 20_192), (19_819, 0));
-    Ok(())
-}
-
-fn task(rt: &impl Abort, alloc: Global, by: u16, account: &str) -> Result<Task, Fail> {
-    Ok(Task {
-        by: day(rt, by),
-        account: name(rt, alloc, account)?,
-        kind: TaskKind::Credit,
-        post: 0,
-    })
-}
-
-#[test]
-fn tasks_by_day_and_name(rt: HostRuntime) -> Result<(), Fail> {
-    let alloc = rt.alloc();
-    let mut tasks = Vec::new(alloc);
-    tasks.push(task(&rt, alloc, 19_830, "b")?)?;
-    tasks.push(task(&rt, alloc, 19_829, "c")?)?;
-    tasks.push(task(&rt, alloc, 19_830, "B")?)?;
-    in_work_order(&mut tasks)?;
-    for (task, account) in tasks.iter().zip([b"c", b"B", b"b"]) {
-        assert_eq!(rt; task.account.bytes(), account.as_slice());
-    }
     Ok(())
 }

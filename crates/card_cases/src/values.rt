@@ -1,9 +1,9 @@
 // Days, numbers, names and tables.
 ghost use Rattle.std.specs.Prelude.{◌≡◌, ◌≤◌};
 
-use card_days::{Anchor, Calendar, Channel, Day, closing, credit_day, due, next_business};
+use card_days::{Anchor, Calendar, Channel, Day, closing, credit_day, due};
 use card_events::{Name, Num};
-use card_fees::{FeeTable, SharedRows};
+use card_fees::FeeTable;
 use card_units::Money;
 use std::alloc::Global;
 use std::process::Abort;
@@ -25,32 +25,19 @@ pub fn name(rt: &impl Abort, alloc: Global, text: &str) -> Result<Name, Fail> {
     Ok(Name::read(alloc, text.as_bytes())?.expect(rt, "a name"))
 }
 
+static MONEY: [(i64, &str); 3] = [
+    (5, "0.05"),
+    (-123_456, "-1234.56"),
+    (i64::MIN, "-92233720368547758.08"),
+];
+
 #[test]
 fn texts_of_values(rt: HostRuntime) -> Result<(), Fail> {
-    for (cents, text) in [
-        (5, "0.05"),
-        (-123_456, "-1234.56"),
-        (i64::MIN, "-92233720368547758.08"),
-    ] {
+    for &(cents, text) in &MONEY {
         assert_eq!(rt; Money(cents).to_string(rt.alloc())?.as_str(), text);
     }
     let leap = day(&rt, 19_782);
     assert_eq!(rt; leap.to_string(rt.alloc())?.as_str(), "2024-02-29");
-    Ok(())
-}
-
-// Monday, 2024-11-25 is a holiday in a copy of the calendar, and none in an empty one.
-#[test]
-fn holidays(rt: HostRuntime) -> Result<(), Fail> {
-    let alloc = rt.alloc();
-    let (sunday, monday) = (day(&rt, 20_051), day(&rt, 20_052));
-    let mut calendar = Calendar::new(alloc);
-    calendar.add(monday)?;
-    calendar.add(monday)?;
-    let copy = calendar.copy(alloc)?;
-    assert!(rt; !copy.is_business(monday));
-    assert_eq!(rt; next_business(sunday, &copy).number(), 20_053);
-    assert_eq!(rt; next_business(sunday, &Calendar::new(alloc)), monday);
     Ok(())
 }
 
@@ -98,26 +85,6 @@ fn credited(rt: &impl Abort, alloc: Global, minute: u16) -> i32
 fn payments_count_until_five(rt: HostRuntime) {
     assert_eq!(rt; credited(&rt, rt.alloc(), 1_020), 20_051);
     assert_eq!(rt; credited(&rt, rt.alloc(), 1_021), 20_052);
-}
-
-#[test]
-fn names(rt: HostRuntime) -> Result<(), Fail> {
-    let alloc = rt.alloc();
-    let account = name(&rt, alloc, "h-1")?.copy(alloc)?;
-    assert_eq!(rt; account.bytes(), b"h-1".as_slice());
-    assert!(rt; Name::read(alloc, b"-1")?.is_none());
-    Ok(())
-}
-
-// A holiday and a fee row that all accounts share.
-#[test]
-fn shared_rows(rt: HostRuntime) -> Result<(), Fail> {
-    let alloc = rt.alloc();
-    let rows = SharedRows::new(alloc).with_holiday(alloc, day(&rt, 20_052))?;
-    let rows = rows.with_fees(alloc, day(&rt, 14_976), num(&rt, 3_000), num(&rt, 4_100))?;
-    assert!(rt; !rows.calendar().is_business(day(&rt, 20_052)));
-    assert_eq!(rt; rows.fees().on(day(&rt, 14_976)), Some((3_000, 4_100)));
-    Ok(())
 }
 
 // Rows for 2011-01-02, and two for 2024-02-01, of which the later one counts.

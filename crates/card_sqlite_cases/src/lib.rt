@@ -1,12 +1,9 @@
 //! What is shown over rows in a database: the top call has the clause that it has over any rows; with ample memory rows that
-//! are kept are loaded again, and an append that is stopped leaves all of its rows or none. And the top call's server over
-//! connections in memory.
+//! are kept are loaded again, and an append that is stopped leaves all of its rows or none.
 #![tactic(auto)]
 
 #[cfg(test)]
 mod commands;
-#[cfg(test)]
-mod doors;
 mod stored;
 #[cfg(test)]
 mod stores;

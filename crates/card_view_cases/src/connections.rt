@@ -1,11 +1,8 @@
 // Connections in memory, each over the desk of the kept rows.
 use card_desk::uncounted;
 use card_http::{Served, Status, serve_one};
-use card_ports::{Door, FailingKeeper, MemoryKeeper, MemoryLink, TcpDoor};
+use card_ports::{FailingKeeper, MemoryKeeper, MemoryLink};
 use std::alloc::Global;
-use std::io::{self, Read, Write};
-use std::net::{Ipv4Addr, Shutdown, TcpListener, TcpStream};
-use std::process::Abort;
 use std::test::Fail;
 
 // A request, the status of its answer, and the whole answer.
@@ -112,29 +109,6 @@ fn requests_are_answered(rt: HostRuntime) -> Result<(), Fail> {
     Ok(())
 }
 
-#[test]
-fn long_heads_are_answered(rt: HostRuntime) -> Result<(), Fail> {
-    let alloc = rt.alloc();
-    let mut keeper = MemoryKeeper::new(alloc);
-    let mut many = Vec::from_slice(alloc, b"GET /work HTTP/1.1\r\n")?;
-    for _ in 0u8..65 {
-        many.extend_from_slice(b"A: b\r\n")?;
-    }
-    many.extend_from_slice(b"\r\n")?;
-    let mut link = link_of(alloc, &many, &[])?;
-    let end = served(alloc, &mut keeper, &mut link)?;
-    assert!(rt; is_answered(end, 400));
-    let mut open = Vec::from_slice(alloc, b"GET /work HTTP/1.1\r\nA: ")?;
-    for _ in 0u16..8200 {
-        open.push(b'b')?;
-    }
-    let mut link = link_of(alloc, &open, &[])?;
-    let end = served(alloc, &mut keeper, &mut link)?;
-    assert!(rt; is_answered(end, 431));
-    assert_eq!(rt; link.left().len(), 31);
-    Ok(())
-}
-
 // A connection that fails at its first call, its second and so on, until one meets no fault: nothing is kept before the body
 // was read whole, and what is behind it isn't read.
 #[test]
@@ -156,25 +130,6 @@ fn a_broken_connection_is_cut(rt: HostRuntime) -> Result<(), Fail> {
 }
 
 #[test]
-fn a_body_that_is_cut_is_not_carried_out(rt: HostRuntime) -> Result<(), Fail> {
-    let alloc = rt.alloc();
-    let mut keeper = MemoryKeeper::new(alloc);
-    let mut bytes = Vec::from_slice(
-        alloc,
-        b"POST /posts HTTP/1.1\r\nContent-Length: 16384\r\n\r\n",
-    )?;
-    for _ in 0u8..100 {
-        bytes.push(b' ')?;
-    }
-    let mut link = link_of(alloc, &bytes, &[])?;
-    let end = served(alloc, &mut keeper, &mut link)?;
-    assert!(rt; end == Served::Cut);
-    assert!(rt; link.taken().is_empty());
-    assert!(rt; keeper.rows().is_empty());
-    Ok(())
-}
-
-#[test]
 fn a_keeper_that_fails_is_told(rt: HostRuntime) -> Result<(), Fail> {
     let alloc = rt.alloc();
     let mut keeper = FailingKeeper::new(alloc, Vec::from_slice(alloc, &[2])?);
@@ -182,35 +137,5 @@ fn a_keeper_that_fails_is_told(rt: HostRuntime) -> Result<(), Fail> {
     let mut desk = uncounted::load(alloc, &mut keeper)?;
     let end = serve_one(alloc, &mut desk, &mut keeper, &mut link);
     assert!(rt; end == Served::Answered(Status::Unavailable));
-    Ok(())
-}
-
-// A port of loopback on which nobody listened a moment ago.
-fn free_port(rt: &HostRuntime) -> io::Result<u16> {
-    let listener = TcpListener::bind(rt, (Ipv4Addr::LOCALHOST, 0))?;
-    Ok(listener.local_addr()?.port())
-}
-
-// In one thread: the client connects, writes and shuts its side before its connection is accepted.
-#[test]
-fn a_socket_is_served(rt: HostRuntime) -> Result<(), Fail> {
-    let alloc = rt.alloc();
-    let port = free_port(&rt)?;
-    let mut door = TcpDoor::new(&rt);
-    assert!(rt; door.listen(port).is_ok());
-    let mut client = TcpStream::connect(&rt, (Ipv4Addr::LOCALHOST, port))?;
-    client.write_all(b"GET /work HTTP/1.1\r\n\r\n")?;
-    client.shutdown(Shutdown::Write)?;
-    let mut keeper = MemoryKeeper::new(alloc);
-    let mut desk = uncounted::load(alloc, &mut keeper)?;
-    let Ok(mut link) = door.accept() else {
-        return Err(Fail::from("no connection came"));
-    };
-    let end = serve_one(alloc, &mut desk, &mut keeper, &mut link);
-    door.close(link);
-    assert!(rt; is_answered(end, 200));
-    let mut answer = [0; 256];
-    let n = client.read(&mut answer)?;
-    assert!(rt; answer[..n].starts_with(b"HTTP/1.1 200 OK\r\n"));
     Ok(())
 }

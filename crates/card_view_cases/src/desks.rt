@@ -2,19 +2,17 @@
 ghost use Rattle.std.specs.Prelude.{OnOk};
 ghost use Rattle.card_desk.specs.Kept.{Fits};
 
-use crate::lines::{day, digits, name, request};
+use crate::lines::request;
 use card_desk::{Ask, Desk, Fault, LoadFault, View, uncounted};
-use card_events::{Refusal, Reply};
+use card_events::Reply;
 use card_ports::{Body, FailingKeeper, Keeper, MemoryKeeper, Row};
 use card_text::tasks_text;
 use std::alloc::Global;
-use std::process::Abort;
 use std::test::Fail;
 
-static FIRST_DAY: [&str; 3] = [
+static ROLL_AND_OPEN: [&str; 2] = [
     "roll 2024-03-01",
     "open a o 2024-03-01 5 1999 2499 2199 2999 2500 100",
-    "charge a c1 2024-03-01 purchase 1250",
 ];
 
 // What the desk of the kept rows answers to a line.
@@ -68,69 +66,17 @@ fn seen(alloc: Global, keeper: &mut MemoryKeeper, ask: &Ask) -> Result<View, Fai
     Ok(uncounted::see(alloc, &mut desk, ask)?)
 }
 
-// What is owed, the credit balance, and what is held.
-fn shown(view: &View) -> Option<(i64, i64, i64)> {
-    match view {
-        View::Show {
-            owed,
-            credit,
-            held,
-            ..
-        } => Some((*owed, *credit, *held)),
-        _ => None,
-    }
-}
-
-// Three rows are kept, the first that of the Roll.
-fn are_kept(rt: &impl Abort, alloc: Global, rows: &[Row]) -> Result<(), Fail> {
-    assert_eq!(rt; rows.len(), 3);
-    let roll = digits(alloc, rows[0].body.bytes())?;
-    assert_eq!(rt; roll.as_str(), "010100004d47");
-    Ok(())
-}
-
-fn is_first_day(rt: &impl Abort, alloc: Global, desk: &mut Desk) -> Result<(), Fail> {
-    assert_eq!(rt; (desk.today(), desk.count()), (day(rt, 19_783), 3));
-    let view = uncounted::show(alloc, desk, &name(rt, alloc, "a")?)?;
-    assert_eq!(rt; shown(&view), Some((1_250, 0, 0)));
-    Ok(())
-}
-
-#[test]
-fn the_first_day_is_kept(rt: HostRuntime) -> Result<(), Fail> {
-    let alloc = rt.alloc();
-    assert_eq!(rt; Desk::new(alloc).count(), 0);
-    let mut keeper = MemoryKeeper::new(alloc);
-    accept_all(alloc, &mut keeper, &FIRST_DAY)?;
-    are_kept(&rt, alloc, keeper.rows())?;
-    let mut desk = uncounted::load(alloc, &mut keeper)?;
-    is_first_day(&rt, alloc, &mut desk)
-}
-
 // The second append fails: the Roll's row alone is kept, and the Open is accepted when it comes again.
 #[test]
 fn a_keeper_that_fails_leaves_the_rows(rt: HostRuntime) -> Result<(), Fail> {
     let alloc = rt.alloc();
     let mut keeper = FailingKeeper::new(alloc, Vec::from_slice(alloc, &[4])?);
-    accept_all(alloc, &mut keeper, &FIRST_DAY[..1])?;
-    let failed = answer(alloc, &mut keeper, FIRST_DAY[1])?;
+    accept_all(alloc, &mut keeper, &ROLL_AND_OPEN[..1])?;
+    let failed = answer(alloc, &mut keeper, ROLL_AND_OPEN[1])?;
     assert_eq!(rt; failed, Err(Fault::Keeper));
     assert_eq!(rt; keeper.rows().len(), 1);
-    let opened = answer(alloc, &mut keeper, FIRST_DAY[1])?;
+    let opened = answer(alloc, &mut keeper, ROLL_AND_OPEN[1])?;
     assert_eq!(rt; opened, Ok(Reply::Accepted(1)));
-    Ok(())
-}
-
-#[test]
-fn repeats_and_refusals_are_not_kept(rt: HostRuntime) -> Result<(), Fail> {
-    let alloc = rt.alloc();
-    let mut keeper = MemoryKeeper::new(alloc);
-    accept_all(alloc, &mut keeper, &FIRST_DAY)?;
-    let again = answer(alloc, &mut keeper, FIRST_DAY[2])?;
-    assert_eq!(rt; again, Ok(Reply::Accepted(2)));
-    let other = answer(alloc, &mut keeper, "charge a c1 2024-03-01 purchase 9")?;
-    assert_eq!(rt; other, Ok(Reply::Refused(Refusal::KeyReused(2))));
-    assert_eq!(rt; keeper.rows().len(), 3);
     Ok(())
 }
 
@@ -189,15 +135,15 @@ fn damaged_rows_are_told(rt: HostRuntime) -> Result<(), Fail> {
 // Charges of two accounts, opened in this order, and their disputes on their last day for that.
 static DISPUTES: [&str; 10] = [
     "roll 2024-02-16",
-    "open d o 2024-01-16 15 1999 2499 2199 2999 2500 100",
-    "charge d c1 2024-02-01 purchase 5000",
-    "bill d b1 1",
     "open b o 2024-01-16 15 1999 2499 2199 2999 2500 100",
     "charge b c1 2024-02-01 purchase 5000",
     "bill b b1 1",
+    "open B o 2024-01-16 15 1999 2499 2199 2999 2500 100",
+    "charge B c1 2024-02-01 purchase 5000",
+    "bill B b1 1",
     "roll 2024-04-17",
-    "dispute d x1 2024-04-16 2 5000",
     "dispute b x1 2024-04-16 2 5000",
+    "dispute B x1 2024-04-16 2 5000",
 ];
 
 // The texts of the open tasks of the kept rows.
@@ -208,7 +154,7 @@ fn work(alloc: Global, keeper: &mut MemoryKeeper) -> Result<String, Fail> {
     }
 }
 
-// Acknowledged in 30 days and resolved in two cycles, first that of the account whose name comes first.
+// Acknowledged in 30 days and resolved in two cycles, first that of the account whose name comes first by its bytes.
 #[test]
 fn disputes_of_two_accounts_have_their_tasks(rt: HostRuntime) -> Result<(), Fail> {
     let alloc = rt.alloc();
@@ -216,7 +162,7 @@ fn disputes_of_two_accounts_have_their_tasks(rt: HostRuntime) -> Result<(), Fail
     accept_all(alloc, &mut keeper, &DISPUTES)?;
     let text = work(alloc, &mut keeper)?;
     let want =
-        "2024-05-16 b ACK 4\n2024-05-16 d ACK 4\n2024-07-15 b RESOLVE 4\n2024-07-15 d RESOLVE 4\n";
+        "2024-05-16 B ACK 4\n2024-05-16 b ACK 4\n2024-07-15 B RESOLVE 4\n2024-07-15 b RESOLVE 4\n";
     assert_eq!(rt; text.as_str(), want);
     Ok(())
 }

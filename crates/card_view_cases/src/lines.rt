@@ -2,13 +2,11 @@
 ghost use Rattle.std.specs.Prelude.{◌≡◌, true, IfOk};
 ghost use Rattle.card_events.specs.Dated.{is_dated};
 
-use card_days::Day;
-use card_events::{Name, Request};
+use card_events::Request;
 use card_lines::{Line, read_line};
 use card_rows::{decode, encode};
 use std::alloc::Global;
 use std::fmt::Write;
-use std::process::Abort;
 use std::test::Fail;
 
 // A line of each kind, and the body of its row in hexadecimal digits.
@@ -74,14 +72,6 @@ static ROWS: [(&str, &str); 20] = [
     ("bill a k 3", "01140161016b0000000000000003"),
 ];
 
-pub fn day(rt: &impl Abort, n: u16) -> Day {
-    Day::from_number(i32::from(n)).expect(rt, "a day")
-}
-
-pub fn name(rt: &impl Abort, alloc: Global, text: &str) -> Result<Name, Fail> {
-    Ok(Name::read(alloc, text.as_bytes())?.expect(rt, "a name"))
-}
-
 // The request of a line.
 pub fn request(alloc: Global, line: &str) -> Result<Request, Fail>
     ensures { IfOk result (λ r. is_dated r ≡ true) }
@@ -93,7 +83,7 @@ pub fn request(alloc: Global, line: &str) -> Result<Request, Fail>
 }
 
 // The body of a row in hexadecimal digits.
-pub fn digits(alloc: Global, body: &[u8]) -> Result<String, Fail> {
+fn digits(alloc: Global, body: &[u8]) -> Result<String, Fail> {
     let mut text = String::new(alloc);
     for byte in body {
         write!(text, "{byte:02x}")?;
