@@ -10,7 +10,8 @@ use Rattle.card_account.proofs.Held.{AreHeld, HeldIf, HeldThere, IsHeld, later-h
 use Rattle.card_days.specs.Range.{last_request_day, first_calendar_day}
 use Rattle.card_reasons.proofs.ReasonLemmas.{none_head, where_none}
 use Rattle.card_daily.proofs.Runs.{runs_keep_plans}
-use Rattle.card_daily.specs.Given.{ArePlanned}
+use Rattle.card_daily.proofs.Turns.{runs_keep_turns}
+use Rattle.card_daily.specs.Given.{AreInTurn, ArePlanned}
 use Rattle.card_events.specs.Dated.{is_dated, is_dated_post}
 use Rattle.card_events.specs.History.{anchor_of, opening_in, terms_in, terms_of}
 use Rattle.card_events.specs.declared.kept.Kept.{Kept}
@@ -138,25 +139,25 @@ opening-is today (k ∷ ks) last low high all =
     (record { first = one.first (opens-is k.post low); last = omega (arith, one.opening, last); close_day = (low, high) }, one.opening)
 
 -- the lists of one account
-running : (s : State) (l : Lists) → s.today ≤ last_request_day → IsAccepted s → AreAccepted l → HasFewSegments l.posts → ArePostsDated l.posts → ArePlanned l.posts → AreHeld s.today l → AreRunning s l
-running s l last fees accepted segments dated planned held =
+running : (s : State) (l : Lists) → s.today ≤ last_request_day → IsAccepted s → AreAccepted l → HasFewSegments l.posts → ArePostsDated l.posts → ArePlanned l.posts → AreInTurn l → AreHeld s.today l → AreRunning s l
+running s l last fees accepted segments dated planned turns held =
     let opening = opening-is s.today l.posts last accepted.terms.first_close_day accepted.terms.last_close_day held.posts in
     record {
-      sound = record { accepted = accepted; fees = fees.fees; segments = segments; dated = dated; opening = opening.0; plans = planned; returns = held.returns };
+      sound = record { accepted = accepted; fees = fees.fees; segments = segments; dated = dated; opening = opening.0; plans = planned; returns = held.returns; in_turn = turns };
       timely = timely s.today (anchor_of l.posts).opened l.posts last held.posts;
       last = last-held s.today (anchor_of l.posts).opened l.posts held.posts;
       opened = opening.1;
     }
 
 all-running : (s : State) (accounts : List NamedAccount) → s.today ≤ last_request_day → IsAccepted s → All (λ (x : NamedAccount). AreAccepted x.lists) accounts → All (λ (x : NamedAccount). HasFewSegments x.lists.posts) accounts
-    → All (λ (x : NamedAccount). ArePostsDated x.lists.posts) accounts → All (λ (x : NamedAccount). ArePlanned x.lists.posts) accounts → AllHeld s.today accounts → All (λ (x : NamedAccount). AreRunning s x.lists) accounts
-all-running s [] last fees accepted segments dated planned held = All-nil (λ (x : NamedAccount). AreRunning s x.lists)
-all-running s (x ∷ xs) last fees accepted segments dated planned held =
+    → All (λ (x : NamedAccount). ArePostsDated x.lists.posts) accounts → All (λ (x : NamedAccount). ArePlanned x.lists.posts) accounts → All (λ (x : NamedAccount). AreInTurn x.lists) accounts → AllHeld s.today accounts → All (λ (x : NamedAccount). AreRunning s x.lists) accounts
+all-running s [] last fees accepted segments dated planned turns held = All-nil (λ (x : NamedAccount). AreRunning s x.lists)
+all-running s (x ∷ xs) last fees accepted segments dated planned turns held =
     All-cons (λ (x : NamedAccount). AreRunning s x.lists) x xs
     (running s x.lists last fees (All-head (λ (x : NamedAccount). AreAccepted x.lists) x xs accepted) (All-head (λ (x : NamedAccount). HasFewSegments x.lists.posts) x xs segments)
-    (All-head (λ (x : NamedAccount). ArePostsDated x.lists.posts) x xs dated) (All-head (λ (x : NamedAccount). ArePlanned x.lists.posts) x xs planned) (All-head (λ (x : NamedAccount). AreHeld s.today x.lists) x xs held))
+    (All-head (λ (x : NamedAccount). ArePostsDated x.lists.posts) x xs dated) (All-head (λ (x : NamedAccount). ArePlanned x.lists.posts) x xs planned) (All-head (λ (x : NamedAccount). AreInTurn x.lists) x xs turns) (All-head (λ (x : NamedAccount). AreHeld s.today x.lists) x xs held))
     (all-running s xs last fees (All-tail (λ (x : NamedAccount). AreAccepted x.lists) x xs accepted) (All-tail (λ (x : NamedAccount). HasFewSegments x.lists.posts) x xs segments)
-    (All-tail (λ (x : NamedAccount). ArePostsDated x.lists.posts) x xs dated) (All-tail (λ (x : NamedAccount). ArePlanned x.lists.posts) x xs planned) (All-tail (λ (x : NamedAccount). AreHeld s.today x.lists) x xs held))
+    (All-tail (λ (x : NamedAccount). ArePostsDated x.lists.posts) x xs dated) (All-tail (λ (x : NamedAccount). ArePlanned x.lists.posts) x xs planned) (All-tail (λ (x : NamedAccount). AreInTurn x.lists) x xs turns) (All-tail (λ (x : NamedAccount). AreHeld s.today x.lists) x xs held))
 
 -- ---- today
 rolled-by : (s : State) (r : Shared) (o : Option Refusal) → is_dated (request.Shared r) ≡ true → s.today ≤ last_request_day → (with_shared s r o).0.today ≤ last_request_day
@@ -180,4 +181,4 @@ pub runs_may_be_folded : RunsMayBeFolded
 runs_may_be_folded requests taken =
     let s = run requests in
     all-running s s.accounts (run-today start requests taken (omega arith)) (runs_are_accepted requests) (runs_are_accepted requests).accounts (runs_have_few_segments requests)
-    (runs_keep_dates requests (all-dated requests taken)) (runs_keep_plans requests) (run-held start requests taken (All-nil (λ (x : NamedAccount). AreHeld first_calendar_day x.lists)))
+    (runs_keep_dates requests (all-dated requests taken)) (runs_keep_plans requests) (runs_keep_turns requests) (run-held start requests taken (All-nil (λ (x : NamedAccount). AreHeld first_calendar_day x.lists)))

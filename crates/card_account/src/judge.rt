@@ -8,7 +8,7 @@ ghost use Rattle.card_reasons.specs.Reasons.{reads_book};
 
 use card_book::{Folded, Present};
 use card_events::{Num, Post, Refusal};
-use card_reasons::{is_no_amount, penalty_reason, post_reason, refund_reason};
+use card_reasons::{is_no_amount, ordered_bill_reason, penalty_reason, post_reason, refund_reason};
 
 /// Whether a post is judged by the book of today: a Penalty, or a Refund that is in its range.
 pub fn reads_book(post: &Post) -> bool
@@ -59,6 +59,13 @@ pub fn reason_by_book(now: &Present, folded: &Folded, post: &Post) -> Option<Ref
     }
 }
 
+// Why a Bill isn't accepted today.
+fn bill_today(now: &Present, cycle: Num) -> Option<Refusal>
+    ensures { result ≡ reason_against now.now (post.Bill cycle) }
+{
+    ordered_bill_reason(now.posts(), &now.anchor(), now.today(), cycle)
+}
+
 /// Why another post isn't accepted today under a new key, by the posts alone: the first reason, and None where it is accepted.
 pub fn reason_by_posts(now: &Present, post: &Post) -> Option<Refusal>
     requires not_open { is_open post.now ≡ false }
@@ -66,5 +73,8 @@ pub fn reason_by_posts(now: &Present, post: &Post) -> Option<Refusal>
     requires dated { is_dated_post post.now ≡ true }
     ensures { result ≡ reason_against now.now post.now }
 {
-    post_reason(now.posts(), &now.anchor(), now.today(), post)
+    match post {
+        Post::Bill { cycle } => bill_today(now, *cycle),
+        _ => post_reason(now.posts(), &now.anchor(), now.today(), post),
+    }
 }

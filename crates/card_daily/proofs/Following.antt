@@ -69,6 +69,10 @@ second-most a day h low high =
 pub begun-by : (a : Anchor) (day : ℕ) → IsOpening a → a.opened ≤ day → day ≤ last_request_day → closing a (cycle_of a day - 1) < day
 begun-by a day h low high = (cycle_around a (anchored a h) day (cycle_of a day) low (omega arith) refl).0
 
+-- it closes on the day or later
+pub upto-closing : (a : Anchor) (day : ℕ) → IsOpening a → a.opened ≤ day → day ≤ last_request_day → day ≤ closing a (cycle_of a day)
+upto-closing a day h low high = (cycle_around a (anchored a h) day (cycle_of a day) low (omega arith) refl).1
+
 pub cycle-few : (a : Anchor) (day : ℕ) → IsOpening a → a.opened ≤ day → day ≤ last_request_day → cycle_of a day ≤ day
 cycle-few a day h low high =
     let begun = begun-by a day h low high in

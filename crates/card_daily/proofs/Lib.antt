@@ -17,4 +17,6 @@ pub mod Posting
 pub mod Repaying
 pub mod Returning
 pub mod Runs
+pub mod Since
 pub mod Standing
+pub mod Turns

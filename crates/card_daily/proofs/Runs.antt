@@ -28,15 +28,15 @@ use Rattle.card_daily.specs.Given.{ArePlanned, EndsWithAClosing}
 use Rattle.card_daily.specs.Laws.{RunsKeepPlans}
 
 -- ---- no reason stands
-first-none : (r : Option Refusal) (rs : List (Option Refusal)) → first_reason (r ∷ rs) ≡ None → (r ≡ None) × (first_reason rs ≡ None)
+pub first-none : (r : Option Refusal) (rs : List (Option Refusal)) → first_reason (r ∷ rs) ≡ None → (r ≡ None) × (first_reason rs ≡ None)
 first-none None rs h = (refl, h)
 first-none (Some x) rs h = cc
 
-abbrev AllNone : List (Option Refusal) → Type 0
+abbrev pub AllNone : List (Option Refusal) → Type 0
 AllNone [] = Unit {0}
 AllNone (r ∷ rs) = (r ≡ None) × AllNone rs
 
-all-none : (rs : List (Option Refusal)) → first_reason rs ≡ None → AllNone rs
+pub all-none : (rs : List (Option Refusal)) → first_reason rs ≡ None → AllNone rs
 all-none [] h = tt
 all-none (r ∷ rs) h = let parts = first-none r rs h in (parts.0, all-none rs parts.1)
 
@@ -100,11 +100,11 @@ plan-ends now n today key (post.Refund c) h first end is = cc
 plan-ends now n today key (post.Amend t d c) h first end is = cc
 plan-ends now n today key (post.Bill c) h first end is = cc
 
-anchor-stays : (ks : List Kept) (k : Kept) → 1 ≤ length ks → anchor_of (ks ++ k ∷ []) ≡ anchor_of ks
+pub anchor-stays : (ks : List Kept) (k : Kept) → 1 ≤ length ks → anchor_of (ks ++ k ∷ []) ≡ anchor_of ks
 anchor-stays [] k l = absurd (omega (arith, l))
 anchor-stays (x ∷ xs) k l = refl
 
-more-posts : (ks : List Kept) (k : Kept) → 1 ≤ length (ks ++ k ∷ [])
+pub more-posts : (ks : List Kept) (k : Kept) → 1 ≤ length (ks ++ k ∷ [])
 more-posts ks k = let long = length-append ks (k ∷ []) in omega (arith, long)
 
 accepted-planned : (now : Present) (key : List ℕ) (p : Post) → reason_against now p ≡ None → Planned now.lists → Planned (accepted now key p)

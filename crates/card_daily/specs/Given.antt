@@ -1,6 +1,8 @@
 -- What the fold of an account is given, and its books from day to day.
 use Rattle.std.specs.Prelude.{ℕ, suc, ◌≡◌, ◌≤◌, ◌<◌, true, List, [], ◌∷◌, Option, Some}
 use Rattle.std.specs.List.{All}
+use Rattle.std.specs.List.Sorted.{IsNonDecreasingBy}
+use Rattle.card_days.specs.Billing.{closing}
 use Rattle.card_days.specs.Civil.{day_of_month}
 use Rattle.card_days.specs.Range.{last_request_day}
 use Rattle.card_days.specs.declared.anchor.Anchor.{Anchor}
@@ -16,7 +18,7 @@ use Rattle.card_model.specs.Caps.{row_for}
 use Rattle.card_model.specs.CycleDays.{IsOpening}
 use Rattle.card_model.specs.Cycles.{IssuedRow, Seen, seen_on}
 use Rattle.card_model.specs.Folds.{book, book_after}
-use Rattle.card_model.specs.Refusals.{Present, plan_days}
+use Rattle.card_model.specs.Refusals.{Lists, Present, bills, plan_days}
 use Rattle.card_posts.specs.Posted.{last_accepted}
 use Rattle.card_rates.specs.Segments.{ArePostsDated}
 
@@ -75,6 +77,17 @@ unfoldable pub NamePayments : List Kept → ℕ → List Kept → Type 0
 NamePayments history n [] = Unit {0}
 NamePayments history n (k ∷ ks) = NamesAPayment history n k.post × NamePayments history (suc n) ks
 
+-- a Bill was accepted after its cycle's closing
+abbrev pub IsBilledLater : Anchor → Kept → Type 0
+IsBilledLater a k = (cycle : ℕ) → bills cycle k.post ≡ true → closing a cycle < k.accepted
+
+-- posts were accepted, and statements issued, in the order of their days, and what issues a cycle came after its closing
+pub record AreInTurn (l : Lists) : Type 0 where
+  pub accepted : IsNonDecreasingBy (λ k. k.accepted) l.posts
+  pub billed : All (IsBilledLater (anchor_of l.posts)) l.posts
+  pub issued : IsNonDecreasingBy (λ r. r.day) l.issued
+  pub later : All (λ r. closing (anchor_of l.posts) r.cycle < r.day) l.issued
+
 -- What every run of the machine leaves in an account
 pub record IsSound (g : Given) : Type 0 where
   pub accepted : AreAccepted (record { posts = g.history; issued = g.issued })
@@ -84,6 +97,7 @@ pub record IsSound (g : Given) : Type 0 where
   pub opening : IsOpening (anchor_of g.history)
   pub plans : ArePlanned g.history
   pub returns : NamePayments g.history 1 g.history
+  pub in_turn : AreInTurn (record { posts = g.history; issued = g.issued })
 
 -- ---- an account today
 -- what the fold to today is given

@@ -84,7 +84,7 @@ pub fn due_cycle(inputs: &Inputs, day: Day, cycle: &Cycle) -> DueCycle
     ensures { result ≡ due_cycle_of (seen_in inputs.now day) cycle.now }
 {
     let _anchor = inputs.anchor();
-    let issued = issue_day(inputs.issued_for(cycle.number as u64));
+    let issued = issue_day(inputs.issued_since(cycle.number as u64, cycle.closing));
     with_due_payment(cycle, is_due(issued, cycle.due, day))
 }
 
@@ -108,7 +108,7 @@ fn late_fee(inputs: &Inputs, day: Day, fees: &[Fee], cycle: &Cycle) -> Option<Fe
 {
     let anchor = inputs.anchor();
     let due = due_cycle(inputs, day, cycle);
-    let issued = fees_of(inputs.issued_for(cycle.number as u64 + 1));
+    let issued = fees_of(inputs.issued_since(cycle.number as u64 + 1, day));
     due_fee(inputs.fees(), fees, inputs.posts(), &anchor, &due, issued)
 }
 

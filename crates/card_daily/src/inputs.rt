@@ -1,11 +1,15 @@
-ghost use Rattle.std.specs.Prelude.{◌≡◌, option_copied};
+ghost use Rattle.std.specs.Prelude.{◌≡◌, ◌<◌, Some, option_copied};
+ghost use Rattle.std.specs.List.{All};
+ghost use Rattle.std.specs.List.Sorted.{IsNonDecreasingBy};
 ghost use Rattle.card_days.specs.Billing.{IsCloseDay};
 ghost use Rattle.card_events.specs.History.{anchor_of, terms_in, terms_of};
+ghost use Rattle.card_model.specs.Accepted.{AreSingle};
 ghost use Rattle.card_model.specs.Caps.{row_for};
 ghost use Rattle.card_model.specs.CycleDays.{IsOpening};
+ghost use Rattle.card_model.specs.Cycles.{IssuedRow};
 
 use crate::Issued;
-use card_days::{Anchor, Calendar};
+use card_days::{Anchor, Calendar, Day};
 use card_events::{Post, Terms};
 use card_fees::{FeeTable, SharedRows};
 use card_posts::Posts;
@@ -45,6 +49,42 @@ pub fn row_for(issued: &[Issued], cycle: u64) -> Option<&Issued>
     None
 }
 
+// That of a cycle, where it stands at the place of the cycle's number, as it does where the cycles were issued in order.
+fn row_at(issued: &[Issued], cycle: u64) -> Option<&Issued>
+    requires { AreSingle issued.now }
+    ensures { (r : IssuedRow) → option_copied result ≡ Some r → row_for cycle issued.now ≡ Some r }
+{
+    match issued.get(cycle.saturating_sub(1) as usize) {
+        Some(row) => {
+            if row.cycle as u64 == cycle {
+                Some(row)
+            } else {
+                None
+            }
+        }
+        None => None,
+    }
+}
+
+// That of a cycle which was issued after a day, from the last one back to those of that day.
+fn row_after(issued: &[Issued], cycle: u64, day: Day) -> Option<&Issued>
+    requires single { AreSingle issued.now }
+    requires order { IsNonDecreasingBy (λ r. r.day) issued.now }
+    requires later { All (λ r. r.cycle ≡ cycle → day < r.day) issued.now }
+    ensures { option_copied result ≡ row_for cycle issued.now }
+{
+    for place in (0..issued.len()).rev() {
+        let row = &issued[place];
+        if row.cycle as u64 == cycle {
+            return Some(row);
+        }
+        if row.day <= day {
+            return None;
+        }
+    }
+    None
+}
+
 /// What the fold of an account reads: its posts, its issued statements, and what all accounts share.
 #[derive(Drop)]
 pub struct Inputs<'a> {
@@ -65,7 +105,8 @@ impl<'a> Model for Inputs<'a> {
 }
 
 impl<'a> Inputs<'a> {
-    ghost use Rattle.std.specs.Prelude.{◌≡◌, option_copied};
+    ghost use Rattle.std.specs.Prelude.{◌≡◌, ◌≤◌, option_copied};
+    ghost use Rattle.card_days.specs.Billing.{closing};
     ghost use Rattle.card_events.specs.History.{anchor_of, terms_of};
     ghost use Rattle.card_model.specs.Caps.{row_for};
     ghost use Rattle.card_daily.specs.Given.{Given, IsSound};
@@ -128,10 +169,25 @@ impl<'a> Inputs<'a> {
         self.issued
     }
 
-    /// The issued statement of a cycle.
+    /// The issued statement of a cycle. It goes over them only where the cycle's isn't at the place of its number.
     pub fn issued_for(&self, cycle: u64) -> Option<&Issued>
         ensures { option_copied result ≡ row_for cycle self.now.issued }
     {
-        row_for(self.issued, cycle)
+        match row_at(self.issued, cycle) {
+            Some(row) => Some(row),
+            None => row_for(self.issued, cycle),
+        }
+    }
+
+    /// The issued statement of a cycle that closes on a day or later. Where the cycle's isn't at the place of its number, it goes
+    /// over those that were issued after that day, and no others: the condition is for speed alone.
+    pub fn issued_since(&self, cycle: u64, day: Day) -> Option<&Issued>
+        requires { day ≤ closing (anchor_of self.now.history) cycle }
+        ensures { option_copied result ≡ row_for cycle self.now.issued }
+    {
+        match row_at(self.issued, cycle) {
+            Some(row) => Some(row),
+            None => row_after(self.issued, cycle, day),
+        }
     }
 }

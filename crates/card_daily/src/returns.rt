@@ -108,7 +108,7 @@ fn fee_for(inputs: &Inputs, day: Day, fees: &[Fee], cycles: &[Cycle], meant: &Cy
 {
     let anchor = inputs.anchor();
     let least = asked_by(inputs, day, due_before(cycles, day));
-    let issued = fees_of(inputs.issued_for(cycles.len() as u64 + 1));
+    let issued = fees_of(inputs.issued_since(cycles.len() as u64 + 1, day));
     match returned_fee(
         inputs.fees(),
         fees,

@@ -1,13 +1,13 @@
 -- The next break day: the next day of each kind.
-use Rattle.std.proofs.Common.{◌≡◌, ℕ, zero, suc, ◌+◌, ◌-◌, ◌<◌, ◌≤◌, Bool, true, false, ◌&&◌, ◌||◌, eqb, leb, ltb, List, [], ◌∷◌, length, get_or, pos, refl, sym, ap, ◌∙◌, subst, arith, ◌⊎◌, inl, inr}
+use Rattle.std.proofs.Common.{◌≡◌, ℕ, suc, ◌+◌, ◌-◌, ◌<◌, ◌≤◌, Bool, true, false, ◌&&◌, ◌||◌, eqb, leb, List, [], ◌∷◌, length, get_or, pos, refl, sym, ap, ◌∙◌, subst, arith, ◌⊎◌, inl, inr}
 use Rattle.std.specs.List.{filter, list_any}
-use Rattle.std.proofs.lemmas.Bool.{cases_lt, eq-eqb, eqb-true, ne_eqb}
+use Rattle.std.proofs.lemmas.Bool.{cases_lt, eq-eqb, eqb-true}
 use Rattle.std.proofs.lemmas.Bool.Decides.{nat_tests}
 use Rattle.std.proofs.lemmas.List.{get_or_default}
 use Rattle.card_days.specs.Billing.{closing, due, due_day_of_month}
 use Rattle.card_days.specs.Business.{is_due}
 use Rattle.card_days.specs.Civil.{day_of_month}
-use Rattle.card_days.specs.Range.{last_calendar_day, last_request_day}
+use Rattle.card_days.specs.Range.{last_calendar_day}
 use Rattle.card_days.specs.declared.anchor.Anchor.{Anchor}
 use Rattle.card_days.proofs.Cycles.{IsAnchor}
 use Rattle.card_days.proofs.DueLaws.{ClosingLaws, IsDueOf, closing_laws, due_before_next, is_due-due, numbered}
@@ -23,14 +23,14 @@ use Rattle.card_posts.specs.Change.{on}
 use Rattle.card_posts.specs.Posted.{folding_order}
 use Rattle.card_rates.specs.Next.{IsNext, changes}
 use Rattle.card_rates.specs.RateBooks.{Rates, rates_of}
-use Rattle.card_rates.proofs.Nearest.{next-both, next-elsewhere, next-never, next-same, next-there}
+use Rattle.card_rates.proofs.Nearest.{next-both, next-never, next-same}
 use Rattle.card_rates.specs.Days.{place_of}
 use Rattle.card_rates.specs.SlotLaws.{IsCut}
 use Rattle.card_rates.proofs.Places.{of_days}
 use Rattle.card_daily.proofs.ClosingDay.{grows-to}
 use Rattle.card_daily.proofs.Cycles.{closing-within}
 use Rattle.card_daily.proofs.Following.{due-most}
-use Rattle.card_daily.specs.Given.{Given, account_in}
+use Rattle.card_daily.specs.Given.{Given}
 use Rattle.card_dayend.specs.Spans.{IsCycleOf, breaks_by, closes, follows_due, has_issue, has_post}
 
 or-false : (a b : Bool) → (a || b) ≡ false → (a ≡ false) × (b ≡ false)

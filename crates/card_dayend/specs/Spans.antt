@@ -1,5 +1,5 @@
 -- Days on which nothing happens, and the break day behind them. Days are day numbers.
-use Rattle.std.specs.Prelude.{ℕ, ◌+◌, ◌-◌, ◌≡◌, ◌≤◌, ◌<◌, Bool, ◌&&◌, ◌==◌, nat_le, List}
+use Rattle.std.specs.Prelude.{ℕ, ◌+◌, ◌-◌, ◌≤◌, ◌<◌, Bool, ◌&&◌, ◌==◌, nat_le, length, slice_index_or, List}
 use Rattle.std.specs.List.{list_any}
 use Rattle.card_days.specs.Billing.{closing}
 use Rattle.card_days.specs.Business.{is_due}
@@ -33,6 +33,11 @@ follows_due a day = is_due a (day - 1)
 -- a statement was issued
 abbrev pub has_issue : List IssuedRow → ℕ → Bool
 has_issue issued day = list_any (λ r. r.day == day) issued
+
+-- the statements before a place were issued before a day, and no others
+pub record IsIssueCut (issued : List IssuedRow) (day place : ℕ) : Type 0 where
+  pub front : (k : ℕ) (d : IssuedRow) → k < place → k < length issued → (slice_index_or issued k d).day < day
+  pub back : (k : ℕ) (d : IssuedRow) → place ≤ k → k < length issued → day ≤ (slice_index_or issued k d).day
 
 -- a break day of an account, by these penalties
 abbrev pub breaks_by : Given → List Interval → ℕ → Bool

@@ -1,5 +1,6 @@
 // The next break day.
-ghost use Rattle.std.specs.Prelude.{◌≡◌, ◌-◌, ◌≤◌, ◌==◌, ℕ, List, []};
+ghost use Rattle.std.specs.Prelude.{◌≡◌, ◌-◌, ◌≤◌, ◌==◌, ℕ, List, [], nat_lt};
+ghost use Rattle.std.specs.List.Sorted.{IsNonDecreasingBy};
 ghost use Rattle.card_days.specs.Billing.{closing};
 ghost use Rattle.card_days.specs.Range.{last_request_day};
 ghost use Rattle.card_events.specs.History.{anchor_of};
@@ -7,7 +8,7 @@ ghost use Rattle.card_posts.specs.Posted.{StandsFor};
 ghost use Rattle.card_rates.specs.Next.{IsNext};
 ghost use Rattle.card_rates.specs.RateBooks.{rates_of};
 ghost use Rattle.card_daily.specs.Given.{opened_in};
-ghost use Rattle.card_dayend.specs.Spans.{IsCycleOf, breaks_by, closes, follows_due, has_issue, has_post};
+ghost use Rattle.card_dayend.specs.Spans.{IsCycleOf, IsIssueCut, breaks_by, closes, follows_due, has_issue, has_post};
 
 use card_daily::{Inputs, Issued};
 use card_days::{Anchor, Day, closing_date, cycle_of, due_date};
@@ -56,16 +57,30 @@ fn next_after_due(anchor: &Anchor, number: u32, first: Day, end: Day) -> Day
     next_at(first, end, due_date(anchor, number - 1).next())
 }
 
+fn is_before(row: &Issued, day: Day) -> bool
+    ensures { result ≡ nat_lt row.now.day day }
+{
+    row.day < day
+}
+
+// How many statements were issued before a day. They stand in the order of their days.
+fn count_before(issued: &[Issued], day: Day) -> usize
+    requires { IsNonDecreasingBy (λ r. r.day) issued.now }
+    ensures { IsIssueCut issued.now day result }
+{
+    issued.partition_point(|row| is_before(row, day))
+}
+
 // The next day of an issue.
 fn next_issue(issued: &[Issued], first: Day, end: Day) -> Day
-    requires { first ≤ end }
+    requires order { first ≤ end }
+    requires turn { IsNonDecreasingBy (λ r. r.day) issued.now }
     ensures { IsNext (has_issue issued.now) first end result }
 {
-    let mut next = end;
-    for row in issued {
-        next = next_at(first, next, row.day);
+    match issued.get(count_before(issued, first)) {
+        Some(row) => next_at(first, end, row.day),
+        None => end,
     }
-    next
 }
 
 /// The first break day from a day on, where it comes before the last one, and that last day otherwise. Break days are the days

@@ -205,7 +205,7 @@ fn close_cycle(
     let _anchor = inputs.anchor();
     let _count = state.segments.len();
     let closing = closing_on(inputs, day, &track.cycles);
-    let issued = statement(inputs.issued_for(closing.number as u64));
+    let issued = statement(inputs.issued_since(closing.number as u64, day));
     let cycle = close(
         alloc,
         &mut state.segments,

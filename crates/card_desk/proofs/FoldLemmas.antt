@@ -309,6 +309,7 @@ sound_under s l shared one few = record {
   opening = one.sound.opening;
   plans = one.sound.plans;
   returns = one.sound.returns;
+  in_turn = one.sound.in_turn;
 }
 
 -- holidays and fee rows of later days leave the accounts

@@ -1,5 +1,7 @@
 -- Why a post isn't accepted, in parts.
-use Rattle.std.specs.Prelude.{◌≡◌, ◌≤◌, ℕ, Bool, true, false, not, nat_lt, nat_le, ◌==◌, ◌||◌, List, [], ◌∷◌, length, Option}
+use Rattle.std.specs.Prelude.{◌≡◌, ◌<◌, ◌≤◌, ℕ, Bool, true, false, not, nat_lt, nat_le, ◌==◌, ◌||◌, List, [], ◌∷◌, length, Option}
+use Rattle.std.specs.List.{All}
+use Rattle.std.specs.List.Sorted.{IsNonDecreasingBy}
 use Rattle.std.specs.Option.{option_map, option_or}
 use Rattle.card_days.specs.Billing.{IsCloseDay, closing}
 use Rattle.card_days.specs.Range.{last_request_day}
@@ -30,6 +32,15 @@ pub record HasCycles (a : Anchor) (history : List Kept) : Type 0 where
   pub anchor : a ≡ anchor_of history
   pub close_day : IsCloseDay a.close_day
   pub opened : a.opened ≤ last_request_day
+
+-- a Bill was accepted after its cycle's closing
+abbrev pub IsBilledLater : Anchor → Kept → Type 0
+IsBilledLater a k = (cycle : ℕ) → bills cycle k.post ≡ true → closing a cycle < k.accepted
+
+-- posts were accepted in the order of their days, and Bills after their cycles' closings
+pub record AreInOrder (a : Anchor) (history : List Kept) : Type 0 where
+  pub accepted : IsNonDecreasingBy (λ k. k.accepted) history
+  pub billed : All (IsBilledLater a) history
 
 -- ---- posts with a day of their own
 -- an amount, a rate or a minute is out of its range, or the day doesn't lie from the opening day to today

@@ -1,22 +1,59 @@
 // Why a Bill isn't accepted.
-ghost use Rattle.std.specs.Prelude.{◌≡◌, ◌≤◌, SomeIff, nat_le, [], ◌∷◌};
+ghost use Rattle.std.specs.Prelude.{◌≡◌, ◌<◌, ◌≤◌, ℕ, SomeIff, length, nat_le, slice_index_or, true, [], ◌∷◌};
+ghost use Rattle.std.specs.List.{All};
+ghost use Rattle.std.specs.List.Sorted.{IsNonDecreasingBy};
+ghost use Rattle.card_events.specs.History.{at_number};
+ghost use Rattle.card_events.specs.declared.kept.Kept.{Kept};
 ghost use Rattle.card_events.specs.Limits.{post_limit};
 ghost use Rattle.card_days.specs.Range.{last_request_day};
 ghost use Rattle.card_days.specs.Billing.{IsCloseDay, closing};
-ghost use Rattle.card_model.specs.Refusals.{first_reason, where_true};
+ghost use Rattle.card_model.specs.Refusals.{bills, first_reason, holds_of, number_from, where_true};
 ghost use Rattle.card_reasons.specs.Reasons as reasons;
+ghost use Rattle.card_reasons.specs.Reasons.{AreInOrder};
 
 use crate::closings::closing_of;
-use crate::search::{Wanted, number_of};
+use crate::search::{Wanted, number_behind, number_of};
 use card_days::{Anchor, Day};
 use card_events::{Num, POST_LIMIT, Refusal};
 use card_posts::Posts;
 
-// Why a Bill isn't accepted today, of a cycle that closes on this day.
-fn closed_reason(posts: &Posts, today: Day, cycle: Num, closing: Day) -> Option<Refusal>
-    ensures { result ≡ reasons.closed_reason today closing posts.now.history cycle }
+// Whether the post with a number was accepted by a day.
+fn is_accepted_by(posts: &Posts, number: u32, day: Day) -> bool
+    ensures { result ≡ holds_of (λ k. nat_le k.accepted day) (at_number number posts.now.history) }
 {
-    match number_of(posts, &Wanted::Bill(cycle)) {
+    match posts.get(number) {
+        Some(kept) => kept.accepted <= day,
+        None => false,
+    }
+}
+
+// So many first posts were all accepted by a day, and none behind them was.
+fn accepted_by(posts: &Posts, day: Day) -> u32
+    requires { IsNonDecreasingBy (λ k. k.accepted) posts.now.history }
+    ensures { (k : ℕ) (d : Kept) → k < result → k < length posts.now.history → (slice_index_or posts.now.history k d).accepted ≤ day }
+{
+    for i in (0..posts.len()).rev() {
+        if is_accepted_by(posts, i + 1, day) {
+            return i + 1;
+        }
+    }
+    0
+}
+
+// The number of the Bill of a cycle that closes on this day: it was accepted later.
+fn bill_number(posts: &Posts, cycle: Num, closing: Day) -> Option<u32>
+    requires order { IsNonDecreasingBy (λ k. k.accepted) posts.now.history }
+    requires billed { All (λ k. bills cycle k.post ≡ true → closing < k.accepted) posts.now.history }
+    ensures { result ≡ number_from (bills cycle) 1 posts.now.history }
+{
+    number_behind(posts, accepted_by(posts, closing), &Wanted::Bill(cycle))
+}
+
+// Why a Bill isn't accepted today, of a cycle that closes on this day and has an earlier one.
+fn closed_reason(posts: &Posts, today: Day, closing: Day, earlier: Option<u32>) -> Option<Refusal>
+    ensures { (cycle : ℕ) → earlier ≡ number_from (bills cycle) 1 posts.now.history → result ≡ reasons.closed_reason today closing posts.now.history cycle }
+{
+    match earlier {
         Some(number) => Some(Refusal::WrongEntry(number as u64)),
         None => later_reason(today, closing, posts.len()),
     }
@@ -51,7 +88,31 @@ pub fn bill_reason(posts: &Posts, anchor: &Anchor, today: Day, cycle: Num) -> Op
     ensures { result ≡ reasons.bill_reason today anchor.now posts.now.history cycle }
 {
     match billed_closing(anchor, cycle) {
-        Some(closing) => closed_reason(posts, today, cycle, closing),
+        Some(closing) => {
+            let earlier = number_of(posts, &Wanted::Bill(cycle));
+            closed_reason(posts, today, closing, earlier)
+        }
+        None => Some(Refusal::AmountRange),
+    }
+}
+
+/// The same, where the posts are in the order of their days: it reads those that were accepted after the cycle's closing, and no
+/// others. The condition is for speed alone.
+pub fn ordered_bill_reason(
+    posts: &Posts,
+    anchor: &Anchor,
+    today: Day,
+    cycle: Num,
+) -> Option<Refusal>
+    requires close_day { IsCloseDay anchor.now.close_day }
+    requires order { AreInOrder anchor.now posts.now.history }
+    ensures { result ≡ reasons.bill_reason today anchor.now posts.now.history cycle }
+{
+    match billed_closing(anchor, cycle) {
+        Some(closing) => {
+            let earlier = bill_number(posts, cycle, closing);
+            closed_reason(posts, today, closing, earlier)
+        }
         None => Some(Refusal::AmountRange),
     }
 }

@@ -16,6 +16,7 @@ mod returned;
 mod review;
 mod search;
 
+pub use bill::ordered_bill_reason;
 pub use book::{penalty_reason, refund_reason};
 pub use closings::closing_of;
 pub use day::is_no_amount;

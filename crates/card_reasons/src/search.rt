@@ -1,5 +1,5 @@
 // The number of the first post that does something.
-ghost use Rattle.std.specs.Prelude.{◌≡◌};
+ghost use Rattle.std.specs.Prelude.{◌≡◌, ◌+◌, drop};
 ghost use Rattle.card_events.specs.History.{at_number};
 ghost use Rattle.card_events.specs.History as history;
 ghost use Rattle.card_model.specs.Deadlines as deadlines;
@@ -77,14 +77,21 @@ fn does_at(posts: &Posts, number: u32, wanted: &Wanted) -> bool
     }
 }
 
-/// The number of the first post that does it. None comes exactly where no post does.
-pub fn number_of(posts: &Posts, wanted: &Wanted) -> Option<u32>
-    ensures { result ≡ number_from (wants wanted.now) 1 posts.now.history }
+/// The number of the first post that does it, of those behind so many first ones. None comes exactly where none of them does.
+pub fn number_behind(posts: &Posts, first: u32, wanted: &Wanted) -> Option<u32>
+    ensures { result ≡ number_from (wants wanted.now) (first + 1) (drop first posts.now.history) }
 {
-    for i in 0..posts.len() {
+    for i in first..posts.len() {
         if does_at(posts, i + 1, wanted) {
             return Some(i + 1);
         }
     }
     None
+}
+
+/// The number of the first post that does it. None comes exactly where no post does.
+pub fn number_of(posts: &Posts, wanted: &Wanted) -> Option<u32>
+    ensures { result ≡ number_from (wants wanted.now) 1 posts.now.history }
+{
+    number_behind(posts, 0, wanted)
 }

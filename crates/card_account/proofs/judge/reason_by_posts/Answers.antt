@@ -1,10 +1,13 @@
-use Rattle.std.proofs.Common.{List, ℕ, ap, ◌∙◌}
+use Rattle.std.proofs.Common.{List, ℕ, sym, ap, ◌∙◌}
 use Rattle.card_events.specs.declared.kept.Kept.{Kept}
 use Rattle.card_model.specs.Refusals.{reason_against}
 use Rattle.card_account.proofs.judge.reason_by_posts.Goals as goal
 
-pub returns : goal.returns
-returns c =
+pub returns-in-Bill : goal.returns-in-Bill
+returns-in-Bill c = c.bill_today.ensures ∙ ap (reason_against c.args.now.now) (sym c.in-Bill.is)
+
+pub returns-in_default : goal.returns-in_default
+returns-in_default c =
     let now = c.args.now.now in
     let p = c.args.post.now in
     c.post_reason.ensures now.shared now.lists.issued c.posts.ensures.stands

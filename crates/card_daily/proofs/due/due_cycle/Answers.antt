@@ -1,5 +1,5 @@
-use Rattle.std.proofs.Common.{◌≡◌, Bool, pos, sym, ap, ◌∙◌}
-use Rattle.card_days.specs.Billing.{due}
+use Rattle.std.proofs.Common.{◌≡◌, Bool, pos, sym, ap, ◌∙◌, arith}
+use Rattle.card_days.specs.Billing.{closing, due}
 use Rattle.std.specs.Option.{option_map}
 use Rattle.card_fees.proofs.Issued.{due-fold}
 use Rattle.card_fees.specs.Asked.{is_due_by}
@@ -12,6 +12,13 @@ use Rattle.card_daily.proofs.due.due_cycle.Goals as goal
 abbrev told : Cycle → Bool → DueCycle
 told c t = record { cycle = c.number; minimum = pos c.minimum; grace_amount = pos c.grace_amount; has_due_payment = t }
 
+pub issued_since-requires : goal.issued_since-requires
+issued_since-requires c =
+    let a = anchor_of c.args.inputs.now.history in
+    let number = ap (λ (x : Cycle). closing a x.number) c.cycle.view_is in
+    let day = ap (λ (x : Cycle). x.closing) c.cycle.view_is ∙ c.requires.days.closing in
+    omega (arith, day, number)
+
 pub returns : goal.returns
 returns c =
     let cycle = c.args.cycle.now in
@@ -20,7 +27,7 @@ returns c =
     let number : c.cycle.inside.number ≡ cycle.number = ap (λ (x : Cycle). x.number) c.cycle.view_is in
     let due : c.cycle.inside.due ≡ due a cycle.number = ap (λ (x : Cycle). x.due) c.cycle.view_is ∙ c.requires.days.due in
     let issued : c.issue_day-issued.result ≡ option_map (λ (r : IssuedRow). r.day) (row_for cycle.number rows) =
-    c.issue_day-issued.ensures ∙ (ap (option_map (λ (r : IssuedRow). r.day)) c.issued_for.ensures ∙ ap (λ n. option_map (λ (r : IssuedRow). r.day) (row_for n rows)) number) in
+    c.issue_day-issued.ensures ∙ (ap (option_map (λ (r : IssuedRow). r.day)) c.issued_since.ensures ∙ ap (λ n. option_map (λ (r : IssuedRow). r.day) (row_for n rows)) number) in
     let has = c.is_due.ensures a cycle.number due
     ∙ (ap (is_due_by a cycle.number c.args.day) issued
     ∙ sym (due-fold a rows c.args.day cycle.number cycle c.anchor-anchor.ensures.sound.accepted.single c.requires.days)) in

@@ -1,11 +1,12 @@
 use Rattle.std.proofs.Common.{ℕ, ◌+◌, ◌<◌, ◌≤◌, sym, ap, ◌∙◌, arith, subst}
-use Rattle.card_days.specs.Billing.{due}
+use Rattle.card_days.specs.Billing.{closing, due}
 use Rattle.card_events.specs.History.{anchor_of, corrected}
 use Rattle.card_fees.specs.DueLaws.{issued_fees}
 use Rattle.card_fees.specs.declared.due_cycle.DueCycle.{DueCycle}
 use Rattle.card_model.specs.Caps.{row_for}
 use Rattle.card_model.specs.Cycles.{Cycle}
 use Rattle.card_daily.proofs.DueFee.{few, late-is}
+use Rattle.card_daily.proofs.Following.{upto-closing}
 use Rattle.card_daily.proofs.Lasts.{last-is}
 use Rattle.card_daily.specs.Given.{Given, IsSound, opened_in}
 use Rattle.card_daily.proofs.due.late_fee.Goals as goal
@@ -33,6 +34,14 @@ overflow_add-cycle-inside c =
     let last = c.requires.dated.last in
     omega arith
 
+pub issued_since-requires : goal.issued_since-requires
+issued_since-requires c =
+    let s = c.anchor-anchor.ensures.sound in
+    let g = c.args.inputs.now in
+    let is = last-is g c.args.day c.args.cycle.now s (late-days g c.args.day s c.requires.dated.opened) c.requires.dated.last c.requires.cycle in
+    let number = ap (λ (x : Cycle). x.number + 1) c.cycle.view_is ∙ (sym is.present ∙ is.now) in
+    subst (λ n. c.args.day ≤ closing (anchor_of g.history) n) (sym number) (upto-closing (anchor_of g.history) c.args.day s.opening c.requires.dated.opened c.requires.dated.last)
+
 pub due_fee-requires-clause-cycle : goal.due_fee-requires-clause-cycle
 due_fee-requires-clause-cycle c =
     let s = c.anchor-anchor.ensures.sound in
@@ -58,7 +67,7 @@ returns c =
     let g = c.args.inputs.now in
     let is = last-is g c.args.day c.args.cycle.now s (late-days g c.args.day s c.requires.dated.opened) c.requires.dated.last c.requires.cycle in
     let number = ap (λ (x : Cycle). x.number) c.cycle.view_is in
-    let issued = c.fees_of-issued.ensures ∙ (ap issued_fees c.issued_for.ensures ∙ ap (λ n. issued_fees (row_for (n + 1) g.issued)) number) in
+    let issued = c.fees_of-issued.ensures ∙ (ap issued_fees c.issued_since.ensures ∙ ap (λ n. issued_fees (row_for (n + 1) g.issued)) number) in
     let posts = c.posts.ensures.stands ∙ ap (λ h. corrected (anchor_of h) g.shared.holidays h) c.posts.ensures.history in
     c.due_fee.ensures g.shared.holidays c.posts.ensures.stands
     ∙ late-is g c.args.day c.args.cycle.now c.fees.result.now _ c.args.fees.now c.anchor-anchor.result c.posts.result.now.corrected c.due_cycle-due.result is c.requires.due

@@ -1,13 +1,15 @@
-use Rattle.std.proofs.Common.{pos, refl, sym, ap, ◌∙◌, arith, w64}
+use Rattle.std.proofs.Common.{◌≤◌, pos, refl, sym, ap, ◌∙◌, subst, arith, w64}
 use Rattle.std.proofs.lemmas.Int.{to_z-of_z}
 use Rattle.std.specs.Prelude.{option_copied, unsigned_abs}
-use Rattle.card_days.specs.Billing.{cycle_of}
+use Rattle.card_days.specs.Billing.{closing, cycle_of}
+use Rattle.card_events.specs.History.{anchor_of}
 use Rattle.card_fees.specs.DueFee.{capped_if_any}
 use Rattle.card_fees.specs.DueLaws.{issued_fees}
 use Rattle.card_model.specs.Cycles.{Cycle}
 use Rattle.card_model.specs.Fees.{last_due}
 use Rattle.card_model.specs.Payments.{asked}
-use Rattle.card_daily.proofs.Charging.{by-parts, due-by, fee-is, few-cycles}
+use Rattle.card_daily.proofs.Charging.{by-parts, counted-cycles, due-by, fee-is, few-cycles}
+use Rattle.card_daily.proofs.Following.{upto-closing}
 use Rattle.card_daily.specs.Given.{seen_in}
 use Rattle.card_daily.proofs.returns.fee_for.Goals as goal
 
@@ -20,6 +22,13 @@ overflow_add-cycles c =
     let few = few-cycles c.args.inputs.now c.args.day c.args.cycles.now c.anchor-anchor.ensures.sound c.requires.closed.dated.opened c.requires.closed.dated.last c.requires.closed.cycles in
     omega (arith, few)
 
+pub issued_since-requires : goal.issued_since-requires
+issued_since-requires c =
+    let s = c.anchor-anchor.ensures.sound in
+    let g = c.args.inputs.now in
+    let count = counted-cycles g c.args.day c.args.cycles.now s c.requires.closed.dated.opened c.requires.closed.cycles in
+    subst (λ n. c.args.day ≤ closing (anchor_of g.history) n) (sym count) (upto-closing (anchor_of g.history) c.args.day s.opening c.requires.closed.dated.opened c.requires.closed.dated.last)
+
 pub returns-in-Some : goal.returns-in-Some
 returns-in-Some c b own fees =
     let g = c.args.inputs.now in
@@ -28,7 +37,7 @@ returns-in-Some c b own fees =
     let cycles = c.args.cycles.now in
     let i = option_copied c.fees_of-issued.result in
     let least = asked (seen_in g day).issued (last_due day cycles) in
-    let issued = c.fees_of-issued.ensures ∙ ap issued_fees c.issued_for.ensures in
+    let issued = c.fees_of-issued.ensures ∙ ap issued_fees c.issued_since.ensures in
     let number = ap (λ (x : Cycle). x.number) c.meant.view_is in
     let minimum = ap unsigned_abs (to_z-of_z w64 c.minimum_of.result (record { sfits = c.minimum_of.type_inv }) ∙ c.minimum_of.ensures) in
     let asks = ap unsigned_abs (to_z-of_z w64 c.asked_by-least.result (record { sfits = c.asked_by-least.type_inv }) ∙ (c.asked_by-least.ensures.value ∙ ap (λ o. pos (asked (seen_in g day).issued o)) c.due_before.ensures)) in
@@ -45,7 +54,7 @@ returns-in-None c b own fees =
     let cycles = c.args.cycles.now in
     let i = option_copied c.fees_of-issued.result in
     let least = asked (seen_in g day).issued (last_due day cycles) in
-    let issued = c.fees_of-issued.ensures ∙ ap issued_fees c.issued_for.ensures in
+    let issued = c.fees_of-issued.ensures ∙ ap issued_fees c.issued_since.ensures in
     let number = ap (λ (x : Cycle). x.number) c.meant.view_is in
     let minimum = ap unsigned_abs (to_z-of_z w64 c.minimum_of.result (record { sfits = c.minimum_of.type_inv }) ∙ c.minimum_of.ensures) in
     let asks = ap unsigned_abs (to_z-of_z w64 c.asked_by-least.result (record { sfits = c.asked_by-least.type_inv }) ∙ (c.asked_by-least.ensures.value ∙ ap (λ o. pos (asked (seen_in g day).issued o)) c.due_before.ensures)) in

@@ -1,4 +1,5 @@
-use Rattle.std.proofs.Common.{◌≡◌, List, refl, ap, ◌∙◌, subst, arith}
+use Rattle.std.specs.List.Sorted.{IsNonDecreasingBy}
+use Rattle.std.proofs.Common.{◌≡◌, List, refl, sym, ap, ◌∙◌, subst, arith}
 use Rattle.std.proofs.lemmas.Bool.Decides.{nat_tests}
 use Rattle.card_days.specs.declared.anchor.Anchor.{Anchor}
 use Rattle.card_events.specs.History.{CorrectedPost, anchor_of, corrected}
@@ -8,6 +9,10 @@ use Rattle.card_rates.specs.Next.{IsNext, changes}
 use Rattle.card_dayend.specs.Spans.{closes, follows_due, has_issue, has_post}
 use Rattle.card_dayend.proofs.BreakDays.{next-at-once, span-next}
 use Rattle.card_dayend.proofs.break_day.span_end.Goals as goal
+
+pub next_issue-issued-requires-clause-turn : goal.next_issue-issued-requires-clause-turn
+next_issue-issued-requires-clause-turn c =
+    subst (λ (rs : List IssuedRow). IsNonDecreasingBy (λ (r : IssuedRow). r.day) rs) (sym c.issued.ensures) c.anchor-anchor.ensures.sound.in_turn.issued
 
 pub returns-then-eq : goal.returns-then-eq
 returns-then-eq c =

@@ -1,7 +1,11 @@
-use Rattle.std.proofs.Common.{◌≡◌, ◌-◌, ◌++◌, [], ◌∷◌, List, map, length, sym, ap, ◌∙◌, subst, arith, refl}
+use Rattle.std.proofs.Common.{◌≡◌, ◌-◌, ◌≤◌, ◌++◌, [], ◌∷◌, List, map, length, sym, ap, ◌∙◌, subst, arith, refl}
 use Rattle.std.proofs.lemmas.List.{length-map}
 use Rattle.std.specs.Prelude.{option_copied}
 use Rattle.card_closing.specs.Interest.{statement_of}
+use Rattle.card_days.specs.Billing.{closing}
+use Rattle.card_events.specs.History.{anchor_of}
+use Rattle.card_daily.proofs.ClosingDay.{present-is}
+use Rattle.card_daily.proofs.Following.{upto-closing}
 use Rattle.card_effects.specs.Standing.{is_added}
 use Rattle.card_closing.specs.Rows.{Rows, no_rows}
 use Rattle.card_model.specs.Cycles.{Cycle}
@@ -13,6 +17,14 @@ use Rattle.card_daily.proofs.Standing.{rated, within}
 use Rattle.card_daily.specs.Given.{account_in, opened_in, row_in, seen_in}
 use Rattle.card_daily.specs.Stands.{first_in, posted, rows_through}
 use Rattle.card_dayend.proofs.closing.close_cycle.Goals as goal
+
+pub issued_since-requires : goal.issued_since-requires
+issued_since-requires c =
+    let g = c.args.inputs.now in
+    let day = c.args.day in
+    let s = c.anchor-anchor.ensures.sound in
+    let number = c.closing_on-closing.ensures.of_book.cycle ∙ present-is g day s c.requires.dated.opened in
+    subst (λ n. day ≤ closing (anchor_of g.history) n) (sym number) (upto-closing (anchor_of g.history) day s.opening c.requires.dated.opened c.requires.dated.last)
 
 pub close-requires-clause-step : goal.close-requires-clause-step
 close-requires-clause-step c =
@@ -58,7 +70,7 @@ returns-clause-closed c =
     let did = c.in_ok-cycle.ensures in
     let given = given-for g day s t c.closing_on-closing.result (option_copied c.statement-issued.result) c.deref-2.result.now c.deref-3.result.now c.deref-4.result.now
     c.anchor-anchor.ensures.sound c.requires.dated.opened c.requires.dated.last c.requires.closes h c.closing_on-closing.ensures.of_book
-    (c.statement-issued.ensures ∙ ap statement_of c.issued_for.ensures) c.deref-2.ensures.value c.deref-3.ensures.value c.deref-4.ensures.value in
+    (c.statement-issued.ensures ∙ ap statement_of c.issued_since.ensures) c.deref-2.ensures.value c.deref-3.ensures.value c.deref-4.ensures.value in
     closed-of g day s _ t _ c.requires.dated.opened c.requires.closes h
     (record {
       entries = did.entries row s.rates.segments (is_added day) (account_in g) (seen_in g day) (posted g day) given;
