@@ -1,7 +1,9 @@
 -- The account of the cases with its opening alone may be folded, and its fold to 2024-03-10 takes five steps.
-use Rattle.std.proofs.Common.{◌≡◌, ℕ, List, [], refl, sym, ap, ◌∙◌, subst, arith, true, Option, Some, None}
+use Rattle.std.proofs.Common.{◌≡◌, ℕ, ◌<◌, Bool, false, List, [], ◌∷◌, refl, sym, ap, ◌∙◌, subst, arith, true, Option, Some, None}
 use Rattle.std.proofs.lemmas.List.Elements.{All-cons, All-nil}
+use Rattle.std.proofs.lemmas.List.Sorted.{IsNonDecreasingBy-short}
 use Rattle.std.specs.List.{All, count_by}
+use Rattle.card_days.specs.Billing.{closing}
 use Rattle.card_events.specs.Dated.{is_dated_post}
 use Rattle.card_events.specs.History.{adds_segment, anchor_of, corrected}
 use Rattle.card_events.specs.declared.kept.Kept.{Kept}
@@ -11,15 +13,19 @@ use Rattle.card_model.specs.Caps.{row_for}
 use Rattle.card_model.specs.Cycles.{IssuedRow}
 use Rattle.card_model.specs.Deadlines.{resolves}
 use Rattle.card_model.specs.Everything.{everything}
+use Rattle.card_model.specs.Refusals.{bills}
 use Rattle.card_model.specs.Spans.{steps_among}
 use Rattle.card_model.specs.declared.segment.Interval.{Interval}
-use Rattle.card_daily.specs.Given.{EndsWithAClosing, Given, IsSound, NamePayments, account_in, book_on, opened_in}
+use Rattle.card_daily.specs.Given.{AreInTurn, EndsWithAClosing, Given, IsBilledLater, IsSound, NamePayments, account_in, book_on, opened_in}
 use Rattle.card_book.specs.Stands.{steps_over}
 use Rattle.card_cases.specs.Account.{opening}
 use Rattle.card_cases.specs.Alone.{IsAlone, alone, given_alone}
 
 pub no-days : (days : ℕ × ℕ) (o : Option (ℕ × ℕ)) → o ≡ None → o ≡ Some days → ⊥
 no-days days o e f = cc
+
+pub no-bill : (b : Bool) → b ≡ false → b ≡ true → ⊥
+no-bill b e f = cc
 
 abbrev kept : ℕ → List ℕ → ℕ → Kept
 kept n key accepted = record { number = n; key = key; accepted = accepted; post = opening }
@@ -31,6 +37,17 @@ dated n key accepted = All-cons (λ (k : Kept). is_dated_post k.post ≡ true) (
 names-none : (n : ℕ) (key : List ℕ) (accepted : ℕ) → NamePayments (alone n key accepted) 1 (alone n key accepted)
 unfolding NamePayments
 names-none n key accepted = (tt, tt)
+
+in-turn : (n : ℕ) (key : List ℕ) (accepted : ℕ) → AreInTurn (record { posts = alone n key accepted; issued = [] })
+in-turn n key accepted =
+    let k = kept n key accepted in
+    let a = anchor_of (alone n key accepted) in
+    record {
+      accepted = IsNonDecreasingBy-short (λ (x : Kept). x.accepted) (k ∷ []) (omega arith);
+      billed = All-cons (IsBilledLater a) k [] (λ cycle is. absurd (no-bill (bills cycle opening) refl is)) (All-nil (IsBilledLater a));
+      issued = IsNonDecreasingBy-short (λ (r : IssuedRow). r.day) [] (omega arith);
+      later = All-nil (λ (r : IssuedRow). closing a r.cycle < r.day);
+    }
 
 pub sound : (n : ℕ) (key : List ℕ) (accepted : ℕ) → IsSound (given_alone (alone n key accepted))
 sound n key accepted =
@@ -51,6 +68,7 @@ sound n key accepted =
       opening = record { first = omega arith; last = omega arith; close_day = (omega arith, omega arith) };
       plans = All-cons (EndsWithAClosing (anchor_of ks)) k [] (λ first end e. absurd (no-days (first, end) None refl e)) (All-nil (EndsWithAClosing (anchor_of ks)));
       returns = names-none n key accepted;
+      in_turn = in-turn n key accepted;
     }
 
 pub sound-of : (history : List Kept) → IsAlone history → IsSound (given_alone history)

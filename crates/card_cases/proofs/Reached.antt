@@ -1,7 +1,8 @@
 -- The steps of the account with its opening alone, as it is folded on and a charge is accepted.
-use Rattle.std.proofs.Common.{◌≡◌, ℕ, ◌+◌, ◌≤◌, true, false, nat_le, List, [], ◌∷◌, ◌++◌, refl, sym, ap, ◌∙◌, subst, arith, Some, None}
+use Rattle.std.proofs.Common.{◌≡◌, ℕ, ◌+◌, ◌<◌, ◌≤◌, true, false, nat_le, List, [], ◌∷◌, ◌++◌, refl, sym, ap, ◌∙◌, subst, arith, Some, None}
 use Rattle.std.proofs.lemmas.Bool.Decides.{nat_tests}
 use Rattle.std.proofs.lemmas.List.Elements.{All-cons, All-nil}
+use Rattle.std.proofs.lemmas.List.Sorted.{IsNonDecreasingBy-push, IsNonDecreasingBy-short}
 use Rattle.std.specs.List.{All, count_by}
 use Rattle.card_events.specs.Dated.{is_dated_post}
 use Rattle.card_events.specs.History.{CorrectedPost, adds_segment, anchor_of, corrected}
@@ -14,16 +15,17 @@ use Rattle.card_model.specs.Cycles.{IssuedRow}
 use Rattle.card_model.specs.Deadlines.{resolves}
 use Rattle.card_model.specs.Everything.{everything}
 use Rattle.card_model.specs.Machine.{accepted}
-use Rattle.card_model.specs.Refusals.{Lists, reason_against}
+use Rattle.card_model.specs.Refusals.{Lists, bills, reason_against}
+use Rattle.card_days.specs.Billing.{closing}
 use Rattle.card_days.specs.Range.{last_request_day}
 use Rattle.card_posts.specs.Change.{IsFirstChange, on, up_to}
 use Rattle.card_posts.specs.Posted.{last_accepted}
-use Rattle.card_daily.specs.Given.{EndsWithAClosing, Given, IsSound, NamePayments}
+use Rattle.card_daily.specs.Given.{AreInTurn, EndsWithAClosing, Given, IsBilledLater, IsSound, NamePayments}
 use Rattle.card_book.specs.Stands.{steps_over}
 use Rattle.card_book.specs.StepCounts.{breaks_with}
 use Rattle.card_replay.specs.Replays.{MayReach, Replay, given_of, opened_lists, present_of}
 use Rattle.card_replay.specs.Steps.{AreFewToPrepare, IsFirstBetween, first_in_cycle, steps_to}
-use Rattle.card_cases.proofs.Alone.{four, no-days, sound}
+use Rattle.card_cases.proofs.Alone.{four, no-bill, no-days, sound}
 use Rattle.card_cases.specs.Account.{opening}
 use Rattle.card_cases.specs.Alone.{HasOpeningAlone, alone, charge, given_alone, lists_alone, no_rows}
 
@@ -79,9 +81,9 @@ no-step shared r h e day = on-day 19793 19793 0 shared r h e day (λ n key accep
 -- ---- the charge
 -- what holds of the account and the charge holds of these values
 with-charge : (P : ℕ → SharedRows → Lists → Post → Type 0) (today : ℕ) (shared : SharedRows) (lists : Lists) (p : Post) → today ≡ 19794 → shared ≡ no_rows → HasOpeningAlone lists → p ≡ charge
-    → ((n : ℕ) (key : List ℕ) (accepted : ℕ) → P 19794 no_rows (lists_alone n key accepted) charge) → P today shared lists p
+    → ((n : ℕ) (key : List ℕ) (accepted : ℕ) → accepted ≤ 19728 → P 19794 no_rows (lists_alone n key accepted) charge) → P today shared lists p
 with-charge P today shared lists p day rows h post each =
-    subst (λ d. P d shared lists p) (sym day) (subst (λ s. P 19794 s lists p) (sym rows) (subst (λ l. P 19794 no_rows l p) (sym h.is) (subst (P 19794 no_rows (lists_alone h.number h.key h.accepted)) (sym post) (each h.number h.key h.accepted))))
+    subst (λ d. P d shared lists p) (sym day) (subst (λ s. P 19794 s lists p) (sym rows) (subst (λ l. P 19794 no_rows l p) (sym h.is) (subst (P 19794 no_rows (lists_alone h.number h.key h.accepted)) (sym post) (each h.number h.key h.accepted h.early))))
 
 pub charge-dated : (p : Post) → p ≡ charge → is_dated_post p ≡ true
 unfolding is_dated_post
@@ -92,7 +94,7 @@ unfolding everything
 none n key accepted = refl
 
 pub no-reason : (today : ℕ) (shared : SharedRows) (lists : Lists) (p : Post) → today ≡ 19794 → shared ≡ no_rows → HasOpeningAlone lists → p ≡ charge → reason_against (present_of today shared lists) p ≡ None
-no-reason today shared lists p day rows h post = with-charge (λ t s l q. reason_against (present_of t s l) q ≡ None) today shared lists p day rows h post none
+no-reason today shared lists p day rows h post = with-charge (λ t s l q. reason_against (present_of t s l) q ≡ None) today shared lists p day rows h post (λ n key since early. none n key since)
 
 abbrev charged : ℕ → List ℕ → ℕ → List ℕ → List Kept
 charged n key accepted name = alone n key accepted ++ record { number = 2; key = name; accepted = 19794; post = charge } ∷ []
@@ -118,8 +120,20 @@ names-none : (n : ℕ) (key : List ℕ) (accepted : ℕ) (name : List ℕ) → N
 unfolding NamePayments
 names-none n key accepted name = (tt, (tt, tt))
 
-sound-both : (n : ℕ) (key : List ℕ) (accepted : ℕ) (name : List ℕ) → IsSound (given_charged n key accepted name)
-sound-both n key accepted name =
+in-turn : (n : ℕ) (key : List ℕ) (accepted : ℕ) (name : List ℕ) → accepted ≤ 19728 → AreInTurn (record { posts = charged n key accepted name; issued = [] })
+in-turn n key accepted name early =
+    let a = kept n key accepted opening in
+    let b = kept 2 name 19794 charge in
+    let anchor = anchor_of (charged n key accepted name) in
+    record {
+      accepted = IsNonDecreasingBy-push (λ (x : Kept). x.accepted) (a ∷ []) b (IsNonDecreasingBy-short (λ (x : Kept). x.accepted) (a ∷ []) (omega arith)) (λ d some. omega (arith, early));
+      billed = both (IsBilledLater anchor) a b (λ cycle is. absurd (no-bill (bills cycle opening) refl is)) (λ cycle is. absurd (no-bill (bills cycle charge) refl is));
+      issued = IsNonDecreasingBy-short (λ (r : IssuedRow). r.day) [] (omega arith);
+      later = All-nil (λ (r : IssuedRow). closing anchor r.cycle < r.day);
+    }
+
+sound-both : (n : ℕ) (key : List ℕ) (accepted : ℕ) (name : List ℕ) → accepted ≤ 19728 → IsSound (given_charged n key accepted name)
+sound-both n key accepted name early =
     let a = kept n key accepted opening in
     let b = kept 2 name 19794 charge in
     let ks = charged n key accepted name in
@@ -138,13 +152,14 @@ sound-both n key accepted name =
       opening = record { first = omega arith; last = omega arith; close_day = (omega arith, omega arith) };
       plans = both (EndsWithAClosing (anchor_of ks)) a b (λ first end e. absurd (no-days (first, end) None refl e)) (λ first end e. absurd (no-days (first, end) None refl e));
       returns = names-none n key accepted name;
+      in_turn = in-turn n key accepted name early;
     }
 
 pub sound-with : (today : ℕ) (shared : SharedRows) (lists : Lists) (name : List ℕ) (p : Post) → today ≡ 19794 → shared ≡ no_rows → HasOpeningAlone lists → p ≡ charge
     → IsSound (given_of (accepted (present_of today shared lists) name p) shared)
 sound-with today shared lists name p day rows h post =
     with-charge (λ t s l q. IsSound (given_of (accepted (present_of t s l) name q) s)) today shared lists p day rows h post
-    (λ n key since. subst (λ l. IsSound (given_of l no_rows)) (sym (with-it n key since name)) (sound-both n key since name))
+    (λ n key since early. subst (λ l. IsSound (given_of l no_rows)) (sym (with-it n key since name)) (sound-both n key since name early))
 
 -- the corrected list first differs on its day
 abbrev corrected_alone : ℕ → List ℕ → ℕ → List CorrectedPost
@@ -188,5 +203,5 @@ three n key since name before after few =
 pub three-steps : (today : ℕ) (shared : SharedRows) (lists : Lists) (reached : ℕ) (name : List ℕ) (p : Post) (before after : ℕ) → today ≡ 19794 → shared ≡ no_rows → HasOpeningAlone lists → reached ≡ 19793 → p ≡ charge
     → AreFewToPrepare today shared lists reached name p before after → after ≤ before + 3
 three-steps today shared lists reached name p before after day rows h last post few =
-    with-charge (λ t s l q. AreFewToPrepare t s l 19793 name q before after → after ≤ before + 3) today shared lists p day rows h post (λ n key since. three n key since name before after)
+    with-charge (λ t s l q. AreFewToPrepare t s l 19793 name q before after → after ≤ before + 3) today shared lists p day rows h post (λ n key since early. three n key since name before after)
     (subst (λ d. AreFewToPrepare today shared lists d name p before after) last few)
