@@ -3,9 +3,9 @@
 #![tactic(auto)]
 
 use card_commands::billctl;
+use card_events::NoMemory;
 use card_ports::{Asking, Keeper, Lent, MemoryKeeper, Replies, StdSink, StdSource, TcpDoor};
 use card_sqlite::SqliteKeeper;
-use card_units::NoMemory;
 use std::cell::RefCell;
 use std::io::{self, Write};
 use std::process::ExitCode;

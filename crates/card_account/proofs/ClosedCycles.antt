@@ -6,10 +6,10 @@ use Rattle.std.proofs.lemmas.Bool.{and_parts, cases_lt, ltb-true}
 use Rattle.card_account.specs.Accounts.{is_closed, restated_as, restated_statement}
 use Rattle.card_replay.specs.Replays.{present_of}
 use Rattle.card_account.specs.Closed.{ClosedCyclesAreInTheBook}
-use Rattle.card_days.specs.Billing.{closing}
-use Rattle.card_days.specs.Range.{last_request_day}
-use Rattle.card_days.specs.declared.anchor.Anchor.{Anchor}
-use Rattle.card_days.proofs.Cycles.{closing_grows, cycle_around}
+use Rattle.card_events.specs.Billing.{closing}
+use Rattle.card_events.specs.Range.{last_request_day}
+use Rattle.card_events.specs.declared.anchor.Anchor.{Anchor}
+use Rattle.card_events.proofs.Cycles.{closing_grows, cycle_around}
 use Rattle.card_events.specs.History.{anchor_of}
 use Rattle.card_model.specs.Caps.{row_for}
 use Rattle.card_model.specs.CycleDays.{HasItsDays, IsOpening}

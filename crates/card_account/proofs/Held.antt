@@ -6,7 +6,7 @@ use Rattle.std.specs.List.{All}
 use Rattle.std.specs.Prelude.{nat_le, nat_lt}
 use Rattle.card_account.specs.Runs.{IsTakenPost}
 use Rattle.card_account.proofs.NamingLemmas.{names}
-use Rattle.card_days.specs.Range.{first_calendar_day}
+use Rattle.card_events.specs.Range.{first_calendar_day}
 use Rattle.card_reasons.proofs.Accepted.{received}
 use Rattle.card_reasons.proofs.ReasonLemmas.{none_tail, none_head, where_none}
 use Rattle.card_daily.proofs.Naming.{names-more}

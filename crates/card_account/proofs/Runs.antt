@@ -7,7 +7,7 @@ use Rattle.std.specs.Prelude.{nat_le, nat_lt, ◌&&◌}
 use Rattle.std.specs.Str.{bytes_eq}
 use Rattle.card_account.specs.Runs.{AreRunning, IsTaken, RunsMayBeFolded}
 use Rattle.card_account.proofs.Held.{AreHeld, HeldIf, HeldThere, IsHeld, later-held, outcome-held}
-use Rattle.card_days.specs.Range.{last_request_day, first_calendar_day}
+use Rattle.card_events.specs.Range.{last_request_day, first_calendar_day}
 use Rattle.card_reasons.proofs.ReasonLemmas.{none_head, where_none}
 use Rattle.card_daily.proofs.Runs.{runs_keep_plans}
 use Rattle.card_daily.proofs.Turns.{runs_keep_turns}

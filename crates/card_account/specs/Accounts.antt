@@ -6,8 +6,8 @@ use Rattle.card_book.specs.Stands.{FoldedBook}
 use Rattle.card_book.specs.Statements.{statement_on}
 use Rattle.card_daily.specs.Given.{IsSound, ReachesToday, given_today}
 use Rattle.card_daily.specs.declared.track.Statement.{Statement}
-use Rattle.card_days.specs.Billing.{closing}
-use Rattle.card_days.specs.Range.{last_calendar_day}
+use Rattle.card_events.specs.Billing.{closing}
+use Rattle.card_events.specs.Range.{last_calendar_day}
 use Rattle.card_events.specs.History.{CorrectedPost, anchor_of, corrected}
 use Rattle.card_events.specs.SharedRows.{SharedRows}
 use Rattle.card_model.specs.Books.{Book}

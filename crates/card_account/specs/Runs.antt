@@ -3,7 +3,7 @@ use Rattle.std.specs.Prelude.{◌≡◌, ◌≤◌, true, List}
 use Rattle.std.specs.List.{All}
 use Rattle.card_replay.specs.Replays.{given_of}
 use Rattle.card_daily.specs.Given.{IsSound}
-use Rattle.card_days.specs.Range.{first_calendar_day}
+use Rattle.card_events.specs.Range.{first_calendar_day}
 use Rattle.card_events.specs.Dated.{is_dated}
 use Rattle.card_events.specs.History.{anchor_of, opening_in}
 use Rattle.card_events.specs.SharedRows.{shared_rows}

@@ -10,13 +10,10 @@ use crate::statement::{issued_of, restated_issue};
 use crate::verdict::Verdict;
 use crate::work::tasks_today;
 use card_book::{Folded, Present, Statement};
-use card_days::Day;
 use card_disputes::Task;
-use card_events::{Name, Num, Post, Refusal};
+use card_events::{Day, Name, NoMemory, Num, Post, Refusal, Steps};
 use card_fees::SharedRows;
 use card_replay::{Change, Replay};
-use card_steps::Steps;
-use card_units::NoMemory;
 use std::alloc::Global;
 use std::marker::Model;
 use std::sync::ledger::Ledger;
@@ -38,8 +35,8 @@ impl Model for Account {
 
 impl Account {
     ghost use Rattle.std.specs.Prelude.{◌≡◌, ◌≤◌, ◌+◌, true, false, length, IfOk, OnErr, OnOk, None, List, ℕ, if◌then◌else◌};
-    ghost use Rattle.card_days.specs.Billing.{IsCloseDay};
-    ghost use Rattle.card_days.specs.Range.{last_request_day};
+    ghost use Rattle.card_events.specs.Billing.{IsCloseDay};
+    ghost use Rattle.card_events.specs.Range.{last_request_day};
     ghost use Rattle.card_account.specs.Accounts.{HasTold, IsAccount, IsFoldedToday, IsIssueOf, IsTold, issued_statement, owing_in, replay_of, restated_statement, steps_of};
     ghost use Rattle.card_account.specs.Entries.{entries_today};
     ghost use Rattle.card_account.specs.Verdicts.{verdict_of};

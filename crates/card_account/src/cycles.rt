@@ -1,6 +1,6 @@
 // Closed cycles by their numbers as they are read.
 ghost use Rattle.std.specs.Prelude.{◌≡◌, ◌≤◌, option_copied};
-ghost use Rattle.card_days.specs.Range.{last_calendar_day};
+ghost use Rattle.card_events.specs.Range.{last_calendar_day};
 ghost use Rattle.card_model.specs.Folds.{cycle_at};
 
 use card_book::{Cycle, Folded};

@@ -5,8 +5,8 @@ ghost use Rattle.card_model.specs.Refusals.{book_today};
 ghost use Rattle.card_rates.specs.Segments.{account_segments};
 
 use card_book::{Entry, Folded, Present};
+use card_events::NoMemory;
 use card_model::Segment;
-use card_units::NoMemory;
 use std::alloc::Global;
 use std::marker::Model;
 

@@ -1,15 +1,13 @@
 // Statements of an account, as they were issued and as they are now.
 ghost use Rattle.std.specs.Prelude.{◌≡◌, ◌≤◌, true, IfOk, option_copied};
-ghost use Rattle.card_days.specs.Range.{last_calendar_day};
+ghost use Rattle.card_events.specs.Range.{last_calendar_day};
 ghost use Rattle.card_account.specs.Accounts.{IsIssueOf, is_closed, issue_of, issued_statement, statement_of};
 ghost use Rattle.card_model.specs.Refusals.{book_today};
 
 use crate::cycles::closed_cycle;
 use card_book::{Cycle, Folded, Issued, Present, Statement, row_for};
-use card_days::Day;
-use card_events::Num;
+use card_events::{Day, NoMemory, Num};
 use card_reasons::closing_of;
-use card_units::NoMemory;
 use std::alloc::Global;
 
 /// The statement of a cycle as it was issued.

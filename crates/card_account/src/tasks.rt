@@ -5,11 +5,9 @@ ghost use Rattle.card_account.specs.Accounts.{AreTold, HasTold, IsAccount, IsTol
 ghost use Rattle.card_account.specs.Works.{tasks_of, work_of};
 
 use crate::Account;
-use card_days::Day;
 use card_disputes::{Task, in_work_order};
+use card_events::{Day, NoMemory, Steps};
 use card_fees::SharedRows;
-use card_steps::Steps;
-use card_units::NoMemory;
 use std::alloc::Global;
 use std::marker::Model;
 use std::sync::ledger::Ledger;

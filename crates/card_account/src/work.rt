@@ -7,8 +7,7 @@ ghost use Rattle.card_model.specs.Work.{tasks_in};
 
 use card_book::{Folded, Present};
 use card_disputes::{Task, work_of};
-use card_events::Name;
-use card_units::NoMemory;
+use card_events::{Name, NoMemory};
 use std::alloc::Global;
 
 /// The open tasks of an account today, by day, kind and post.

@@ -1,9 +1,9 @@
 -- The closings up to the last day folded, and the next one.
 use Rattle.std.proofs.Common.{◌≡◌, ℕ, zero, suc, ◌+◌, ◌-◌, ◌<◌, ◌≤◌, List, [], length, Some, None, sym, ap, ◌∙◌, subst, arith}
-use Rattle.card_days.specs.Billing.{closing}
-use Rattle.card_days.specs.Range.{last_request_day}
-use Rattle.card_days.specs.declared.anchor.Anchor.{Anchor}
-use Rattle.card_days.proofs.Cycles.{cycle_around}
+use Rattle.card_events.specs.Billing.{closing}
+use Rattle.card_events.specs.Range.{last_request_day}
+use Rattle.card_events.specs.declared.anchor.Anchor.{Anchor}
+use Rattle.card_events.proofs.Cycles.{cycle_around}
 use Rattle.card_events.specs.History.{anchor_of}
 use Rattle.card_model.specs.Cycles.{Cycle}
 use Rattle.card_model.specs.Folds.{cycle_at}

@@ -1,7 +1,7 @@
 -- A Book after a span more.
 use Rattle.std.proofs.Common.{◌≡◌, ℕ, ◌+◌, ◌-◌, ◌≤◌, Bool, refl, sym, ap, ◌∙◌, subst, arith, Option, Some, None}
 use Rattle.std.specs.Prelude.{neg_ℤ}
-use Rattle.card_days.specs.Range.{last_request_day}
+use Rattle.card_events.specs.Range.{last_request_day}
 use Rattle.card_events.specs.History.{anchor_of}
 use Rattle.card_model.specs.Books.{Book}
 use Rattle.card_model.specs.CycleDays.{IsOpening}

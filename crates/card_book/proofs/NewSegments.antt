@@ -6,7 +6,7 @@ use Rattle.std.proofs.lemmas.List.Elements.{All-cons, All-contains, All-nil, All
 use Rattle.card_bounds.proofs.OnSegments.{entries_have_segments}
 use Rattle.card_bounds.specs.Places.{numbers_of}
 use Rattle.std.proofs.lemmas.List.Sums.{sum_by-cons}
-use Rattle.card_days.specs.declared.anchor.Anchor.{Anchor}
+use Rattle.card_events.specs.declared.anchor.Anchor.{Anchor}
 use Rattle.card_events.specs.History.{anchor_of, corrected, next_segment, terms_of}
 use Rattle.card_events.specs.declared.kept.Kept.{Kept}
 use Rattle.card_events.specs.declared.post.Terms.{Terms}
@@ -20,7 +20,7 @@ use Rattle.card_model.proofs.Grows.{Extends}
 use Rattle.card_rates.specs.Added.{added_from}
 use Rattle.card_rates.specs.RateBooks.{AreByNumber}
 use Rattle.card_rates.proofs.Added.{all-by-number, segments-are}
-use Rattle.card_units.specs.Money.{daily}
+use Rattle.card_events.specs.Money.{daily}
 use Rattle.card_rates.specs.Laws.{segments_on}
 use Rattle.card_rates.proofs.DayLaws.{segments_of_a_day}
 use Rattle.card_daily.specs.Given.{Given, book_on}

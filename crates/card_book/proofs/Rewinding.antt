@@ -6,7 +6,7 @@ use Rattle.std.proofs.lemmas.List.{length-map, take-append-drop}
 use Rattle.card_bounds.proofs.HeldDays.{held_is_never_below}
 use Rattle.card_bounds.proofs.Whole.{balances_small}
 use Rattle.card_bounds.specs.Bounds.{IsLimited, IsOrderly}
-use Rattle.card_days.specs.Range.{last_request_day}
+use Rattle.card_events.specs.Range.{last_request_day}
 use Rattle.card_events.specs.Limits.{post_limit}
 use Rattle.card_closing.specs.Accruals.{Accrued}
 use Rattle.card_closing.specs.Rows.{no_rows}

@@ -11,9 +11,9 @@ use Rattle.card_bounds.proofs.OnDays.{entries_have_days}
 use Rattle.card_bounds.proofs.OnSegments.{entries_have_segments}
 use Rattle.card_bounds.specs.Bounds.{IsLimited, moved, moves, most_interest, most_moved}
 use Rattle.card_closing.specs.Interest.{statement_of}
-use Rattle.card_days.proofs.Cycles.{after_closing, closing_grows}
-use Rattle.card_days.specs.Billing.{closing}
-use Rattle.card_days.specs.Range.{last_request_day}
+use Rattle.card_events.proofs.Cycles.{after_closing, closing_grows}
+use Rattle.card_events.specs.Billing.{closing}
+use Rattle.card_events.specs.Range.{last_request_day}
 use Rattle.card_effects.proofs.DayLaws.{books_of_a_day}
 use Rattle.card_effects.specs.Standing.{is_added}
 use Rattle.card_events.specs.History.{anchor_of}

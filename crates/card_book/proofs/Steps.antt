@@ -1,7 +1,7 @@
 -- The steps of a fold, one a span, and what it adds to the track.
 use Rattle.std.proofs.Common.{◌≡◌, ℕ, ◌+◌, ◌-◌, ◌<◌, ◌≤◌, true, List, [], ◌∷◌, take, length, refl, sym, ap, ◌∙◌, subst, arith, ◌⊎◌, inl, inr}
 use Rattle.std.proofs.lemmas.Bool.{cases_lt}
-use Rattle.card_days.specs.Range.{last_request_day}
+use Rattle.card_events.specs.Range.{last_request_day}
 use Rattle.card_events.specs.History.{anchor_of}
 use Rattle.card_model.specs.Books.{Book}
 use Rattle.card_model.specs.Cuts.{is_break_by}

@@ -5,7 +5,7 @@ use Rattle.std.proofs.lemmas.Option.{slice_get-get_or}
 use Rattle.std.specs.Prelude.{◌≤ℤ◌, neg_ℤ}
 use Rattle.card_bounds.proofs.Whole.{balances_small}
 use Rattle.card_bounds.specs.Bounds.{IsLimited}
-use Rattle.card_days.specs.Range.{last_request_day}
+use Rattle.card_events.specs.Range.{last_request_day}
 use Rattle.card_events.specs.Limits.{post_limit}
 use Rattle.card_closing.specs.Accruals.{Accrued}
 use Rattle.card_model.specs.Books.{Book}

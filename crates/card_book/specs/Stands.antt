@@ -1,6 +1,6 @@
 -- What a Book keeps of an account, and how it stands beside a track for the book of a day. Days are day numbers.
 use Rattle.std.specs.Prelude.{ℕ, ◌+◌, ◌-◌, ◌==◌, ◌≡◌, ◌≤◌, Bool, if◌then◌else◌, unwrap_or, List, Option, Some, None, ℤ, ⊤}
-use Rattle.card_days.specs.Range.{last_request_day}
+use Rattle.card_events.specs.Range.{last_request_day}
 use Rattle.card_closing.specs.Accruals.{Accrued}
 use Rattle.card_model.specs.Books.{Book, empty_book}
 use Rattle.card_model.specs.Cuts.{is_break_by}

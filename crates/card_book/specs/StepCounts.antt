@@ -1,6 +1,6 @@
 -- How many steps folds take together. Days are day numbers.
 use Rattle.std.specs.Prelude.{ℕ, ◌+◌, ◌-◌, ◌≡◌, ◌≤◌, Bool, true, ◌||◌}
-use Rattle.card_days.specs.Range.{last_request_day}
+use Rattle.card_events.specs.Range.{last_request_day}
 use Rattle.card_events.specs.History.{anchor_of}
 use Rattle.card_model.specs.Breaks.{breaks_among}
 use Rattle.card_model.specs.CycleDays.{IsOpening}

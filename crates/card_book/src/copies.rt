@@ -3,7 +3,7 @@ ghost use Rattle.std.specs.Prelude.{◌≡◌, IfOk};
 
 use card_closing::CycleRows;
 use card_daily::State;
-use card_units::NoMemory;
+use card_events::NoMemory;
 use std::alloc::Global;
 
 fn copy_rows(rows: &[CycleRows], alloc: Global) -> Result<Vec<CycleRows>, NoMemory>

@@ -1,6 +1,6 @@
 // The state of a Book at an earlier closing, and over more posts.
 ghost use Rattle.std.specs.Prelude.{◌≡◌, ◌+◌, ◌-◌, ◌<◌, ◌≤◌, ℕ, ◌++◌, length, map, pos, replicate, IfOk};
-ghost use Rattle.card_days.specs.Range.{last_calendar_day};
+ghost use Rattle.card_events.specs.Range.{last_calendar_day};
 ghost use Rattle.card_closing.specs.Accruals.{nothing_accrued};
 ghost use Rattle.card_closing.specs.Rows.{no_rows};
 ghost use Rattle.card_model.specs.Cuts.{penalties_at};
@@ -13,10 +13,9 @@ use crate::marks::{Accruing, accruals_at};
 use card_closing::Accrual;
 use card_daily::{Entry, Inputs, State};
 use card_dayend::empty_rows;
-use card_days::Day;
+use card_events::{Day, NoMemory};
 use card_rates::segments_of;
 use card_segments::Segments;
-use card_units::NoMemory;
 use std::alloc::Global;
 
 // The state at the closing of a cycle, before these entries: what had accrued by then was kept.

@@ -12,10 +12,9 @@ use crate::Book;
 use crate::statement::cycle_in;
 use card_closing::Accrual;
 use card_daily::{Cycle, Entry, Fee, Present, Track, is_sixty_days_late};
-use card_days::Day;
+use card_events::{Cents, Day, NoMemory};
 use card_rates::RateBook;
 use card_segments::{Segment, Segments};
-use card_units::{Cents, NoMemory};
 use std::alloc::Global;
 use std::marker::Model;
 

@@ -1,6 +1,6 @@
 // The book of an account, folded from its opening day on.
 ghost use Rattle.std.specs.Prelude.{◌≡◌, ◌≤◌, IfOk};
-ghost use Rattle.card_days.specs.Range.{last_request_day};
+ghost use Rattle.card_events.specs.Range.{last_request_day};
 ghost use Rattle.card_book.specs.Stands.{IsFoldedTo};
 ghost use Rattle.card_daily.specs.Given.{IsDayOf, book_on, opened_in};
 ghost use Rattle.card_daily.specs.Stands.{HaveAccrued};
@@ -8,15 +8,13 @@ ghost use Rattle.card_model.specs.Deadlines.{credit_since};
 ghost use Rattle.card_model.specs.Entries.{AreBalances};
 ghost use Rattle.card_rates.specs.RateBooks.{rates_of};
 ghost use Rattle.card_rates.specs.Segments.{account_segments};
-ghost use Rattle.card_steps.specs.Blanks.{IsBlankOf};
+ghost use Rattle.card_events.specs.Blanks.{IsBlankOf};
 
 use crate::Book;
 use crate::folded::Folded;
 use card_daily::{Inputs, Track};
 use card_dayend::opening_day;
-use card_days::Day;
-use card_steps::Steps;
-use card_units::NoMemory;
+use card_events::{Day, NoMemory, Steps};
 use std::alloc::Global;
 use std::marker::{Brand, Model};
 use std::sync::ledger::{Blank, Ledger};

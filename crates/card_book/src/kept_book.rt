@@ -1,5 +1,5 @@
 ghost use Rattle.std.specs.Prelude.{◌≡◌, ◌-◌, ◌≤◌, ◌==◌, ℕ, length, not, pos, slice_index_or};
-ghost use Rattle.card_days.specs.Range.{last_calendar_day};
+ghost use Rattle.card_events.specs.Range.{last_calendar_day};
 ghost use Rattle.card_model.specs.Entries.{credit_in};
 ghost use Rattle.card_book.specs.Stands.{since_after};
 
@@ -10,11 +10,9 @@ use crate::statement::cycle_in;
 use card_closing::Accrual;
 use card_daily::{Inputs, State, Track, is_sixty_days_late};
 use card_dayend::{next_span, opening_day, span_end, start};
-use card_days::Day;
+use card_events::{Cents, Day, NoMemory, Steps};
 use card_rates::RateBook;
 use card_segments::Segments;
-use card_steps::Steps;
-use card_units::{Cents, NoMemory};
 use std::alloc::Global;
 use std::marker::Model;
 use std::sync::ledger::Ledger;
@@ -72,7 +70,7 @@ impl Model for Book {
 
 impl Book {
     ghost use Rattle.std.specs.Prelude.{◌≡◌, ◌+◌, ◌-◌, ◌≤◌, ◌<◌, ◌++◌, ℕ, [], true, false, length, take, vec_capacity, IfOk, OnOk, OnErr, Some, None};
-    ghost use Rattle.card_days.specs.Range.{last_request_day, last_calendar_day};
+    ghost use Rattle.card_events.specs.Range.{last_request_day, last_calendar_day};
     ghost use Rattle.card_book.specs.Marks.{accruing_on};
     ghost use Rattle.card_book.specs.Renewed.{AwaitsPosts, HasNewPosts};
     ghost use Rattle.card_book.specs.Rewound.{AreFolded, GoesBack};

@@ -8,8 +8,7 @@ ghost use Rattle.card_book.specs.Marks.{accrued_at, accrued_by, accruing_of, acc
 
 use card_closing::Accrual;
 use card_daily::State;
-use card_days::Day;
-use card_units::NoMemory;
+use card_events::{Day, NoMemory};
 use std::alloc::Global;
 
 /// What a deferred plan in its period has accrued at the closing of a cycle (12 CFR 1026.55(b)(1), comment 55(b)(1)-3): the

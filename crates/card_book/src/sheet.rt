@@ -17,13 +17,12 @@ ghost use Rattle.card_model.specs.Sheets as spec;
 
 use crate::folded::Folded;
 use card_daily::{Amounts, Cycle, Inputs, Issued};
-use card_days::Day;
+use card_events::{Bp, Cents, Day, NoMemory};
 use card_statement::{
     DeferredLine, Move, RateLine, Sheet, closing_amounts, corrections, cycle_entries,
     deferred_lines, fees_year, has_due_payment, interest_year, late_up_to, moves_of, owed_before,
     previous_balance, rate_lines,
 };
-use card_units::{Bp, Cents, NoMemory};
 use std::alloc::Global;
 
 // The balance before a cycle as it was stated, and what changed in it since.

@@ -10,8 +10,7 @@ use crate::from_opening::fold_to;
 use crate::sheet::sheet_of;
 use card_daily::{Cycle, Inputs, Statement, Track};
 use card_dayend::opening_day;
-use card_days::Day;
-use card_units::NoMemory;
+use card_events::{Day, NoMemory};
 use std::alloc::Global;
 
 /// The closed cycle with this number.

@@ -9,8 +9,8 @@ use Rattle.card_bounds.specs.Counts.{EntriesAreFew, most_entries, posts_before}
 use Rattle.card_model.specs.Accepted.{HasFewSegments}
 use Rattle.card_bounds.specs.Bounds.{book_amid}
 use Rattle.card_bounds.specs.Places.{book_before}
-use Rattle.card_days.specs.Civil.{day_of_month}
-use Rattle.card_days.specs.declared.anchor.Anchor.{Anchor}
+use Rattle.card_events.specs.Civil.{day_of_month}
+use Rattle.card_events.specs.declared.anchor.Anchor.{Anchor}
 use Rattle.card_events.specs.History.{CorrectedPost, adds_segment, anchor_of, corrected, corrected_from, corrected_post, folded, is_folded, next_segment}
 use Rattle.card_events.specs.SharedRows.{SharedRows}
 use Rattle.card_events.specs.declared.kept.Kept.{Kept}

@@ -11,7 +11,7 @@ use Rattle.std.proofs.lemmas.List.Sums.{sum_by-cons}
 use Rattle.std.proofs.Math.Nat.{mul-le-mul_right, mul-le-mul_left, suc-mul}
 use Rattle.std.specs.List.{range_with_len}
 use Rattle.card_bounds.specs.Bounds.{IsRateSum, RowsOfPastDays, RowsSmall, SumsSmall, most_moved, most_owing, moved, rate_sum}
-use Rattle.card_days.specs.Civil.{day_of_month}
+use Rattle.card_events.specs.Civil.{day_of_month}
 use Rattle.card_events.specs.History.{CorrectedPost, anchor_of}
 use Rattle.card_events.specs.declared.post.Post.{Post}
 use Rattle.card_model.specs.Books.{Account, Book, account_of, all_segments, present_cycle, with_fee}
@@ -27,7 +27,7 @@ use Rattle.card_model.specs.Interest.{row}
 use Rattle.card_model.specs.Segments.{SegmentTerms, newest, segment_at}
 use Rattle.card_model.specs.declared.entry.Entry.{Entry}
 use Rattle.card_model.specs.declared.fee.Fee.{Fee}
-use Rattle.card_units.specs.Money.{daily}
+use Rattle.card_events.specs.Money.{daily}
 use Rattle.card_events.specs.declared.post.Post.TheVariants as post
 use Rattle.card_model.specs.declared.entry.EntryKind.TheVariants as kind
 use Rattle.card_model.specs.declared.segment.Sort.TheVariants as sort

@@ -3,8 +3,8 @@ use Rattle.std.proofs.Common.{◌≡◌, ℕ, zero, suc, ◌+◌, ◌-◌, ◌�
 use Rattle.std.specs.List.{All, last_or}
 use Rattle.std.proofs.lemmas.List.Elements.{All-nil, All-weaker}
 use Rattle.card_bounds.specs.Places.{CyclesBeginInTurn, EntriesHaveDays, book_before}
-use Rattle.card_days.specs.Billing.{closing, closings_among, cycle_of}
-use Rattle.card_days.specs.Range.{last_calendar_day}
+use Rattle.card_events.specs.Billing.{closing, closings_among, cycle_of}
+use Rattle.card_events.specs.Range.{last_calendar_day}
 use Rattle.card_events.specs.History.{CorrectedPost, anchor_of}
 use Rattle.card_events.specs.SharedRows.{SharedRows}
 use Rattle.card_events.specs.declared.kept.Kept.{Kept}

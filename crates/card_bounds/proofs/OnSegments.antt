@@ -7,8 +7,8 @@ use Rattle.std.proofs.lemmas.List.Elements.{All-nil, All-cons, All-head, All-tai
 use Rattle.std.specs.Prelude.{min}
 use Rattle.std.specs.Option.{option_or}
 use Rattle.card_bounds.specs.Places.{EntriesHaveSegments, LieOn, numbers_of, segments_by}
-use Rattle.card_days.specs.Civil.{day_of_month}
-use Rattle.card_days.specs.declared.anchor.Anchor.{Anchor}
+use Rattle.card_events.specs.Civil.{day_of_month}
+use Rattle.card_events.specs.declared.anchor.Anchor.{Anchor}
 use Rattle.card_events.specs.History.{CorrectedPost, anchor_of, folded}
 use Rattle.card_events.specs.SharedRows.{SharedRows}
 use Rattle.card_events.specs.declared.kept.Kept.{Kept}

@@ -11,8 +11,8 @@ use Rattle.card_bounds.proofs.Owned.{sizes as owned_sizes}
 use Rattle.card_bounds.proofs.Steps.{Limits, Owned, effect-step, owned-after}
 use Rattle.card_bounds.proofs.Totals.{Numbers, clean-still, due-step, numbers-filter, only-one, owned-same, slots-number}
 use Rattle.card_bounds.proofs.Whole.{Folded, fold-folded, folded-few, limits-on}
-use Rattle.card_days.specs.Civil.{day_of_month}
-use Rattle.card_days.specs.declared.anchor.Anchor.{Anchor}
+use Rattle.card_events.specs.Civil.{day_of_month}
+use Rattle.card_events.specs.declared.anchor.Anchor.{Anchor}
 use Rattle.card_events.specs.History.{CorrectedPost, anchor_of, corrected, folded, is_folded}
 use Rattle.card_events.specs.SharedRows.{SharedRows}
 use Rattle.card_events.specs.declared.kept.Kept.{Kept}

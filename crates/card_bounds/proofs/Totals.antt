@@ -4,8 +4,8 @@ use Rattle.std.specs.List.{filter, All, Contains}
 use Rattle.std.proofs.lemmas.Bool.{ne_eqb}
 use Rattle.std.proofs.lemmas.List.Elements.{All-nil, All-cons, All-head, All-tail, All-weaker, All-filter, All-contains}
 use Rattle.card_bounds.specs.Bounds.{moved}
-use Rattle.card_days.specs.Civil.{day_of_month}
-use Rattle.card_days.specs.declared.anchor.Anchor.{Anchor}
+use Rattle.card_events.specs.Civil.{day_of_month}
+use Rattle.card_events.specs.declared.anchor.Anchor.{Anchor}
 use Rattle.card_events.specs.History.{CorrectedPost, corrected_from, corrected_post, next_segment}
 use Rattle.card_events.specs.declared.kept.Kept.{Kept}
 use Rattle.card_model.specs.Books.{Account, Book}

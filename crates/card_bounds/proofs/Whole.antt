@@ -8,7 +8,7 @@ use Rattle.std.proofs.lemmas.Bool.Decides.{nat_tests}
 use Rattle.std.proofs.lemmas.List.Elements.{All-nil, All-cons, All-head, All-tail, All-weaker, All-filter, All-contains, All-contains_itself, filter_passes}
 use Rattle.std.specs.Option.{option_or}
 use Rattle.card_bounds.specs.Bounds.{BalancesSmall, IsLimited, most_moved, moved}
-use Rattle.card_days.specs.declared.anchor.Anchor.{Anchor}
+use Rattle.card_events.specs.declared.anchor.Anchor.{Anchor}
 use Rattle.card_events.specs.History.{CorrectedPost, amend_of, amended_cents, anchor_of, cents_of, confirmed, corrected, corrected_from, corrected_post, folded, is_folded, last_amend, next_segment}
 use Rattle.card_events.specs.SharedRows.{FeeRow, SharedRows}
 use Rattle.card_events.specs.declared.kept.Kept.{Kept}

@@ -1,7 +1,7 @@
 -- How large balances, rows and sums can be, from the limits on posts, cents, fees and days alone.
 use Rattle.std.specs.Prelude.{ℕ, ◌+◌, ◌*◌, ◌==◌, ◌≡◌, ◌≤◌, ◌<◌, cond, length, List, ◌++◌, Option, pos, ◌≤ℤ◌, neg_ℤ, nat_abs}
 use Rattle.std.specs.List.{All, Contains, filter, range_with_len, sum_by}
-use Rattle.card_units.specs.Money.{daily}
+use Rattle.card_events.specs.Money.{daily}
 use Rattle.card_events.specs.History.{CorrectedPost, anchor_of}
 use Rattle.card_events.specs.SharedRows.{SharedRows}
 use Rattle.card_events.specs.declared.kept.Kept.{Kept}

@@ -2,8 +2,8 @@
 use Rattle.std.specs.Prelude.{ℕ, ◌+◌, ◌-◌, ◌==◌, ◌≡◌, ◌≤◌, ◌<◌, Bool, false, map, List, ◌∷◌, pos}
 use Rattle.std.specs.List.{All, Contains, filter}
 use Rattle.card_bounds.specs.Bounds.{book_amid}
-use Rattle.card_days.specs.Billing.{closing, cycle_of}
-use Rattle.card_days.specs.Range.{last_calendar_day}
+use Rattle.card_events.specs.Billing.{closing, cycle_of}
+use Rattle.card_events.specs.Range.{last_calendar_day}
 use Rattle.card_events.specs.History.{CorrectedPost, anchor_of}
 use Rattle.card_events.specs.SharedRows.{SharedRows}
 use Rattle.card_events.specs.declared.kept.Kept.{Kept}

@@ -3,7 +3,7 @@ use Rattle.std.proofs.Common.{◌≡◌, ℕ, ◌<◌, Bool, false, List, [], �
 use Rattle.std.proofs.lemmas.List.Elements.{All-cons, All-nil}
 use Rattle.std.proofs.lemmas.List.Sorted.{IsNonDecreasingBy-short}
 use Rattle.std.specs.List.{All, count_by}
-use Rattle.card_days.specs.Billing.{closing}
+use Rattle.card_events.specs.Billing.{closing}
 use Rattle.card_events.specs.Dated.{is_dated_post}
 use Rattle.card_events.specs.History.{adds_segment, anchor_of, corrected}
 use Rattle.card_events.specs.declared.kept.Kept.{Kept}

@@ -16,8 +16,8 @@ use Rattle.card_model.specs.Deadlines.{resolves}
 use Rattle.card_model.specs.Everything.{everything}
 use Rattle.card_model.specs.Machine.{accepted}
 use Rattle.card_model.specs.Refusals.{Lists, bills, reason_against}
-use Rattle.card_days.specs.Billing.{closing}
-use Rattle.card_days.specs.Range.{last_request_day}
+use Rattle.card_events.specs.Billing.{closing}
+use Rattle.card_events.specs.Range.{last_request_day}
 use Rattle.card_posts.specs.Change.{IsFirstChange, on, up_to}
 use Rattle.card_posts.specs.Posted.{last_accepted}
 use Rattle.card_daily.specs.Given.{AreInTurn, EndsWithAClosing, Given, IsBilledLater, IsSound, NamePayments}

@@ -5,8 +5,7 @@ ghost use Rattle.card_posts.specs.Posted.{IsReceived, StandsFor, last_accepted, 
 
 use crate::posts::target_of;
 use crate::values::{day, name, num};
-use card_days::Calendar;
-use card_events::{Category, Place, PlanKind, Post, Terms};
+use card_events::{Calendar, Category, Place, PlanKind, Post, Terms};
 use card_posts::Posts;
 use std::alloc::Global;
 use std::process::Abort;

@@ -1,12 +1,11 @@
 // The accepted posts of an account, and what each of them changes.
 ghost use Rattle.std.specs.Prelude.{◌≡◌, IfOk, IfSome, OnOk, true};
-ghost use Rattle.card_days.specs.Billing.{IsCloseDay};
+ghost use Rattle.card_events.specs.Billing.{IsCloseDay};
 ghost use Rattle.card_events.specs.History.{anchor_of, terms_in};
 ghost use Rattle.card_posts.specs.Posted.{IsReceived, StandsFor, opens, target_of};
 
 use crate::values::{day, name};
-use card_days::{Calendar, Day};
-use card_events::{Name, Post, Request};
+use card_events::{Calendar, Day, Name, Post, Request};
 use card_lines::{Line, read_line};
 use card_posts::Posts;
 use std::alloc::Global;

@@ -2,15 +2,13 @@
 ghost use Rattle.std.specs.Prelude.{◌≡◌, ◌+◌, ◌≤◌, IfOk, OnOk};
 ghost use Rattle.card_cases.specs.Alone.{HasOpeningAlone, charge, no_rows};
 ghost use Rattle.card_replay.specs.Replays.{IsToday};
-ghost use Rattle.card_steps.specs.Blanks.{IsBlankOf};
+ghost use Rattle.card_events.specs.Blanks.{IsBlankOf};
 
 use crate::account::opening;
 use crate::values::{day, name, num};
-use card_events::{Place, Post};
+use card_events::{NoMemory, Place, Post, Steps};
 use card_fees::SharedRows;
 use card_replay::Replay;
-use card_steps::Steps;
-use card_units::NoMemory;
 use std::alloc::Global;
 use std::marker::Brand;
 use std::process::Abort;

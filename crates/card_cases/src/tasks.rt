@@ -1,15 +1,15 @@
 // What an account asks to be done, and by when.
 ghost use Rattle.std.specs.Prelude.{◌≡◌, ◌≤◌};
-ghost use Rattle.card_days.specs.Range.{last_request_day};
+ghost use Rattle.card_events.specs.Range.{last_request_day};
 ghost use Rattle.card_cases.specs.Account.{IsOfAccount};
-ghost use Rattle.card_days.specs.Billing.{IsCloseDay};
+ghost use Rattle.card_events.specs.Billing.{IsCloseDay};
 ghost use Rattle.card_events.specs.History.{anchor_of};
 ghost use Rattle.card_posts.specs.Posted.{StandsFor, last_accepted};
 
 use crate::account::posts;
 use crate::values::{day, name, num};
-use card_days::{Anchor, Calendar};
 use card_disputes::{Task, TaskKind, last_notice_day, review_by, work_of};
+use card_events::{Anchor, Calendar};
 use card_posts::Posts;
 use std::alloc::Global;
 use std::process::Abort;

@@ -5,16 +5,15 @@ ghost use Rattle.card_book.specs.Stands as kept;
 ghost use Rattle.card_daily.specs.Given.{opened_in};
 ghost use Rattle.card_daily.specs.Stands.{IsBlank};
 ghost use Rattle.card_posts.specs.Posted.{StandsFor};
-ghost use Rattle.card_steps.specs.Blanks.{IsBlankOf};
+ghost use Rattle.card_events.specs.Blanks.{IsBlankOf};
 
 use crate::account::opening;
 use crate::values::{day, name};
 use card_book::Book;
 use card_daily::{Inputs, Statement, Track};
+use card_events::{NoMemory, Steps};
 use card_fees::SharedRows;
 use card_posts::Posts;
-use card_steps::Steps;
-use card_units::NoMemory;
 use std::alloc::Global;
 use std::marker::Brand;
 use std::process::Abort;

@@ -1,10 +1,8 @@
 // Days, numbers, names and tables.
 ghost use Rattle.std.specs.Prelude.{◌≡◌, ◌≤◌};
 
-use card_days::{Anchor, Calendar, Channel, Day, closing, credit_day, due};
-use card_events::{Name, Num};
+use card_events::{Anchor, Calendar, Channel, Day, Money, Name, Num, closing, credit_day, due};
 use card_fees::FeeTable;
-use card_units::Money;
 use std::alloc::Global;
 use std::process::Abort;
 use std::test::Fail;

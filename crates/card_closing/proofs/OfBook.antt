@@ -4,7 +4,7 @@ use Rattle.std.specs.List.{sum_by}
 use Rattle.std.proofs.lemmas.Bool.{ne_eqb}
 use Rattle.std.proofs.lemmas.List.FromFn.{length-map-range_with_len}
 use Rattle.std.proofs.lemmas.List.Sums.{sum_by-cons}
-use Rattle.card_units.specs.Money.{daily}
+use Rattle.card_events.specs.Money.{daily}
 use Rattle.card_closing.specs.BookRows.{AreLowering, HasOneCase, day_row, rate_of, repayments, rows_of}
 use Rattle.card_closing.specs.GraceLaws.{AgreeFrom, KeptRowsToo, NoEarlierDayNoRepaidPortion, RowsOfABook}
 use Rattle.card_closing.specs.Rows.{DayRow, average_of, bearing, interest_on, repaid_later}

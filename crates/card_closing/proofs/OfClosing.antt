@@ -3,7 +3,7 @@ use Rattle.std.proofs.Common.{◌≡◌, ℕ, zero, suc, ◌+◌, ◌-◌, ◌*�
 use Rattle.std.specs.List.{Contains, filter, range_with_len, sum_by}
 use Rattle.std.proofs.lemmas.List.{get_or-map, length-map}
 use Rattle.std.proofs.lemmas.List.Sums.{sum_by-cons}
-use Rattle.card_units.specs.Money.{daily, interest}
+use Rattle.card_events.specs.Money.{daily, interest}
 use Rattle.card_closing.specs.Accruals.{Accrued, nothing_accrued}
 use Rattle.card_closing.specs.BookRows.{rows_of}
 use Rattle.card_closing.specs.Rows.{DayRow, Rows, bearing, interest_on, no_rows, row_of, with_days}

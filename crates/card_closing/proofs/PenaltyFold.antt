@@ -2,8 +2,8 @@
 use Rattle.std.proofs.Common.{◌≡◌, ℕ, ◌+◌, ◌≤◌, Bool, true, false, cond, ◌&&◌, nat_lt, eqb, not, List, length, refl, sym, ap, ◌∙◌, subst, arith, Some}
 use Rattle.std.specs.Prelude.{is_some}
 use Rattle.std.specs.List.{list_all}
-use Rattle.card_days.specs.Billing.{closing, due}
-use Rattle.card_days.specs.declared.anchor.Anchor.{Anchor}
+use Rattle.card_events.specs.Billing.{closing, due}
+use Rattle.card_events.specs.declared.anchor.Anchor.{Anchor}
 use Rattle.card_fees.specs.DueLaws.{due_cycle_of}
 use Rattle.card_events.specs.History.{CorrectedPost}
 use Rattle.card_fees.proofs.Fold.{counted-seen, met-fold}

@@ -4,7 +4,7 @@ use Rattle.std.specs.List.{All}
 use Rattle.std.proofs.lemmas.Int.{ints}
 use Rattle.std.proofs.lemmas.Bool.Decides.{nat_tests}
 use Rattle.std.proofs.lemmas.List.Elements.{All-head, All-tail, All-weaker}
-use Rattle.card_units.specs.Money.{daily, interest}
+use Rattle.card_events.specs.Money.{daily, interest}
 use Rattle.card_closing.specs.Growth.{InterestInTurn}
 use Rattle.card_model.specs.Books.{Account, Book, rate_in, with_entries}
 use Rattle.card_model.specs.Closing.{Posting, interest_note, post_interest, post_one, posted_for}

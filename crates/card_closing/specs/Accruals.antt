@@ -1,6 +1,6 @@
 -- The interest that a deferred balance accrues over the whole period of its plan (12 CFR 1026.55(b)(1), comment 55(b)(1)-3).
 use Rattle.std.specs.Prelude.{ℕ, ◌+◌, ◌-◌, ◌*◌, ◌≡◌, ◌≤◌, ◌<◌}
-use Rattle.card_units.specs.Money.{daily}
+use Rattle.card_events.specs.Money.{daily}
 use Rattle.card_model.specs.Books.{Book}
 use Rattle.card_model.specs.Cycles.{Seen}
 use Rattle.card_model.specs.Interest.{accrual, row}

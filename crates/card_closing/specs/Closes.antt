@@ -1,6 +1,6 @@
 -- How a closing stands for the book that it closes (12 CFR 1026.7(b), .54).
 use Rattle.std.specs.Prelude.{◌+◌, ◌≡◌, Bool, drop, List, Option, unsigned_abs}
-use Rattle.card_days.specs.Billing.{due_after}
+use Rattle.card_events.specs.Billing.{due_after}
 use Rattle.card_closing.specs.Accruals.{Accrued}
 use Rattle.card_closing.specs.Rows.{Rows}
 use Rattle.card_model.specs.Books.{Account, Book, present_cycle}

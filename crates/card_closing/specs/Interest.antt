@@ -2,7 +2,7 @@
 -- ledger keeps: segments, rows and accruals. Days are day numbers, amounts cents.
 use Rattle.std.specs.Prelude.{ℕ, ◌≡◌, ◌+◌, ◌-◌, ◌==◌, ◌&&◌, true, false, Bool, if◌then◌else◌, nat_lt, drop, map, length, List, [], ◌∷◌, Option, Some, None, slice_index_or}
 use Rattle.std.specs.List.{All, Contains, filter}
-use Rattle.card_units.specs.Money.{interest}
+use Rattle.card_events.specs.Money.{interest}
 use Rattle.card_closing.specs.Accruals.{Accrued, nothing_accrued}
 use Rattle.card_closing.specs.BookRows.{AreLowering, HasOneCase, rows_of}
 use Rattle.card_closing.specs.Cases.{case_in, is_deferred_in}

@@ -1,7 +1,7 @@
 -- What the end of a penalty reads (12 CFR 1026.55(b)(4)(ii)). Days are effective days.
 use Rattle.std.specs.Prelude.{ℕ, Bool, ◌&&◌, not, ◌==◌, is_some, length, if◌then◌else◌, List, Some}
 use Rattle.std.specs.List.{list_all}
-use Rattle.card_days.specs.declared.anchor.Anchor.{Anchor}
+use Rattle.card_events.specs.declared.anchor.Anchor.{Anchor}
 use Rattle.card_fees.specs.Asked.{asks}
 use Rattle.card_fees.specs.declared.due_cycle.DueCycle.{DueCycle}
 use Rattle.card_events.specs.History.{CorrectedPost}

@@ -1,6 +1,6 @@
 -- Laws on penalties: the words of the fold are those of this crate (12 CFR 1026.55(b)(4)).
 use Rattle.std.specs.Prelude.{ℕ, ◌≡◌, ◌≤◌, List}
-use Rattle.card_days.specs.declared.anchor.Anchor.{Anchor}
+use Rattle.card_events.specs.declared.anchor.Anchor.{Anchor}
 use Rattle.card_fees.specs.DueLaws.{due_cycle_of}
 use Rattle.card_events.specs.History.{CorrectedPost}
 use Rattle.card_fees.specs.Laws.{SeesPosts}

@@ -2,7 +2,7 @@
 -- and repayments cents, rates basis points.
 use Rattle.std.specs.Prelude.{ℕ, ◌+◌, ◌-◌, ◌*◌, ◌&&◌, not, ◌==◌, nat_le, nat_lt, if◌then◌else◌, map, List, [], ◌∷◌, ◌++◌, length}
 use Rattle.std.specs.List.{filter, range_with_len, sum_by}
-use Rattle.card_units.specs.Money.{daily}
+use Rattle.card_events.specs.Money.{daily}
 use Rattle.card_closing.specs.declared.rows.Repayment.{Repayment}
 use Rattle.card_model.specs.Interest.{half_up}
 use Rattle.card_model.specs.declared.grace.GraceCase.{GraceCase}

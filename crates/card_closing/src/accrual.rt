@@ -2,7 +2,7 @@ ghost use Rattle.std.specs.Prelude.{◌≡◌, ◌+◌, ◌≤◌, ◌^◌, pos,
 ghost use Rattle.card_model.specs.Limits.{balance_limit};
 ghost use Rattle.card_closing.specs.Accruals.{nothing_accrued, with_accrual};
 
-use card_units::{Bp, Cents, daily};
+use card_events::{Bp, Cents, daily};
 use std::marker::Model;
 
 /// The interest that a deferred balance accrues over the whole period of its plan (12 CFR 1026.55(b)(1), comment 55(b)(1)-3). Clauses see the

@@ -1,7 +1,7 @@
 ghost use Rattle.std.specs.Prelude.{◌≡◌, ◌==◌, if◌then◌else◌, [], ◌∷◌, ◌++◌, IfOk, OnOk, OnErr};
 ghost use Rattle.card_model.specs.Cycles.{amount_at, amounts_sum};
 
-use card_units::NoMemory;
+use card_events::NoMemory;
 use std::alloc::Global;
 use std::marker::Model;
 

@@ -2,7 +2,7 @@ ghost use Rattle.std.specs.Prelude.{◌≡◌};
 ghost use Rattle.card_closing.specs.Cases.{case_in, is_deferred_in};
 
 use crate::GraceCase;
-use card_days::Day;
+use card_events::Day;
 use card_model::{Segment, Sort};
 
 /// Whether it is a deferred balance on a day of its plan's period (12 CFR 1026.55(b)(1), comment 55(b)(1)-3).

@@ -8,9 +8,8 @@ ghost use Rattle.card_closing.specs.Turns.{AreInStep, BeginsWith};
 use crate::interest::{charge_accruals, charge_interest};
 use crate::record::{averages, charged_amounts, grace_of, held, minimum_of, owed};
 use crate::{Accrual, Amounts, Cycle, CycleRows, Fee, Fees, GraceCase};
-use card_days::Day;
+use card_events::{Cents, Day, NoMemory};
 use card_segments::{Entry, Segments};
-use card_units::{Cents, NoMemory};
 use std::alloc::Global;
 
 /// A cycle as its closing takes it: its number, from 1, its first day, its closing, its due date, and the closing after it;

@@ -2,8 +2,8 @@ ghost use Rattle.std.specs.Prelude.{◌≡◌, ◌==◌, ◌++◌, if◌then◌e
 ghost use Rattle.card_model.specs.Entries.{at_least_zero};
 ghost use Rattle.card_model.specs.Fees.{fees_in, fees_sum};
 
+use card_events::{Cents, NoMemory};
 use card_model::Fee;
-use card_units::{Cents, NoMemory};
 use std::alloc::Global;
 use std::marker::Model;
 

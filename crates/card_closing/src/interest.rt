@@ -9,9 +9,8 @@ ghost use Rattle.card_closing.specs.Turns.{AreInStep, BeginsWith, StayInStep, tu
 use crate::fees::at_least_zero;
 use crate::turn::charge;
 use crate::{Accrual, Amounts, Closing, Cycle, CycleRows, GraceCase, case_of, is_deferred};
-use card_days::Day;
+use card_events::{Day, NoMemory, interest};
 use card_segments::{Entry, EntryKind, Note, Segment, Segments};
-use card_units::{NoMemory, interest};
 
 // Whether it is a deferred balance whose period ends on a day.
 fn ends_on(segment: &Segment, day: Day) -> bool

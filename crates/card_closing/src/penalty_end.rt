@@ -1,13 +1,13 @@
 // Whether a penalty ends with a due date.
 ghost use Rattle.std.specs.Prelude.{◌≡◌, ◌≤◌, ◌≤ℤ◌, ℕ, List, length, nat_lt, pos};
-ghost use Rattle.card_days.specs.Range.{last_calendar_day};
-ghost use Rattle.card_days.specs.Billing.{IsCloseDay, due};
+ghost use Rattle.card_events.specs.Range.{last_calendar_day};
+ghost use Rattle.card_events.specs.Billing.{IsCloseDay, due};
 ghost use Rattle.card_model.specs.DueDates.{due_after_day};
 ghost use Rattle.card_closing.specs.PenaltyEnd as spec;
 ghost use Rattle.card_posts.specs.Posted.{StandsFor};
 
 use crate::Cycle;
-use card_days::{Anchor, Day};
+use card_events::{Anchor, Day};
 use card_fees::{DueCycle, asked, met};
 use card_model::Interval;
 use card_posts::Posts;

@@ -1,10 +1,10 @@
 // Whether a minimum payment is sixty days late, and when a penalty then begins.
 ghost use Rattle.std.specs.Prelude.{◌≡◌, ◌+◌, ◌≤◌, ℕ, List};
-ghost use Rattle.card_days.specs.Billing.{IsCloseDay};
+ghost use Rattle.card_events.specs.Billing.{IsCloseDay};
 ghost use Rattle.card_closing.specs.PenaltyLate.{owes_by};
 ghost use Rattle.card_posts.specs.Posted.{StandsFor};
 
-use card_days::{Anchor, Day};
+use card_events::{Anchor, Day};
 use card_fees::DueCycle;
 use card_posts::Posts;
 

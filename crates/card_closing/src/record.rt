@@ -15,10 +15,9 @@ ghost use Rattle.card_closing.specs.Record.{AreSmall, HasTermsInRange, averages_
 use crate::fees::at_least_zero;
 use crate::turn::add;
 use crate::{Amounts, Closing, Cycle, CycleRows, Fees, case_of};
-use card_days::Day;
+use card_events::{Cents, Day, NoMemory};
 use card_fees::minimum;
 use card_segments::{Segment, Segments, Sort};
-use card_units::{Cents, NoMemory};
 use std::alloc::Global;
 
 // The amount of a segment, where no amount is above 10^16 cents.

@@ -1,7 +1,6 @@
 use crate::runs::{Run, balances_sum, days, half_up, lengthen, rate_sum};
-use card_days::Day;
+use card_events::{Bp, Cents, Day, NoMemory};
 use card_model::GraceCase;
-use card_units::{Bp, Cents, NoMemory};
 use std::alloc::Global;
 use std::marker::Model;
 

@@ -1,16 +1,15 @@
 // Runs of equal days, and sums over their days.
 ghost use Rattle.std.specs.Prelude.{◌≡◌, ℕ, ◌+◌, ◌-◌, ◌*◌, ◌≤◌, ◌^◌, true, false, List, ◌++◌, length};
 ghost use Rattle.std.specs.List.{sum_by};
-ghost use Rattle.card_units.specs.Money.{daily};
+ghost use Rattle.card_events.specs.Money.{daily};
 ghost use Rattle.card_model.specs.Limits.{balance_limit};
 ghost use Rattle.card_model.specs.Interest.{half_up};
 ghost use Rattle.card_closing.specs.Rows.{DayRow, bearing, equal_days, repaid_later};
 ghost use Rattle.card_closing.specs.Runs.{AreRuns, days_behind, ends_with, run_days, spread};
 
 use crate::rows::Repayment;
-use card_days::Day;
+use card_events::{Bp, Day, daily};
 use card_model::GraceCase;
-use card_units::{Bp, daily};
 
 /// Days in a row with the same balance in cents and the same rate.
 #[derive(Clone, Copy, Debug, PartialEq, Eq)]

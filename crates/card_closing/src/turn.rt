@@ -7,8 +7,8 @@ ghost use Rattle.card_closing.specs.Turns.{AreInStep, BeginsWith, StayInStep, ch
 
 use crate::fees::at_least_zero;
 use crate::{Amounts, Cycle};
+use card_events::{Cents, NoMemory};
 use card_segments::{Entry, Note, Segments};
-use card_units::{Cents, NoMemory};
 
 // Of an amount, what keeps a balance within 10^13 cents.
 fn within_limit(balance: Cents, cents: u64) -> u64

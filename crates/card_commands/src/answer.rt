@@ -12,11 +12,10 @@ ghost use Rattle.card_commands.specs.Answers as spec;
 ghost use Rattle.card_text.specs.Items.{IsDatedItem};
 
 use card_desk::{Desk, Fault, View, uncounted};
-use card_events::{Name, Refusal, Reply};
+use card_events::{Name, NoMemory, Refusal, Reply};
 use card_lines::{bad_text, reply_text, show_text};
 use card_ports::Keeper;
 use card_text::Item;
-use card_units::NoMemory;
 use std::alloc::Global;
 
 /// Carries out an item's request, where it is one, and gives the reply to it. Where it is newly accepted its row is kept.

@@ -20,8 +20,8 @@ use crate::run::run;
 use crate::serve::serve;
 use crate::tell::tell;
 use card_desk::Ask;
+use card_events::NoMemory;
 use card_ports::{Door, Keeper, Sink, SinkFault, Source, write_all};
-use card_units::NoMemory;
 use std::alloc::Global;
 
 const USAGE: &str =

@@ -6,9 +6,8 @@ ghost use Rattle.card_commands.specs.Commands.{demonstration_of};
 ghost use Rattle.card_commands.specs.Commands as spec;
 
 use card_demo::Demonstration;
-use card_events::{Name, Num};
+use card_events::{Name, NoMemory, Num};
 use card_lines::read_number;
-use card_units::NoMemory;
 use std::alloc::Global;
 
 /// What is asked for.

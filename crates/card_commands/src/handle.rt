@@ -4,9 +4,9 @@ ghost use Rattle.std.specs.Prelude.{◌≡◌, ◌||◌};
 use crate::answer::{answer, carry_out};
 use crate::end::End;
 use card_desk::{Desk, Fault};
+use card_events::NoMemory;
 use card_ports::{Keeper, Sink, SinkFault, write_all};
 use card_text::Item;
-use card_units::NoMemory;
 use std::alloc::Global;
 use std::marker::Model;
 

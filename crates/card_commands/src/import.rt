@@ -10,9 +10,9 @@ ghost use Rattle.card_commands.specs.Written.{sides};
 use crate::end::End;
 use crate::ended::{Ended, ended_by, ended_of};
 use crate::handle::Run;
+use card_events::NoMemory;
 use card_ports::{Failed, Keeper, Sink, Source};
 use card_text::Records;
-use card_units::NoMemory;
 use std::alloc::Global;
 
 const PIECE: usize = 4096;

@@ -7,8 +7,8 @@ ghost use Rattle.card_commands.specs.Written.{sides};
 
 use crate::ended::Ended;
 use card_desk::{Desk, LoadFault, uncounted};
+use card_events::NoMemory;
 use card_ports::{Keeper, Sink, SinkFault, write_all};
-use card_units::NoMemory;
 use itoa::Buffer;
 use std::alloc::Global;
 

@@ -9,9 +9,9 @@ ghost use Rattle.card_commands.specs.Written.{sides};
 use crate::ended::{Ended, ended_by_sink};
 use crate::load::load;
 use card_desk::Ask;
+use card_events::NoMemory;
 use card_http::told_text;
 use card_ports::{Keeper, Sink, write_all};
-use card_units::NoMemory;
 use std::alloc::Global;
 
 const NONE: &str = "none\n";

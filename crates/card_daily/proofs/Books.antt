@@ -3,7 +3,7 @@ use Rattle.std.proofs.Common.{◌≡◌, ℕ, ◌+◌, ◌-◌, ◌≤◌, List,
 use Rattle.card_bounds.specs.Bounds.{AreSmall, IsLimited}
 use Rattle.card_bounds.proofs.Points.{small_at_each_step}
 use Rattle.card_bounds.proofs.Whole.{balances_small}
-use Rattle.card_days.specs.Range.{last_request_day}
+use Rattle.card_events.specs.Range.{last_request_day}
 use Rattle.card_events.specs.History.{CorrectedPost}
 use Rattle.card_events.specs.Limits.{post_limit}
 use Rattle.card_model.specs.Books.{Book}

@@ -5,9 +5,9 @@ use Rattle.std.proofs.lemmas.Bool.{ltb-true}
 use Rattle.std.proofs.lemmas.Int.{ints}
 use Rattle.card_bounds.proofs.Steps.{returned-small}
 use Rattle.card_bounds.proofs.Whole.{folded-few, limits-on}
-use Rattle.card_days.specs.Billing.{cycle_of}
-use Rattle.card_days.specs.Range.{last_request_day}
-use Rattle.card_days.specs.declared.anchor.Anchor.{Anchor}
+use Rattle.card_events.specs.Billing.{cycle_of}
+use Rattle.card_events.specs.Range.{last_request_day}
+use Rattle.card_events.specs.declared.anchor.Anchor.{Anchor}
 use Rattle.card_fees.proofs.LateFees.{caps-fold}
 use Rattle.card_fees.specs.DueFee.{capped_if_any}
 use Rattle.card_fees.specs.DueLaws.{issued_fees}

@@ -2,12 +2,12 @@
 use Rattle.std.proofs.Common.{◌≡◌, ℕ, zero, suc, ◌+◌, ◌-◌, ◌<◌, ◌≤◌, List, [], ◌∷◌, length, refl, sym, ap, ◌∙◌, subst, arith, Option, None, Some, SomeIff, ◌⊎◌, inl, inr}
 use Rattle.std.specs.Option.{IsSome}
 use Rattle.std.proofs.lemmas.Bool.{cases_lt}
-use Rattle.card_days.specs.Billing.{closing, cycle_of, due, due_after, due_day_of_month, next_on}
-use Rattle.card_days.specs.Civil.{day_of_month}
-use Rattle.card_days.specs.Range.{last_request_day, last_calendar_day, first_calendar_day}
-use Rattle.card_days.specs.declared.anchor.Anchor.{Anchor}
-use Rattle.card_days.proofs.Cycles.{IsAnchor, closing_grows, cycle_around, cycle_from_one, due_day-bounds}
-use Rattle.card_days.proofs.DueLaws.{closing_laws, due_before_next}
+use Rattle.card_events.specs.Billing.{closing, cycle_of, due, due_after, due_day_of_month, next_on}
+use Rattle.card_events.specs.Civil.{day_of_month}
+use Rattle.card_events.specs.Range.{last_request_day, last_calendar_day, first_calendar_day}
+use Rattle.card_events.specs.declared.anchor.Anchor.{Anchor}
+use Rattle.card_events.proofs.Cycles.{IsAnchor, closing_grows, cycle_around, cycle_from_one, due_day-bounds}
+use Rattle.card_events.proofs.DueLaws.{closing_laws, due_before_next}
 use Rattle.card_fees.proofs.Cases.{case-fold}
 use Rattle.card_fees.specs.Asked.{case_by}
 use Rattle.card_fees.specs.DueLaws.{AreDueBy, AreOfTheCalendar, due_cycle_at}

@@ -6,13 +6,13 @@ use Rattle.std.proofs.lemmas.List.{append-nil}
 use Rattle.card_bounds.specs.Bounds.{AreSmall}
 use Rattle.card_bounds.proofs.Dated.{Added, Before, IsPlain, added-then, due-added, posted_after, posts-added}
 use Rattle.card_bounds.proofs.OnDays.{cycles_begin_in_turn, entries_have_days}
-use Rattle.card_days.specs.Billing.{closing, cycle_of, next_on}
-use Rattle.card_days.specs.Civil.{date_of, day_at, month_length}
-use Rattle.card_days.specs.Range.{last_request_day, last_calendar_day, first_calendar_day}
-use Rattle.card_days.specs.declared.anchor.Anchor.{Anchor}
-use Rattle.card_days.proofs.Cycles.{IsAnchor, closing_grows, cycle_around, cycle_from_one, date_civil}
-use Rattle.card_days.proofs.DateFacts.{day_at-date_of, date_of-in_calendar}
-use Rattle.card_days.proofs.Months.{IsCivil, later_day, length_bounds, next_on-here, next_on-over, over}
+use Rattle.card_events.specs.Billing.{closing, cycle_of, next_on}
+use Rattle.card_events.specs.Civil.{date_of, day_at, month_length}
+use Rattle.card_events.specs.Range.{last_request_day, last_calendar_day, first_calendar_day}
+use Rattle.card_events.specs.declared.anchor.Anchor.{Anchor}
+use Rattle.card_events.proofs.Cycles.{IsAnchor, closing_grows, cycle_around, cycle_from_one, date_civil}
+use Rattle.card_events.proofs.DateFacts.{day_at-date_of, date_of-in_calendar}
+use Rattle.card_events.proofs.Months.{IsCivil, later_day, length_bounds, next_on-here, next_on-over, over}
 use Rattle.card_events.specs.History.{CorrectedPost, anchor_of}
 use Rattle.card_model.specs.Books.{Book}
 use Rattle.card_model.specs.Closing.{first_day_of, first_of}

@@ -1,7 +1,7 @@
 -- The late fee of the day after a due date.
 use Rattle.std.proofs.Common.{◌≡◌, ℕ, ◌+◌, ◌-◌, ◌≤◌, List, refl, sym, ap, ◌∙◌, arith, Option}
-use Rattle.card_days.specs.Billing.{due}
-use Rattle.card_days.specs.declared.anchor.Anchor.{Anchor}
+use Rattle.card_events.specs.Billing.{due}
+use Rattle.card_events.specs.declared.anchor.Anchor.{Anchor}
 use Rattle.card_fees.proofs.LateFees.{late-fold}
 use Rattle.card_fees.specs.DueFee.{late_by}
 use Rattle.card_fees.specs.DueLaws.{due_cycle_of, issued_fees}

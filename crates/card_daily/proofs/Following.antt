@@ -1,12 +1,12 @@
 -- The closings around a day.
 use Rattle.std.proofs.Common.{◌≡◌, ℕ, zero, suc, ◌+◌, ◌-◌, ◌<◌, ◌≤◌, Bool, true, false, cond, eqb, refl, sym, ap, ◌∙◌, subst, arith, Option, Some, None}
 use Rattle.std.specs.Prelude.{SomeIff, IsSome}
-use Rattle.card_days.proofs.Cycles.{IsAnchor, closing_is, cycle_around, cycle_from_one, cycle_is, month_from-bounds, next_on-number}
-use Rattle.card_days.specs.Billing.{closing, cycle_of, due, due_after, due_day_of_month, next_on}
-use Rattle.card_days.specs.Civil.{date_of, day_of_month, first_day}
-use Rattle.card_days.specs.Months.{day_in_month, first_month, month_from}
-use Rattle.card_days.specs.Range.{last_request_day, last_calendar_day}
-use Rattle.card_days.specs.declared.anchor.Anchor.{Anchor}
+use Rattle.card_events.proofs.Cycles.{IsAnchor, closing_is, cycle_around, cycle_from_one, cycle_is, month_from-bounds, next_on-number}
+use Rattle.card_events.specs.Billing.{closing, cycle_of, due, due_after, due_day_of_month, next_on}
+use Rattle.card_events.specs.Civil.{date_of, day_of_month, first_day}
+use Rattle.card_events.specs.Months.{day_in_month, first_month, month_from}
+use Rattle.card_events.specs.Range.{last_request_day, last_calendar_day}
+use Rattle.card_events.specs.declared.anchor.Anchor.{Anchor}
 use Rattle.card_fees.proofs.Days.{closing-from}
 use Rattle.card_model.specs.Books.{Account}
 use Rattle.card_model.specs.CycleDays.{IsOpening}

@@ -11,8 +11,8 @@ use Rattle.card_bounds.proofs.Reached.{payments_reach}
 use Rattle.card_bounds.specs.Bounds.{AreSmall}
 use Rattle.card_bounds.specs.Places.{LieOn, segments_by}
 use Rattle.card_bounds.specs.Reached.{AreReached, IsOfItsPost, Rise, sizes}
-use Rattle.card_days.specs.Range.{last_request_day}
-use Rattle.card_days.specs.declared.anchor.Anchor.{Anchor}
+use Rattle.card_events.specs.Range.{last_request_day}
+use Rattle.card_events.specs.declared.anchor.Anchor.{Anchor}
 use Rattle.card_effects.proofs.DayLaws.{books_of_a_day}
 use Rattle.card_effects.specs.Returned.{AreOfThose, AreReturnable, parts_of}
 use Rattle.card_effects.specs.Standing.{is_added}

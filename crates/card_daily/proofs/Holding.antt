@@ -5,7 +5,7 @@ use Rattle.std.proofs.lemmas.List.{drop_more, take-append-drop}
 use Rattle.std.proofs.lemmas.List.Elements.{filter-append}
 use Rattle.card_bounds.proofs.Points.{small_at_each_step}
 use Rattle.card_bounds.specs.Bounds.{IsLimited, IsOrderly, moved}
-use Rattle.card_days.specs.Range.{last_request_day}
+use Rattle.card_events.specs.Range.{last_request_day}
 use Rattle.card_effects.specs.Standing.{StandsAt}
 use Rattle.card_events.specs.History.{CorrectedPost, anchor_of, is_folded, terms_of}
 use Rattle.card_events.specs.Limits.{post_limit}

@@ -2,8 +2,8 @@
 use Rattle.std.proofs.Common.{◌≡◌, ℕ, suc, ◌+◌, ◌-◌, ◌≤◌, List, [], ◌∷◌, ◌++◌, length, refl, sym, ap, ◌∙◌, subst, arith, Some}
 use Rattle.std.specs.Prelude.{slice_get}
 use Rattle.std.proofs.lemmas.List.{length-append}
-use Rattle.card_days.specs.Billing.{cycle_of}
-use Rattle.card_days.specs.Range.{last_request_day}
+use Rattle.card_events.specs.Billing.{cycle_of}
+use Rattle.card_events.specs.Range.{last_request_day}
 use Rattle.card_events.specs.History.{anchor_of}
 use Rattle.card_model.proofs.Calendar.{cycles_are_of_the_calendar}
 use Rattle.card_model.specs.Books.{Book, present_cycle}

@@ -8,8 +8,8 @@ use Rattle.std.proofs.lemmas.List.{append_assoc, length-drop, length-map, take-a
 use Rattle.std.proofs.lemmas.List.Elements.{All-cons, All-filter, All-get_or, All-head, All-nil, All-tail, filter_passes}
 use Rattle.card_bounds.proofs.OnDays.{cycles_begin_in_turn}
 use Rattle.card_bounds.proofs.Whole.{folded-few}
-use Rattle.card_days.specs.Billing.{closing, cycle_of}
-use Rattle.card_days.specs.Range.{last_request_day}
+use Rattle.card_events.specs.Billing.{closing, cycle_of}
+use Rattle.card_events.specs.Range.{last_request_day}
 use Rattle.card_effects.specs.Returned.{AreOfThose}
 use Rattle.card_effects.specs.Standing.{StandsAt}
 use Rattle.card_events.specs.History.{CorrectedPost, anchor_of, corrected, is_folded}

@@ -7,7 +7,7 @@ use Rattle.std.proofs.lemmas.List.{append_assoc}
 use Rattle.std.proofs.lemmas.List.Elements.{All-append, All-nil}
 use Rattle.std.proofs.lemmas.Int.{ints, to_z-of_z}
 use Rattle.card_effects.specs.Repaid.{AreRepaid, is_repaying, repaid_rows}
-use Rattle.card_days.specs.declared.anchor.Channel.{Channel}
+use Rattle.card_events.specs.declared.anchor.Channel.{Channel}
 use Rattle.card_effects.specs.Standing.{IsSlotOf, StandsAt}
 use Rattle.card_events.specs.History.{CorrectedPost}
 use Rattle.card_events.specs.declared.kept.Slot.{Slot}

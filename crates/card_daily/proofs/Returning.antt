@@ -8,7 +8,7 @@ use Rattle.std.proofs.lemmas.List.{take_more}
 use Rattle.std.proofs.lemmas.List.Elements.{All-cons, All-filter, All-get_or, All-head, All-nil, All-tail, filter_passes}
 use Rattle.std.proofs.lemmas.List.Folds.{list_any-append}
 use Rattle.card_bounds.proofs.Totals.{Numbers, numbers-filter, slots-number}
-use Rattle.card_days.specs.declared.anchor.Anchor.{Anchor}
+use Rattle.card_events.specs.declared.anchor.Anchor.{Anchor}
 use Rattle.card_events.specs.History.{CorrectedPost, anchor_of, at_number, corrected, corrected_from, corrected_post, is_folded, next_segment}
 use Rattle.card_events.specs.Limits.{post_limit}
 use Rattle.card_events.specs.declared.kept.Kept.{Kept}

@@ -7,10 +7,10 @@ use Rattle.std.proofs.lemmas.List.Elements.{All-cons, All-head, All-nil, All-pus
 use Rattle.std.specs.List.{All}
 use Rattle.std.specs.Prelude.{max}
 use Rattle.std.specs.Str.{bytes_eq}
-use Rattle.card_days.specs.Billing.{next_on}
-use Rattle.card_days.specs.Civil.{day_of_month, first_day}
-use Rattle.card_days.specs.declared.anchor.Anchor.{Anchor}
-use Rattle.card_days.proofs.Months.{first_day-from}
+use Rattle.card_events.specs.Billing.{next_on}
+use Rattle.card_events.specs.Civil.{day_of_month, first_day}
+use Rattle.card_events.specs.declared.anchor.Anchor.{Anchor}
+use Rattle.card_events.proofs.Months.{first_day-from}
 use Rattle.card_events.specs.History.{anchor_of, at_number}
 use Rattle.card_events.specs.Keys.{with_key}
 use Rattle.card_events.specs.SharedRows.{shared_rows}

@@ -8,9 +8,9 @@ use Rattle.std.specs.List.{All}
 use Rattle.std.specs.List.Sorted.{IsNonDecreasingBy}
 use Rattle.std.specs.Prelude.{nat_le, nat_lt, ◌+◌, ◌&&◌}
 use Rattle.std.specs.Str.{bytes_eq}
-use Rattle.card_days.specs.Billing.{closing}
-use Rattle.card_days.specs.Range.{first_calendar_day}
-use Rattle.card_days.specs.declared.anchor.Anchor.{Anchor}
+use Rattle.card_events.specs.Billing.{closing}
+use Rattle.card_events.specs.Range.{first_calendar_day}
+use Rattle.card_events.specs.declared.anchor.Anchor.{Anchor}
 use Rattle.card_events.specs.History.{anchor_of, at_number}
 use Rattle.card_events.specs.Keys.{with_key}
 use Rattle.card_events.specs.SharedRows.{shared_rows}

@@ -1,8 +1,8 @@
 -- The day on which a cycle closes, and plans that end with one. Days are day numbers.
 use Rattle.std.specs.Prelude.{ℕ, ◌≡◌, ◌≤◌}
-use Rattle.card_days.specs.Billing.{IsCloseDay, closing}
-use Rattle.card_days.specs.Range.{first_calendar_day}
-use Rattle.card_days.specs.declared.anchor.Anchor.{Anchor}
+use Rattle.card_events.specs.Billing.{IsCloseDay, closing}
+use Rattle.card_events.specs.Range.{first_calendar_day}
+use Rattle.card_events.specs.declared.anchor.Anchor.{Anchor}
 use Rattle.card_events.specs.History.{anchor_of}
 use Rattle.card_model.specs.Books.{present_cycle}
 use Rattle.card_daily.specs.Given.{Given}

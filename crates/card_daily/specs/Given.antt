@@ -2,10 +2,10 @@
 use Rattle.std.specs.Prelude.{ℕ, suc, ◌≡◌, ◌≤◌, ◌<◌, true, List, [], ◌∷◌, Option, Some}
 use Rattle.std.specs.List.{All}
 use Rattle.std.specs.List.Sorted.{IsNonDecreasingBy}
-use Rattle.card_days.specs.Billing.{closing}
-use Rattle.card_days.specs.Civil.{day_of_month}
-use Rattle.card_days.specs.Range.{last_request_day}
-use Rattle.card_days.specs.declared.anchor.Anchor.{Anchor}
+use Rattle.card_events.specs.Billing.{closing}
+use Rattle.card_events.specs.Civil.{day_of_month}
+use Rattle.card_events.specs.Range.{last_request_day}
+use Rattle.card_events.specs.declared.anchor.Anchor.{Anchor}
 use Rattle.card_events.specs.History.{anchor_of, at_number}
 use Rattle.card_events.specs.SharedRows.{SharedRows}
 use Rattle.card_events.specs.declared.kept.Kept.{Kept}

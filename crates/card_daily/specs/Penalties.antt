@@ -1,6 +1,6 @@
 -- How the penalties of an account begin and end on a day (12 CFR 1026.55(b)(4)). Days are day numbers.
 use Rattle.std.specs.Prelude.{ℕ, ◌+◌, ◌==◌, ◌≤◌, if◌then◌else◌, map, List, [], ◌∷◌, ◌++◌, slice_index_or, slice_set, Option, Some, None}
-use Rattle.card_days.specs.Range.{last_calendar_day}
+use Rattle.card_events.specs.Range.{last_calendar_day}
 use Rattle.card_events.specs.History.{anchor_of}
 use Rattle.card_model.specs.CycleDays.{HasItsDays}
 use Rattle.card_model.specs.Cycles.{Cycle, Seen}

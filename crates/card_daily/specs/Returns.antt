@@ -1,7 +1,7 @@
 -- What the return of a payment reads (12 CFR 1026.52(b)(1)(ii)).
 use Rattle.std.specs.Prelude.{ℕ, ◌-◌, ◌≡◌, ◌≤◌, ◌++◌, List, [], ◌∷◌, Option, Some, None}
 use Rattle.std.specs.List.{All}
-use Rattle.card_days.specs.Range.{last_request_day}
+use Rattle.card_events.specs.Range.{last_request_day}
 use Rattle.card_events.specs.History.{anchor_of, corrected}
 use Rattle.card_model.specs.Books.{Book}
 use Rattle.card_model.specs.CycleDays.{HasItsDays}

@@ -1,9 +1,9 @@
 // What a due date brings on the day after it.
 ghost use Rattle.std.specs.Prelude.{◌≡◌, ◌+◌, ◌-◌, ◌<◌, ◌≤◌, ◌==◌, ℕ, List, [], ◌∷◌, ◌++◌, Some, None, OnOk, OnErr, pos, ◌≤ℤ◌, option_copied, option_map, vec_len, vec_capacity};
 ghost use Rattle.card_model.specs.Limits.{balance_limit};
-ghost use Rattle.card_days.specs.Billing.{due as due_of};
-ghost use Rattle.card_days.specs.Range.{last_request_day, last_calendar_day};
-ghost use Rattle.card_days.specs.declared.anchor.Anchor.{Anchor};
+ghost use Rattle.card_events.specs.Billing.{due as due_of};
+ghost use Rattle.card_events.specs.Range.{last_request_day, last_calendar_day};
+ghost use Rattle.card_events.specs.declared.anchor.Anchor.{Anchor};
 ghost use Rattle.card_fees.specs.Asked.{is_due_by};
 ghost use Rattle.card_effects.specs.Entering.{ChargesFee, MayMove};
 ghost use Rattle.card_model.specs.Books.{Account, Book, with_fee};
@@ -22,12 +22,11 @@ ghost use Rattle.card_daily.specs.Stands.{AreAmid, AreBefore, Begins, before, Ke
 use crate::penalties::end_penalties;
 use crate::{Inputs, Issued, State, Track};
 use card_closing::Cycle;
-use card_days::Day;
 use card_effects::fee;
+use card_events::{Cents, Day, NoMemory};
 use card_fees::{DueCycle, due_fee};
 use card_model::Fee;
 use card_statement::has_due_payment;
-use card_units::{Cents, NoMemory};
 
 // The day of an issued statement.
 fn issue_day(issued: Option<&Issued>) -> Option<Day>

@@ -18,8 +18,7 @@ ghost use Rattle.card_daily.specs.Stands.{Begins, KeepsRoom};
 
 use crate::{Inputs, State, Track};
 use card_effects::{dispute, resolve};
-use card_events::{Num, Slot};
-use card_units::NoMemory;
+use card_events::{NoMemory, Num, Slot};
 
 // Enters a Dispute of a charge, by the charge's number.
 pub(crate) fn enter_dispute(

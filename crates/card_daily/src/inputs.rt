@@ -1,7 +1,7 @@
 ghost use Rattle.std.specs.Prelude.{◌≡◌, ◌<◌, Some, option_copied};
 ghost use Rattle.std.specs.List.{All};
 ghost use Rattle.std.specs.List.Sorted.{IsNonDecreasingBy};
-ghost use Rattle.card_days.specs.Billing.{IsCloseDay};
+ghost use Rattle.card_events.specs.Billing.{IsCloseDay};
 ghost use Rattle.card_events.specs.History.{anchor_of, terms_in, terms_of};
 ghost use Rattle.card_model.specs.Accepted.{AreSingle};
 ghost use Rattle.card_model.specs.Caps.{row_for};
@@ -9,8 +9,7 @@ ghost use Rattle.card_model.specs.CycleDays.{IsOpening};
 ghost use Rattle.card_model.specs.Cycles.{IssuedRow};
 
 use crate::Issued;
-use card_days::{Anchor, Calendar, Day};
-use card_events::{Post, Terms};
+use card_events::{Anchor, Calendar, Day, Post, Terms};
 use card_fees::{FeeTable, SharedRows};
 use card_posts::Posts;
 use std::marker::Model;
@@ -106,7 +105,7 @@ impl<'a> Model for Inputs<'a> {
 
 impl<'a> Inputs<'a> {
     ghost use Rattle.std.specs.Prelude.{◌≡◌, ◌≤◌, option_copied};
-    ghost use Rattle.card_days.specs.Billing.{closing};
+    ghost use Rattle.card_events.specs.Billing.{closing};
     ghost use Rattle.card_events.specs.History.{anchor_of, terms_of};
     ghost use Rattle.card_model.specs.Caps.{row_for};
     ghost use Rattle.card_daily.specs.Given.{Given, IsSound};

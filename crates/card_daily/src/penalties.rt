@@ -1,6 +1,6 @@
 // How penalty rates begin and end.
 ghost use Rattle.std.specs.Prelude.{◌≡◌, ◌+◌, ◌≤◌, ◌<◌, ◌&&◌, ◌++◌, ℕ, length, map, nat_lt, not, Some, None, OnOk};
-ghost use Rattle.card_days.specs.Range.{last_request_day};
+ghost use Rattle.card_events.specs.Range.{last_request_day};
 ghost use Rattle.std.specs.List.{All, list_all};
 ghost use Rattle.card_events.specs.History.{anchor_of};
 ghost use Rattle.card_model.specs.Cycles.{last_cycle};
@@ -18,10 +18,9 @@ ghost use Rattle.card_daily.specs.Stands.{AreClosedBefore};
 use crate::Inputs;
 use crate::due::{due_cycle, is_day_after};
 use card_closing::{Cycle, awaits_end, begin_after, is_due_after, is_met, owes_sixty_days};
-use card_days::Day;
+use card_events::{Day, NoMemory};
 use card_model::Interval;
 use card_rates::RateBook;
-use card_units::NoMemory;
 
 // Whether a closed cycle owes its minimum payment for sixty days.
 fn owes(inputs: &Inputs, day: Day, cycle: &Cycle) -> bool

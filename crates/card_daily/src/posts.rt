@@ -2,10 +2,10 @@
 ghost use Rattle.std.specs.Prelude.{◌≡◌, ◌+◌, ◌-◌, ◌<◌, ◌≤◌, ℕ, Bool, true, false, nat_lt, List, [], length, min, Option, OnOk, OnErr, option_copied, pos, ◌≤ℤ◌, slice_index_or, unsigned_abs};
 ghost use Rattle.card_events.specs.Limits.{post_limit};
 ghost use Rattle.card_model.specs.Limits.{balance_limit};
-ghost use Rattle.card_days.specs.Range.{last_request_day};
+ghost use Rattle.card_events.specs.Range.{last_request_day};
 ghost use Rattle.card_bounds.specs.Bounds.{moved};
-ghost use Rattle.card_days.specs.Billing.{IsCloseDay};
-ghost use Rattle.card_days.specs.declared.anchor.Channel.{Channel};
+ghost use Rattle.card_events.specs.Billing.{IsCloseDay};
+ghost use Rattle.card_events.specs.declared.anchor.Channel.{Channel};
 ghost use Rattle.card_effects.specs.Returned.{AreReturnable, parts_of};
 ghost use Rattle.card_effects.specs.Entering.{MayMove};
 ghost use Rattle.card_events.specs.History.{CorrectedPost, anchor_of};
@@ -34,12 +34,10 @@ use crate::penalties::begin_penalty;
 use crate::returns::enter_return;
 use crate::{Inputs, State, Track};
 use card_closing::Cycle;
-use card_days::{Anchor, Day, closing, cycle_of};
 use card_effects::{charge, credit, payment, refund, repay};
-use card_events::{Place, Post, Slot};
+use card_events::{Anchor, Cents, Day, NoMemory, Place, Post, Slot, closing, cycle_of};
 use card_fees::minimum_left;
 use card_rates::{DayPost, first_place, folded_at};
-use card_units::{Cents, NoMemory};
 use std::alloc::Global;
 
 // The closing after that of a day's cycle.

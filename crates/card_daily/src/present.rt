@@ -1,5 +1,5 @@
 use crate::{Inputs, Issued};
-use card_days::{Anchor, Calendar, Day};
+use card_events::{Anchor, Calendar, Day};
 use card_fees::SharedRows;
 use card_posts::Posts;
 use std::marker::Model;

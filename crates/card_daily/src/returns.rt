@@ -1,7 +1,7 @@
 // A payment that is returned: its parts are owed again, and a fee may be due.
 ghost use Rattle.std.specs.Prelude.{◌≡◌, ◌+◌, ◌-◌, ◌<◌, ◌≤◌, ℕ, Bool, nat_lt, List, Some, None, Option, OnOk, OnErr, length, pos, ◌≤ℤ◌, option_copied, option_map, vec_len, vec_capacity};
 ghost use Rattle.card_model.specs.Limits.{balance_limit};
-ghost use Rattle.card_days.specs.Range.{last_request_day};
+ghost use Rattle.card_events.specs.Range.{last_request_day};
 ghost use Rattle.card_effects.specs.Returned.{AreOfThose, AreReturnable, parts_of};
 ghost use Rattle.card_effects.specs.Standing.{AreRated, IsSlotOf};
 ghost use Rattle.card_events.specs.History.{CorrectedPost, slot_of};
@@ -24,12 +24,10 @@ ghost use Rattle.card_daily.specs.Stands.{AreClosedBefore, KeepsRoom};
 use crate::due::{due_cycle, fees_of, minimum_of, push_fee};
 use crate::{Inputs, State, Track};
 use card_closing::Cycle;
-use card_days::Day;
 use card_effects::{returned, unpay};
-use card_events::Slot;
+use card_events::{Cents, Day, NoMemory, Slot};
 use card_fees::{asked, capped_fee, returned_fee};
 use card_model::Fee;
-use card_units::{Cents, NoMemory};
 use std::alloc::Global;
 
 // Whether a cycle closed before a day.

@@ -1,7 +1,6 @@
 use card_closing::{Cycle, Entry, Fee};
-use card_days::Day;
+use card_events::{Day, NoMemory};
 use card_statement::Sheet;
-use card_units::NoMemory;
 use std::alloc::Global;
 use std::marker::Model;
 

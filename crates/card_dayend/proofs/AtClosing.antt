@@ -6,10 +6,10 @@ use Rattle.card_bounds.proofs.Dated.{rows_of_past_days}
 use Rattle.card_bounds.proofs.OnSegments.{entries_have_segments}
 use Rattle.card_bounds.specs.Places.{LieOn, segments_by}
 use Rattle.card_closing.specs.Interest.{StandFor as StandForClosing}
-use Rattle.card_days.proofs.DueLaws.{closing_laws}
-use Rattle.card_days.specs.Billing.{cycle_of}
-use Rattle.card_days.specs.Civil.{day_of_month}
-use Rattle.card_days.specs.Range.{last_request_day}
+use Rattle.card_events.proofs.DueLaws.{closing_laws}
+use Rattle.card_events.specs.Billing.{cycle_of}
+use Rattle.card_events.specs.Civil.{day_of_month}
+use Rattle.card_events.specs.Range.{last_request_day}
 use Rattle.card_effects.proofs.DayLaws.{books_of_a_day}
 use Rattle.card_effects.specs.Standing.{is_added}
 use Rattle.card_events.specs.History.{anchor_of}

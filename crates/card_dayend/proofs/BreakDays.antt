@@ -4,14 +4,14 @@ use Rattle.std.specs.List.{filter, list_any}
 use Rattle.std.proofs.lemmas.Bool.{cases_lt, eq-eqb, eqb-true}
 use Rattle.std.proofs.lemmas.Bool.Decides.{nat_tests}
 use Rattle.std.proofs.lemmas.List.{get_or_default}
-use Rattle.card_days.specs.Billing.{closing, due, due_day_of_month}
-use Rattle.card_days.specs.Business.{is_due}
-use Rattle.card_days.specs.Civil.{day_of_month}
-use Rattle.card_days.specs.Range.{last_calendar_day}
-use Rattle.card_days.specs.declared.anchor.Anchor.{Anchor}
-use Rattle.card_days.proofs.Cycles.{IsAnchor}
-use Rattle.card_days.proofs.DueLaws.{ClosingLaws, IsDueOf, closing_laws, due_before_next, is_due-due, numbered}
-use Rattle.card_days.proofs.MailDays.{due_parts}
+use Rattle.card_events.specs.Billing.{closing, due, due_day_of_month}
+use Rattle.card_events.specs.Business.{is_due}
+use Rattle.card_events.specs.Civil.{day_of_month}
+use Rattle.card_events.specs.Range.{last_calendar_day}
+use Rattle.card_events.specs.declared.anchor.Anchor.{Anchor}
+use Rattle.card_events.proofs.Cycles.{IsAnchor}
+use Rattle.card_events.proofs.DueLaws.{ClosingLaws, IsDueOf, closing_laws, due_before_next, is_due-due, numbered}
+use Rattle.card_events.proofs.MailDays.{due_parts}
 use Rattle.card_events.specs.History.{CorrectedPost, anchor_of, corrected}
 use Rattle.card_events.specs.declared.kept.Kept.{Kept}
 use Rattle.card_events.specs.declared.kept.Slot.{Slot}

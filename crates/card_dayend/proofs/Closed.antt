@@ -6,8 +6,8 @@ use Rattle.card_closing.specs.Closes.{IsGivenFor, IsOfBook}
 use Rattle.card_closing.specs.Interest.{statement_of}
 use Rattle.card_closing.specs.Interest.{StandFor as StandForClosing}
 use Rattle.card_closing.specs.declared.closing.Closing.{Closing}
-use Rattle.card_days.specs.Civil.{day_of_month}
-use Rattle.card_days.specs.Range.{last_request_day}
+use Rattle.card_events.specs.Civil.{day_of_month}
+use Rattle.card_events.specs.Range.{last_request_day}
 use Rattle.card_effects.specs.Standing.{is_added}
 use Rattle.card_events.specs.History.{anchor_of}
 use Rattle.card_closing.specs.Accruals.{Accrued, nothing_accrued}

@@ -4,7 +4,7 @@ use Rattle.std.specs.List.{last_or}
 use Rattle.std.proofs.lemmas.Bool.{eq-eqb, ne_eqb}
 use Rattle.std.proofs.lemmas.List.Elements.{All-weaker}
 use Rattle.card_bounds.proofs.Dated.{Before, posted_on}
-use Rattle.card_days.specs.Civil.{day_of_month}
+use Rattle.card_events.specs.Civil.{day_of_month}
 use Rattle.card_events.specs.History.{anchor_of}
 use Rattle.card_closing.proofs.Growing.{rows_grow}
 use Rattle.card_closing.proofs.Turns.{interest_in_turn}

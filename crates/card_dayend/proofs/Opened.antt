@@ -17,7 +17,7 @@ use Rattle.card_model.specs.Segments.{SegmentTerms, kept_segment}
 use Rattle.card_rates.specs.RateBooks.{Rates, rates_of}
 use Rattle.card_segments.proofs.Sums.{sums-start}
 use Rattle.card_rates.specs.Segments.{AreUnused, account_segments}
-use Rattle.card_units.specs.Money.{daily}
+use Rattle.card_events.specs.Money.{daily}
 use Rattle.card_daily.specs.Given.{Given, IsSound, account_in, book_in, opened_in, seen_in}
 use Rattle.card_daily.specs.Stands.{AreBefore, HaveAccrued, IsBlank, StandFor, before, rows_through}
 use Rattle.card_daily.specs.declared.state.State.{State}

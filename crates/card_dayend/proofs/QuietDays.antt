@@ -6,9 +6,9 @@ use Rattle.std.proofs.lemmas.Bool.Decides.{nat_tests}
 use Rattle.std.proofs.lemmas.List.Elements.{All-contains_itself, All-map, All-weaker}
 use Rattle.std.proofs.lemmas.List.FromFn.{length-map-range_with_len}
 use Rattle.card_bounds.proofs.Dated.{Before, Counts, TooLate, added-none, row-front}
-use Rattle.card_days.specs.Business.{is_due}
-use Rattle.card_days.specs.Civil.{day_of_month}
-use Rattle.card_days.specs.Range.{last_calendar_day, last_request_day}
+use Rattle.card_events.specs.Business.{is_due}
+use Rattle.card_events.specs.Civil.{day_of_month}
+use Rattle.card_events.specs.Range.{last_calendar_day, last_request_day}
 use Rattle.card_events.specs.History.{CorrectedPost, anchor_of, corrected}
 use Rattle.card_closing.proofs.Accruing.{accrual_of_a_book}
 use Rattle.card_closing.proofs.Growing.{rows_grow}

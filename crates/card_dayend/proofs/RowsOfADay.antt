@@ -10,10 +10,10 @@ use Rattle.std.proofs.lemmas.List.Elements.{All-cons, All-contains_itself, All-h
 use Rattle.std.proofs.lemmas.List.FromFn.{length-map-range_with_len}
 use Rattle.card_bounds.specs.Bounds.{AreSmall}
 use Rattle.card_bounds.proofs.Dated.{Added, IsPlain, TooLate, added-none, added-weaker, posted-counts, posted_after, row-front}
-use Rattle.card_days.specs.Range.{last_request_day}
+use Rattle.card_events.specs.Range.{last_request_day}
 use Rattle.card_effects.specs.Standing.{AreRated}
 use Rattle.card_model.specs.Limits.{balance_limit}
-use Rattle.card_units.specs.Money.{daily}
+use Rattle.card_events.specs.Money.{daily}
 use Rattle.card_closing.specs.Accruals.{Accrued, accrued_in, nothing_accrued}
 use Rattle.card_closing.specs.BookRows.{day_row, rate_of, rows_of}
 use Rattle.card_closing.specs.Growth.{with_repaid}

@@ -8,9 +8,8 @@ ghost use Rattle.card_daily.specs.declared.track.Track.{Track};
 
 use card_closing::{Accrual, CycleRows};
 use card_daily::{Inputs, State};
-use card_days::Day;
+use card_events::{Day, NoMemory};
 use card_rates::{RateBook, segments_of};
-use card_units::NoMemory;
 use std::alloc::Global;
 
 /// The rows of so many segments in a cycle that begins on a day: none.

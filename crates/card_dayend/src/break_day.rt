@@ -1,8 +1,8 @@
 // The next break day.
 ghost use Rattle.std.specs.Prelude.{◌≡◌, ◌-◌, ◌≤◌, ◌==◌, ℕ, List, [], nat_lt};
 ghost use Rattle.std.specs.List.Sorted.{IsNonDecreasingBy};
-ghost use Rattle.card_days.specs.Billing.{closing};
-ghost use Rattle.card_days.specs.Range.{last_request_day};
+ghost use Rattle.card_events.specs.Billing.{closing};
+ghost use Rattle.card_events.specs.Range.{last_request_day};
 ghost use Rattle.card_events.specs.History.{anchor_of};
 ghost use Rattle.card_posts.specs.Posted.{StandsFor};
 ghost use Rattle.card_rates.specs.Next.{IsNext};
@@ -11,7 +11,7 @@ ghost use Rattle.card_daily.specs.Given.{opened_in};
 ghost use Rattle.card_dayend.specs.Spans.{IsCycleOf, IsIssueCut, breaks_by, closes, follows_due, has_issue, has_post};
 
 use card_daily::{Inputs, Issued};
-use card_days::{Anchor, Day, closing_date, cycle_of, due_date};
+use card_events::{Anchor, Day, closing_date, cycle_of, due_date};
 use card_posts::Posts;
 use card_rates::{RateBook, first_place};
 

@@ -1,10 +1,10 @@
 // The closing of a cycle, and the days that close none.
 ghost use Rattle.std.specs.Prelude.{◌≡◌, ◌+◌, ◌<◌, ◌≤◌, ◌==◌, ℕ, OnOk, Some, map, pos, ◌≤ℤ◌, option_copied};
-ghost use Rattle.card_days.specs.Range.{last_request_day, last_calendar_day};
+ghost use Rattle.card_events.specs.Range.{last_request_day, last_calendar_day};
 ghost use Rattle.card_closing.specs.Closes.{IsOfBook};
 ghost use Rattle.card_closing.specs.Interest as interest;
-ghost use Rattle.card_days.specs.Billing as billing;
-ghost use Rattle.card_days.specs.Civil.{day_of_month};
+ghost use Rattle.card_events.specs.Billing as billing;
+ghost use Rattle.card_events.specs.Civil.{day_of_month};
 ghost use Rattle.card_fees.specs.Asked.{asks};
 ghost use Rattle.card_fees.specs.DueLaws.{AreDueBy, AreOfTheCalendar, due_cycle_at};
 ghost use Rattle.card_events.specs.History.{anchor_of};
@@ -19,9 +19,8 @@ ghost use Rattle.card_daily.specs.Stands.{AreBefore, ArePosted, Begins, posted, 
 
 use card_closing::{Closing, Cycle, CycleRows, GraceCase, close};
 use card_daily::{Inputs, Issued, State, Track, due_cycle};
-use card_days::{Anchor, Day, closing, cycle_of, due};
+use card_events::{Anchor, Cents, Day, NoMemory, closing, cycle_of, due};
 use card_fees::{DueCycle, asked, past_due, purchase_case};
-use card_units::{Cents, NoMemory};
 use std::alloc::Global;
 
 // Whether cycles close on a day.

@@ -6,8 +6,7 @@ ghost use Rattle.card_daily.specs.Stands.{AreBefore, Begins, KeepsRoom};
 
 use crate::{close_day, opening_day, pass_quiet, row_day};
 use card_daily::{Inputs, State, Track, due_day, post_day};
-use card_days::Day;
-use card_units::NoMemory;
+use card_events::{Day, NoMemory};
 use std::alloc::Global;
 
 /// Folds a day: what its due date brings, its posts in turn, its row on each segment, and the closing where it is one. The

@@ -1,6 +1,6 @@
 ghost use Rattle.std.specs.Prelude.{◌≡◌, ℕ, ◌+◌, ◌-◌, ◌<◌, ◌≤◌, length, pos, slice_index_or, OnOk};
 ghost use Rattle.card_model.specs.Limits.{balance_limit};
-ghost use Rattle.card_days.specs.Range.{last_request_day};
+ghost use Rattle.card_events.specs.Range.{last_request_day};
 ghost use Rattle.std.specs.List.{All, Contains, list_any};
 ghost use Rattle.card_effects.specs.Standing.{AreRated};
 ghost use Rattle.card_closing.specs.Accruals.{Accrued};
@@ -18,10 +18,9 @@ ghost use Rattle.card_daily.specs.declared.track.Track.{Track};
 
 use card_closing::{Accrual, CycleRows};
 use card_daily::State;
-use card_days::Day;
+use card_events::{Bp, Cents, Day, NoMemory};
 use card_rates::{RateBook, RatedSegment, is_deferred_on};
 use card_segments::Segments;
-use card_units::{Bp, Cents, NoMemory};
 
 // The rate 0.
 fn no_rate() -> Bp

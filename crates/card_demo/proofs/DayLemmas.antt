@@ -2,11 +2,11 @@
 use Rattle.std.proofs.Common.{◌≡◌, ℕ, ◌+◌, ◌≤◌, ◌/◌, ◌%◌, true, refl, arith}
 use Rattle.std.specs.Prelude.{nat_le}
 use Rattle.std.proofs.lemmas.Bool.{and_from, le-leb}
-use Rattle.card_days.specs.Civil.{day_at, days_before_year, days_of_months, is_date, month_length}
-use Rattle.card_days.specs.Range.{first_calendar_day, last_request_day}
+use Rattle.card_events.specs.Civil.{day_at, days_before_year, days_of_months, is_date, month_length}
+use Rattle.card_events.specs.Range.{first_calendar_day, last_request_day}
 use Rattle.card_events.specs.Dated.{is_request_day}
-use Rattle.card_days.proofs.DateFacts.{before_year}
-use Rattle.card_days.proofs.Months.{length_bounds}
+use Rattle.card_events.proofs.DateFacts.{before_year}
+use Rattle.card_events.proofs.Months.{length_bounds}
 use Rattle.card_demo.specs.Requests.{twentieth}
 
 pub fees_day : is_request_day (day_at 2011 1 2) ≡ true

@@ -2,8 +2,8 @@
 -- and charges count from 1. Cents, basis points and minutes of the day.
 use Rattle.std.specs.Prelude.{ℕ, zero, suc, ◌+◌, ◌-◌, ◌/◌, ◌%◌, ◌==◌, if◌then◌else◌, List, [], ◌∷◌, ◌++◌, codes}
 use Rattle.std.specs.Fmt.{decimal}
-use Rattle.card_days.specs.Civil.{day_at}
-use Rattle.card_days.specs.declared.anchor.Channel.TheVariants as channel
+use Rattle.card_events.specs.Civil.{day_at}
+use Rattle.card_events.specs.declared.anchor.Channel.TheVariants as channel
 use Rattle.card_events.specs.declared.post.Place.{Place}
 use Rattle.card_events.specs.declared.post.Place.TheVariants as place
 use Rattle.card_events.specs.declared.post.Post.TheVariants as post

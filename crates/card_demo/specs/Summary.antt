@@ -9,7 +9,7 @@ use Rattle.card_model.specs.Machine.{State, lists_of, run, start}
 use Rattle.card_model.specs.Refusals.{Lists, book_today}
 use Rattle.card_model.specs.Work.{present_in}
 use Rattle.card_model.specs.declared.entry.Entry.{Entry}
-use Rattle.card_units.specs.Money.{money_text}
+use Rattle.card_events.specs.Money.{money_text}
 
 -- ---- entries
 -- those of an account that has these lists, up to the end of today

@@ -1,6 +1,6 @@
 -- Generated requests, worked out apart from their definition. Days are day numbers: 2011-01-02 is 14976, 2024-01-20 is 19742.
 use Rattle.std.specs.Prelude.{◌≡◌, ℕ, List, [], ◌∷◌, codes}
-use Rattle.card_days.specs.declared.anchor.Channel.TheVariants as channel
+use Rattle.card_events.specs.declared.anchor.Channel.TheVariants as channel
 use Rattle.card_events.specs.declared.post.Place.TheVariants as place
 use Rattle.card_events.specs.declared.post.Post.{Post}
 use Rattle.card_events.specs.declared.post.Post.TheVariants as post

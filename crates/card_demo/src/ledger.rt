@@ -10,9 +10,8 @@ ghost use Rattle.card_model.specs.Machine.{step};
 use crate::names::account_name;
 use crate::totals::{Totals, with_entries};
 use card_desk::{Ask, Desk, Fault, View, uncounted};
-use card_events::{Reply, Request};
+use card_events::{NoMemory, Reply, Request};
 use card_ports::MemoryKeeper;
-use card_units::NoMemory;
 use std::alloc::Global;
 use std::marker::Model;
 

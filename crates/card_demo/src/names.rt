@@ -1,13 +1,11 @@
 // Names and days of the demonstration.
 ghost use Rattle.std.specs.Prelude.{◌≡◌, ◌≤◌, ◌+◌, ◌-◌, true, IfOk};
-ghost use Rattle.card_days.specs.Civil.{day_at, is_date};
-ghost use Rattle.card_days.specs.Range.{first_calendar_day, last_request_day};
+ghost use Rattle.card_events.specs.Civil.{day_at, is_date};
+ghost use Rattle.card_events.specs.Range.{first_calendar_day, last_request_day};
 ghost use Rattle.card_events.specs.Names.{is_name};
 ghost use Rattle.card_demo.specs.Requests as spec;
 
-use card_days::Day;
-use card_events::{Name, Num};
-use card_units::NoMemory;
+use card_events::{Day, Name, NoMemory, Num};
 use std::alloc::Global;
 
 /// The name with this text.

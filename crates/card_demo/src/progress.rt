@@ -5,8 +5,7 @@ use crate::ledger::MemoryLedger;
 use crate::requests::{amend, bill, charge, fees_from_2011, opening, payment, roll};
 use crate::tally::Tally;
 use crate::totals::Totals;
-use card_events::{Num, Request};
-use card_units::NoMemory;
+use card_events::{NoMemory, Num, Request};
 use std::alloc::Global;
 use std::marker::Model;
 

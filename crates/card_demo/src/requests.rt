@@ -9,9 +9,7 @@ use crate::names::{
     account_name, amend_key, bill_key, charge_key, date, days_before, name, number, payment_key,
     twentieth,
 };
-use card_days::Channel;
-use card_events::{Place, Post, Request, Shared, Terms};
-use card_units::NoMemory;
+use card_events::{Channel, NoMemory, Place, Post, Request, Shared, Terms};
 use std::alloc::Global;
 
 /// The fees from 2011-01-02 on: 30.00, and 41.00 where one is repeated.

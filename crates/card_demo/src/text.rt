@@ -6,7 +6,7 @@ ghost use Rattle.card_demo.specs.Summary as spec;
 use crate::demonstration::Demonstration;
 use crate::progress::Progress;
 use crate::summary::summary_text;
-use card_units::NoMemory;
+use card_events::NoMemory;
 use std::alloc::Global;
 
 /// Has a ledger of its own carry out the requests of a demonstration, one after the other, and sums up, in six lines: how many

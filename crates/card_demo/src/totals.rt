@@ -5,8 +5,8 @@ ghost use Rattle.card_model.specs.Entries.{is_kind};
 ghost use Rattle.card_model.specs.declared.entry.EntryKind.TheVariants as kind;
 ghost use Rattle.card_segments.specs.Balances.{IsWithin};
 
+use card_events::Cents;
 use card_model::{Entry, EntryKind};
-use card_units::Cents;
 
 /// What is owed, and of that interest and fees, in cents.
 #[derive(Clone, Copy, Debug)]

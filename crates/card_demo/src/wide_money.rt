@@ -1,6 +1,6 @@
 // Large amounts of money.
 ghost use Rattle.std.specs.Prelude.{◌≡◌, unsigned_abs, Some};
-ghost use Rattle.card_units.specs.Money.{money_text, sign_text};
+ghost use Rattle.card_events.specs.Money.{money_text, sign_text};
 
 use std::fmt;
 
@@ -25,7 +25,7 @@ impl WideMoney {
 impl fmt::Display for WideMoney {
     ghost output = { λ m. Some (money_text m.0) };
 
-    #[tactic(auto, using(card_units::proofs::Texts::texts), unfolding(card_units::specs::Money::money_text))]
+    #[tactic(auto, using(card_events::proofs::Texts::texts), unfolding(card_events::specs::Money::money_text))]
     fn fmt<W: fmt::Write>(&self, f: &mut fmt::Formatter<W>) -> fmt::Result {
         let size = self.size();
         write!(

@@ -15,9 +15,9 @@ use Rattle.card_account.specs.Verdicts.{verdict_of}
 use Rattle.card_account.specs.declared.verdict.Verdict.{Verdict}
 use Rattle.card_account.specs.Runs.{AreRunning, IsTaken}
 use Rattle.card_account.proofs.Runs.{runs_may_be_folded}
-use Rattle.card_days.specs.Business.{with_holiday}
-use Rattle.card_days.proofs.Agree.{with_holiday-agrees}
-use Rattle.card_days.specs.Range.{first_calendar_day, last_request_day}
+use Rattle.card_events.specs.Business.{with_holiday}
+use Rattle.card_events.proofs.Agree.{with_holiday-agrees}
+use Rattle.card_events.specs.Range.{first_calendar_day, last_request_day}
 use Rattle.card_desk.proofs.DeskLemmas.{read_at}
 use Rattle.card_reasons.proofs.SameReasons.{AreAlike, same_reason}
 use Rattle.card_desk.specs.Desks.{AreAccounts, AreSameHolidays, IsDesk, IsRun, named_all, now_at, now_of, state_of}

@@ -7,13 +7,13 @@ use Rattle.std.proofs.lemmas.List.Elements.{All-nil, All-push, All-set, filter_m
 use Rattle.std.proofs.lemmas.List.Folds.{list_all-append}
 use Rattle.std.specs.List.{filter_map, list_all}
 use Rattle.std.specs.Prelude.{nat_le, nat_lt, ◌&&◌}
-use Rattle.card_days.specs.Range.{last_request_day, first_calendar_day}
+use Rattle.card_events.specs.Range.{last_request_day, first_calendar_day}
 use Rattle.card_events.specs.Limits.{post_limit}
 use Rattle.card_reasons.proofs.ReasonLemmas.{none_head, none_tail, where_none}
 use Rattle.card_events.specs.declared.reply.Refusal.TheVariants as refusal
 use Rattle.card_account.specs.Accounts.{IsAccount, OpenAccount}
-use Rattle.card_days.specs.Business.{is_holiday, with_holiday}
-use Rattle.card_days.proofs.Holidays.{with_holiday-is}
+use Rattle.card_events.specs.Business.{is_holiday, with_holiday}
+use Rattle.card_events.proofs.Holidays.{with_holiday-is}
 use Rattle.card_desk.specs.Desks.{AreAccounts, AreSameHolidays, IsDesk, IsRun, named_all, state_of}
 use Rattle.card_desk.specs.Kept.{accepted_count, posts_in}
 use Rattle.card_desk.specs.IndexPlaces.{place_of}

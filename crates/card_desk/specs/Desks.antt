@@ -2,8 +2,8 @@
 use Rattle.std.specs.Prelude.{◌≡◌, ◌≤◌, ℕ, true, map, length, slice_index_or, List}
 use Rattle.std.specs.List.{All, list_all}
 use Rattle.card_account.specs.Accounts.{IsAccount, OpenAccount}
-use Rattle.card_days.specs.Business.{is_holiday}
-use Rattle.card_days.specs.Range.{last_request_day}
+use Rattle.card_events.specs.Business.{is_holiday}
+use Rattle.card_events.specs.Range.{last_request_day}
 use Rattle.card_rows.specs.Held.{is_request}
 use Rattle.card_desk.specs.Applied.{are_short}
 use Rattle.card_desk.specs.Kept.{accepted_count}

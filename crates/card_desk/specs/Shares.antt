@@ -1,7 +1,7 @@
 -- What all accounts share after one request more.
 use Rattle.std.specs.Prelude.{◌≤◌, ◌++◌, [], ◌∷◌}
-use Rattle.card_days.specs.Business.{with_holiday}
-use Rattle.card_days.specs.Range.{last_request_day}
+use Rattle.card_events.specs.Business.{with_holiday}
+use Rattle.card_events.specs.Range.{last_request_day}
 use Rattle.card_events.specs.SharedRows.{SharedRows}
 use Rattle.card_events.specs.declared.request.Shared.{Shared}
 use Rattle.card_events.specs.declared.request.Shared.TheVariants as shared

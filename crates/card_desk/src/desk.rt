@@ -1,6 +1,6 @@
 // All accounts.
 ghost use Rattle.std.specs.Prelude.{◌≡◌, ◌<◌, ◌≤◌, ◌++◌, [], ◌∷◌, IfOk, vec_len, vec_capacity};
-ghost use Rattle.card_days.specs.Range.{first_calendar_day};
+ghost use Rattle.card_events.specs.Range.{first_calendar_day};
 ghost use Rattle.card_account.specs.Accounts.{OpenAccount};
 ghost use Rattle.card_desk.specs.Views.{stated};
 ghost use Rattle.card_desk.specs.Kept as spec;
@@ -11,12 +11,9 @@ use crate::row::row_of;
 use crate::share::{load, loaded, rolled, shared_reason};
 use crate::{Ask, Fault, View};
 use card_account::{Account, EntryList, Owing, Statement, Tasks, Verdict, open_reason, work_today};
-use card_days::Day;
-use card_events::{Name, Num, Post, Refusal, Reply, Request, Shared};
+use card_events::{Day, Name, NoMemory, Num, Post, Refusal, Reply, Request, Shared, Steps};
 use card_fees::SharedRows;
 use card_ports::{Keeper, Row};
-use card_steps::Steps;
-use card_units::NoMemory;
 use std::alloc::Global;
 use std::marker::Model;
 use std::sync::ledger::Ledger;
@@ -54,7 +51,7 @@ impl Desk {
     ghost use Rattle.card_events.specs.SharedRows.{SharedRows};
     ghost use Rattle.card_rows.specs.Held.{is_request};
     ghost use Rattle.card_desk.specs.Desks.{now_at};
-    ghost use Rattle.card_days.specs.Billing.{IsCloseDay};
+    ghost use Rattle.card_events.specs.Billing.{IsCloseDay};
     ghost use Rattle.card_events.specs.Dated.{is_dated, is_dated_post};
     ghost use Rattle.card_events.specs.History.{terms_in};
     ghost use Rattle.card_ports.specs.Rows.{KeepsRows, SameRowsTold};

@@ -2,7 +2,7 @@ ghost use Rattle.std.specs.Prelude.{◌≡◌};
 ghost use Rattle.card_desk.specs.declared.fault.Fault.TheVariants as fault;
 ghost use Rattle.card_desk.specs.declared.fault.LoadFault.TheVariants as load_fault;
 
-use card_units::NoMemory;
+use card_events::NoMemory;
 use std::alloc::AllocError;
 
 /// Why a request was not carried out.

@@ -1,4 +1,4 @@
-use card_units::NoMemory;
+use card_events::NoMemory;
 use std::alloc::Global;
 use std::collections::HashMap;
 use std::marker::Model;

@@ -10,11 +10,9 @@ ghost use Rattle.card_desk.specs.Loads.{GoesOn};
 
 use crate::fault::LoadFault;
 use crate::{Desk, Fault};
-use card_events::Request;
+use card_events::{NoMemory, Request, Steps};
 use card_ports::{Keeper, KeeperFault, Row};
 use card_rows::decode;
-use card_steps::Steps;
-use card_units::NoMemory;
 use std::alloc::Global;
 use std::sync::ledger::Ledger;
 

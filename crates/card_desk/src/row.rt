@@ -4,10 +4,9 @@ ghost use Rattle.card_events.specs.Dated.{is_dated};
 ghost use Rattle.card_desk.specs.Kept as spec;
 ghost use Rattle.card_rows.specs.Held.{is_request};
 
-use card_events::Request;
+use card_events::{NoMemory, Request};
 use card_ports::{Body, Row};
 use card_rows::encode;
-use card_units::NoMemory;
 use std::alloc::Global;
 
 /// The row of a request, under a number.

@@ -3,10 +3,8 @@ ghost use Rattle.std.specs.Prelude.{◌≡◌, IfOk, nat_lt, unwrap_or};
 ghost use Rattle.card_model.specs.Machine.{rolled, shared_reason};
 ghost use Rattle.card_desk.specs.Shares.{IsLoadable, loaded};
 
-use card_days::Day;
-use card_events::{Refusal, Shared};
+use card_events::{Day, NoMemory, Refusal, Shared};
 use card_fees::{SharedRows, fees_reason, holiday_reason, roll_reason};
-use card_units::NoMemory;
 use std::alloc::Global;
 
 /// Why a shared request isn't accepted today, where so many accounts exist.

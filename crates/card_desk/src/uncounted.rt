@@ -8,13 +8,11 @@ ghost use Rattle.card_desk.specs.Views.{seen, shown};
 ghost use Rattle.card_events.specs.Dated.{is_dated};
 ghost use Rattle.card_ports.specs.Rows.{KeepsRows, SameRowsTold};
 ghost use Rattle.card_model.specs.Machine.{lists_of};
-ghost use Rattle.card_steps.specs.Blanks.{IsBlankOf};
+ghost use Rattle.card_events.specs.Blanks.{IsBlankOf};
 
 use crate::{Ask, Desk, Fault, LoadFault, View};
-use card_events::{Name, Reply, Request};
+use card_events::{Name, NoMemory, Reply, Request, Steps};
 use card_ports::Keeper;
-use card_steps::Steps;
-use card_units::NoMemory;
 use std::alloc::Global;
 use std::marker::Brand;
 use std::sync::ledger::{Blank, Ledger};

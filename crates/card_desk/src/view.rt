@@ -1,7 +1,5 @@
 use card_account::{EntryList, Statement, Tasks};
-use card_days::Day;
-use card_events::{Name, Num};
-use card_units::Cents;
+use card_events::{Cents, Day, Name, Num};
 
 /// What can be asked of a desk.
 #[derive(Debug, Drop)]

@@ -1,11 +1,11 @@
 -- Cycles and business days.
 use Rattle.std.proofs.Common.{◌≡◌, ℕ, zero, suc, ◌+◌, ◌-◌, ◌≤◌, ◌<◌, ◌==◌, min, Bool, true, false, cond, List, refl, sym, ap, ◌∙◌, arith}
-use Rattle.card_days.specs.Range.{last_request_day, last_calendar_day}
-use Rattle.card_days.specs.declared.anchor.Anchor.{Anchor}
+use Rattle.card_events.specs.Range.{last_request_day, last_calendar_day}
+use Rattle.card_events.specs.declared.anchor.Anchor.{Anchor}
 use Rattle.std.specs.Prelude.{Option, Some, None, SomeIff}
-use Rattle.card_days.specs.Billing.{closing, closings_among, cycle_of}
-use Rattle.card_days.specs.Business.{next_business}
-use Rattle.card_days.specs.Civil.{day_of_month}
+use Rattle.card_events.specs.Billing.{closing, closings_among, cycle_of}
+use Rattle.card_events.specs.Business.{next_business}
+use Rattle.card_events.specs.Civil.{day_of_month}
 use Rattle.card_model.specs.Deadlines.{business_day_after, resolve_by}
 
 -- the cycle of a day before the opening is the first

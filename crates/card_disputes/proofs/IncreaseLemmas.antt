@@ -3,7 +3,7 @@ use Rattle.std.proofs.Common.{◌≡◌, ℕ, suc, Bool, true, false, cond, nat_
 use Rattle.std.specs.Prelude.{not, ◌||◌}
 use Rattle.std.specs.List.{cons_option, filter, filter_map, list_any}
 use Rattle.std.proofs.lemmas.Bool.Decides.{nat_tests}
-use Rattle.card_days.specs.declared.anchor.Anchor.{Anchor}
+use Rattle.card_events.specs.declared.anchor.Anchor.{Anchor}
 use Rattle.card_disputes.specs.Increases.{is_by, is_increase_by}
 use Rattle.card_events.specs.History.{corrected, corrected_from, corrected_post, next_segment}
 use Rattle.card_events.specs.declared.kept.Kept.{Kept}

@@ -5,9 +5,9 @@ use Rattle.std.specs.List.{find}
 use Rattle.std.specs.Option.{option_map, option_or}
 use Rattle.std.proofs.lemmas.List.Elements.{All-head, All-tail}
 use Rattle.std.proofs.lemmas.Bool.Decides.{nat_tests}
-use Rattle.card_days.specs.Range.{last_request_day}
-use Rattle.card_days.specs.declared.anchor.Anchor.{Anchor}
-use Rattle.card_days.specs.Billing.{cycle_of}
+use Rattle.card_events.specs.Range.{last_request_day}
+use Rattle.card_events.specs.declared.anchor.Anchor.{Anchor}
+use Rattle.card_events.specs.Billing.{cycle_of}
 use Rattle.card_disputes.specs.Notices.{amend_at, amended_at, charge_day, charge_in, charge_own, notice_end_at}
 use Rattle.card_disputes.proofs.Scans.{at_place, place-there}
 use Rattle.card_events.specs.Dated.{is_dated_post}

@@ -5,9 +5,9 @@ use Rattle.std.specs.List.{cons_option, filter, filter_map, fold, reduce}
 use Rattle.std.proofs.lemmas.Bool.Decides.{nat_tests}
 use Rattle.std.proofs.lemmas.List.Elements.{All-head, All-tail}
 use Rattle.std.specs.Option.{option_map}
-use Rattle.card_days.specs.Later.{six_months_after}
-use Rattle.card_days.specs.Range.{last_request_day}
-use Rattle.card_days.specs.declared.anchor.Anchor.{Anchor}
+use Rattle.card_events.specs.Later.{six_months_after}
+use Rattle.card_events.specs.Range.{last_request_day}
+use Rattle.card_events.specs.declared.anchor.Anchor.{Anchor}
 use Rattle.card_disputes.specs.Increases.{increase_at, increase_by, increases_by, latest, least_of, review_at, until}
 use Rattle.card_disputes.proofs.IncreaseLemmas.{days-corrected}
 use Rattle.card_disputes.proofs.Scans.{at_place, place-there}

@@ -1,10 +1,10 @@
 -- Calendars with the same holidays give the same tasks.
 use Rattle.std.proofs.Common.{◌≡◌, ℕ, zero, suc, ◌+◌, ◌-◌, ◌==◌, Bool, List, refl, ap, ◌∙◌, Option}
 use Rattle.std.specs.Prelude.{◌&&◌, ◌||◌, not, ◌++◌}
-use Rattle.card_days.specs.declared.anchor.Anchor.{Anchor}
-use Rattle.card_days.specs.Range.{last_calendar_day}
-use Rattle.card_days.specs.Business.{is_business, is_holiday, is_weekday, next_business}
-use Rattle.card_days.specs.Civil.{first_day}
+use Rattle.card_events.specs.declared.anchor.Anchor.{Anchor}
+use Rattle.card_events.specs.Range.{last_calendar_day}
+use Rattle.card_events.specs.Business.{is_business, is_holiday, is_weekday, next_business}
+use Rattle.card_events.specs.Civil.{first_day}
 use Rattle.card_events.specs.History.{CorrectedPost}
 use Rattle.card_events.specs.declared.post.Post.{Post}
 use Rattle.card_events.specs.declared.post.Post.TheVariants as post

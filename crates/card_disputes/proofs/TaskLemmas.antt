@@ -3,7 +3,7 @@ use Rattle.std.proofs.Common.{◌≡◌, ℕ, zero, suc, ◌+◌, ◌<◌, take,
 use Rattle.std.specs.Prelude.{slice_get}
 use Rattle.std.specs.List.{cons_option}
 use Rattle.std.specs.Option.{option_map, option_to_list}
-use Rattle.card_days.specs.declared.anchor.Anchor.{Anchor}
+use Rattle.card_events.specs.declared.anchor.Anchor.{Anchor}
 use Rattle.card_disputes.proofs.Scans.{at_place, place-there}
 use Rattle.card_disputes.specs.Dues.{due_at, due_by}
 use Rattle.card_events.specs.History.{CorrectedPost, at_number, corrected, corrected_from, corrected_post, next_segment}

@@ -1,10 +1,10 @@
 // The days by which something is to be done.
 ghost use Rattle.std.specs.Prelude.{◌≡◌, ℕ, ◌+◌, ◌≤◌, Some, None, min};
-ghost use Rattle.card_days.specs.Range.{last_reckoned_day, last_request_day};
-ghost use Rattle.card_days.specs.Billing.{IsCloseDay, closing, cycle_of};
+ghost use Rattle.card_events.specs.Range.{last_reckoned_day, last_request_day};
+ghost use Rattle.card_events.specs.Billing.{IsCloseDay, closing, cycle_of};
 ghost use Rattle.card_model.specs.Deadlines as spec;
 
-use card_days::{Anchor, Calendar, Day, closing, cycle_of, next_business};
+use card_events::{Anchor, Calendar, Day, closing, cycle_of, next_business};
 
 /// The last day for the acknowledgement of a Dispute of this day: 30 days after it (12 CFR 1026.13(c)(1)). The day is a day
 /// of requests.

@@ -1,7 +1,7 @@
 // By when the tasks are due that posts make.
 ghost use Rattle.std.specs.Prelude.{◌≡◌, ℕ, ◌≤◌, ◌==◌, true, List, Option, Some, IfSome};
-ghost use Rattle.card_days.specs.Range.{last_request_day};
-ghost use Rattle.card_days.specs.Billing.{IsCloseDay};
+ghost use Rattle.card_events.specs.Range.{last_request_day};
+ghost use Rattle.card_events.specs.Billing.{IsCloseDay};
 ghost use Rattle.card_disputes.specs.Dues as dues;
 ghost use Rattle.card_events.specs.Dated.{is_dated_post};
 ghost use Rattle.card_events.specs.History.{at_number};
@@ -11,8 +11,7 @@ ghost use Rattle.card_rates.specs.Segments.{ArePostsDated};
 
 use crate::deadline::{ack_by, lower_by, refund_by, resolve_by};
 use crate::end::{is_acknowledged, is_lowered, is_refunded, is_resolved};
-use card_days::{Anchor, Calendar, Day, six_months_after};
-use card_events::{Finding, Post};
+use card_events::{Anchor, Calendar, Day, Finding, Post, six_months_after};
 use card_model::TaskKind;
 use card_posts::Posts;
 

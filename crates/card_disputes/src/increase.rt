@@ -7,8 +7,7 @@ ghost use Rattle.card_model.specs.Deadlines.{increase_of, increases};
 ghost use Rattle.card_model.specs.Refusals.{holds_of, is_empty};
 ghost use Rattle.card_posts.specs.Posted.{StandsFor};
 
-use card_days::Day;
-use card_events::{Kept, Post};
+use card_events::{Day, Kept, Post};
 use card_posts::Posts;
 
 // whether a post raises a rate from this day on, or an earlier one

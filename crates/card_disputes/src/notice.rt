@@ -1,6 +1,6 @@
 // The last day for a Dispute of a charge.
 ghost use Rattle.std.specs.Prelude.{◌≡◌, ℕ, ◌+◌, ◌≤◌, drop, List, option_copied, true};
-ghost use Rattle.card_days.specs.Range.{last_request_day};
+ghost use Rattle.card_events.specs.Range.{last_request_day};
 ghost use Rattle.std.specs.List.{find};
 ghost use Rattle.std.specs.Option.{option_map};
 ghost use Rattle.card_disputes.specs.Histories.{AreInCalendar};
@@ -12,8 +12,7 @@ ghost use Rattle.card_model.specs.Refusals.{holds_of};
 ghost use Rattle.card_posts.specs.Posted.{StandsFor, last_accepted};
 
 use crate::deadline::cycle_on;
-use card_days::{Anchor, Day};
-use card_events::{Kept, Num, Post};
+use card_events::{Anchor, Day, Kept, Num, Post};
 use card_posts::Posts;
 
 // the post with a number

@@ -4,8 +4,8 @@ ghost use Rattle.std.specs.Ordering.{is_lt};
 ghost use Rattle.card_model.specs.Deadlines as spec;
 ghost use Rattle.card_model.specs.Work as work;
 
+use card_events::NoMemory;
 use card_model::Task;
-use card_units::NoMemory;
 use std::cmp::Ordering;
 
 fn compare_days(task: &Task, other: &Task) -> Ordering

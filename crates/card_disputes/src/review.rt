@@ -1,6 +1,6 @@
 // When rate increases are reviewed.
 ghost use Rattle.std.specs.Prelude.{◌≡◌, ℕ, ◌+◌, ◌≤◌, nat_le, if◌then◌else◌, Some, None, max, min, List};
-ghost use Rattle.card_days.specs.Range.{last_request_day};
+ghost use Rattle.card_events.specs.Range.{last_request_day};
 ghost use Rattle.std.specs.List.{fold, filter_map, reduce};
 ghost use Rattle.card_disputes.specs.Increases.{increase_at, increase_by, increases_by, least_of, review_at, reviewed_by};
 ghost use Rattle.card_events.specs.History.{at_number};
@@ -8,8 +8,7 @@ ghost use Rattle.card_model.specs.Deadlines as spec;
 ghost use Rattle.card_posts.specs.Posted.{StandsFor};
 ghost use Rattle.card_rates.specs.Segments.{ArePostsDated};
 
-use card_days::{Day, six_months_after};
-use card_events::{Kept, Post};
+use card_events::{Day, Kept, Post, six_months_after};
 use card_posts::Posts;
 
 // the first day of a penalty rate, where it isn't after this day

@@ -1,8 +1,8 @@
 // The open tasks of an account.
 ghost use Rattle.std.specs.Prelude.{◌≡◌, ◌≤◌, ◌≤ℤ◌, ◌++◌, ℕ, List, IfOk, IfSome, OnOk, pos, unsigned_abs};
-ghost use Rattle.card_days.specs.Range.{last_request_day};
+ghost use Rattle.card_events.specs.Range.{last_request_day};
 ghost use Rattle.std.specs.Option.{option_map, option_to_list};
-ghost use Rattle.card_days.specs.Billing.{IsCloseDay};
+ghost use Rattle.card_events.specs.Billing.{IsCloseDay};
 ghost use Rattle.card_disputes.specs.Dues.{AddsTasks};
 ghost use Rattle.card_events.specs.History.{anchor_of};
 ghost use Rattle.card_model.specs.Deadlines.{open_tasks};
@@ -13,11 +13,9 @@ ghost use Rattle.card_rates.specs.Segments.{ArePostsDated};
 use crate::due::{credit_due, due_at};
 use crate::order::by_day;
 use crate::review::review_by;
-use card_days::{Anchor, Calendar, Day};
-use card_events::Name;
+use card_events::{Anchor, Calendar, Cents, Day, Name, NoMemory};
 use card_model::{Task, TaskKind};
 use card_posts::Posts;
-use card_units::{Cents, NoMemory};
 use std::alloc::Global;
 
 // What the tasks of an account are made from: its name, its cycles, its posts, the holidays, and the cents of its credit

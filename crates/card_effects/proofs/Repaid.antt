@@ -9,7 +9,7 @@ use Rattle.std.proofs.lemmas.List.Elements.{All-nil, All-append, All-head, All-t
 use Rattle.card_segments.specs.Holdings as made
 use Rattle.card_segments.specs.declared.rank.Rank.{Rank}
 use Rattle.card_segments.specs.Parts.{AreCovered, AreOnSegments, AreParts, IsOnSegment}
-use Rattle.card_days.specs.declared.anchor.Channel.{Channel}
+use Rattle.card_events.specs.declared.anchor.Channel.{Channel}
 use Rattle.card_events.specs.History.{CorrectedPost}
 use Rattle.card_events.specs.declared.kept.Slot.{Slot}
 use Rattle.card_events.specs.declared.post.Place.{Place}

@@ -1,6 +1,6 @@
 -- What the calls that enter a post on its day ask, and what stands after them.
 use Rattle.std.specs.Prelude.{ℕ, ◌≡◌, List, Option, Result, OnErr, ℤ, pos, min, ◌≤ℤ◌}
-use Rattle.card_days.specs.declared.anchor.Channel.{Channel}
+use Rattle.card_events.specs.declared.anchor.Channel.{Channel}
 use Rattle.card_events.specs.History.{CorrectedPost}
 use Rattle.card_events.specs.declared.kept.Slot.{Slot}
 use Rattle.card_events.specs.declared.post.Place.{Place}

@@ -4,8 +4,7 @@ ghost use Rattle.card_events.specs.declared.kept.Kept.{Kept};
 ghost use Rattle.card_effects.specs.Accounts.{AreOf, OfSeenSegments};
 ghost use Rattle.card_effects.specs.Seen.{cents_of, segment_in, segment_of};
 
-use card_days::Day;
-use card_events::Post;
+use card_events::{Day, Post};
 use card_rates::{DayPost, RateBook, segment_at};
 use card_segments::Segments;
 

@@ -10,12 +10,10 @@ ghost use Rattle.card_model.specs.Effects.{effect};
 ghost use Rattle.card_segments.specs.Balances.{AreWithin};
 
 use crate::place::{newest, segment_at};
-use card_days::Day;
-use card_events::{Category, Place, Slot};
+use card_events::{Category, Day, NoMemory, Place, Slot};
 use card_model::Fee;
 use card_rates::RateBook;
 use card_segments::{Entry, EntryKind, Note, Segments};
-use card_units::NoMemory;
 
 // The note of a post's entries.
 pub(crate) fn note_of(slot: &Slot, kind: EntryKind) -> Note

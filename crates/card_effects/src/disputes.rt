@@ -17,11 +17,10 @@ ghost use Rattle.card_effects.specs.HoldEntering.{EntersOf};
 
 use crate::charges::{cents_of, segment_of};
 use crate::seen::charge_seen;
-use card_events::{Num, Slot};
+use card_events::{Cents, NoMemory, Num, Slot};
 use card_posts::Posts;
 use card_rates::RateBook;
 use card_segments::{Entry, EntryKind, Note, Segments};
-use card_units::{Cents, NoMemory};
 
 // The note of the entries of a Dispute or a Resolve.
 pub(crate) fn note_of(slot: &Slot) -> Note

@@ -3,7 +3,7 @@ ghost use Rattle.std.specs.Prelude.{◌≡◌, ◌++◌, Option, IfOk, OnOk, OnE
 ghost use Rattle.card_model.specs.Limits.{balance_limit};
 ghost use Rattle.card_segments.specs.Parts.{AreParts};
 ghost use Rattle.card_effects.specs.Entering.{EntersCredit, EntersPayment, Leaves, MayMove};
-ghost use Rattle.card_days.specs.declared.anchor.Channel.{Channel};
+ghost use Rattle.card_events.specs.declared.anchor.Channel.{Channel};
 ghost use Rattle.card_events.specs.History.{CorrectedPost};
 ghost use Rattle.card_model.specs.Books.{Account, Book};
 ghost use Rattle.card_model.specs.Cycles.{IssuedRow, Seen, last_cycle};
@@ -16,11 +16,9 @@ ghost use Rattle.card_segments.specs.Balances.{AreWithin};
 use crate::debits::note_of;
 use crate::place::numbers_of;
 use crate::ranks::ranks;
-use card_days::Day;
-use card_events::{Place, Slot};
+use card_events::{Cents, Day, NoMemory, Place, Slot};
 use card_rates::RateBook;
 use card_segments::{Entry, EntryKind, Parts, Segments, allocate, place_credit, take};
-use card_units::{Cents, NoMemory};
 use std::alloc::Global;
 
 /// A payment of so many cents on its effective day (12 CFR 1026.10, .53), and its parts. The minimum part is what is left of

@@ -6,12 +6,10 @@ ghost use Rattle.card_effects.specs.Places.{IsBilled, is_kept_of, is_plan_by, nu
 ghost use Rattle.card_effects.specs.Standing.{AreRated, is_added};
 ghost use Rattle.card_rates.specs.RateBooks.{AreByNumber};
 
-use card_days::Day;
-use card_events::{Category, Place};
+use card_events::{Category, Day, NoMemory, Place};
 use card_model::{Segment, Sort};
 use card_rates::RateBook;
 use card_segments::Segments;
-use card_units::NoMemory;
 use std::alloc::Global;
 
 // The plan that a post began, by a day.

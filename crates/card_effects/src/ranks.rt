@@ -5,11 +5,10 @@ ghost use Rattle.card_effects.specs.Standing.{AreRated};
 ghost use Rattle.card_model.specs.Segments.{SegmentTerms};
 
 use card_closing::is_deferred;
-use card_days::Day;
+use card_events::{Day, NoMemory};
 use card_model::Segment;
 use card_rates::RateBook;
 use card_segments::{Rank, Segments};
-use card_units::NoMemory;
 use std::alloc::Global;
 
 // The end of a deferred plan in its period, where it doesn't lie after a day.

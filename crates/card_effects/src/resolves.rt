@@ -20,11 +20,10 @@ ghost use Rattle.card_effects.specs.Seen.{charge_named};
 use crate::charges::segment_of;
 use crate::disputes::note_of;
 use crate::seen::{charge_seen, post_seen};
-use card_events::{Num, Post, Slot};
+use card_events::{Cents, NoMemory, Num, Post, Slot};
 use card_posts::Posts;
 use card_rates::{DayPost, RateBook};
 use card_segments::{Entry, EntryKind, Segments};
-use card_units::{Cents, NoMemory};
 
 // What an entry moves to Held, if it is of a post.
 fn held_of(entry: &Entry, post: Num) -> Cents

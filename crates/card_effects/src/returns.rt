@@ -17,11 +17,10 @@ ghost use Rattle.card_segments.specs.Balances.{AreWithin, movable_balance};
 
 use crate::debits::note_of;
 use crate::place::newest;
-use card_events::{Category, Slot};
+use card_events::{Category, NoMemory, Slot};
 use card_model::Fee;
 use card_rates::RateBook;
 use card_segments::{Entry, EntryKind, Note, Parts, Segments, put_back};
-use card_units::NoMemory;
 use std::alloc::Global;
 
 // Puts the parts of a payment back, each on its segment, and Credit's part on the newest purchases.

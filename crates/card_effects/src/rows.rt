@@ -6,9 +6,8 @@ ghost use Rattle.card_effects.specs.Repaid.{AreRepaid};
 ghost use Rattle.card_closing.specs.Rows.{without_post};
 
 use card_closing::CycleRows;
-use card_events::Slot;
+use card_events::{Cents, NoMemory, Slot};
 use card_segments::Parts;
-use card_units::{Cents, NoMemory};
 
 /// Takes all that a payment brought out of the rows. It takes no memory.
 pub fn unpay(rows: &mut [CycleRows], post: u32)

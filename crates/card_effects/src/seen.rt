@@ -7,8 +7,7 @@ ghost use Rattle.card_rates.specs.Laws.{seen_in};
 ghost use Rattle.card_rates.specs.Days.{found_for, only_folded};
 ghost use Rattle.card_effects.specs.Seen as seen;
 
-use card_days::Day;
-use card_events::{Post, Slot};
+use card_events::{Day, Post, Slot};
 use card_posts::Posts;
 use card_rates::{DayPost, is_folded};
 

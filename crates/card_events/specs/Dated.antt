@@ -1,6 +1,6 @@
 -- Days of requests.
 use Rattle.std.specs.Prelude.{ℕ, Bool, true, ◌&&◌, nat_le}
-use Rattle.card_days.specs.Range.{last_request_day}
+use Rattle.card_events.specs.Range.{last_request_day}
 use Rattle.card_events.specs.declared.post.Post.{Post}
 use Rattle.card_events.specs.declared.post.Post.TheVariants as post
 use Rattle.card_events.specs.declared.request.Shared.{Shared}

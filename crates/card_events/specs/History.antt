@@ -3,8 +3,8 @@
 use Rattle.std.specs.Prelude.{ℕ, zero, suc, ◌+◌, ◌-◌, Bool, true, false, ◌==◌, if◌then◌else◌, max, unwrap_or, slice_get, List, [], ◌∷◌, Option, Some, None, pos}
 use Rattle.std.specs.List.{filter, sum_by}
 use Rattle.std.specs.Option.{option_or}
-use Rattle.card_days.specs.Business.{credit_day, is_mail}
-use Rattle.card_days.specs.declared.anchor.Anchor.{Anchor}
+use Rattle.card_events.specs.Business.{credit_day, is_mail}
+use Rattle.card_events.specs.declared.anchor.Anchor.{Anchor}
 use Rattle.card_events.specs.declared.kept.Kept.{Kept}
 use Rattle.card_events.specs.declared.kept.Slot.{Slot}
 use Rattle.card_events.specs.declared.post.Post.{Post}

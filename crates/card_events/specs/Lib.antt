@@ -1,3 +1,11 @@
+pub mod Money
+pub mod Range
+pub mod Civil
+pub mod Billing
+pub mod Business
+pub mod Later
+pub mod Months
+pub mod Kept
 pub mod Dated
 pub mod History
 pub mod Keys
@@ -6,3 +14,4 @@ pub mod Names
 pub mod Refusals
 pub mod Same
 pub mod SharedRows
+pub mod Blanks

@@ -1,7 +1,7 @@
 -- Whether two posts have the same content.
 use Rattle.std.specs.Prelude.{Bool, true, false, ◌&&◌, ◌==◌}
-use Rattle.card_days.specs.declared.anchor.Channel.{Channel}
-use Rattle.card_days.specs.declared.anchor.Channel.TheVariants as channel
+use Rattle.card_events.specs.declared.anchor.Channel.{Channel}
+use Rattle.card_events.specs.declared.anchor.Channel.TheVariants as channel
 use Rattle.card_events.specs.declared.post.Category.{Category}
 use Rattle.card_events.specs.declared.post.Category.TheVariants as category
 use Rattle.card_events.specs.declared.post.Finding.{Finding}

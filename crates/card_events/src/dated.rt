@@ -1,7 +1,7 @@
 ghost use Rattle.std.specs.Prelude.{◌≡◌};
 ghost use Rattle.card_events.specs.Dated as spec;
 
-use card_days::Day;
+use crate::Day;
 
 // Whether requests may have the day.
 pub fn is_request_day(day: Day) -> bool

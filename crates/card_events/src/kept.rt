@@ -1,6 +1,4 @@
-use crate::{Name, Post};
-use card_days::Day;
-use card_units::Cents;
+use crate::{Cents, Day, Name, Post};
 
 /// An accepted post: its number in the account, its key, the day on which it was accepted, and its content.
 #[derive(Debug, Drop)]

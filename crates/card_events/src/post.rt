@@ -1,6 +1,5 @@
-use crate::Num;
 use crate::dated::is_request_day;
-use card_days::{Channel, Day};
+use crate::{Channel, Day, Num};
 
 /// The numbers of an account, as they were read. `Refusal::BadTerms` names the first that is out of its range.
 #[derive(Clone, Copy, Debug, PartialEq, Eq)]

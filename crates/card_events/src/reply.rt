@@ -1,5 +1,4 @@
-use card_days::Day;
-use card_units::Cents;
+use crate::{Cents, Day};
 
 /// The answer to a request.
 #[derive(Clone, Copy, Debug, PartialEq, Eq)]

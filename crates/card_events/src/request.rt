@@ -1,6 +1,5 @@
 use crate::dated::is_request_day;
-use crate::{Name, Num, Post};
-use card_days::Day;
+use crate::{Day, Name, Num, Post};
 
 /// A request that all accounts share.
 #[derive(Clone, Copy, Debug, PartialEq, Eq)]

@@ -2,8 +2,8 @@
 use Rattle.std.specs.Prelude.{ℕ, ◌+◌, ◌==◌, map, List, [], ◌∷◌, Option, Some, None, ℤ}
 use Rattle.std.specs.List.{filter, filter_map, find}
 use Rattle.std.specs.Option.{option_map}
-use Rattle.card_days.specs.Civil.{day_at}
-use Rattle.card_days.specs.declared.anchor.Channel.TheVariants.{Online}
+use Rattle.card_events.specs.Civil.{day_at}
+use Rattle.card_events.specs.declared.anchor.Channel.TheVariants.{Online}
 use Rattle.card_events.specs.SharedRows.{shared_rows}
 use Rattle.card_events.specs.declared.post.Place.{Place}
 use Rattle.card_events.specs.declared.post.Post.{Post}

@@ -1,7 +1,7 @@
 -- Worked values of the allocation of payments (12 CFR 1026.53). A part is a segment with its cents. Amounts are scaled
 -- down, since each cent is evaluated by itself.
 use Rattle.std.specs.Prelude.{ℕ, ◌≡◌, List, [], ◌∷◌, ◌++◌, Option, Some, None, Bool, true, false}
-use Rattle.card_days.specs.Civil.{day_at}
+use Rattle.card_events.specs.Civil.{day_at}
 use Rattle.card_events.specs.declared.post.Place.TheVariants as place
 use Rattle.card_events.specs.declared.post.PlanKind.TheVariants.{Deferred}
 use Rattle.card_events.specs.declared.post.Post.TheVariants as post

@@ -1,7 +1,7 @@
 -- Worked values of corrections after a statement was issued. That no correction raises what was issued is the ledger's
 -- choice; what an error took away follows 12 CFR 1026.13(e).
 use Rattle.std.specs.Prelude.{ℕ, ◌≡◌, List, [], ◌∷◌, ◌++◌, Some, pos, map}
-use Rattle.card_days.specs.Civil.{day_at}
+use Rattle.card_events.specs.Civil.{day_at}
 use Rattle.card_events.specs.declared.post.Place.TheVariants as place
 use Rattle.card_events.specs.declared.post.Post.TheVariants as post
 use Rattle.card_events.specs.declared.request.Request.{Request}

@@ -1,11 +1,11 @@
 -- Worked values of deferred interest (12 CFR 1026.54, .55(b)(1) and its comment 55(b)(1)-3).
 use Rattle.std.specs.Prelude.{ℕ, ◌+◌, ◌*◌, ◌≡◌, List, [], ◌∷◌, ◌++◌, Some, pos, map}
-use Rattle.card_days.specs.Civil.{day_at}
+use Rattle.card_events.specs.Civil.{day_at}
 use Rattle.card_events.specs.declared.post.Place.TheVariants as place
 use Rattle.card_events.specs.declared.post.PlanKind.TheVariants as plan
 use Rattle.card_events.specs.declared.post.Post.TheVariants as post
 use Rattle.card_events.specs.declared.request.Request.{Request}
-use Rattle.card_units.specs.Money.{daily, interest}
+use Rattle.card_events.specs.Money.{daily, interest}
 use Rattle.card_examples.specs.Accounts.{book_of, charge_jan10, fee_row, interest_after, open_a, owed_after, pay_online, roll, to_a}
 
 -- a charge of 2024-01-10 on a plan whose interest, at 24.99%, is deferred to 2024-08-05

@@ -1,8 +1,8 @@
 -- Worked values of minimum payments and penalty fees (12 CFR 1026.52(b), .10).
 use Rattle.std.specs.Prelude.{ℕ, ◌+◌, ◌≡◌, List, [], ◌∷◌, ◌++◌, Bool, true, false, Some, pos}
-use Rattle.card_days.specs.Civil.{day_at}
-use Rattle.card_days.specs.declared.anchor.Channel.{Channel}
-use Rattle.card_days.specs.declared.anchor.Channel.TheVariants.{Mail, Online}
+use Rattle.card_events.specs.Civil.{day_at}
+use Rattle.card_events.specs.declared.anchor.Channel.{Channel}
+use Rattle.card_events.specs.declared.anchor.Channel.TheVariants.{Mail, Online}
 use Rattle.card_events.specs.declared.post.Place.TheVariants as place
 use Rattle.card_events.specs.declared.post.Post.TheVariants as post
 use Rattle.card_events.specs.declared.request.Request.{Request}

@@ -1,7 +1,7 @@
 -- Worked values of the grace period (12 CFR 1026.54). Amounts are scaled down to a tenth, since each cent of a payment is
 -- evaluated by itself.
 use Rattle.std.specs.Prelude.{ℕ, ◌*◌, ◌≡◌, List, [], ◌∷◌, ◌++◌, Some, pos, map}
-use Rattle.card_days.specs.Civil.{day_at}
+use Rattle.card_events.specs.Civil.{day_at}
 use Rattle.card_events.specs.declared.post.Place.TheVariants as place
 use Rattle.card_events.specs.declared.post.Post.TheVariants as post
 use Rattle.card_events.specs.declared.request.Request.{Request}

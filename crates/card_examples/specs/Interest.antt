@@ -2,7 +2,7 @@
 use Rattle.std.specs.Prelude.{◌*◌, ◌≡◌, List, [], ◌∷◌, Some, pos}
 use Rattle.card_events.specs.declared.post.Place.TheVariants as place
 use Rattle.card_events.specs.declared.request.Request.{Request}
-use Rattle.card_units.specs.Money.{daily, interest}
+use Rattle.card_events.specs.Money.{daily, interest}
 use Rattle.card_examples.specs.Accounts.{roll, fee_row, open_a, charge_jan10, owed_after, interest_after}
 
 -- 1000 dollars of cash advances, from 2024-01-10 to the first closing, 2024-02-05

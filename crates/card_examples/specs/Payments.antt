@@ -1,8 +1,8 @@
 -- Worked values of what a payment, a merchant's credit and a return do (12 CFR 1026.10, .52(b), .53, .54). Amounts are
 -- scaled down.
 use Rattle.std.specs.Prelude.{ℕ, ◌≡◌, List, [], ◌∷◌, ◌++◌, Some, pos, false, map}
-use Rattle.card_days.specs.Civil.{day_at}
-use Rattle.card_days.specs.declared.anchor.Channel.TheVariants.{Online}
+use Rattle.card_events.specs.Civil.{day_at}
+use Rattle.card_events.specs.declared.anchor.Channel.TheVariants.{Online}
 use Rattle.card_events.specs.declared.post.Category.TheVariants as category
 use Rattle.card_events.specs.declared.post.Place.TheVariants as place
 use Rattle.card_events.specs.declared.post.Post.TheVariants as post

@@ -1,6 +1,6 @@
 -- Worked values of rates (12 CFR 1026.9(c)(2), .9(g), .55(b)). Rates are in basis points.
 use Rattle.std.specs.Prelude.{◌≡◌, List, [], ◌∷◌, ◌++◌, None, Some, pos}
-use Rattle.card_days.specs.Civil.{day_at}
+use Rattle.card_events.specs.Civil.{day_at}
 use Rattle.card_events.specs.declared.post.Category.TheVariants as category
 use Rattle.card_events.specs.declared.post.Place.TheVariants as place
 use Rattle.card_events.specs.declared.post.PlanKind.TheVariants.{Promo}

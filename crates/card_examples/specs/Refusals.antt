@@ -1,8 +1,8 @@
 -- Worked values of refusals: what isn't accepted, and the first reason against it.
 use Rattle.std.specs.Prelude.{ℕ, ◌≡◌, List, [], ◌∷◌, ◌++◌, Some, pos, map}
 use Rattle.std.specs.List.{range_with_len}
-use Rattle.card_days.specs.Civil.{day_at}
-use Rattle.card_days.specs.declared.anchor.Channel.TheVariants.{Online}
+use Rattle.card_events.specs.Civil.{day_at}
+use Rattle.card_events.specs.declared.anchor.Channel.TheVariants.{Online}
 use Rattle.card_events.specs.SharedRows.{shared_rows}
 use Rattle.card_events.specs.declared.kept.Kept.{Kept}
 use Rattle.card_events.specs.declared.post.Category.TheVariants as category

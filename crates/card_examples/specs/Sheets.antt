@@ -1,7 +1,7 @@
 -- Worked values of what statements show beside their cycles (12 CFR 1026.7(b)).
 use Rattle.std.specs.Prelude.{ℕ, ◌≡◌, List, [], ◌∷◌, ◌++◌, Option, Some, None, true, false, pos, negsuc}
 use Rattle.std.specs.Option.{option_map}
-use Rattle.card_days.specs.Civil.{day_at}
+use Rattle.card_events.specs.Civil.{day_at}
 use Rattle.card_events.specs.SharedRows.{shared_rows}
 use Rattle.card_events.specs.declared.post.Place.TheVariants as place
 use Rattle.card_events.specs.declared.post.PlanKind.TheVariants as plan

@@ -2,7 +2,7 @@
 -- may happen.
 use Rattle.std.specs.Prelude.{ℕ, ◌+◌, ◌-◌, ◌≡◌, List, [], ◌∷◌, ◌++◌, Option, Some, None, false, pos}
 use Rattle.std.specs.List.{filter, range_with_len}
-use Rattle.card_days.specs.Civil.{day_at}
+use Rattle.card_events.specs.Civil.{day_at}
 use Rattle.card_events.specs.History.{corrected}
 use Rattle.card_events.specs.SharedRows.{shared_rows}
 use Rattle.card_events.specs.declared.post.Place.TheVariants as place

@@ -1,10 +1,10 @@
 -- Closings and due dates.
 use Rattle.std.proofs.Common.{◌≡◌, ℕ, zero, suc, ◌+◌, ◌-◌, ◌<◌, ◌≤◌, eqb, arith}
-use Rattle.card_days.specs.Billing.{closing, due, due_after, due_day_of_month}
-use Rattle.card_days.specs.Civil.{day_of_month}
-use Rattle.card_days.specs.declared.anchor.Anchor.{Anchor}
-use Rattle.card_days.proofs.Cycles.{closing_grows}
-use Rattle.card_days.proofs.Months.{first_day-from}
+use Rattle.card_events.specs.Billing.{closing, due, due_after, due_day_of_month}
+use Rattle.card_events.specs.Civil.{day_of_month}
+use Rattle.card_events.specs.declared.anchor.Anchor.{Anchor}
+use Rattle.card_events.proofs.Cycles.{closing_grows}
+use Rattle.card_events.proofs.Months.{first_day-from}
 
 pub due-later : (a : Anchor) (k : ℕ) → closing a k < due a k
 unfolding due_after

@@ -1,8 +1,8 @@
 -- Minimum payments that are sixty days late, found one after the other.
 use Rattle.std.proofs.Common.{◌≡◌, ℕ, zero, suc, ◌+◌, ◌<◌, Bool, true, false, ◌||◌, nat_lt, List, [], ◌∷◌, take, length, get_or, refl, sym, ap, ◌∙◌, subst, arith, ℤ}
 use Rattle.std.proofs.lemmas.Bool.Decides.{nat_tests}
-use Rattle.card_days.specs.Billing.{due}
-use Rattle.card_days.specs.declared.anchor.Anchor.{Anchor}
+use Rattle.card_events.specs.Billing.{due}
+use Rattle.card_events.specs.declared.anchor.Anchor.{Anchor}
 use Rattle.card_events.specs.History.{CorrectedPost}
 use Rattle.card_fees.specs.Due.{is_late_from, owes_sixty_days}
 use Rattle.card_fees.proofs.Days.{closing-from, due-later}

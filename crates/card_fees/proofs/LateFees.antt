@@ -1,7 +1,7 @@
 -- Fees under an issued statement, and the late fee of a due date, in the fold and here.
 use Rattle.std.proofs.Common.{◌≡◌, ℕ, ◌+◌, Bool, true, false, cond, List, [], ◌∷◌, ◌++◌, Option, Some, None, refl, sym, ap, ◌∙◌, arith}
-use Rattle.card_days.specs.Billing.{cycle_of, due}
-use Rattle.card_days.specs.declared.anchor.Anchor.{Anchor}
+use Rattle.card_events.specs.Billing.{cycle_of, due}
+use Rattle.card_events.specs.declared.anchor.Anchor.{Anchor}
 use Rattle.card_events.specs.History.{CorrectedPost}
 use Rattle.card_events.specs.SharedRows.{FeeRow}
 use Rattle.card_fees.specs.Charged.{fee_by}

@@ -1,7 +1,7 @@
 -- What is left of a minimum payment, in the fold and here.
 use Rattle.std.proofs.Common.{◌≡◌, ℕ, ◌+◌, ◌-◌, List, Some, sym, ap, ◌∙◌}
-use Rattle.card_days.specs.Billing.{closing}
-use Rattle.card_days.specs.declared.anchor.Anchor.{Anchor}
+use Rattle.card_events.specs.Billing.{closing}
+use Rattle.card_events.specs.declared.anchor.Anchor.{Anchor}
 use Rattle.card_events.specs.History.{CorrectedPost}
 use Rattle.card_fees.specs.Counting.{earlier_posts}
 use Rattle.card_fees.specs.Laws.{SeesPosts}

@@ -1,7 +1,7 @@
 -- Whether a statement was paid, in the fold and here.
 use Rattle.std.proofs.Common.{◌≡◌, ℕ, ◌+◌, ◌≤◌, ◌||◌, not, nat_le, List, sym, ap, ◌∙◌}
-use Rattle.card_days.specs.Billing.{closing, due}
-use Rattle.card_days.specs.declared.anchor.Anchor.{Anchor}
+use Rattle.card_events.specs.Billing.{closing, due}
+use Rattle.card_events.specs.declared.anchor.Anchor.{Anchor}
 use Rattle.card_events.specs.History.{CorrectedPost}
 use Rattle.card_fees.specs.Due.{seen_of}
 use Rattle.card_fees.specs.Laws.{SeesPosts}

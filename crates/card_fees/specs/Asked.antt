@@ -1,9 +1,9 @@
 -- What a closed cycle asks for at its due date and what was paid for it, by the cycle's numbers: the words of the fold
 -- without the fold's records (12 CFR 1026.5(b)(2)(ii), .53(a), .54(a)(1)). Days are effective days, amounts cents.
 use Rattle.std.specs.Prelude.{ℕ, ◌+◌, ◌-◌, ◌≤◌, ◌≤ℤ◌, pos, Bool, true, false, ◌&&◌, not, ◌||◌, nat_le, nat_lt, if◌then◌else◌, List, Option, Some, None, unsigned_abs}
-use Rattle.card_days.specs.Billing.{closing, due}
-use Rattle.card_days.specs.Range.{last_calendar_day}
-use Rattle.card_days.specs.declared.anchor.Anchor.{Anchor}
+use Rattle.card_events.specs.Billing.{closing, due}
+use Rattle.card_events.specs.Range.{last_calendar_day}
+use Rattle.card_events.specs.declared.anchor.Anchor.{Anchor}
 use Rattle.card_events.specs.History.{CorrectedPost}
 use Rattle.card_fees.specs.Counting.{earlier_posts}
 use Rattle.card_model.specs.Payments.{counted, credited}

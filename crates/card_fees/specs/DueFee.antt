@@ -1,8 +1,8 @@
 -- The late fee by plain numbers, as an issued statement caps it (12 CFR 1026.52(b)). Amounts are cents.
 use Rattle.std.specs.Prelude.{ℕ, ◌+◌, ◌==◌, if◌then◌else◌, min, List, Option, Some, None, unsigned_abs}
 use Rattle.std.specs.List.{sum_by}
-use Rattle.card_days.specs.Billing.{cycle_of, due}
-use Rattle.card_days.specs.declared.anchor.Anchor.{Anchor}
+use Rattle.card_events.specs.Billing.{cycle_of, due}
+use Rattle.card_events.specs.declared.anchor.Anchor.{Anchor}
 use Rattle.card_events.specs.History.{CorrectedPost}
 use Rattle.card_events.specs.SharedRows.{FeeRow}
 use Rattle.card_fees.specs.Charged.{fee_by}

@@ -2,8 +2,8 @@
 use Rattle.std.specs.Prelude.{ℕ, ◌+◌, ◌-◌, ◌≡◌, ◌≤◌, nat_lt, List, [], ◌∷◌, ◌++◌, length, Option, Some, pos}
 use Rattle.std.specs.List.{filter}
 use Rattle.std.specs.Option.{option_map}
-use Rattle.card_days.specs.Billing.{cycle_of}
-use Rattle.card_days.specs.declared.anchor.Anchor.{Anchor}
+use Rattle.card_events.specs.Billing.{cycle_of}
+use Rattle.card_events.specs.declared.anchor.Anchor.{Anchor}
 use Rattle.card_events.specs.History.{CorrectedPost}
 use Rattle.card_events.specs.SharedRows.{FeeRow}
 use Rattle.card_fees.specs.Laws.{SeesPosts, SeesRows}

@@ -1,8 +1,8 @@
 -- Laws on penalty fees, and that the words of the fold are those of this crate (12 CFR 1026.5(b)(2)(ii), .52(b), .55(b)(4)).
 use Rattle.std.specs.Prelude.{ℕ, ◌+◌, ◌≡◌, ◌≤◌, false, nat_le, List, [], ◌∷◌, ◌++◌, map, Some, pos}
 use Rattle.std.specs.List.{filter}
-use Rattle.card_days.specs.Billing.{closing, due}
-use Rattle.card_days.specs.declared.anchor.Anchor.{Anchor}
+use Rattle.card_events.specs.Billing.{closing, due}
+use Rattle.card_events.specs.declared.anchor.Anchor.{Anchor}
 use Rattle.card_events.specs.History.{CorrectedPost}
 use Rattle.card_events.specs.SharedRows.{FeeRow, SharedRows}
 use Rattle.card_events.specs.declared.kept.Kept.{Kept}

@@ -1,16 +1,15 @@
 // Penalty fees.
 ghost use Rattle.std.specs.Prelude.{◌≡◌, ◌+◌, ◌<◌, ◌≤◌, ◌≤ℤ◌, min, pos, unsigned_abs, Some};
-ghost use Rattle.card_days.specs.Billing.{IsCloseDay, cycle_of, due};
-ghost use Rattle.card_days.specs.Range.{last_reckoned_day};
+ghost use Rattle.card_events.specs.Billing.{IsCloseDay, cycle_of, due};
+ghost use Rattle.card_events.specs.Range.{last_reckoned_day};
 ghost use Rattle.card_fees.specs.Charged as charged;
 ghost use Rattle.card_fees.specs.Table.{row_on};
 ghost use Rattle.card_model.specs.Fees as words;
 ghost use Rattle.card_model.specs.declared.fee.FeeKind.TheVariants as kind;
 
 use crate::FeeTable;
-use card_days::{Anchor, Day, cycle_of, due_date};
+use card_events::{Anchor, Cents, Day, cycle_of, due_date};
 use card_model::{Fee, FeeKind};
-use card_units::Cents;
 
 // What a fee is charged for: its kind, its due date, and the cycle and the day on which it is charged.
 #[derive(Drop)]

@@ -8,10 +8,8 @@ ghost use Rattle.card_model.specs.Payments as payments;
 ghost use Rattle.card_posts.specs.Order.{IsAscending};
 ghost use Rattle.card_posts.specs.Posted.{AreBounded, StandsFor, folding_order};
 
-use card_days::Day;
-use card_events::{Post, Slot};
+use card_events::{Cents, Day, Post, Slot};
 use card_posts::Posts;
-use card_units::Cents;
 
 fn is_before(slot: &Slot, day: Day) -> bool
     ensures { result ≡ nat_lt slot.now.day day }

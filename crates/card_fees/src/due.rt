@@ -1,16 +1,15 @@
 // What a due date asks for, and what the payments left of it.
 ghost use Rattle.std.specs.Prelude.{◌≡◌, ℕ, ◌+◌, ◌-◌, ◌<◌, ◌≤◌, nat_lt, List, Some, ◌≤ℤ◌, pos, unsigned_abs};
-ghost use Rattle.card_days.specs.Range.{last_calendar_day};
-ghost use Rattle.card_days.specs.Billing.{IsCloseDay, closing, due};
+ghost use Rattle.card_events.specs.Range.{last_calendar_day};
+ghost use Rattle.card_events.specs.Billing.{IsCloseDay, closing, due};
 ghost use Rattle.card_fees.specs.Due.{is_late_from, is_met, is_sixty_days_late, owes_sixty_days, past_due_at};
 ghost use Rattle.card_fees.specs.Limits.{payments_limit};
 ghost use Rattle.card_model.specs.Payments as payments;
 ghost use Rattle.card_posts.specs.Posted.{StandsFor};
 
 use crate::counting::counted_between;
-use card_days::{Anchor, Day, closing_date, due, due_date};
+use card_events::{Anchor, Cents, Day, closing_date, due, due_date};
 use card_posts::Posts;
-use card_units::Cents;
 
 // the payments since the closing of a cycle, up to a later day
 fn since_closing(posts: &Posts, a: &Anchor, k: u32, to: Day) -> u64

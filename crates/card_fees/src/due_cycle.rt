@@ -2,7 +2,7 @@
 ghost use Rattle.std.specs.Prelude.{◌≡◌, ◌≤ℤ◌, pos};
 ghost use Rattle.card_fees.specs.Asked.{asks};
 
-use card_units::Cents;
+use card_events::Cents;
 
 /// A closed cycle as its due date sees it: its number, from 1, and its minimum payment and grace amount in cents, at least
 /// 0.

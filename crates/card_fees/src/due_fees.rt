@@ -1,6 +1,6 @@
 // The late fee for a due date that wasn't met.
 ghost use Rattle.std.specs.Prelude.{◌≡◌, ℕ, ◌+◌, ◌<◌, ◌≤◌, ◌≤ℤ◌, List, Some, min, pos, option_copied};
-ghost use Rattle.card_days.specs.Billing.{IsCloseDay, due};
+ghost use Rattle.card_events.specs.Billing.{IsCloseDay, due};
 ghost use Rattle.card_fees.specs.DueFee.{capped, cents_for, fee_sum, late_by};
 ghost use Rattle.card_model.specs.Caps.{fee_above};
 ghost use Rattle.card_model.specs.Fees.{fee_cents};
@@ -8,10 +8,9 @@ ghost use Rattle.card_posts.specs.Posted.{StandsFor};
 
 use crate::due_cycle::{DueCycle, asked};
 use crate::{FeeTable, late_fee, met};
-use card_days::Anchor;
+use card_events::{Anchor, Cents};
 use card_model::Fee;
 use card_posts::Posts;
-use card_units::Cents;
 
 // the cents of a fee for a due date, 0 for those of others
 fn cents_for(due_cycle: u32, fee: &Fee) -> u64

@@ -1,17 +1,16 @@
 // Whether a statement was paid, and how purchases bear interest after it.
 ghost use Rattle.std.specs.Prelude.{◌≡◌, ℕ, ◌+◌, ◌<◌, ◌≤◌, ◌≤ℤ◌, List, Some, pos};
-ghost use Rattle.card_days.specs.Range.{last_calendar_day};
-ghost use Rattle.card_days.specs.Billing.{IsCloseDay, closing, due};
+ghost use Rattle.card_events.specs.Range.{last_calendar_day};
+ghost use Rattle.card_events.specs.Billing.{IsCloseDay, closing, due};
 ghost use Rattle.card_fees.specs.Asked.{IsInCalendar, case_by, is_paid, paid_before, repaid_by};
 ghost use Rattle.card_fees.specs.declared.due_cycle.DueCycle.{DueCycle};
 ghost use Rattle.card_posts.specs.Posted.{StandsFor};
 
 use crate::due_cycle::DueCycle;
 use crate::{counted, credited};
-use card_days::{Anchor, Day, after_closing, due_date};
+use card_events::{Anchor, Cents, Day, after_closing, due_date};
 use card_model::GraceCase;
 use card_posts::Posts;
-use card_units::Cents;
 
 // the payments and credits after the closing of a cycle, up to its due date
 fn repaid_by(posts: &Posts, a: &Anchor, cycle: u32) -> Cents

@@ -1,14 +1,13 @@
 // What earlier payments left of a minimum payment.
 ghost use Rattle.std.specs.Prelude.{◌≡◌, ℕ, ◌-◌, ◌<◌, ◌≤◌, ◌≤ℤ◌, List, pos, unsigned_abs};
-ghost use Rattle.card_days.specs.Billing.{IsCloseDay, closing};
+ghost use Rattle.card_events.specs.Billing.{IsCloseDay, closing};
 ghost use Rattle.card_fees.specs.Asked.{left_by};
 ghost use Rattle.card_posts.specs.Posted.{StandsFor};
 
 use crate::counted_before;
 use crate::due_cycle::{DueCycle, asked};
-use card_days::{Anchor, Day, after_closing};
+use card_events::{Anchor, Cents, Day, after_closing};
 use card_posts::Posts;
-use card_units::Cents;
 
 // what an amount leaves of another
 fn rest(amount: Cents, paid: Cents) -> Cents

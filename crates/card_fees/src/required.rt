@@ -2,7 +2,7 @@ ghost use Rattle.std.specs.Prelude.{◌≡◌, ◌≤◌, ◌≤ℤ◌, neg_ℤ,
 ghost use Rattle.card_fees.specs.Limits.{statement_limit};
 ghost use Rattle.card_model.specs.Closing.{minimum_of};
 
-use card_units::{Cents, portion};
+use card_events::{Cents, portion};
 
 /// The minimum payment of a closing, in cents: the floor, or the portion of the balance with the cycle's interest and
 /// fees where that is more, and on top what is past due; at most the balance, and 0 where that isn't above 0. The

@@ -3,8 +3,7 @@ ghost use Rattle.std.specs.Prelude.{◌≡◌, ◌≤◌, ◌||◌, None, nat_lt
 ghost use Rattle.card_events.specs.declared.request.Shared.TheVariants as shared;
 ghost use Rattle.card_model.specs.Machine.{shared_reason};
 
-use card_days::Day;
-use card_events::{Num, Refusal};
+use card_events::{Day, Num, Refusal};
 
 /// Why a Roll isn't accepted today, where so many accounts exist.
 #[tactic(auto, unfolding(card_model::specs::Machine::shared_reason))]

@@ -1,9 +1,7 @@
 // What accounts read of the accepted shared requests.
 
 use crate::FeeTable;
-use card_days::{Calendar, Day};
-use card_events::Num;
-use card_units::NoMemory;
+use card_events::{Calendar, Day, NoMemory, Num};
 use std::alloc::Global;
 use std::marker::Model;
 
@@ -25,8 +23,8 @@ impl Model for SharedRows {
 
 impl SharedRows {
     ghost use Rattle.std.specs.Prelude.{◌≡◌, ◌≤◌, ◌++◌, [], ◌∷◌, IfOk};
-    ghost use Rattle.card_days.specs.Range.{last_request_day};
-    ghost use Rattle.card_days.specs.Business.{with_holiday};
+    ghost use Rattle.card_events.specs.Range.{last_request_day};
+    ghost use Rattle.card_events.specs.Business.{with_holiday};
 
     /// No holiday, and no amounts. It takes no memory.
     pub fn new(alloc: Global) -> SharedRows

@@ -1,5 +1,4 @@
-use card_days::Day;
-use card_units::{Cents, NoMemory};
+use card_events::{Cents, Day, NoMemory};
 use std::alloc::Global;
 use std::marker::Model;
 

@@ -4,8 +4,7 @@ ghost use Rattle.std.specs.String.{string_bytes};
 ghost use Rattle.card_http.specs.Answers as spec;
 
 use crate::status::Status;
-use card_events::Reply;
-use card_units::NoMemory;
+use card_events::{NoMemory, Reply};
 use card_wire::{Early, ok_text, refused_text};
 use std::alloc::Global;
 

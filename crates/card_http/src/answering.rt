@@ -9,9 +9,8 @@ use crate::asking::read_ask;
 use crate::outcome::Outcome;
 use crate::told_text;
 use card_desk::{Desk, Fault, uncounted};
-use card_events::Request;
+use card_events::{NoMemory, Request};
 use card_ports::Keeper;
-use card_units::NoMemory;
 use card_wire::{Route, read_json_body};
 use std::alloc::Global;
 

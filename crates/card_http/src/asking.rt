@@ -4,9 +4,8 @@ ghost use Rattle.card_lines.specs.Forms.{name_of, number_of};
 ghost use Rattle.card_http.specs.Outcomes.{asked, of_cycle};
 
 use card_desk::Ask;
-use card_events::Name;
+use card_events::{Name, NoMemory};
 use card_lines::read_number;
-use card_units::NoMemory;
 use card_wire::{Route, part};
 use std::alloc::Global;
 

@@ -8,8 +8,8 @@ use crate::answer::{answer_text, early_text, reply_json};
 use crate::outcome::Outcome;
 use crate::served::Served;
 use crate::status::Status;
+use card_events::NoMemory;
 use card_ports::{Link, SinkFault};
-use card_units::NoMemory;
 use card_wire::{Early, member_text, send};
 use std::alloc::Global;
 

@@ -4,10 +4,9 @@ ghost use Rattle.std.specs.String.{string_bytes};
 ghost use Rattle.card_http.specs.Told as spec;
 
 use card_desk::{Ask, Desk, View, uncounted};
-use card_events::Name;
+use card_events::{Name, NoMemory};
 use card_lines::show_text;
 use card_text::{export_text, statement_text, tasks_text};
-use card_units::NoMemory;
 use std::alloc::Global;
 
 /// The text of the answer to what is asked: the line of `show`, a statement, the entries as CSV, or the open tasks. None: the

@@ -4,9 +4,9 @@ use Rattle.std.specs.Option.{option_map}
 use Rattle.std.specs.Str.{bytes_eq}
 use Rattle.std.specs.Char.{is_ascii_digit}
 use Rattle.std.specs.List.{list_all}
-use Rattle.card_days.specs.Civil.{is_date, day_at}
-use Rattle.card_days.specs.declared.anchor.Channel.{Channel}
-use Rattle.card_days.specs.declared.anchor.Channel.TheVariants as channel
+use Rattle.card_events.specs.Civil.{is_date, day_at}
+use Rattle.card_events.specs.declared.anchor.Channel.{Channel}
+use Rattle.card_events.specs.declared.anchor.Channel.TheVariants as channel
 use Rattle.card_events.specs.Names.{is_name}
 use Rattle.card_events.specs.Dated.{is_request_day}
 use Rattle.card_events.specs.declared.post.Category.{Category}

@@ -1,7 +1,7 @@
 -- The texts of replies, each a whole line.
 use Rattle.std.specs.Prelude.{ℕ, ℤ, List, [], ◌∷◌, ◌++◌, Option, Some, None, codes}
 use Rattle.std.specs.Fmt.{decimal, signed_decimal}
-use Rattle.card_days.specs.Civil.{day_text}
+use Rattle.card_events.specs.Civil.{day_text}
 use Rattle.card_events.specs.Refusals.{refusal_number}
 use Rattle.card_events.specs.declared.reply.Reply.{Reply}
 use Rattle.card_events.specs.declared.reply.Reply.TheVariants as reply

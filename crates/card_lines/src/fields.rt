@@ -6,8 +6,7 @@ ghost use Rattle.card_lines.specs.Forms.{name_of, number_of, day_of, category_of
 
 use crate::forms;
 use crate::line::{BadField, LineFault};
-use card_days::{Channel, Day};
-use card_events::{Category, Finding, Name, Num, Place, PlanKind};
+use card_events::{Category, Channel, Day, Finding, Name, Num, Place, PlanKind};
 use std::alloc::Global;
 
 /// The first field, and the rest of the line.

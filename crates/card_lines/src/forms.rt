@@ -6,8 +6,7 @@ ghost use Rattle.card_lines.specs.Forms.{number_of, is_decimal, value_after, day
 ghost use Rattle.card_lines.specs.Forms as spec;
 
 use crate::word::is_word;
-use card_days::{Channel, Day};
-use card_events::{Category, Finding, Num, Place, PlanKind};
+use card_events::{Category, Channel, Day, Finding, Num, Place, PlanKind};
 
 /// The number with these digits: at most twelve, without a sign, and with no leading zero but `0` itself.
 #[tactic(auto, unfolding(crate::specs::Forms::number_of, crate::specs::Forms::is_decimal))]

@@ -1,8 +1,7 @@
 ghost use Rattle.std.specs.Prelude.{◌≡◌};
 ghost use Rattle.card_lines.specs.declared.line.LineFault.TheVariants.{Bad, Memory};
 
-use card_events::{Name, Request};
-use card_units::NoMemory;
+use card_events::{Name, NoMemory, Request};
 
 /// What a line says.
 #[derive(Debug, Drop)]

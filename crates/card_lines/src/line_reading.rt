@@ -9,8 +9,7 @@ use crate::fields::{at_end, day_field, name_field, number_field, split_field};
 use crate::line::{BadField, Line, LineFault};
 use crate::post_reading::read_post;
 use crate::word::{PostKind, Word, read_word};
-use card_events::{Name, Request, Shared};
-use card_units::NoMemory;
+use card_events::{Name, NoMemory, Request, Shared};
 use std::alloc::Global;
 
 /// What the line says, given without its line feed and without a carriage return before that. `Line::Bad` has the number of

@@ -1,9 +1,7 @@
 ghost use Rattle.std.specs.Prelude.{◌≡◌, Some};
 ghost use Rattle.card_lines.specs.Replies as spec;
 
-use card_days::Day;
-use card_events::Refusal;
-use card_units::Cents;
+use card_events::{Cents, Day, Refusal};
 use std::fmt;
 
 /// The value that some refusals have.

@@ -4,9 +4,7 @@ ghost use Rattle.std.specs.String.{string_bytes};
 ghost use Rattle.card_lines.specs.Replies as spec;
 
 use crate::refusal::{refusal_name, refusal_value};
-use card_days::Day;
-use card_events::{Name, Refusal, Reply};
-use card_units::{Cents, NoMemory};
+use card_events::{Cents, Day, Name, NoMemory, Refusal, Reply};
 use itoa::Buffer;
 use std::alloc::Global;
 use std::fmt;

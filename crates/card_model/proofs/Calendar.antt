@@ -3,10 +3,10 @@ use Rattle.std.proofs.Common.{◌≡◌, ℕ, zero, suc, ◌+◌, ◌-◌, ◌�
 use Rattle.std.specs.Prelude.{slice_get}
 use Rattle.std.specs.List.{last_or}
 use Rattle.std.proofs.lemmas.List.{length-append}
-use Rattle.card_days.specs.Billing.{closing, closings_among, cycle_of, due_after}
-use Rattle.card_days.specs.Civil.{day_of_month}
-use Rattle.card_days.specs.Range.{last_calendar_day}
-use Rattle.card_days.specs.declared.anchor.Anchor.{Anchor}
+use Rattle.card_events.specs.Billing.{closing, closings_among, cycle_of, due_after}
+use Rattle.card_events.specs.Civil.{day_of_month}
+use Rattle.card_events.specs.Range.{last_calendar_day}
+use Rattle.card_events.specs.declared.anchor.Anchor.{Anchor}
 use Rattle.card_events.specs.History.{anchor_of}
 use Rattle.card_events.specs.SharedRows.{SharedRows}
 use Rattle.card_events.specs.declared.kept.Kept.{Kept}
@@ -19,8 +19,8 @@ use Rattle.card_model.specs.DueDates.{on_due}
 use Rattle.card_model.specs.Effects.{after_posts}
 use Rattle.card_model.specs.Folds.{book, book_after, cycle_at, day_after}
 use Rattle.card_model.specs.Machine.{opened}
-use Rattle.card_days.proofs.Business.{first_day-at_most}
-use Rattle.card_days.proofs.Cycles.{IsAnchor, cycle_around}
+use Rattle.card_events.proofs.Business.{first_day-at_most}
+use Rattle.card_events.proofs.Cycles.{IsAnchor, cycle_around}
 use Rattle.card_model.proofs.Caps.{posts-cycles, due-cycles}
 
 -- ---- the days of cycles in a list

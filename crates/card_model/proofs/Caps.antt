@@ -4,7 +4,7 @@ use Rattle.std.specs.List.{All, cons_option}
 use Rattle.std.proofs.lemmas.List.Sums.{sum_by-append}
 use Rattle.std.proofs.lemmas.List.Elements.{All-nil, All-cons, All-push}
 use Rattle.std.proofs.lemmas.Bool.{eqb-true}
-use Rattle.card_days.specs.Civil.{day_of_month}
+use Rattle.card_events.specs.Civil.{day_of_month}
 use Rattle.card_events.specs.History.{CorrectedPost}
 use Rattle.card_events.specs.declared.post.Post.{Post}
 use Rattle.card_model.specs.Books.{Account, Book, all_segments, penalty_fee, present_cycle, with_fee}

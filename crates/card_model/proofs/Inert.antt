@@ -9,8 +9,8 @@ use Rattle.std.specs.Prelude.{max}
 use Rattle.std.specs.Prelude.{unwrap_or}
 use Rattle.std.specs.Option.{option_or}
 use Rattle.std.specs.Prelude.{slice_get}
-use Rattle.card_days.specs.Business.{credit_day, is_mail}
-use Rattle.card_days.specs.declared.anchor.Anchor.{Anchor}
+use Rattle.card_events.specs.Business.{credit_day, is_mail}
+use Rattle.card_events.specs.declared.anchor.Anchor.{Anchor}
 use Rattle.card_events.specs.History.{CorrectedPost, amend_of, amended, amended_cents, amended_day, anchor_of, at_number, cents_of, charge_day, confirmed, confirms, corrected_from, corrected_post, dispute_day, dispute_names, effective_day, folded, is_folded, last_amend, next_segment, own_at, own_of, payment_day, standing, terms_of}
 use Rattle.card_events.specs.SharedRows.{SharedRows}
 use Rattle.card_events.specs.declared.kept.Kept.{Kept}

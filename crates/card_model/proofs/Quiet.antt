@@ -3,11 +3,11 @@ use Rattle.std.proofs.Common.{◌≡◌, ℕ, suc, ◌+◌, ◌-◌, ◌≤◌, 
 use Rattle.std.specs.List.{filter, last_or, list_any}
 use Rattle.std.proofs.lemmas.Bool.{eqb-true, cases_lt}
 use Rattle.std.proofs.lemmas.Bool.Decides.{nat_tests}
-use Rattle.card_days.specs.Billing.{due}
-use Rattle.card_days.specs.Business.{is_due}
-use Rattle.card_days.specs.Civil.{day_of_month}
-use Rattle.card_days.specs.Range.{last_calendar_day}
-use Rattle.card_days.specs.declared.anchor.Anchor.{Anchor}
+use Rattle.card_events.specs.Billing.{due}
+use Rattle.card_events.specs.Business.{is_due}
+use Rattle.card_events.specs.Civil.{day_of_month}
+use Rattle.card_events.specs.Range.{last_calendar_day}
+use Rattle.card_events.specs.declared.anchor.Anchor.{Anchor}
 use Rattle.card_events.specs.History.{CorrectedPost, anchor_of, corrected, folded, is_folded}
 use Rattle.card_events.specs.SharedRows.{SharedRows}
 use Rattle.card_events.specs.declared.kept.Kept.{Kept}
@@ -23,7 +23,7 @@ use Rattle.card_model.specs.Interest.{row}
 use Rattle.card_model.specs.QuietDays.{QuietDaysChangeNothing}
 use Rattle.card_model.specs.Segments.{segments}
 use Rattle.card_model.specs.declared.segment.Interval.{Interval}
-use Rattle.card_days.proofs.DueLaws.{is_due-due}
+use Rattle.card_events.proofs.DueLaws.{is_due-due}
 use Rattle.card_model.proofs.Calendar.{HaveTheirDays, fold-days, is-anchor}
 
 or-false : (a b : Bool) → (a || b) ≡ false → (a ≡ false) × (b ≡ false)

@@ -5,7 +5,7 @@ use Rattle.std.specs.Prelude.{slice_get}
 use Rattle.std.proofs.lemmas.List.{append-nil}
 use Rattle.std.proofs.lemmas.List.Elements.{All-nil, All-cons, All-head, All-tail, All-push, All-append, filter-append}
 use Rattle.std.proofs.lemmas.Bool.{ne_eqb}
-use Rattle.card_days.specs.Civil.{day_of_month}
+use Rattle.card_events.specs.Civil.{day_of_month}
 use Rattle.card_events.specs.History.{CorrectedPost}
 use Rattle.card_events.specs.declared.post.Post.{Post}
 use Rattle.card_model.specs.Books.{Account, Book, penalty_fee, present_cycle, with_fee}

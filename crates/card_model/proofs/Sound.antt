@@ -9,8 +9,8 @@ use Rattle.std.specs.List.{cons_option}
 use Rattle.std.proofs.lemmas.List.Elements.{All-map}
 use Rattle.std.specs.Prelude.{min}
 use Rattle.std.specs.Option.{option_or}
-use Rattle.card_days.specs.Civil.{day_of_month}
-use Rattle.card_days.specs.declared.anchor.Anchor.{Anchor}
+use Rattle.card_events.specs.Civil.{day_of_month}
+use Rattle.card_events.specs.declared.anchor.Anchor.{Anchor}
 use Rattle.card_events.specs.History.{CorrectedPost, anchor_of, corrected, folded, is_folded}
 use Rattle.card_events.specs.SharedRows.{SharedRows}
 use Rattle.card_events.specs.declared.kept.Kept.{Kept}

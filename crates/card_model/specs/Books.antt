@@ -1,6 +1,6 @@
 -- The book of an account: what its fold gives up to a day. Penalty fees by 12 CFR 1026.52(b); the rest is the ledger's own.
 use Rattle.std.specs.Prelude.{ℕ, ◌+◌, ◌++◌, length, List, [], ◌∷◌, Option, Some, None}
-use Rattle.card_days.specs.declared.anchor.Anchor.{Anchor}
+use Rattle.card_events.specs.declared.anchor.Anchor.{Anchor}
 use Rattle.card_events.specs.History.{anchor_of, terms_of}
 use Rattle.card_events.specs.declared.kept.Kept.{Kept}
 use Rattle.card_events.specs.declared.post.Terms.{Terms}

@@ -2,8 +2,8 @@
 -- `posts` is the whole corrected list, with posts of all kinds, and with those of later days.
 use Rattle.std.specs.Prelude.{ℕ, ◌+◌, ◌-◌, Bool, false, ◌&&◌, ◌||◌, ◌==◌, nat_le, List, Option, Some, None}
 use Rattle.std.specs.List.{count_by, list_any, range_with_len}
-use Rattle.card_days.specs.Business.{is_due}
-use Rattle.card_days.specs.Civil.{day_of_month}
+use Rattle.card_events.specs.Business.{is_due}
+use Rattle.card_events.specs.Civil.{day_of_month}
 use Rattle.card_events.specs.History.{CorrectedPost}
 use Rattle.card_model.specs.Books.{Account}
 use Rattle.card_model.specs.Cycles.{IssuedRow}

@@ -1,8 +1,8 @@
 -- The closing of a cycle: interest, the minimum payment, and the grace amount (12 CFR 1026.7(b), .14(b), .54).
 use Rattle.std.specs.Prelude.{ℕ, ◌+◌, ◌-◌, Bool, false, ◌&&◌, ◌==◌, nat_lt, if◌then◌else◌, min, max, List, [], ◌∷◌, ◌++◌, length, Option, Some, None, ℤ, pos, ◌-ℤ◌}
 use Rattle.std.specs.List.{filter_map, sum_by}
-use Rattle.card_days.specs.Billing.{due_after}
-use Rattle.card_units.specs.Money.{portion}
+use Rattle.card_events.specs.Billing.{due_after}
+use Rattle.card_events.specs.Money.{portion}
 use Rattle.card_model.specs.Books.{Account, Book, all_segments, present_cycle, with_all_entries, with_cycle, with_entries}
 use Rattle.card_model.specs.Caps.{capped_by, issued_grace, issued_interest, issued_minimum}
 use Rattle.card_model.specs.Cycles.{Amounts, Cycle, IssuedRow, Seen, amount_at, amounts_sum, last_cycle}

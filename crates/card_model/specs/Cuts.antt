@@ -1,7 +1,7 @@
 -- Of a later book, what the book of an earlier closing was. And the break days of a book, by the penalties that it has.
 use Rattle.std.specs.Prelude.{ℕ, ◌+◌, ◌-◌, ◌≡◌, ◌≤◌, Bool, false, nat_le, nat_lt, if◌then◌else◌, take, map, List, Option, Some, None}
 use Rattle.std.specs.List.{filter}
-use Rattle.card_days.specs.Range.{last_calendar_day}
+use Rattle.card_events.specs.Range.{last_calendar_day}
 use Rattle.card_events.specs.History.{anchor_of, corrected}
 use Rattle.card_events.specs.SharedRows.{SharedRows}
 use Rattle.card_events.specs.declared.kept.Kept.{Kept}

@@ -1,8 +1,8 @@
 -- The cycles of a book are those of the calendar.
 use Rattle.std.specs.Prelude.{ℕ, ◌+◌, ◌-◌, ◌≡◌, ◌≤◌, length, List, Some}
-use Rattle.card_days.specs.Billing.{IsCloseDay, closing, cycle_of, due}
-use Rattle.card_days.specs.Range.{last_calendar_day, first_calendar_day}
-use Rattle.card_days.specs.declared.anchor.Anchor.{Anchor}
+use Rattle.card_events.specs.Billing.{IsCloseDay, closing, cycle_of, due}
+use Rattle.card_events.specs.Range.{last_calendar_day, first_calendar_day}
+use Rattle.card_events.specs.declared.anchor.Anchor.{Anchor}
 use Rattle.card_events.specs.History.{anchor_of}
 use Rattle.card_events.specs.SharedRows.{SharedRows}
 use Rattle.card_events.specs.declared.kept.Kept.{Kept}

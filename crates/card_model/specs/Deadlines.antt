@@ -3,10 +3,10 @@
 use Rattle.std.specs.Prelude.{ℕ, zero, suc, ◌+◌, ◌-◌, Bool, true, false, ◌&&◌, ◌||◌, ◌==◌, nat_le, nat_lt, if◌then◌else◌, min, max, List, [], ◌∷◌, ◌++◌, Option, Some, None}
 use Rattle.std.specs.List.{filter, filter_map, find, fold, list_any, reduce}
 use Rattle.std.specs.Option.{option_map, option_to_list}
-use Rattle.card_days.specs.Billing.{closing, cycle_of}
-use Rattle.card_days.specs.Business.{next_business}
-use Rattle.card_days.specs.Later.{six_months_after}
-use Rattle.card_days.specs.declared.anchor.Anchor.{Anchor}
+use Rattle.card_events.specs.Billing.{closing, cycle_of}
+use Rattle.card_events.specs.Business.{next_business}
+use Rattle.card_events.specs.Later.{six_months_after}
+use Rattle.card_events.specs.declared.anchor.Anchor.{Anchor}
 use Rattle.card_events.specs.History.{CorrectedPost}
 use Rattle.card_events.specs.declared.post.Finding.TheVariants as finding
 use Rattle.card_events.specs.declared.post.Post.{Post}

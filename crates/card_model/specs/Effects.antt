@@ -1,7 +1,7 @@
 -- What a post does on its effective day (12 CFR 1026.10, .11(a), .13, .52(b), .53, .55(b)).
 use Rattle.std.specs.Prelude.{ℕ, ◌+◌, Bool, true, false, ◌&&◌, ◌==◌, nat_le, nat_lt, if◌then◌else◌, min, unwrap_or, map, List, [], ◌∷◌, ◌++◌, Option, Some, None, ℤ, neg_ℤ}
 use Rattle.std.specs.List.{filter, find}
-use Rattle.card_days.specs.Billing.{next_on}
+use Rattle.card_events.specs.Billing.{next_on}
 use Rattle.card_events.specs.History.{CorrectedPost}
 use Rattle.card_events.specs.declared.post.Place.{Place}
 use Rattle.card_events.specs.declared.post.Post.{Post}

@@ -1,10 +1,10 @@
 -- All definitions of the ledger that a computed example unfolds: `unfolding everything` opens them.
 use Rattle.std.specs.Prelude.{⊤}
-use Rattle.card_units.specs.Money.{daily, interest, portion, money_text}
-use Rattle.card_days.specs.Civil.{days_before_year, days_of_months, day_at, year_of, date_in, date_of, date_text, first_day}
-use Rattle.card_days.specs.Billing.{closing, due_after, closings_among, cycle_of}
-use Rattle.card_days.specs.Business.{is_holiday, is_business, next_business, is_due, due_before, mail_day, credit_day, with_holiday}
-use Rattle.card_days.specs.Later.{clipped_day_at, six_months_on, year_on}
+use Rattle.card_events.specs.Money.{daily, interest, portion, money_text}
+use Rattle.card_events.specs.Civil.{days_before_year, days_of_months, day_at, year_of, date_in, date_of, date_text, first_day}
+use Rattle.card_events.specs.Billing.{closing, due_after, closings_among, cycle_of}
+use Rattle.card_events.specs.Business.{is_holiday, is_business, next_business, is_due, due_before, mail_day, credit_day, with_holiday}
+use Rattle.card_events.specs.Later.{clipped_day_at, six_months_on, year_on}
 use Rattle.card_events.specs.History.{last_amend, confirmed, cents_of, effective_day, corrected_post, corrected_from}
 use Rattle.card_events.specs.Keys.{key_from}
 use Rattle.card_events.specs.Same.{is_same_post}

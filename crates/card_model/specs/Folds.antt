@@ -1,6 +1,6 @@
 -- The fold of an account, day by day: the ledger's own order of what 12 CFR 1026 asks for.
 use Rattle.std.specs.Prelude.{ℕ, zero, suc, ◌+◌, ◌-◌, ◌==◌, if◌then◌else◌, slice_get, List, [], ◌∷◌, Option, Some, None}
-use Rattle.card_days.specs.Civil.{day_of_month}
+use Rattle.card_events.specs.Civil.{day_of_month}
 use Rattle.card_events.specs.History.{anchor_of}
 use Rattle.card_events.specs.SharedRows.{SharedRows}
 use Rattle.card_events.specs.declared.kept.Kept.{Kept}

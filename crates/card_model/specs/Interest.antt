@@ -1,7 +1,7 @@
 -- The interest of a segment (12 CFR 1026.14(b), .54): balances of days, what of them bears interest, and their sums.
 use Rattle.std.specs.Prelude.{ℕ, ◌+◌, ◌-◌, ◌*◌, ◌/◌, Bool, ◌&&◌, ◌||◌, not, ◌==◌, nat_le, nat_lt, if◌then◌else◌, List, Option, Some, None}
 use Rattle.std.specs.List.{range_with_len, sum_by}
-use Rattle.card_units.specs.Money.{daily, interest}
+use Rattle.card_events.specs.Money.{daily, interest}
 use Rattle.card_model.specs.Books.{Account, Book, rate_in}
 use Rattle.card_model.specs.Cycles.{Cycle, Seen}
 use Rattle.card_model.specs.Effects.{size}

@@ -1,7 +1,7 @@
 -- The machine of accounts, the ledger's own: one step for each request, and whole runs.
 use Rattle.std.specs.Prelude.{ℕ, ◌+◌, Bool, true, false, ◌&&◌, ◌||◌, not, nat_le, nat_lt, if◌then◌else◌, is_some, List, [], ◌∷◌, ◌++◌, length, Option, Some, None}
 use Rattle.std.specs.Str.{bytes_eq}
-use Rattle.card_days.specs.Range.{first_calendar_day}
+use Rattle.card_events.specs.Range.{first_calendar_day}
 use Rattle.card_events.specs.History.{at_number}
 use Rattle.card_events.specs.Keys.{with_key}
 use Rattle.card_events.specs.Same.{is_same_post}

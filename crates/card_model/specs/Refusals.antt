@@ -3,10 +3,10 @@
 use Rattle.std.specs.Prelude.{ℕ, suc, ◌+◌, Bool, true, false, ◌&&◌, ◌||◌, not, ◌==◌, nat_le, nat_lt, if◌then◌else◌, max, List, [], ◌∷◌, length, Option, Some, None, pos}
 use Rattle.std.specs.List.{count_by, filter, filter_map, list_any, reduce}
 use Rattle.std.specs.Option.{option_map, option_map_or, option_or}
-use Rattle.card_days.specs.Billing.{closing, next_on}
-use Rattle.card_days.specs.Later.{six_months_after, year_after}
-use Rattle.card_days.specs.Range.{last_request_day}
-use Rattle.card_days.specs.declared.anchor.Anchor.{Anchor}
+use Rattle.card_events.specs.Billing.{closing, next_on}
+use Rattle.card_events.specs.Later.{six_months_after, year_after}
+use Rattle.card_events.specs.Range.{last_request_day}
+use Rattle.card_events.specs.declared.anchor.Anchor.{Anchor}
 use Rattle.card_events.specs.History.{CorrectedPost, adds_segment, anchor_of, at_number, corrected, disputes}
 use Rattle.card_events.specs.Limits.{post_limit}
 use Rattle.card_events.specs.Same.{is_same_category}

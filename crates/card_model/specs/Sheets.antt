@@ -3,8 +3,8 @@
 use Rattle.std.specs.Prelude.{ℕ, ◌+◌, ◌-◌, Bool, true, ◌&&◌, not, ◌==◌, nat_le, nat_lt, if◌then◌else◌, drop, List, [], ◌∷◌, Option, Some, None, ℤ, pos, ◌+ℤ◌, ◌-ℤ◌, nat_abs}
 use Rattle.std.specs.List.{filter, filter_map, list_any, range_with_len, sum_by}
 use Rattle.std.specs.Option.{option_map_or}
-use Rattle.card_units.specs.Money.{interest}
-use Rattle.card_days.specs.Civil.{date_of}
+use Rattle.card_events.specs.Money.{interest}
+use Rattle.card_events.specs.Civil.{date_of}
 use Rattle.card_events.specs.History.{anchor_of}
 use Rattle.card_events.specs.SharedRows.{FeeRow, SharedRows}
 use Rattle.card_events.specs.declared.kept.Kept.{Kept}

@@ -1,5 +1,4 @@
-use card_days::Day;
-use card_units::Cents;
+use card_events::{Cents, Day};
 
 /// Why an entry stands.
 #[derive(Clone, Copy, Debug, PartialEq, Eq)]

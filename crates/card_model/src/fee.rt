@@ -1,5 +1,4 @@
-use card_days::Day;
-use card_units::Cents;
+use card_events::{Cents, Day};
 
 /// What a penalty fee is for (12 CFR 1026.52(b)).
 #[derive(Clone, Copy, Debug, PartialEq, Eq)]

@@ -1,4 +1,4 @@
-use card_days::Day;
+use card_events::Day;
 
 /// How a balance bears interest in a cycle (12 CFR 1026.54).
 #[derive(Clone, Copy, Debug, PartialEq, Eq)]

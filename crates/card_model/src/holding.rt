@@ -1,4 +1,4 @@
-use card_days::Day;
+use card_events::Day;
 
 /// A segment that a payment may reach: its balance in cents, its rate of the day in basis points, its end where it is
 /// deferred and in the last two cycles of its period, whether it is of the place that a credit names, and the cents

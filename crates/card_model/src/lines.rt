@@ -1,6 +1,5 @@
 use crate::{EntryKind, Sort};
-use card_days::Day;
-use card_units::{Bp, Cents};
+use card_events::{Bp, Cents, Day};
 
 /// A transaction on a statement (12 CFR 1026.7(b)(2), (b)(3), (b)(6)): one post, or one fee, with the cents of its entries of
 /// one kind; a plus raises what is owed. A late fee has post 0, a returned-payment fee that of its Return. Interest and

@@ -1,4 +1,4 @@
-use card_days::Day;
+use card_events::Day;
 
 /// What a segment holds: a credit balance, amounts in dispute, a vintage of a category, or a plan.
 #[derive(Clone, Copy, Debug, PartialEq, Eq)]

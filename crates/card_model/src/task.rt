@@ -1,5 +1,4 @@
-use card_days::Day;
-use card_events::Name;
+use card_events::{Day, Name};
 
 /// What has to be done: to acknowledge or resolve a dispute (12 CFR 1026.13(c)), to refund a credit balance on request
 /// or after six months (12 CFR 1026.11(a)), to review a rate increase or lower the rate after a review (12 CFR 1026.59).

@@ -5,7 +5,7 @@ ghost use Rattle.card_ports.specs.declared.row.Row.{Row};
 ghost use Rattle.card_ports.specs.declared.keeper.KeeperFault.TheVariants.{Memory};
 
 use crate::Row;
-use card_units::NoMemory;
+use card_events::NoMemory;
 use std::alloc::{AllocError, AllocFailed, Global};
 
 /// Why a keeper did nothing.

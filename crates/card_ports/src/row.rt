@@ -1,6 +1,6 @@
 ghost use Rattle.std.specs.Prelude.{◌≡◌, ◌++◌, IfOk, OnOk, OnErr, length, take};
 
-use card_units::NoMemory;
+use card_events::NoMemory;
 use std::alloc::Global;
 use std::marker::Model;
 

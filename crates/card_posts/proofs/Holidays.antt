@@ -2,9 +2,9 @@
 use Rattle.std.proofs.Common.{◌≡◌, ℕ, zero, suc, ◌≤◌, max, Bool, true, false, cond, ◌==◌, List, [], ◌∷◌, refl, ap, subst, arith, Option, Some, None}
 use Rattle.std.specs.Option.{option_or}
 use Rattle.std.specs.Prelude.{slice_get}
-use Rattle.card_days.specs.Business.{AgreeUpTo, credit_day, is_mail}
-use Rattle.card_days.specs.declared.anchor.Anchor.{Anchor}
-use Rattle.card_days.proofs.Agree.{credit_day-agrees}
+use Rattle.card_events.specs.Business.{AgreeUpTo, credit_day, is_mail}
+use Rattle.card_events.specs.declared.anchor.Anchor.{Anchor}
+use Rattle.card_events.proofs.Agree.{credit_day-agrees}
 use Rattle.card_events.specs.History.{amend_of, amended_day, at_number, corrected_from, corrected_post, effective_day, last_amend, next_segment, payment_day}
 use Rattle.card_events.specs.declared.kept.Kept.{Kept}
 use Rattle.card_events.specs.declared.post.Post.{Post}

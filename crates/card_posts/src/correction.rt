@@ -6,8 +6,7 @@ ghost use Rattle.card_posts.specs.Corrections.{charge_in, charge_named, correcti
 ghost use Rattle.card_posts.specs.Posted.{target_of};
 ghost use Rattle.card_posts.specs.Stored.{NameEarlier};
 
-use card_days::Day;
-use card_events::{Kept, Num, Post};
+use card_events::{Day, Kept, Num, Post};
 
 // What later posts say of a post: the day and cents of the last Amend, and the sum that was confirmed as an error in it.
 #[derive(Clone, Copy)]

@@ -11,9 +11,7 @@ use crate::effect::Effect;
 use crate::index::HashedKey;
 use crate::order::take_out;
 use crate::refresh::is_correction;
-use card_days::Day;
-use card_events::{Post, Slot};
-use card_units::NoMemory;
+use card_events::{Day, NoMemory, Post, Slot};
 use std::alloc::Global;
 
 // What was kept beside the posts before one that corrects others.

@@ -1,8 +1,8 @@
 // What counts for each post now, by number.
 ghost use Rattle.std.specs.Prelude.{◌≡◌, ℕ, ◌+◌, ◌-◌, ◌<◌, ◌≤◌, ◌++◌, false, List, [], ◌∷◌, Option, Some, max, length, take, slice_index_or, unwrap_or};
-ghost use Rattle.card_days.specs.Range.{last_request_day};
-ghost use Rattle.card_days.specs.Billing.{IsCloseDay};
-ghost use Rattle.card_days.specs.Business.{credit_day, is_mail};
+ghost use Rattle.card_events.specs.Range.{last_request_day};
+ghost use Rattle.card_events.specs.Billing.{IsCloseDay};
+ghost use Rattle.card_events.specs.Business.{credit_day, is_mail};
 ghost use Rattle.card_events.specs.History.{amended_cents, amended_day, cents_of, effective_day};
 ghost use Rattle.card_events.specs.declared.kept.Kept.{Kept};
 ghost use Rattle.card_events.specs.declared.post.Post.TheVariants as kind;
@@ -12,11 +12,10 @@ ghost use Rattle.card_posts.specs.Effect as spec;
 ghost use Rattle.card_posts.specs.Posted.{IsReceived, cents_limit, target_of};
 ghost use Rattle.card_posts.specs.Stored.{IsKept, IsTimely};
 ghost use Rattle.card_posts.specs.declared.effect.Effect.{Effect};
-ghost use Rattle.card_days.specs.declared.anchor.Anchor.{Anchor};
+ghost use Rattle.card_events.specs.declared.anchor.Anchor.{Anchor};
 
 use crate::correction::{Correction, numbered};
-use card_days::{Anchor, Calendar, Channel, Day, credit_day};
-use card_events::{Kept, Num, Post};
+use card_events::{Anchor, Calendar, Channel, Day, Kept, Num, Post, credit_day};
 
 // What counts for a post now: its effective day and its corrected cents.
 #[derive(Clone, Copy)]

@@ -14,8 +14,7 @@ use crate::correction::{Correction, note};
 use crate::effect::{Effect, effect_now};
 use crate::order::{place, slot};
 use crate::refresh::{changed_alone, sooner, update};
-use card_days::{Anchor, Calendar, Day};
-use card_events::{Kept, Slot};
+use card_events::{Anchor, Calendar, Day, Kept, Slot};
 
 // appends a post, and what later ones say of it, which is nothing
 fn append(history: &mut Vec<Kept>, corrections: &mut Vec<Correction>, anchor: &Anchor, kept: Kept)

@@ -1,6 +1,6 @@
 // What one more post changes, told without entering it.
 ghost use Rattle.std.specs.Prelude.{◌≡◌, ◌≤◌, ◌++◌, ◌&&◌, [], ◌∷◌, length, false};
-ghost use Rattle.card_days.specs.Range.{last_request_day};
+ghost use Rattle.card_events.specs.Range.{last_request_day};
 ghost use Rattle.card_events.specs.History.{corrected};
 ghost use Rattle.card_events.specs.declared.kept.Kept.{Kept};
 ghost use Rattle.card_posts.specs.Change.{IsFirstChange};
@@ -13,8 +13,7 @@ ghost use Rattle.card_posts.specs.Stored.{IsKept};
 use crate::correction::Correction;
 use crate::effect::{Effect, amended_effect, day_of_next};
 use crate::refresh::after_one;
-use card_days::{Anchor, Calendar, Day};
-use card_events::{Kept, Post};
+use card_events::{Anchor, Calendar, Day, Kept, Post};
 
 // The first day on which the corrected list differs with one more post, which corrects none of the others, or for which none of
 // them waits: its effective day, or the least of that and the days that an amended post leaves and comes to.

@@ -1,15 +1,15 @@
 //! Laws on the posts of an account. Their functions do nothing; their clauses are what holds.
 
 ghost use Rattle.std.specs.Prelude.{◌≡◌, ℕ, List, map};
-ghost use Rattle.card_days.specs.Business.{AgreeUpTo};
-ghost use Rattle.card_days.specs.declared.anchor.Anchor.{Anchor};
+ghost use Rattle.card_events.specs.Business.{AgreeUpTo};
+ghost use Rattle.card_events.specs.declared.anchor.Anchor.{Anchor};
 ghost use Rattle.card_events.specs.History.{corrected, slot_of};
 ghost use Rattle.card_events.specs.declared.kept.Kept.{Kept};
 ghost use Rattle.card_posts.specs.Order.{on_day};
 ghost use Rattle.card_posts.specs.Posted.{StandsFor, folding_order, last_accepted};
 
 use crate::Posts;
-use card_days::Calendar;
+use card_events::Calendar;
 
 /// Holidays that are the same up to the last day of acceptance give the same corrected list, so those that are loaded
 /// for later days change nothing in it.

@@ -1,12 +1,10 @@
 // The lists of an account that was just opened, room in them, and copies of them.
 ghost use Rattle.std.specs.Prelude.{◌≡◌, ◌<◌, [], ◌∷◌, true, IfOk, OnOk, vec_len, vec_capacity};
-ghost use Rattle.card_days.specs.Billing.{IsCloseDay};
+ghost use Rattle.card_events.specs.Billing.{IsCloseDay};
 ghost use Rattle.card_events.specs.History.{opening_in, terms_in};
 ghost use Rattle.card_posts.specs.Posted.{opens};
 
-use card_days::Anchor;
-use card_events::{Kept, Post};
-use card_units::NoMemory;
+use card_events::{Anchor, Kept, NoMemory, Post};
 use std::alloc::Global;
 
 // What the post that opens an account says of its cycles.

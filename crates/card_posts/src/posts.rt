@@ -7,9 +7,7 @@ use crate::index::{HashedKey, enter_key, find, hashed_key};
 use crate::make::{copy_history, make_room_in, one, opening};
 use crate::order::{slot, slot_with};
 use crate::refresh::{is_correction, waits_with};
-use card_days::{Anchor, Calendar, Day};
-use card_events::{Kept, Name, Post, Slot};
-use card_units::NoMemory;
+use card_events::{Anchor, Calendar, Day, Kept, Name, NoMemory, Post, Slot};
 use std::alloc::Global;
 use std::marker::Model;
 
@@ -49,8 +47,8 @@ pub struct Pushed {
 impl Posts {
     ghost use Rattle.std.specs.Prelude.{◌≡◌, ℕ, ◌+◌, ◌<◌, ◌≤◌, ◌++◌, List, [], ◌∷◌, true, false, length, IsOk, IfOk, IfSome, OnOk, OnErr, None, option_copied};
     ghost use Rattle.card_events.specs.Limits.{post_limit};
-    ghost use Rattle.card_days.specs.Range.{last_request_day};
-    ghost use Rattle.card_days.specs.Billing.{IsCloseDay};
+    ghost use Rattle.card_events.specs.Range.{last_request_day};
+    ghost use Rattle.card_events.specs.Billing.{IsCloseDay};
     ghost use Rattle.card_events.specs.History.{anchor_of, at_number, terms_in};
     ghost use Rattle.card_events.specs.Keys.{with_key};
     ghost use Rattle.card_events.specs.declared.kept.Kept.{Kept};

@@ -1,7 +1,7 @@
 // Bringing what counts for earlier posts, and their order, up to a correction.
 ghost use Rattle.std.specs.Prelude.{◌≡◌, ℕ, ◌+◌, ◌<◌, ◌≤◌, ◌||◌, min, Some, length, take, slice_index_or, slice_set, vec_len, vec_capacity};
 ghost use Rattle.card_events.specs.Limits.{post_limit};
-ghost use Rattle.card_days.specs.Range.{last_calendar_day};
+ghost use Rattle.card_events.specs.Range.{last_calendar_day};
 ghost use Rattle.card_posts.specs.Change.{IsAlone, after_one, first_change, stands};
 ghost use Rattle.card_posts.specs.Corrections.{amended, changed_alone, corrections_from, corrects, waits};
 ghost use Rattle.card_posts.specs.Effect.{AreSmall, slots_from};
@@ -13,8 +13,7 @@ ghost use Rattle.card_posts.specs.declared.effect.Effect.{Effect};
 use crate::correction::Correction;
 use crate::effect::{Effect, effect_now};
 use crate::order::change;
-use card_days::{Anchor, Calendar, Day};
-use card_events::{Kept, Post, Slot};
+use card_events::{Anchor, Calendar, Day, Kept, Post, Slot};
 
 // whether nothing of it has changed
 fn stands(before: &Effect, now: &Effect) -> bool

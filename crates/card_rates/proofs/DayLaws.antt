@@ -3,7 +3,7 @@ use Rattle.std.proofs.Common.{◌+◌, length, ◌≡◌, ℕ, ◌≤◌, ◌<�
 use Rattle.std.proofs.lemmas.Bool.Decides.{nat_tests}
 use Rattle.std.proofs.lemmas.List.Elements.{All-cons, All-contains, All-contains_itself, All-filter, All-head, All-tail, All-weaker}
 use Rattle.std.specs.List.{All, Contains, cons_option, filter, filter_map}
-use Rattle.card_days.specs.declared.anchor.Anchor.{Anchor}
+use Rattle.card_events.specs.declared.anchor.Anchor.{Anchor}
 use Rattle.card_events.specs.History.{CorrectedPost, anchor_of, corrected, folded, is_folded, terms_of}
 use Rattle.card_events.specs.SharedRows.{SharedRows}
 use Rattle.card_events.specs.declared.kept.Kept.{Kept}

@@ -3,7 +3,7 @@ use Rattle.std.proofs.Common.{◌≡◌, ℕ, suc, ◌+◌, ◌<◌, ◌≤◌, 
 use Rattle.std.specs.List.{cons_option, filter, filter_map, find}
 use Rattle.std.proofs.lemmas.List.{at_drop_all, at_drop_more}
 use Rattle.std.proofs.lemmas.List.Elements.{All-head, All-tail}
-use Rattle.card_days.specs.declared.anchor.Anchor.{Anchor}
+use Rattle.card_events.specs.declared.anchor.Anchor.{Anchor}
 use Rattle.card_events.specs.History.{CorrectedPost, anchor_of, corrected, is_folded, terms_of}
 use Rattle.card_events.specs.SharedRows.{SharedRows}
 use Rattle.card_events.specs.declared.kept.Kept.{Kept}

@@ -4,8 +4,8 @@ use Rattle.std.proofs.lemmas.List.Elements.{All-weaker, All-nil, All-cons, All-h
 use Rattle.std.proofs.lemmas.Bool.Decides.{nat_tests}
 use Rattle.std.proofs.lemmas.Bool.{cases_lt}
 use Rattle.std.specs.List.{All, Contains, cons_option, filter_map, fold, list_any}
-use Rattle.card_days.specs.Business.{is_due}
-use Rattle.card_days.specs.Civil.{day_of_month}
+use Rattle.card_events.specs.Business.{is_due}
+use Rattle.card_events.specs.Civil.{day_of_month}
 use Rattle.card_events.specs.History.{CorrectedPost, anchor_of, corrected, terms_of}
 use Rattle.card_events.specs.SharedRows.{SharedRows}
 use Rattle.card_events.specs.declared.kept.Kept.{Kept}

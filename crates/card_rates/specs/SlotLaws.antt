@@ -1,7 +1,7 @@
 -- Laws on the posts of a day, for all lists of posts.
 use Rattle.std.specs.Prelude.{◌≡◌, ℕ, ◌+◌, ◌<◌, ◌≤◌, true, false, List, [], length, take, slice_index_or, Option}
 use Rattle.std.specs.List.{All, filter}
-use Rattle.card_days.specs.declared.anchor.Anchor.{Anchor}
+use Rattle.card_events.specs.declared.anchor.Anchor.{Anchor}
 use Rattle.card_events.specs.Dated.{is_dated}
 use Rattle.card_events.specs.History.{CorrectedPost, anchor_of, corrected, is_folded}
 use Rattle.card_events.specs.SharedRows.{SharedRows}

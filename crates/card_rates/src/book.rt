@@ -6,11 +6,9 @@ use crate::rate::{
     raised, rate_in_period, vintage_rate,
 };
 use crate::segment::{RateCap, RatedSegment, accrues, after_end, is_plan_sort, sort_of};
-use card_days::Day;
-use card_events::Category;
+use card_events::{Bp, Category, Day, NoMemory};
 use card_model::Interval;
 use card_posts::Posts;
-use card_units::{Bp, NoMemory};
 use std::alloc::Global;
 use std::marker::Model;
 

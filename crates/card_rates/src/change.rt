@@ -5,7 +5,7 @@ ghost use Rattle.card_model.specs.Breaks.{breaks_penalty, breaks_segment, is_day
 ghost use Rattle.card_rates.specs.Next.{IsNext};
 
 use crate::segment::{RatedSegment, number_of};
-use card_days::Day;
+use card_events::Day;
 use card_model::Interval;
 
 // The day with a number, where it comes before the end.

@@ -5,10 +5,8 @@ ghost use Rattle.card_posts.specs.Order.{IsAscending};
 ghost use Rattle.card_posts.specs.Posted.{StandsFor, folding_order};
 ghost use Rattle.card_rates.specs.Days.{IsFoldedAt, found_for, only_folded, place_of, slots_before};
 
-use card_days::Day;
-use card_events::{Post, Slot};
+use card_events::{Cents, Day, Post, Slot};
 use card_posts::Posts;
-use card_units::Cents;
 
 /// A post as it counts now: its number, its effective day, its corrected cents (0 for kinds without cents), and its content.
 #[derive(Clone, Copy, Debug, PartialEq, Eq)]

@@ -9,11 +9,9 @@ ghost use Rattle.card_rates.specs.Added.{added_from};
 
 use crate::rate::no_rate;
 use crate::segment::{RateCap, RatedSegment, number_of, plan_sort, sort_of};
-use card_days::Day;
-use card_events::{Kept, Num, Post};
+use card_events::{Bp, Day, Kept, NoMemory, Num, Post};
 use card_model::Sort;
 use card_posts::{Posts, VINTAGE_DAYS};
-use card_units::{Bp, NoMemory};
 use std::alloc::Global;
 
 fn rate_of(points: Num) -> Bp

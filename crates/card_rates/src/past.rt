@@ -3,9 +3,8 @@ ghost use Rattle.std.specs.Prelude.{◌≡◌, ◌+◌, ◌++◌, [], ◌∷◌,
 ghost use Rattle.card_model.specs.Cuts.{as_of, ended_before, penalties_at};
 
 use crate::segment::number_of;
-use card_days::Day;
+use card_events::{Day, NoMemory};
 use card_model::Interval;
-use card_units::NoMemory;
 use std::alloc::Global;
 
 // Whether a penalty had begun, or was to begin within the 45 days after its post.

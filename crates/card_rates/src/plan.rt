@@ -4,8 +4,7 @@ ghost use Rattle.card_model.specs.Segments as model;
 ghost use Rattle.card_rates.specs.Segments.{OfRatedSegments, OfSeenSegments, is_plan_of, plan_from};
 
 use crate::RateBook;
-use card_days::Day;
-use card_events::{Category, Num, Place};
+use card_events::{Category, Day, Num, Place};
 use card_model::{Segment, Sort};
 use card_segments::Segments;
 

@@ -6,9 +6,8 @@ ghost use Rattle.card_model.specs.Segments.{is_over, is_plan, is_sort, last_that
 ghost use Rattle.card_model.specs.declared.segment.Sort.TheVariants.{Promo, Deferred, Purchase};
 
 use crate::segment::{RateCap, RatedSegment, is_over, is_plan_sort, number_of};
-use card_days::Day;
+use card_events::{Bp, Day};
 use card_model::{Interval, Sort};
-use card_units::Bp;
 use std::marker::Model;
 
 // A rate, and the number of the day on which it began.

@@ -1,14 +1,12 @@
 // What rates are read from: segments with their terms, and lowered rates.
 ghost use Rattle.std.specs.Prelude.{◌≡◌, ◌≤◌, ◌||◌, Some, None};
-ghost use Rattle.card_days.specs.Range.{last_calendar_day};
+ghost use Rattle.card_events.specs.Range.{last_calendar_day};
 ghost use Rattle.card_model.specs.Rates.{accrual_rate, after_end};
 ghost use Rattle.card_model.specs.Segments.{is_deferred_on, is_over, is_sort, sort_of_category, sort_of_plan};
 ghost use Rattle.card_model.specs.declared.segment.Sort.TheVariants.{Promo, Deferred};
 
-use card_days::Day;
-use card_events::{Category, PlanKind};
+use card_events::{Bp, Category, Day, PlanKind};
 use card_model::Sort;
-use card_units::Bp;
 use std::marker::Model;
 
 /// A segment with its rates in basis points: of a vintage its own from `effective` on, of a plan that of its period, and that

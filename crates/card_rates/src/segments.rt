@@ -1,6 +1,6 @@
 // The segments of an account, read from its posts.
 ghost use Rattle.std.specs.Prelude.{◌≡◌, ◌+◌, ◌≤◌, ◌++◌, ℕ, List, [], length, IfOk, OnOk, true};
-ghost use Rattle.card_days.specs.Range.{last_request_day};
+ghost use Rattle.card_events.specs.Range.{last_request_day};
 ghost use Rattle.std.specs.List.{cons_option};
 ghost use Rattle.card_events.specs.Dated.{is_dated_post};
 ghost use Rattle.card_events.specs.History.{opening_in, terms_in, terms_of};
@@ -10,12 +10,10 @@ ghost use Rattle.card_rates.specs.Segments.{ArePostsDated, AreUnused, account_se
 
 use crate::make::post_of;
 use crate::{plan_sort, sort_of};
-use card_days::Day;
-use card_events::{Category, PlanKind, Post};
+use card_events::{Category, Day, NoMemory, PlanKind, Post};
 use card_model::{Segment, Sort};
 use card_posts::{Posts, VINTAGE_DAYS};
 use card_segments::Segments;
-use card_units::NoMemory;
 use std::alloc::Global;
 
 // the 15th day after a Notice

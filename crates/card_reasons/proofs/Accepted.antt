@@ -2,12 +2,12 @@
 use Rattle.std.proofs.Common.{◌≡◌, ℕ, zero, suc, ◌<◌, ◌≤◌, Bool, true, false, List, [], ◌∷◌, length, drop, None, refl, sym, ◌∙◌, arith}
 use Rattle.std.specs.Prelude.{nat_le, nat_lt, ◌||◌, ◌==◌, not, slice_get}
 use Rattle.std.proofs.lemmas.Bool.{leb-false, ltb-false, or_parts}
-use Rattle.card_days.specs.Range.{last_request_day, last_calendar_day}
+use Rattle.card_events.specs.Range.{last_request_day, last_calendar_day}
 use Rattle.card_events.specs.Limits.{post_limit}
 use Rattle.card_reasons.proofs.ClosingLemmas.{grown}
 use Rattle.card_reasons.proofs.ReasonLemmas.{none_from, none_head, where_none}
-use Rattle.card_days.specs.Billing.{closing}
-use Rattle.card_days.specs.declared.anchor.Channel.{Channel}
+use Rattle.card_events.specs.Billing.{closing}
+use Rattle.card_events.specs.declared.anchor.Channel.{Channel}
 use Rattle.card_events.specs.History.{at_number}
 use Rattle.card_events.specs.declared.kept.Kept.{Kept}
 use Rattle.card_events.specs.declared.post.Post.{Post}

@@ -1,8 +1,8 @@
 -- Closings of cycles with great numbers.
 use Rattle.std.proofs.Common.{ℕ, zero, suc, ◌+◌, ◌≤◌, arith}
-use Rattle.card_days.specs.Billing.{closing}
-use Rattle.card_days.specs.declared.anchor.Anchor.{Anchor}
-use Rattle.card_days.proofs.Cycles.{closing_grows}
+use Rattle.card_events.specs.Billing.{closing}
+use Rattle.card_events.specs.declared.anchor.Anchor.{Anchor}
+use Rattle.card_events.proofs.Cycles.{closing_grows}
 
 -- a closing is no smaller than its number
 pub grown : (a : Anchor) (k : ℕ) → k ≤ closing a k

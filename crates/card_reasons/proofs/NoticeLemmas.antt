@@ -4,7 +4,7 @@ use Rattle.std.specs.Prelude.{max, nat_le, nat_lt, slice_get}
 use Rattle.std.specs.List.{cons_option, count_by, filter, filter_map, reduce}
 use Rattle.std.specs.Option.{option_map, option_or, option_to_list}
 use Rattle.std.proofs.lemmas.List.{at_drop_all}
-use Rattle.card_days.specs.Later.{year_after}
+use Rattle.card_events.specs.Later.{year_after}
 use Rattle.card_events.specs.History.{adds_segment, at_number}
 use Rattle.card_events.specs.declared.kept.Kept.{Kept}
 use Rattle.card_events.specs.declared.post.Category.{Category}

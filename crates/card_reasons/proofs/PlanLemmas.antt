@@ -3,14 +3,14 @@ use Rattle.std.proofs.Common.{◌≡◌, ℕ, zero, suc, ◌+◌, ◌-◌, ◌<�
 use Rattle.std.specs.Prelude.{IsSome, SomeIff, slice_get, not, nat_le, nat_lt, ◌==◌}
 use Rattle.std.specs.List.{count_by}
 use Rattle.std.proofs.lemmas.List.Sums.{sum_by-cons}
-use Rattle.card_days.specs.Range.{last_request_day, first_calendar_day}
+use Rattle.card_events.specs.Range.{last_request_day, first_calendar_day}
 use Rattle.card_reasons.specs.Reasons.{end_reason}
-use Rattle.card_days.proofs.Cycles.{IsAnchor, closing_is, cycle_from_one, cycle_is, month_from-bounds, next_on-number}
-use Rattle.card_days.specs.Billing.{IsCloseDay, closing, cycle_of, next_on}
-use Rattle.card_days.specs.Civil.{date_of, day_of_month, first_day}
-use Rattle.card_days.specs.Later.{six_months_after}
-use Rattle.card_days.specs.Months.{day_in_month, first_month, month_from}
-use Rattle.card_days.specs.declared.anchor.Anchor.{Anchor}
+use Rattle.card_events.proofs.Cycles.{IsAnchor, closing_is, cycle_from_one, cycle_is, month_from-bounds, next_on-number}
+use Rattle.card_events.specs.Billing.{IsCloseDay, closing, cycle_of, next_on}
+use Rattle.card_events.specs.Civil.{date_of, day_of_month, first_day}
+use Rattle.card_events.specs.Later.{six_months_after}
+use Rattle.card_events.specs.Months.{day_in_month, first_month, month_from}
+use Rattle.card_events.specs.declared.anchor.Anchor.{Anchor}
 use Rattle.card_events.specs.History.{adds_segment, at_number}
 use Rattle.card_events.specs.declared.kept.Kept.{Kept}
 use Rattle.card_events.specs.declared.post.PlanKind.{PlanKind}

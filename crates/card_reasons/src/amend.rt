@@ -7,8 +7,7 @@ ghost use Rattle.card_model.specs.Refusals.{Present, first_reason, fits_target, 
 ghost use Rattle.card_model.specs.Refusals as spec;
 
 use crate::place::{is_outside_place, named};
-use card_days::Day;
-use card_events::{Num, Post, Refusal};
+use card_events::{Day, Num, Post, Refusal};
 use card_posts::Posts;
 
 // Whether an Amend may name a post: a charge, a credit or a payment.

@@ -5,16 +5,15 @@ ghost use Rattle.std.specs.List.Sorted.{IsNonDecreasingBy};
 ghost use Rattle.card_events.specs.History.{at_number};
 ghost use Rattle.card_events.specs.declared.kept.Kept.{Kept};
 ghost use Rattle.card_events.specs.Limits.{post_limit};
-ghost use Rattle.card_days.specs.Range.{last_request_day};
-ghost use Rattle.card_days.specs.Billing.{IsCloseDay, closing};
+ghost use Rattle.card_events.specs.Range.{last_request_day};
+ghost use Rattle.card_events.specs.Billing.{IsCloseDay, closing};
 ghost use Rattle.card_model.specs.Refusals.{bills, first_reason, holds_of, number_from, where_true};
 ghost use Rattle.card_reasons.specs.Reasons as reasons;
 ghost use Rattle.card_reasons.specs.Reasons.{AreInOrder};
 
 use crate::closings::closing_of;
 use crate::search::{Wanted, number_behind, number_of};
-use card_days::{Anchor, Day};
-use card_events::{Num, POST_LIMIT, Refusal};
+use card_events::{Anchor, Day, Num, POST_LIMIT, Refusal};
 use card_posts::Posts;
 
 // Whether the post with a number was accepted by a day.

@@ -6,9 +6,8 @@ ghost use Rattle.card_model.specs.Payments.{sixty_days_late};
 ghost use Rattle.card_model.specs.Refusals.{Present, book_today, is_no_amount, reason_against, seen_today};
 
 use crate::day::full_reason;
-use card_events::{Num, Refusal};
+use card_events::{Cents, Num, Refusal};
 use card_posts::Posts;
-use card_units::Cents;
 
 /// Why a Penalty isn't accepted today, by whether the account is sixty days late in the book of today (12 CFR
 /// 1026.55(b)(4)). None where it is accepted.

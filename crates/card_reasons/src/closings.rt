@@ -1,10 +1,9 @@
 // The closings of cycles by their numbers as they are read.
 ghost use Rattle.std.specs.Prelude.{◌≡◌, ◌≤◌, SomeIff};
-ghost use Rattle.card_days.specs.Range.{last_calendar_day};
-ghost use Rattle.card_days.specs.Billing.{IsCloseDay, closing};
+ghost use Rattle.card_events.specs.Range.{last_calendar_day};
+ghost use Rattle.card_events.specs.Billing.{IsCloseDay, closing};
 
-use card_days::{Anchor, Day, closing};
-use card_events::Num;
+use card_events::{Anchor, Day, Num, closing};
 
 /// The day on which a cycle closes. None comes exactly where the cycle is 0 or closes past 2102-12-31.
 pub fn closing_of(anchor: &Anchor, cycle: Num) -> Option<Day>

@@ -4,8 +4,7 @@ ghost use Rattle.std.specs.Option.{option_or};
 ghost use Rattle.card_model.specs.Refusals as spec;
 ghost use Rattle.card_reasons.specs.Reasons as reasons;
 
-use card_days::Day;
-use card_events::{Num, POST_LIMIT, Refusal};
+use card_events::{Day, Num, POST_LIMIT, Refusal};
 use card_posts::Posts;
 
 // Before what is asked of its kind: an amount or a rate, and the day, in an account that was opened on a day.

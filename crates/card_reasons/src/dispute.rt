@@ -11,9 +11,8 @@ ghost use Rattle.card_reasons.specs.Reasons.{claim_reason, open_dispute_reason};
 use crate::day::first_of;
 use crate::place::named;
 use crate::search::{Wanted, number_of};
-use card_days::{Anchor, Day};
 use card_disputes::last_notice_day;
-use card_events::{Kept, Num, Post, Refusal};
+use card_events::{Anchor, Day, Kept, Num, Post, Refusal};
 use card_posts::Posts;
 
 fn is_charge(entry: &Post) -> bool

@@ -1,8 +1,8 @@
 // The effective day of a Notice.
 ghost use Rattle.std.specs.Prelude.{◌≡◌, ◌≤◌, ◌+◌, ℕ};
-ghost use Rattle.card_days.specs.Range.{last_request_day};
+ghost use Rattle.card_events.specs.Range.{last_request_day};
 ghost use Rattle.card_events.specs.Same.{is_same_category};
-ghost use Rattle.card_days.specs.Later.{year_after};
+ghost use Rattle.card_events.specs.Later.{year_after};
 ghost use Rattle.card_events.specs.History.{anchor_of, at_number};
 ghost use Rattle.card_events.specs.declared.post.Post.TheVariants as post;
 ghost use Rattle.card_model.specs.Refusals.{Present};
@@ -12,8 +12,7 @@ ghost use Rattle.card_reasons.specs.Reasons.{effective_reason, notice_reason};
 
 use crate::day::first_of;
 use crate::plan::has_all_segments;
-use card_days::{Anchor, Day, year_after};
-use card_events::{Category, Post, Refusal};
+use card_events::{Anchor, Category, Day, Post, Refusal, year_after};
 use card_posts::Posts;
 
 fn is_same(a: Category, b: Category) -> bool

@@ -1,11 +1,10 @@
 // Why an Open isn't accepted.
 ghost use Rattle.std.specs.Prelude.{◌≡◌, ◌<◌, None, ℕ, nat_lt, nat_le, [], ◌∷◌};
-ghost use Rattle.card_days.specs.Billing.{IsCloseDay};
+ghost use Rattle.card_events.specs.Billing.{IsCloseDay};
 ghost use Rattle.card_events.specs.declared.post.Post.TheVariants as post;
 ghost use Rattle.card_model.specs.Refusals.{bad_terms, first_reason, reason_to_open, where_true};
 
-use card_days::Day;
-use card_events::{Refusal, Terms};
+use card_events::{Day, Refusal, Terms};
 
 // The first term that is out of its range: the closing day is 1 to 28, rates are at most 9,999 basis points, the floor is
 // at most 1,000,000 cents, the part at most 10,000 basis points.

@@ -6,8 +6,7 @@ ghost use Rattle.card_events.specs.declared.post.Post.TheVariants as post;
 ghost use Rattle.card_model.specs.Refusals.{Present};
 ghost use Rattle.card_model.specs.Refusals as spec;
 
-use card_days::Day;
-use card_events::{Kept, Num, Place, Post, Refusal};
+use card_events::{Day, Kept, Num, Place, Post, Refusal};
 use card_posts::Posts;
 
 /// The post with a number. None comes exactly where no post has it.

@@ -1,17 +1,16 @@
 // The end of a Plan, and the segments that an account has.
 ghost use Rattle.std.specs.Prelude.{◌≡◌, ℕ, ◌+◌, ◌≤◌, nat_le, max};
 ghost use Rattle.card_events.specs.Limits.{post_limit};
-ghost use Rattle.card_days.specs.Range.{last_request_day};
+ghost use Rattle.card_events.specs.Range.{last_request_day};
 ghost use Rattle.std.specs.List.{count_by};
 ghost use Rattle.card_reasons.specs.Reasons.{HasCycles, end_reason, ended_reason};
-ghost use Rattle.card_days.specs.Billing.{IsCloseDay, next_on};
+ghost use Rattle.card_events.specs.Billing.{IsCloseDay, next_on};
 ghost use Rattle.card_events.specs.History.{adds_segment, at_number};
 ghost use Rattle.card_events.specs.declared.post.PlanKind.{PlanKind};
 ghost use Rattle.card_events.specs.declared.post.Post.TheVariants as post;
 ghost use Rattle.card_model.specs.Refusals.{Present, holds_of};
 
-use card_days::{Anchor, Day, closing, cycle_of, six_months_after};
-use card_events::{Post, Refusal};
+use card_events::{Anchor, Day, Post, Refusal, closing, cycle_of, six_months_after};
 use card_posts::Posts;
 
 // The later of two days.

@@ -1,7 +1,7 @@
 // Why posts aren't accepted: the first reason in order.
 ghost use Rattle.std.specs.Prelude.{◌≡◌, ◌≤◌, true, false, List, nat_lt, ◌||◌};
-ghost use Rattle.card_days.specs.Range.{last_request_day};
-ghost use Rattle.card_days.specs.declared.anchor.Channel.{Channel};
+ghost use Rattle.card_events.specs.Range.{last_request_day};
+ghost use Rattle.card_events.specs.declared.anchor.Channel.{Channel};
 ghost use Rattle.card_disputes.specs.Histories.{AreInCalendar};
 ghost use Rattle.card_events.specs.Dated.{is_dated_post};
 ghost use Rattle.card_events.specs.History.{anchor_of};
@@ -25,8 +25,7 @@ use crate::place::{charged_place, credited_place};
 use crate::plan::plan_end;
 use crate::returned::returned_target;
 use crate::review::review_day;
-use card_days::{Anchor, Day};
-use card_events::{Category, Num, Place, Post, Refusal};
+use card_events::{Anchor, Category, Day, Num, Place, Post, Refusal};
 use card_posts::Posts;
 
 // Why a charge isn't accepted today.

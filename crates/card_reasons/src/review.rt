@@ -6,9 +6,8 @@ ghost use Rattle.card_model.specs.Refusals.{Present};
 ghost use Rattle.card_model.specs.Refusals as spec;
 ghost use Rattle.card_posts.specs.Posted.{StandsFor};
 
-use card_days::Day;
 use card_disputes::has_increase;
-use card_events::Refusal;
+use card_events::{Day, Refusal};
 use card_posts::Posts;
 
 /// Why a Review of a day finds nothing to review.

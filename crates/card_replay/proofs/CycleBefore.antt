@@ -3,11 +3,11 @@ use Rattle.std.proofs.Common.{◌≡◌, ℕ, zero, suc, ◌+◌, ◌-◌, ◌<�
 use Rattle.std.specs.Prelude.{◌==◌, slice_get}
 use Rattle.std.proofs.lemmas.Bool.{cases_lt}
 use Rattle.std.proofs.lemmas.Option.{get_or_from_slice_get}
-use Rattle.card_days.specs.Billing.{closing, closings_among, cycle_of}
-use Rattle.card_days.specs.Civil.{day_of_month}
-use Rattle.card_days.specs.Range.{last_request_day}
-use Rattle.card_days.specs.declared.anchor.Anchor.{Anchor}
-use Rattle.card_days.proofs.Cycles.{cycle_around}
+use Rattle.card_events.specs.Billing.{closing, closings_among, cycle_of}
+use Rattle.card_events.specs.Civil.{day_of_month}
+use Rattle.card_events.specs.Range.{last_request_day}
+use Rattle.card_events.specs.declared.anchor.Anchor.{Anchor}
+use Rattle.card_events.proofs.Cycles.{cycle_around}
 use Rattle.card_events.specs.History.{anchor_of}
 use Rattle.card_model.specs.CycleDays.{IsOpening}
 use Rattle.card_model.specs.Cycles.{Cycle}

@@ -3,12 +3,12 @@ use Rattle.std.proofs.Common.{◌≡◌, ℕ, zero, suc, ◌+◌, ◌-◌, ◌<�
 use Rattle.std.specs.Prelude.{slice_get, vec_len}
 use Rattle.std.proofs.lemmas.Bool.{cases_lt}
 use Rattle.std.proofs.lemmas.List.{take_all}
-use Rattle.card_days.specs.Billing.{closing}
-use Rattle.card_days.specs.Civil.{day_of_month}
-use Rattle.card_days.specs.Months.{first_month}
-use Rattle.card_days.specs.Range.{last_request_day}
-use Rattle.card_days.specs.declared.anchor.Anchor.{Anchor}
-use Rattle.card_days.proofs.Cycles.{closing-day, closing_grows, closing_late}
+use Rattle.card_events.specs.Billing.{closing}
+use Rattle.card_events.specs.Civil.{day_of_month}
+use Rattle.card_events.specs.Months.{first_month}
+use Rattle.card_events.specs.Range.{last_request_day}
+use Rattle.card_events.specs.declared.anchor.Anchor.{Anchor}
+use Rattle.card_events.proofs.Cycles.{closing-day, closing_grows, closing_late}
 use Rattle.card_events.specs.History.{anchor_of}
 use Rattle.card_fees.proofs.Days.{opened-before}
 use Rattle.card_model.specs.CycleDays.{IsOpening}

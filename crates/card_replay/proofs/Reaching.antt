@@ -4,9 +4,9 @@ use Rattle.std.specs.Prelude.{◌==◌}
 use Rattle.std.specs.List.{list_any}
 use Rattle.std.proofs.lemmas.Bool.{le-leb}
 use Rattle.std.proofs.lemmas.List.Elements.{All-nil}
-use Rattle.card_days.specs.Business.{is_due}
-use Rattle.card_days.specs.Civil.{day_of_month}
-use Rattle.card_days.specs.Range.{last_request_day}
+use Rattle.card_events.specs.Business.{is_due}
+use Rattle.card_events.specs.Civil.{day_of_month}
+use Rattle.card_events.specs.Range.{last_request_day}
 use Rattle.card_events.specs.History.{CorrectedPost, anchor_of, corrected}
 use Rattle.card_model.specs.Breaks.{breaks_penalty, breaks_segment, is_break}
 use Rattle.card_model.specs.Cycles.{Cycle, IssuedRow}

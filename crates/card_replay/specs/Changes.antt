@@ -1,6 +1,6 @@
 -- A post that was prepared for an account, and what taking it makes of the account. Days are day numbers.
 use Rattle.std.specs.Prelude.{◌≡◌, ℕ, ◌+◌, ◌<◌, ◌≤◌, true, false, List, [], ◌∷◌, ◌++◌, length, Option, Some, None}
-use Rattle.card_days.specs.Range.{last_request_day}
+use Rattle.card_events.specs.Range.{last_request_day}
 use Rattle.card_events.specs.History.{anchor_of, corrected}
 use Rattle.card_events.specs.Keys.{with_key}
 use Rattle.card_events.specs.Limits.{post_limit}

@@ -1,8 +1,8 @@
 -- Going back to a closing, or to the eve, after one more post. Days are day numbers.
 use Rattle.std.specs.Prelude.{◌≡◌, ℕ, ◌+◌, ◌-◌, ◌<◌, ◌≤◌, true, false, List, [], ◌∷◌, ◌++◌, length, nat_le, Option, Some, None, IfSome}
 use Rattle.std.specs.List.{filter}
-use Rattle.card_days.specs.Billing.{cycle_of}
-use Rattle.card_days.specs.Range.{last_request_day}
+use Rattle.card_events.specs.Billing.{cycle_of}
+use Rattle.card_events.specs.Range.{last_request_day}
 use Rattle.card_events.specs.History.{anchor_of, corrected}
 use Rattle.card_events.specs.declared.kept.Kept.{Kept}
 use Rattle.card_events.specs.declared.post.Post.{Post}

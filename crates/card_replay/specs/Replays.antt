@@ -1,7 +1,7 @@
 -- An account with its book folded to the day last reached. Days are day numbers.
 use Rattle.std.specs.Prelude.{◌≡◌, ℕ, ◌+◌, ◌≤◌, Bool, true, List, [], ◌∷◌, ◌++◌, Some, Option, None, IfSome}
-use Rattle.card_days.specs.Business.{AgreeUpTo}
-use Rattle.card_days.specs.Range.{last_request_day}
+use Rattle.card_events.specs.Business.{AgreeUpTo}
+use Rattle.card_events.specs.Range.{last_request_day}
 use Rattle.card_events.specs.History.{CorrectedPost, anchor_of, corrected}
 use Rattle.card_events.specs.SharedRows.{SharedRows}
 use Rattle.card_events.specs.declared.post.Post.{Post}

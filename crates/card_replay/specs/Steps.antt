@@ -1,8 +1,8 @@
 -- How many steps the calls on an account take. A step is a span: at most one day with its posts, and the days before it. Days are
 -- day numbers.
 use Rattle.std.specs.Prelude.{ℕ, ◌+◌, ◌-◌, ◌≤◌, List, min}
-use Rattle.card_days.specs.Billing.{closing, cycle_of}
-use Rattle.card_days.specs.declared.anchor.Anchor.{Anchor}
+use Rattle.card_events.specs.Billing.{closing, cycle_of}
+use Rattle.card_events.specs.declared.anchor.Anchor.{Anchor}
 use Rattle.card_events.specs.History.{anchor_of, corrected}
 use Rattle.card_events.specs.SharedRows.{SharedRows}
 use Rattle.card_events.specs.declared.post.Post.{Post}

@@ -1,9 +1,7 @@
 // What a post that was prepared changes.
 use crate::past::{Ends, Past};
 use card_book::{Book, Issued};
-use card_days::Day;
-use card_events::{Name, Post};
-use card_units::NoMemory;
+use card_events::{Day, Name, NoMemory, Post};
 use std::alloc::Global;
 use std::marker::Model;
 

@@ -1,7 +1,7 @@
 // Folding on, with a mark at each closing on the way.
 ghost use Rattle.std.specs.Prelude.{◌≡◌, ◌+◌, ◌<◌, ◌≤◌, ◌++◌, ℕ, [], ◌∷◌, true, length, Some, None, IfOk, OnOk, vec_len, vec_capacity};
-ghost use Rattle.card_days.specs.Billing.{closing};
-ghost use Rattle.card_days.specs.Range.{last_request_day};
+ghost use Rattle.card_events.specs.Billing.{closing};
+ghost use Rattle.card_events.specs.Range.{last_request_day};
 ghost use Rattle.card_events.specs.History.{anchor_of};
 ghost use Rattle.card_model.specs.CycleDays.{IsOpening};
 ghost use Rattle.card_daily.specs.Given.{opened_in};
@@ -11,9 +11,7 @@ ghost use Rattle.card_replay.specs.Replays.{ClosesLast, HasMarks, IsFoldedBefore
 
 use crate::past::Past;
 use card_book::{Book, Inputs};
-use card_days::{Anchor, Day, closing_date};
-use card_steps::Steps;
-use card_units::NoMemory;
+use card_events::{Anchor, Day, NoMemory, Steps, closing_date};
 use std::alloc::Global;
 use std::sync::ledger::Ledger;
 

@@ -1,6 +1,6 @@
 // What a Bill issues.
 ghost use Rattle.std.specs.Prelude.{◌≡◌, ◌<◌, ◌≤◌, ℕ, ◌++◌, [], ◌∷◌, length, IfOk, None, Some, vec_len, vec_capacity};
-ghost use Rattle.card_days.specs.Range.{last_calendar_day};
+ghost use Rattle.card_events.specs.Range.{last_calendar_day};
 ghost use Rattle.card_events.specs.declared.post.Post.TheVariants as variants;
 ghost use Rattle.card_model.specs.Cycles.{Cycle};
 ghost use Rattle.card_model.specs.Folds.{cycle_at};
@@ -11,9 +11,7 @@ use crate::change::IssuedIfAny;
 use crate::past::Past;
 use crate::statement::statement_at;
 use card_book::{Book, Cycle, Inputs, Issued};
-use card_days::Day;
-use card_events::{Num, Post};
-use card_units::NoMemory;
+use card_events::{Day, NoMemory, Num, Post};
 use std::alloc::Global;
 
 /// The number of a cycle, where it is closed.

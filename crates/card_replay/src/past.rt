@@ -5,7 +5,7 @@ ghost use Rattle.card_model.specs.Cycles.{Cycle};
 ghost use Rattle.card_replay.specs.Pasts.{AreEnds, IsEmpty, IsFront};
 
 use card_book::{Accruing, Track, fees_up_to};
-use card_days::Day;
+use card_events::Day;
 use std::alloc::Global;
 
 /// The entries, the closed cycles and the penalty fees of an account, each in order; of each closed cycle the first day of the run

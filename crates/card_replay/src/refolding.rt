@@ -1,7 +1,7 @@
 // Going back behind what a post changes, to a day from which the account is folded on.
 ghost use Rattle.std.specs.Prelude.{◌≡◌, ℕ, ◌+◌, ◌-◌, ◌<◌, ◌≤◌, ◌⊎◌, true, length, IfOk, IfSome, None, Some};
-ghost use Rattle.card_days.specs.Billing.{cycle_of};
-ghost use Rattle.card_days.specs.Range.{last_request_day};
+ghost use Rattle.card_events.specs.Billing.{cycle_of};
+ghost use Rattle.card_events.specs.Range.{last_request_day};
 ghost use Rattle.card_model.specs.CycleDays.{IsOpening};
 ghost use Rattle.card_model.specs.Unread as unread;
 ghost use Rattle.card_model.specs.Cycles.{Cycle};
@@ -17,10 +17,7 @@ use crate::eve::Eve;
 use crate::folding::first_book;
 use crate::past::{Past, ends_at, nothing};
 use card_book::{Book, Inputs};
-use card_days::{Anchor, Day, cycle_of};
-use card_events::Post;
-use card_steps::Steps;
-use card_units::NoMemory;
+use card_events::{Anchor, Day, NoMemory, Post, Steps, cycle_of};
 use std::alloc::Global;
 use std::sync::ledger::Ledger;
 

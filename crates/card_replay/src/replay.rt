@@ -13,12 +13,9 @@ use crate::refolding::{cycles_before, go_back, is_unread, needs_today, refold_if
 use crate::statement::statement_at;
 use crate::taking::take_if_any;
 use card_book::{Book, Folded, Inputs, Issued, Statement};
-use card_days::Day;
-use card_events::{Name, Num, Post};
+use card_events::{Day, Name, NoMemory, Num, Post, Steps};
 use card_fees::SharedRows;
 use card_posts::Posts;
-use card_steps::Steps;
-use card_units::NoMemory;
 use std::alloc::Global;
 use std::marker::Model;
 use std::mem::replace;
@@ -78,8 +75,8 @@ fn reach<L: Ledger>(
 
 impl Replay {
     ghost use Rattle.std.specs.Prelude.{◌≡◌, ◌+◌, ◌≤◌, ◌<◌, ◌++◌, ℕ, [], ◌∷◌, true, false, length, None, IfOk, OnOk, OnErr, ◌⊎◌};
-    ghost use Rattle.card_days.specs.Billing.{IsCloseDay};
-    ghost use Rattle.card_days.specs.Range.{last_calendar_day, last_request_day};
+    ghost use Rattle.card_events.specs.Billing.{IsCloseDay};
+    ghost use Rattle.card_events.specs.Range.{last_calendar_day, last_request_day};
     ghost use Rattle.card_events.specs.Dated.{is_dated_post};
     ghost use Rattle.card_events.specs.History.{anchor_of, opening_in, terms_in};
     ghost use Rattle.card_events.specs.Keys.{with_key};

@@ -7,8 +7,7 @@ ghost use Rattle.card_replay.specs.Replays.{HasClosings};
 
 use crate::past::Past;
 use card_book::{Book, Folded, Inputs, Statement, statement_of};
-use card_days::Day;
-use card_units::NoMemory;
+use card_events::{Day, NoMemory};
 use std::alloc::Global;
 
 /// The statement of a closed cycle, to be issued on a day (12 CFR 1026.5(b)(2), .7(b)): what it shows beside the cycle is read from the

@@ -7,7 +7,7 @@ use crate::change::{Recorded, Refolded, RefoldedIfAny};
 use crate::eve::Eve;
 use crate::past::{Past, cut};
 use card_book::Book;
-use card_days::Day;
+use card_events::Day;
 
 // Takes a past back to what was recorded up to an earlier day. It takes no memory.
 fn take(past: &mut Past, recorded: Recorded)

@@ -1,6 +1,6 @@
 -- Each kind of request is read from its spelling, and from nothing else.
 use Rattle.std.proofs.Common.{◌≡◌, ℕ, true, ◌&&◌, List, ◌++◌, Option, Some, IfSome, refl, sym, subst, append_assoc}
-use Rattle.card_days.specs.declared.anchor.Channel.{Channel}
+use Rattle.card_events.specs.declared.anchor.Channel.{Channel}
 use Rattle.card_events.specs.declared.post.Category.{Category}
 use Rattle.card_events.specs.declared.post.Finding.{Finding}
 use Rattle.card_events.specs.declared.post.Place.{Place}

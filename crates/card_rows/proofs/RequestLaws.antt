@@ -1,6 +1,6 @@
 -- A request is read from its spelling, and from nothing else.
 use Rattle.std.proofs.Common.{◌≡◌, ℕ, Bool, true, false, ◌&&◌, ltb, nat_lt, nat_le, List, [], ◌∷◌, ◌++◌, Option, None, Some, IfSome, IfNone, IfOk, Result, Ok, Err, ◌↔◌, refl, ap, sym, ◌∙◌, subst, append_assoc, append-nil}
-use Rattle.card_days.specs.Range.{first_calendar_day}
+use Rattle.card_events.specs.Range.{first_calendar_day}
 use Rattle.card_events.specs.Dated.{is_request_day, is_dated_post, is_dated_shared, is_dated}
 use Rattle.card_events.specs.Names.{is_name}
 use Rattle.card_events.specs.declared.post.Post.{Post}

@@ -2,8 +2,8 @@
 use Rattle.std.specs.Prelude.{◌≡◌, ℕ, Bool, ◌&&◌, nat_lt, ◌==◌, if◌then◌else◌, List, [], ◌∷◌, length, take, drop, Option, Some, None, Result, Ok, Err}
 use Rattle.std.specs.Int.{w32, w64, from_be_bytes}
 use Rattle.std.specs.Str.{bytes_eq}
-use Rattle.card_days.specs.declared.anchor.Channel.{Channel}
-use Rattle.card_days.specs.declared.anchor.Channel.TheVariants as channel
+use Rattle.card_events.specs.declared.anchor.Channel.{Channel}
+use Rattle.card_events.specs.declared.anchor.Channel.TheVariants as channel
 use Rattle.card_events.specs.Names.{is_name}
 use Rattle.card_events.specs.declared.post.Category.{Category}
 use Rattle.card_events.specs.declared.post.Category.TheVariants as category

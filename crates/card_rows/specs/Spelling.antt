@@ -1,8 +1,8 @@
 -- How a request is spelled in a kept row, in format 1.
 use Rattle.std.specs.Prelude.{◌≡◌, ℕ, true, List, [], ◌∷◌, ◌++◌, length}
 use Rattle.std.specs.Int.{w32, w64, to_be_bytes}
-use Rattle.card_days.specs.declared.anchor.Channel.{Channel}
-use Rattle.card_days.specs.declared.anchor.Channel.TheVariants as channel
+use Rattle.card_events.specs.declared.anchor.Channel.{Channel}
+use Rattle.card_events.specs.declared.anchor.Channel.TheVariants as channel
 use Rattle.card_events.specs.declared.post.Category.{Category}
 use Rattle.card_events.specs.declared.post.Category.TheVariants as category
 use Rattle.card_events.specs.declared.post.Finding.{Finding}

@@ -6,8 +6,7 @@ ghost use Rattle.card_rows.specs.Reading as spec;
 use crate::fault::RowFault;
 use crate::fields::{read_byte, read_name};
 use crate::kinds::{read_post, read_shared};
-use card_events::Request;
-use card_units::NoMemory;
+use card_events::{NoMemory, Request};
 use std::alloc::Global;
 
 #[tactic(auto, unfolding(crate::specs::Reading::request_in))]

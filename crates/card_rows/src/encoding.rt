@@ -9,9 +9,9 @@ use crate::writing::{
     put_category, put_channel, put_day, put_finding, put_name, put_number, put_place,
     put_plan_kind, put_terms,
 };
-use card_days::{Channel, Day};
-use card_events::{Category, Finding, Num, Place, PlanKind, Post, Request, Shared, Terms};
-use card_units::NoMemory;
+use card_events::{
+    Category, Channel, Day, Finding, NoMemory, Num, Place, PlanKind, Post, Request, Shared, Terms,
+};
 
 /// Writes the request behind what the row has.
 #[tactic(auto, using(crate::proofs::ReadingLemmas::pieces), unfolding(crate::specs::Spelling::spelling, crate::specs::Held::is_request, card_events::specs::Dated::is_dated))]

@@ -1,7 +1,7 @@
 ghost use Rattle.std.specs.Prelude.{◌≡◌};
 ghost use Rattle.card_rows.specs.declared.fault.RowFault.TheVariants.{Memory};
 
-use card_units::NoMemory;
+use card_events::NoMemory;
 
 /// Why a row isn't read.
 #[derive(Clone, Copy, Debug)]

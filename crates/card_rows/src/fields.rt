@@ -4,8 +4,7 @@ ghost use Rattle.card_rows.specs.Reading.{Gives, GivesSome, read_piece};
 ghost use Rattle.card_rows.specs.Reading as spec;
 
 use crate::fault::RowFault;
-use card_days::{Channel, Day};
-use card_events::{Category, Finding, Name, Num, Place, PlanKind};
+use card_events::{Category, Channel, Day, Finding, Name, Num, Place, PlanKind};
 use std::alloc::Global;
 
 /// The next byte.

@@ -8,8 +8,7 @@ ghost use Rattle.card_rows.specs.Reading.{request_in};
 use crate::body::Body;
 use crate::decoding::read_row;
 use crate::encoding::put_request;
-use card_events::Request;
-use card_units::NoMemory;
+use card_events::{NoMemory, Request};
 use std::alloc::Global;
 
 // The bytes of the longest row: an opening, whose account and key have 32 bytes each.

@@ -5,9 +5,7 @@ ghost use Rattle.card_events.specs.Names.{is_name};
 ghost use Rattle.card_rows.specs.Held.{is_day, is_number, is_place, are_terms};
 ghost use Rattle.card_rows.specs.Spelling as spec;
 
-use card_days::{Channel, Day};
-use card_events::{Category, Finding, Name, Num, Place, PlanKind, Terms};
-use card_units::NoMemory;
+use card_events::{Category, Channel, Day, Finding, Name, NoMemory, Num, Place, PlanKind, Terms};
 
 /// Writes the name.
 #[tactic(auto, unfolding(crate::specs::Spelling::name_bytes))]

@@ -9,8 +9,8 @@ ghost use Rattle.card_segments.specs.Parts.{AreParts, part};
 use crate::pay::pay_by;
 use crate::rule::Rule;
 use crate::{Parts, Rank, Segments};
+use card_events::{Cents, NoMemory};
 use card_model::Holding;
-use card_units::{Cents, NoMemory};
 use std::alloc::Global;
 
 // Cents where they are at least 0, else 0.

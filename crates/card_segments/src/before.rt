@@ -5,7 +5,7 @@ ghost use Rattle.card_segments.specs.Balances.{AreWithin, IsWithin, largest_bala
 ghost use Rattle.card_segments.specs.Unposted.{MayGoBack, balance_before};
 
 use crate::Entry;
-use card_units::{Cents, NoMemory};
+use card_events::{Cents, NoMemory};
 use std::alloc::Global;
 
 // What an entry moves on a segment.

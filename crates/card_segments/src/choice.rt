@@ -2,7 +2,7 @@
 ghost use Rattle.std.specs.Prelude.{◌≡◌, ℕ, ◌+◌, ◌<◌, length, drop, unwrap_or, pos};
 ghost use Rattle.card_segments.specs.Rules.{IsPlaceOf, chosen, is_before, passes};
 
-use card_days::Day;
+use card_events::Day;
 use card_model::Holding;
 
 // What is looked for: the least rate, the greatest rate, the soonest end in the last two cycles, or a segment of the place.

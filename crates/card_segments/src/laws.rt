@@ -2,7 +2,7 @@
 
 ghost use Rattle.std.specs.Prelude.{◌≡◌, ℕ, ◌<◌, ◌≤◌, List, [], ◌∷◌, ◌++◌, length, replicate, ℤ, pos};
 ghost use Rattle.std.specs.List.{All};
-ghost use Rattle.card_days.specs.declared.anchor.Anchor.{Anchor};
+ghost use Rattle.card_events.specs.declared.anchor.Anchor.{Anchor};
 ghost use Rattle.card_events.specs.declared.post.Terms.{Terms};
 ghost use Rattle.card_model.specs.Entries.{AreBalances, debit, holds, lowers, owed, posted, releases};
 ghost use Rattle.card_model.specs.Segments.{kept_segments};

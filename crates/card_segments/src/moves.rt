@@ -5,7 +5,7 @@ ghost use Rattle.card_model.specs.Entries.{at_least_zero, credit_in, debit, entr
 ghost use Rattle.card_segments.specs.Balances.{AreWithin, IsWithin, MayMoveWithin, largest_balance, movable_balance, total};
 
 use crate::{Entry, Note};
-use card_units::Cents;
+use card_events::Cents;
 
 // Adds an entry, where the amount isn't 0: the balance moves, and the entry is recorded.
 fn post(balances: &mut Vec<Cents>, out: &mut Vec<Entry>, note: &Note, id: u8, cents: Cents)

@@ -6,7 +6,7 @@ ghost use Rattle.card_segments.specs.Balances.{AreWithin, after_entries, movable
 ghost use Rattle.card_segments.specs.Parts.{AreCovered, AreOnSegments, back_entries, parts_sum, segment_back};
 
 use crate::{Entry, Note, Parts, Segments};
-use card_units::{Cents, NoMemory};
+use card_events::{Cents, NoMemory};
 
 // Takes one part off its segment. There is room for its entry.
 fn take_part(s: &mut Segments, segment: u8, cents: u64, note: &Note, out: &mut Vec<Entry>)

@@ -4,7 +4,7 @@ ghost use Rattle.card_model.specs.Effects.{is_part_of, size};
 ghost use Rattle.card_segments.specs.Parts.{parts_in};
 
 use crate::{Entry, EntryKind};
-use card_units::{Cents, NoMemory};
+use card_events::{Cents, NoMemory};
 use std::alloc::Global;
 use std::marker::Model;
 

@@ -8,8 +8,7 @@ ghost use Rattle.card_segments.specs.Unposted.{AreBefore, MayGoBack};
 use crate::before::{balances_before, write_first};
 use crate::moves::{hold, lower, raise, release, sum};
 use crate::{Entry, Note, Segment, Sort};
-use card_days::Day;
-use card_units::{Cents, NoMemory};
+use card_events::{Cents, Day, NoMemory};
 use std::alloc::Global;
 use std::marker::Model;
 

@@ -10,7 +10,7 @@ use Rattle.card_bounds.specs.Bounds.{interest_on}
 use Rattle.card_bounds.specs.Places.{book_before}
 use Rattle.card_bounds.proofs.CycleInterest.{cycles_have_their_interest}
 use Rattle.card_bounds.proofs.Dated.{Added, Before, IsInterest, IsPlain, book-dates, close-added, posted-added, posted_on}
-use Rattle.card_days.specs.Civil.{day_of_month}
+use Rattle.card_events.specs.Civil.{day_of_month}
 use Rattle.card_events.specs.History.{anchor_of}
 use Rattle.card_events.specs.SharedRows.{SharedRows}
 use Rattle.card_events.specs.declared.kept.Kept.{Kept}

@@ -8,7 +8,7 @@ use Rattle.std.proofs.lemmas.List.Elements.{All-filter}
 use Rattle.std.proofs.lemmas.List.Sums.{sum_by-cons}
 use Rattle.card_bounds.proofs.OnSegments.{entries_have_segments}
 use Rattle.card_closing.proofs.Bridge.{later-in}
-use Rattle.card_units.specs.Money.{interest}
+use Rattle.card_events.specs.Money.{interest}
 use Rattle.card_closing.specs.Accruals.{Accrued}
 use Rattle.card_model.specs.Books.{Account, Book, all_segments, rate_in}
 use Rattle.card_model.specs.Closing.{nonzero}

@@ -1,7 +1,7 @@
 -- The steps of a sum over the cycles of a year.
 use Rattle.std.proofs.Common.{◌≡◌, ℕ, ◌+◌, ◌*◌, ◌<◌, ◌≤◌, ◌^◌, Bool, true, false, cond, List, [], length, take, get_or, refl, arith, eqb}
 use Rattle.std.proofs.lemmas.List.Sums.{sum_by_more}
-use Rattle.card_days.specs.Civil.{date_of}
+use Rattle.card_events.specs.Civil.{date_of}
 use Rattle.card_model.specs.Cycles.{Cycle}
 use Rattle.card_model.specs.Sheets.{year_sum}
 

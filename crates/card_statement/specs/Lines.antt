@@ -3,7 +3,7 @@
 -- basis points, amounts cents.
 use Rattle.std.specs.Prelude.{ℕ, ◌≡◌, true, false, ◌+◌, ◌-◌, Bool, ◌&&◌, ◌==◌, nat_le, nat_lt, if◌then◌else◌, List, Option, Some, None, ℤ, pos, neg_ℤ, slice_index_or}
 use Rattle.std.specs.List.{All, Contains, filter, filter_map, list_any, range_with_len, sum_by}
-use Rattle.card_units.specs.Money.{interest}
+use Rattle.card_events.specs.Money.{interest}
 use Rattle.card_closing.specs.Accruals.{Accrued, nothing_accrued}
 use Rattle.card_model.specs.Books.{Account, Book, all_segments, rate_in}
 use Rattle.card_model.specs.Closing.{by_segment}

@@ -1,17 +1,16 @@
 // The lines of plans with deferred interest, and what is owed on each segment.
 ghost use Rattle.std.specs.Prelude.{◌≡◌, ◌-◌, ◌++◌, [], IfOk, OnOk, Some, pos, slice_index_or};
 ghost use Rattle.std.specs.List.{cons_option, filter_map};
-ghost use Rattle.card_units.specs.Money.{interest};
+ghost use Rattle.card_events.specs.Money.{interest};
 ghost use Rattle.card_closing.specs.Accruals.{nothing_accrued};
 ghost use Rattle.card_model.specs.Entries.{at_least_zero};
 ghost use Rattle.card_statement.specs.Lines as spec;
 
 use crate::DeferredLine;
 use card_closing::{Accrual, Amounts};
-use card_days::Day;
+use card_events::{Cents, Day, NoMemory, interest};
 use card_rates::{RateBook, RatedSegment, is_deferred_on};
 use card_segments::Segments;
-use card_units::{Cents, NoMemory, interest};
 use std::alloc::Global;
 
 // What an amount has above 0.

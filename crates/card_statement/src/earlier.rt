@@ -9,10 +9,9 @@ ghost use Rattle.card_segments.specs.Balances.{IsWithin};
 ghost use Rattle.card_model.specs.Sheets as spec;
 
 use card_closing::Cycle;
-use card_days::Day;
+use card_events::{Cents, Day};
 use card_fees::FeeTable;
 use card_model::Entry;
-use card_units::Cents;
 
 // The closed cycle with a number.
 fn closed_at(cycles: &[Cycle], number: usize) -> Option<&Cycle>

@@ -6,8 +6,8 @@ ghost use Rattle.card_statement.specs.Gathering.{raised_by, sizes, with_entry, w
 ghost use Rattle.card_model.specs.Sheets as spec;
 
 use crate::Move;
+use card_events::NoMemory;
 use card_model::{Entry, EntryKind};
-use card_units::NoMemory;
 use std::alloc::Global;
 
 // Whether an entry is of a transaction: interest has a line of its own, and a hold moves nothing that is owed.

@@ -11,10 +11,10 @@ ghost use Rattle.card_statement.specs.Standing.{LeaveBalances};
 use crate::standing::was_owed;
 use crate::{RateLine, cycle_entries};
 use card_closing::Cycle;
+use card_events::{Cents, NoMemory};
 use card_model::Entry;
 use card_rates::{RateBook, RatedSegment};
 use card_segments::Segments;
-use card_units::{Cents, NoMemory};
 use std::alloc::Global;
 
 // The line of a segment.

@@ -1,6 +1,6 @@
 use crate::{DeferredLine, Move, RateLine};
 use card_closing::Amounts;
-use card_units::{Bp, Cents, NoMemory};
+use card_events::{Bp, Cents, NoMemory};
 use std::alloc::Global;
 use std::marker::Model;
 

@@ -7,9 +7,8 @@ ghost use Rattle.card_segments.specs.Balances.{IsWithin};
 ghost use Rattle.card_statement.specs.Lines as lines;
 ghost use Rattle.card_statement.specs.Standing as spec;
 
-use card_days::Day;
+use card_events::{Cents, Day};
 use card_model::Entry;
-use card_units::Cents;
 
 // Whether an entry is on a segment, and of a day after this one.
 fn is_past(entry: &Entry, segment: u8, day: Day) -> bool

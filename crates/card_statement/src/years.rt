@@ -1,13 +1,13 @@
 // Sums of the year to date.
 ghost use Rattle.std.specs.Prelude.{◌≡◌, ◌≤◌, ◌==◌, ◌^◌, if◌then◌else◌};
 ghost use Rattle.std.specs.List.{All};
-ghost use Rattle.card_days.specs.Civil.{date_of};
+ghost use Rattle.card_events.specs.Civil.{date_of};
 ghost use Rattle.card_model.specs.Cycles.{amounts_sum};
 ghost use Rattle.card_model.specs.Fees.{fees_sum};
 ghost use Rattle.card_model.specs.Sheets.{year_sum};
 
 use card_closing::Cycle;
-use card_days::Day;
+use card_events::Day;
 
 // Whether a cycle closed in the calendar year of a day.
 fn in_year(cycle: &Cycle, closing: Day) -> bool

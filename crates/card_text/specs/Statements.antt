@@ -2,8 +2,8 @@
 use Rattle.std.specs.Prelude.{ℕ, ◌-◌, ◌/◌, ◌%◌, ◌&&◌, ◌==◌, nat_lt, if◌then◌else◌, List, [], ◌∷◌, ◌++◌, length, replicate, ℤ, pos, codes}
 use Rattle.std.specs.Fmt.{decimal}
 use Rattle.std.specs.List.{flat_map}
-use Rattle.card_units.specs.Money.{daily, money_text}
-use Rattle.card_days.specs.Civil.{day_text}
+use Rattle.card_events.specs.Money.{daily, money_text}
+use Rattle.card_events.specs.Civil.{day_text}
 use Rattle.card_model.specs.Cycles.{Cycle, Sheet, amounts_sum}
 use Rattle.card_model.specs.Fees.{fees_sum}
 use Rattle.card_model.specs.declared.entry.EntryKind.{EntryKind}

@@ -2,7 +2,7 @@
 use Rattle.std.specs.Prelude.{List, [], ◌∷◌, ◌++◌, ℕ, codes}
 use Rattle.std.specs.Fmt.{decimal}
 use Rattle.std.specs.List.{flat_map}
-use Rattle.card_days.specs.Civil.{day_text}
+use Rattle.card_events.specs.Civil.{day_text}
 use Rattle.card_model.specs.declared.task.Task.{Task}
 use Rattle.card_model.specs.declared.task.TaskKind.{TaskKind}
 use Rattle.card_model.specs.declared.task.TaskKind.TheVariants as kind

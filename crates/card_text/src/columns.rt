@@ -2,9 +2,9 @@
 ghost use Rattle.std.specs.Prelude.{◌≡◌, ◌∷◌, ◌++◌, IfOk, OnOk, pos, replicate};
 ghost use Rattle.std.specs.String.{string_bytes};
 ghost use Rattle.card_text.specs.Statements.{labelled, three_texts_ended, to_left, to_right, two_texts, two_texts_ended};
-ghost use Rattle.card_units.specs.Money.{money_text};
+ghost use Rattle.card_events.specs.Money.{money_text};
 
-use card_units::{Cents, Money, NoMemory};
+use card_events::{Cents, Money, NoMemory};
 use std::alloc::Global;
 
 // So many spaces.
@@ -67,7 +67,7 @@ pub fn push_labelled(text: &mut String, label: &str, value: &str) -> Result<(), 
 }
 
 // An amount of at least 0, of whatever size, as money.
-#[tactic(auto, using(card_lines::proofs::TextRules::texts), unfolding(card_units::specs::Money::money_text))]
+#[tactic(auto, using(card_lines::proofs::TextRules::texts), unfolding(card_events::specs::Money::money_text))]
 fn sum_text(alloc: Global, cents: u128) -> Result<String, NoMemory>
     ensures { IfOk result (λ text. string_bytes text ≡ money_text (pos cents)) }
 {

@@ -9,8 +9,8 @@ ghost use Rattle.csv.specs.Writing.{default_writer, row_text, text_written};
 ghost use Rattle.card_text.specs.Export as spec;
 ghost use Rattle.card_text.specs.Records.{IsAtRecord};
 
+use card_events::NoMemory;
 use card_model::{Entry, EntryKind, Segment, Sort};
-use card_units::NoMemory;
 use csv::{Writer, WriterBuilder};
 use std::alloc::Global;
 use std::io::Write;

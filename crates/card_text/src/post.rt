@@ -7,8 +7,7 @@ use crate::kind::RecordKind;
 use crate::record_columns::{
     channel_column, day_column, fixed_column, number_column, place_column,
 };
-use card_days::Day;
-use card_events::{Num, Place, Post};
+use card_events::{Day, Num, Place, Post};
 use card_lines::BadField;
 use csv::ByteRecord;
 

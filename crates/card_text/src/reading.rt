@@ -1,5 +1,5 @@
 // The records of some bytes, in order.
-use card_units::NoMemory;
+use card_events::NoMemory;
 use csv::{ByteRecord, ErrorKind, Reader, ReaderBuilder};
 use std::alloc::Global;
 use std::marker::Model;

@@ -10,9 +10,8 @@ use crate::header::read_header;
 use crate::item::Item;
 use crate::post::read_post;
 use crate::record_columns::{kind_column, name_column, no_column};
-use card_events::Request;
+use card_events::{NoMemory, Request};
 use card_lines::{BadField, LineFault};
-use card_units::NoMemory;
 use csv::ByteRecord;
 use std::alloc::Global;
 

@@ -7,8 +7,7 @@ ghost use Rattle.card_text.specs.Columns.{column, exactly, no_column};
 ghost use Rattle.card_text.specs.Kinds.{kind_of};
 
 use crate::kind::{RecordKind, read_kind};
-use card_days::{Channel, Day};
-use card_events::{Name, Num, Place};
+use card_events::{Channel, Day, Name, Num, Place};
 use card_lines::{BadField, LineFault, read_channel, read_day, read_number, read_place};
 use csv::ByteRecord;
 use std::alloc::Global;

@@ -2,7 +2,7 @@
 use crate::item::Item;
 use crate::reading::RecordReader;
 use crate::record::import_record;
-use card_units::NoMemory;
+use card_events::NoMemory;
 use std::alloc::Global;
 use std::marker::Model;
 

@@ -2,11 +2,11 @@
 ghost use Rattle.std.specs.Prelude.{◌≡◌, ◌++◌, IfOk, OnOk, codes, if◌then◌else◌, pos};
 ghost use Rattle.std.specs.List.{flat_map};
 ghost use Rattle.std.specs.String.{string_bytes};
-ghost use Rattle.card_days.specs.Civil.{day_text};
+ghost use Rattle.card_events.specs.Civil.{day_text};
 ghost use Rattle.card_model.specs.Cycles.{amounts_sum};
 ghost use Rattle.card_model.specs.Fees.{fees_sum};
 ghost use Rattle.card_text.specs.Statements as spec;
-ghost use Rattle.card_units.specs.Money.{money_text};
+ghost use Rattle.card_events.specs.Money.{money_text};
 
 use crate::columns::{
     push_amount, push_both, push_cents, push_column, push_end, push_labelled, push_last, push_left,
@@ -14,12 +14,10 @@ use crate::columns::{
 };
 use crate::export::segment_name;
 use card_closing::Cycle;
-use card_days::Day;
-use card_events::Name;
+use card_events::{Bp, Cents, Day, Money, Name, NoMemory, daily};
 use card_lines::name_text;
 use card_model::{EntryKind, Sort};
 use card_statement::{DeferredLine, Move, RateLine, Sheet};
-use card_units::{Bp, Cents, Money, NoMemory, daily};
 use std::alloc::Global;
 
 // A rate as units, a point, two digits and a percent sign.

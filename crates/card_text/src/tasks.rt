@@ -3,9 +3,9 @@ ghost use Rattle.std.specs.Prelude.{◌≡◌, ◌++◌, IfOk, OnOk};
 ghost use Rattle.std.specs.String.{string_bytes};
 ghost use Rattle.card_text.specs.Tasks as spec;
 
+use card_events::NoMemory;
 use card_lines::name_text;
 use card_model::{Task, TaskKind};
-use card_units::NoMemory;
 use std::alloc::Global;
 
 // What has to be done, in a word.

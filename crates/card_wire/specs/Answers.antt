@@ -1,7 +1,7 @@
 -- The JSON texts of replies.
 use Rattle.std.specs.Prelude.{ℕ, List, [], ◌++◌, Option, None, Some, codes, decimal}
 use Rattle.std.specs.Fmt.{signed_decimal}
-use Rattle.card_days.specs.Civil.{day_text}
+use Rattle.card_events.specs.Civil.{day_text}
 use Rattle.card_events.specs.Refusals.{refusal_number}
 use Rattle.card_events.specs.declared.reply.Refusal.{Refusal}
 use Rattle.card_lines.specs.Replies.{refusal_name, refusal_value}

@@ -5,9 +5,8 @@ ghost use Rattle.card_wire.specs.Answers as spec;
 ghost use Rattle.serde_json.specs.Data.{string};
 ghost use Rattle.serde_json.specs.Written.{compact_text};
 
-use card_events::Refusal;
+use card_events::{NoMemory, Refusal};
 use card_lines::{RefusalValue, refusal_name, refusal_value};
-use card_units::NoMemory;
 use serde_json::Value;
 use std::alloc::Global;
 use std::fmt;

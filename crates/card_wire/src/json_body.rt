@@ -14,9 +14,8 @@ ghost use Rattle.serde_json.specs.View.{view, members_view};
 
 use crate::field::{Field, fields_of};
 use crate::spelling::{is_one_word, spell};
-use card_events::Request;
+use card_events::{NoMemory, Request};
 use card_lines::{Line, Word, read_line, read_word};
-use card_units::NoMemory;
 use serde_json::{Map, Value};
 use std::alloc::{AllocError, Global};
 

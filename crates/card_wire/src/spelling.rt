@@ -8,7 +8,7 @@ ghost use Rattle.serde_json.specs.Find.{as_str, get};
 ghost use Rattle.serde_json.specs.View.{view};
 
 use crate::field::Field;
-use card_units::NoMemory;
+use card_events::NoMemory;
 use serde_json::Value;
 use std::alloc::Global;
 

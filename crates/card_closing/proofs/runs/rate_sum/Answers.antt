@@ -1,7 +1,7 @@
 use Rattle.std.proofs.Common.{ℕ, ◌*◌, ◌≤◌, refl, sym, ◌∙◌, arith, mul-le-mul}
 use Rattle.std.proofs.lemmas.List.Sums.{sum_by_more}
 use Rattle.card_model.specs.Limits.{balance_limit}
-use Rattle.card_units.specs.Money.{daily}
+use Rattle.card_events.specs.Money.{daily}
 use Rattle.card_closing.specs.Rows.{DayRow, bearing}
 use Rattle.card_closing.specs.Runs.{spread}
 use Rattle.card_closing.specs.declared.runs.Run.{Run}

@@ -1,7 +1,7 @@
 use Rattle.std.proofs.Common.{◌≡◌, ◌+◌, ◌≤◌, ◌*◌, take}
 use Rattle.std.specs.List.{sum_by}
 use Rattle.card_model.specs.Limits.{balance_limit}
-use Rattle.card_units.specs.Money.{daily}
+use Rattle.card_events.specs.Money.{daily}
 use Rattle.card_closing.specs.Rows.{DayRow, bearing}
 use Rattle.card_closing.specs.Runs.{run_days, spread}
 use Rattle.card_closing.proofs.runs.rate_sum.Given as goal

@@ -1,5 +1,5 @@
 use Rattle.std.proofs.Common.{◌≡◌, Bool, pos, sym, ap, ◌∙◌, arith}
-use Rattle.card_days.specs.Billing.{closing, due}
+use Rattle.card_events.specs.Billing.{closing, due}
 use Rattle.std.specs.Option.{option_map}
 use Rattle.card_fees.proofs.Issued.{due-fold}
 use Rattle.card_fees.specs.Asked.{is_due_by}

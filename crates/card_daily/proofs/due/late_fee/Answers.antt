@@ -1,5 +1,5 @@
 use Rattle.std.proofs.Common.{ℕ, ◌+◌, ◌<◌, ◌≤◌, sym, ap, ◌∙◌, arith, subst}
-use Rattle.card_days.specs.Billing.{closing, due}
+use Rattle.card_events.specs.Billing.{closing, due}
 use Rattle.card_events.specs.History.{anchor_of, corrected}
 use Rattle.card_fees.specs.DueLaws.{issued_fees}
 use Rattle.card_fees.specs.declared.due_cycle.DueCycle.{DueCycle}

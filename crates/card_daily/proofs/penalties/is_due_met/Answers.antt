@@ -1,7 +1,7 @@
 use Rattle.std.proofs.Common.{◌≤◌, sym, ap, ◌∙◌, arith, subst}
-use Rattle.card_days.specs.Billing.{due}
-use Rattle.card_days.specs.Range.{last_calendar_day}
-use Rattle.card_days.specs.declared.anchor.Anchor.{Anchor}
+use Rattle.card_events.specs.Billing.{due}
+use Rattle.card_events.specs.Range.{last_calendar_day}
+use Rattle.card_events.specs.declared.anchor.Anchor.{Anchor}
 use Rattle.card_fees.specs.declared.due_cycle.DueCycle.{DueCycle}
 use Rattle.card_events.specs.History.{anchor_of, corrected}
 use Rattle.card_daily.proofs.Penalized.{met-is}

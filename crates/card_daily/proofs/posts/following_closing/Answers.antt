@@ -1,7 +1,7 @@
 use Rattle.std.proofs.Common.{◌+◌, ◌≤◌, sym, ap, ◌∙◌, arith, subst}
-use Rattle.card_days.specs.declared.anchor.Anchor.{Anchor}
+use Rattle.card_events.specs.declared.anchor.Anchor.{Anchor}
 use Rattle.card_model.specs.CycleDays.{IsOpening}
-use Rattle.card_days.specs.Billing.{closing, cycle_of}
+use Rattle.card_events.specs.Billing.{closing, cycle_of}
 use Rattle.card_daily.proofs.Following.{cycle-few, second-is, second-most, some-of, value-of}
 use Rattle.card_daily.proofs.posts.following_closing.Goals as goal
 

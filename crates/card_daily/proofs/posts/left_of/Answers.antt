@@ -1,8 +1,8 @@
 use Rattle.std.proofs.Common.{◌≡◌, ℕ, ◌+◌, ◌-◌, ◌<◌, ◌≤◌, pos, sym, ap, ◌∙◌, arith, subst, refl, List, w64}
 use Rattle.std.proofs.lemmas.Int.{to_z-of_z}
-use Rattle.card_days.specs.Billing.{closing}
-use Rattle.card_days.specs.Range.{last_request_day}
-use Rattle.card_days.specs.declared.anchor.Anchor.{Anchor}
+use Rattle.card_events.specs.Billing.{closing}
+use Rattle.card_events.specs.Range.{last_request_day}
+use Rattle.card_events.specs.declared.anchor.Anchor.{Anchor}
 use Rattle.card_fees.proofs.Remainder.{left-fold}
 use Rattle.card_fees.specs.Asked.{left_by}
 use Rattle.card_fees.specs.DueLaws.{due_cycle_of}

@@ -1,7 +1,7 @@
 use Rattle.std.proofs.Common.{◌≤◌, pos, refl, sym, ap, ◌∙◌, subst, arith, w64}
 use Rattle.std.proofs.lemmas.Int.{to_z-of_z}
 use Rattle.std.specs.Prelude.{option_copied, unsigned_abs}
-use Rattle.card_days.specs.Billing.{closing, cycle_of}
+use Rattle.card_events.specs.Billing.{closing, cycle_of}
 use Rattle.card_events.specs.History.{anchor_of}
 use Rattle.card_fees.specs.DueFee.{capped_if_any}
 use Rattle.card_fees.specs.DueLaws.{issued_fees}

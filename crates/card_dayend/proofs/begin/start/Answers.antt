@@ -1,5 +1,5 @@
 use Rattle.std.proofs.Common.{◌-◌, [], length, replicate, ap, ◌∙◌}
-use Rattle.card_days.specs.declared.anchor.Anchor.{Anchor}
+use Rattle.card_events.specs.declared.anchor.Anchor.{Anchor}
 use Rattle.card_closing.specs.Accruals.{nothing_accrued}
 use Rattle.card_closing.specs.Rows.{no_rows}
 use Rattle.card_rates.specs.RateBooks.{rates_of}

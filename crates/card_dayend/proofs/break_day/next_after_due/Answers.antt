@@ -1,5 +1,5 @@
 use Rattle.std.proofs.Common.{◌≡◌, ◌+◌, ◌-◌, ◌≤◌, ap, ◌∙◌, subst, eqb, arith}
-use Rattle.card_days.specs.Billing.{closing, due}
+use Rattle.card_events.specs.Billing.{closing, due}
 use Rattle.card_rates.specs.Next.{IsNext}
 use Rattle.card_dayend.specs.Spans.{IsCycleOf}
 use Rattle.card_dayend.proofs.BreakDays.{due-next, due-none, due-small}

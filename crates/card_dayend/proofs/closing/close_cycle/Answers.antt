@@ -2,7 +2,7 @@ use Rattle.std.proofs.Common.{◌≡◌, ◌-◌, ◌≤◌, ◌++◌, [], ◌�
 use Rattle.std.proofs.lemmas.List.{length-map}
 use Rattle.std.specs.Prelude.{option_copied}
 use Rattle.card_closing.specs.Interest.{statement_of}
-use Rattle.card_days.specs.Billing.{closing}
+use Rattle.card_events.specs.Billing.{closing}
 use Rattle.card_events.specs.History.{anchor_of}
 use Rattle.card_daily.proofs.ClosingDay.{present-is}
 use Rattle.card_daily.proofs.Following.{upto-closing}

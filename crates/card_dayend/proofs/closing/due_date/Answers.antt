@@ -1,8 +1,8 @@
 use Rattle.std.proofs.Common.{◌≤◌}
-use Rattle.card_days.specs.Billing.{due}
+use Rattle.card_events.specs.Billing.{due}
 use Rattle.card_daily.proofs.ClosingDay.{due-small, is-there}
 use Rattle.card_dayend.proofs.closing.due_date.Goals as goal
-use Rattle.card_days.specs.Range.{last_calendar_day}
+use Rattle.card_events.specs.Range.{last_calendar_day}
 
 pub unwrap-requires : goal.unwrap-requires
 unwrap-requires c =

@@ -1,8 +1,8 @@
 use Rattle.std.proofs.Common.{◌+◌, ◌≤◌, ◌∙◌, arith}
-use Rattle.card_days.specs.Billing.{closing}
+use Rattle.card_events.specs.Billing.{closing}
 use Rattle.card_daily.proofs.ClosingDay.{anchored, is-there, next-small, value-is}
 use Rattle.card_dayend.proofs.closing.next_closing.Goals as goal
-use Rattle.card_days.specs.Range.{last_calendar_day}
+use Rattle.card_events.specs.Range.{last_calendar_day}
 
 pub unwrap-requires : goal.unwrap-requires
 unwrap-requires c =

@@ -1,6 +1,6 @@
 use Rattle.std.proofs.Common.{◌≤◌, List, ap, sym, subst, ◌∙◌, arith}
-use Rattle.card_days.specs.Range.{last_request_day}
-use Rattle.card_days.specs.declared.anchor.Anchor.{Anchor}
+use Rattle.card_events.specs.Range.{last_request_day}
+use Rattle.card_events.specs.declared.anchor.Anchor.{Anchor}
 use Rattle.card_disputes.specs.Notices.{notice_end_at}
 use Rattle.card_disputes.proofs.NoticeLemmas.{charge-dated, charge-there, no-notice, notice-of, opening-dated}
 use Rattle.card_events.specs.History.{CorrectedPost, anchor_of}

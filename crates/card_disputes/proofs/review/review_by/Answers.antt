@@ -1,7 +1,7 @@
 use Rattle.std.proofs.Common.{List, max, sym, ap, ◌∙◌, Some, arith}
 use Rattle.std.specs.List.{filter_map, fold}
 use Rattle.std.specs.Option.{option_map}
-use Rattle.card_days.specs.Later.{six_months_after}
+use Rattle.card_events.specs.Later.{six_months_after}
 use Rattle.card_disputes.proofs.ReviewLemmas.{first-by, last-dated, review-is}
 use Rattle.card_events.specs.History.{CorrectedPost, anchor_of}
 use Rattle.card_events.specs.declared.kept.Kept.{Kept}

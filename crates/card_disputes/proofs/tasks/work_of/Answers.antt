@@ -2,8 +2,8 @@ use Rattle.std.proofs.Common.{w64, ◌≤◌, ◌++◌, subst, sym, ap, ◌∙�
 use Rattle.std.proofs.lemmas.Int.{to_z-of_z}
 use Rattle.std.specs.Prelude.{unsigned_abs}
 use Rattle.std.specs.Option.{option_map, option_to_list}
-use Rattle.card_days.specs.Range.{last_request_day}
-use Rattle.card_days.specs.declared.anchor.Anchor.{Anchor}
+use Rattle.card_events.specs.Range.{last_request_day}
+use Rattle.card_events.specs.declared.anchor.Anchor.{Anchor}
 use Rattle.card_disputes.proofs.NoticeLemmas.{opening-dated}
 use Rattle.card_disputes.proofs.TaskLemmas.{all-kinds, open-is}
 use Rattle.card_model.specs.Deadlines.{by_day, open_tasks, task_of}

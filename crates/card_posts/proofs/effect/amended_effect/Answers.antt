@@ -1,7 +1,7 @@
 use Rattle.std.proofs.Common.{◌≡◌, ℕ, ◌+◌, ◌-◌, ◌<◌, ◌≤◌, false, List, length, get_or, Some, sym, ap, subst, ◌∙◌, arith}
 use Rattle.card_events.specs.History.{cents_of}
 use Rattle.card_events.specs.declared.kept.Kept.{Kept}
-use Rattle.card_days.specs.declared.anchor.Anchor.{Anchor}
+use Rattle.card_events.specs.declared.anchor.Anchor.{Anchor}
 use Rattle.card_events.specs.declared.post.Post.TheVariants as post
 use Rattle.card_posts.specs.Corrections.{correction_of, corrections_from, waits}
 use Rattle.card_posts.specs.Effect.{day_alone, effect_of}

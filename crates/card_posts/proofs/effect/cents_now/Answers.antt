@@ -1,7 +1,7 @@
 use Rattle.std.proofs.Common.{◌≡◌, ℕ, ◌-◌, ◌≤◌, ◌^◌, min, List, refl, sym, ap, ◌∙◌, arith, inl, inr}
 use Rattle.card_events.specs.History.{amended_cents, cents_of, confirmed, last_amend}
 use Rattle.card_events.specs.declared.kept.Kept.{Kept}
-use Rattle.card_days.specs.declared.anchor.Channel.{Channel}
+use Rattle.card_events.specs.declared.anchor.Channel.{Channel}
 use Rattle.card_events.specs.declared.post.Place.{Place}
 use Rattle.card_events.specs.declared.post.Post.{Post}
 use Rattle.card_events.specs.declared.post.Post.TheVariants as post

@@ -1,6 +1,6 @@
 use Rattle.std.proofs.lemmas.Grind.{common_steps}
 use Rattle.std.proofs.Common.{◌≡◌, ℕ, ◌+◌, ◌≤◌, min, List, [], ◌∷◌, ◌++◌, length, length-append, take, get_or, arith, sym, ◌∙◌, ap, subst}
-use Rattle.card_days.specs.Range.{last_calendar_day}
+use Rattle.card_events.specs.Range.{last_calendar_day}
 use Rattle.card_posts.specs.Change.{IsFirstChange, first_change}
 use Rattle.card_posts.specs.Effect.{corrected_with, effects, slot_by, slots_from}
 use Rattle.card_posts.specs.Order.{in_order, placed}

@@ -1,5 +1,5 @@
 use Rattle.std.proofs.Common.{◌≡◌, ◌+◌, ◌<◌, ◌≤◌, length, take, drop, arith, ◌∙◌, ◌++◌, get_or, refl, ap, ℕ, List, set}
-use Rattle.card_days.specs.Range.{last_calendar_day}
+use Rattle.card_events.specs.Range.{last_calendar_day}
 use Rattle.card_posts.specs.Change.{after_one, first_change}
 use Rattle.card_posts.specs.Effect.{effects}
 use Rattle.card_posts.specs.declared.effect.Effect.{Effect}

@@ -1,5 +1,5 @@
 use Rattle.std.proofs.Common.{◌≡◌, ◌≤◌, ◌++◌, take, drop, vec_len, vec_capacity}
-use Rattle.card_days.specs.Range.{last_calendar_day}
+use Rattle.card_events.specs.Range.{last_calendar_day}
 use Rattle.card_posts.specs.Change.{first_change}
 use Rattle.card_posts.specs.Effect.{AreSmall, effects, slots_from}
 use Rattle.card_posts.specs.Order.{in_order}

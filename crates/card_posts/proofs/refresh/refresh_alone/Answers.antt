@@ -1,5 +1,5 @@
 use Rattle.std.proofs.Common.{◌≡◌, ℕ, ◌-◌, ◌<◌, List, take, length, get_or, set, sym, ap, ◌∙◌, arith}
-use Rattle.card_days.specs.Range.{last_calendar_day}
+use Rattle.card_events.specs.Range.{last_calendar_day}
 use Rattle.card_posts.specs.Change.{IsAlone, after_one, first_change}
 use Rattle.card_posts.specs.Effect.{effects}
 use Rattle.card_posts.specs.declared.effect.Effect.{Effect}

@@ -2,8 +2,8 @@ use Rattle.std.proofs.Common.{◌+◌, List, ℕ, Option, ap, sym, ◌∙◌}
 use Rattle.std.specs.Prelude.{nat_le, nat_lt, [], ◌∷◌}
 use Rattle.std.specs.List.{count_by}
 use Rattle.std.specs.Option.{option_or}
-use Rattle.card_days.specs.Later.{year_after}
-use Rattle.card_days.specs.declared.anchor.Anchor.{Anchor}
+use Rattle.card_events.specs.Later.{year_after}
+use Rattle.card_events.specs.declared.anchor.Anchor.{Anchor}
 use Rattle.card_events.specs.History.{adds_segment, anchor_of}
 use Rattle.card_events.specs.declared.kept.Kept.{Kept}
 use Rattle.card_events.specs.declared.reply.Refusal.{Refusal}

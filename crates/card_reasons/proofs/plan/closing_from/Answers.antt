@@ -1,8 +1,8 @@
 use Rattle.std.proofs.Common.{ap, arith, ◌∙◌}
-use Rattle.card_days.specs.Range.{last_request_day}
+use Rattle.card_events.specs.Range.{last_request_day}
 use Rattle.card_reasons.proofs.PlanLemmas.{closing-at, next-most, some-of, value-of}
 use Rattle.card_reasons.proofs.plan.closing_from.Goals as goal
-use Rattle.card_days.specs.Billing.{closing, next_on}
+use Rattle.card_events.specs.Billing.{closing, next_on}
 
 pub unwrap-requires : goal.unwrap-requires
 unwrap-requires c =

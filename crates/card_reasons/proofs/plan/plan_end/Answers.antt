@@ -3,8 +3,8 @@ use Rattle.std.specs.Prelude.{max, nat_le}
 use Rattle.std.specs.List.{count_by}
 use Rattle.card_reasons.proofs.PlanLemmas.{ended}
 use Rattle.card_reasons.proofs.plan.plan_end.Goals as goal
-use Rattle.card_days.specs.Billing.{next_on}
-use Rattle.card_days.specs.declared.anchor.Anchor.{Anchor}
+use Rattle.card_events.specs.Billing.{next_on}
+use Rattle.card_events.specs.declared.anchor.Anchor.{Anchor}
 use Rattle.card_events.specs.History.{adds_segment, anchor_of}
 use Rattle.card_events.specs.declared.kept.Kept.{Kept}
 use Rattle.std.proofs.Common.{List, ◌+◌}

@@ -2,7 +2,7 @@ use Rattle.std.proofs.Common.{ap, refl}
 use Rattle.card_reasons.specs.Reasons.{judged_of}
 use Rattle.card_reasons.proofs.ReasonLemmas.{by_parts, plan_reasons}
 use Rattle.card_events.specs.declared.post.Post.TheVariants as post
-use Rattle.card_days.specs.declared.anchor.Anchor.{Anchor}
+use Rattle.card_events.specs.declared.anchor.Anchor.{Anchor}
 use Rattle.card_reasons.proofs.reason.plan_reason.Goals as goal
 
 pub returns : goal.returns

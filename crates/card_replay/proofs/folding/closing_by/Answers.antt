@@ -1,5 +1,5 @@
 use Rattle.std.proofs.Common.{◌≡◌, ◌+◌, suc, ap, arith}
-use Rattle.card_days.specs.Billing.{closing}
+use Rattle.card_events.specs.Billing.{closing}
 use Rattle.card_daily.proofs.Cycles.{closing-within}
 use Rattle.card_model.proofs.Calendar.{is-anchor}
 use Rattle.card_reasons.proofs.ClosingLemmas.{grown}

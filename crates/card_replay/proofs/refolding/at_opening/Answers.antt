@@ -1,5 +1,5 @@
 use Rattle.std.proofs.Common.{sym, ap, subst, arith, None}
-use Rattle.card_days.specs.declared.anchor.Anchor.{Anchor}
+use Rattle.card_events.specs.declared.anchor.Anchor.{Anchor}
 use Rattle.card_daily.specs.Given.{opened_in}
 use Rattle.card_book.specs.Stands.{steps_over}
 use Rattle.card_replay.proofs.Reaching.{one-step}

@@ -1,5 +1,5 @@
 use Rattle.std.proofs.Common.{◌≡◌, ℕ, ◌+◌, ◌≤◌, sym, ap, ◌∙◌, subst, arith}
-use Rattle.card_days.specs.Range.{last_request_day}
+use Rattle.card_events.specs.Range.{last_request_day}
 use Rattle.card_rates.specs.Next.{IsNext}
 use Rattle.card_daily.specs.Given.{Given, IsSound}
 use Rattle.card_daily.specs.declared.track.Track.{Track}

@@ -1,5 +1,5 @@
 use Rattle.std.proofs.Common.{arith, [], ◌∷◌, ap, ◌∙◌, refl, sym}
-use Rattle.card_days.specs.declared.anchor.Anchor.{Anchor}
+use Rattle.card_events.specs.declared.anchor.Anchor.{Anchor}
 use Rattle.card_posts.specs.Index.{hash_of}
 use Rattle.card_posts.specs.declared.index.HashedKey.{HashedKey}
 use Rattle.card_posts.proofs.Opening.{first-lists, none-waits, stands-one}

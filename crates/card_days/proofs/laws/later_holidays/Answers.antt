@@ -1,5 +1,0 @@
-use Rattle.card_days.proofs.Agree.{credit_day-agrees}
-use Rattle.card_days.proofs.laws.later_holidays.Goals as goal
-
-pub returns : goal.returns
-returns c = credit_day-agrees c.args.a c.args.receipt c.args.minute c.args.by_mail c.args.these.now c.args.those.now c.requires
