@@ -13,10 +13,10 @@ use Rattle.card_model.specs.Caps.{row_for}
 use Rattle.card_model.specs.Cycles.{IssuedRow}
 use Rattle.card_model.specs.Deadlines.{resolves}
 use Rattle.card_model.specs.Everything.{everything}
-use Rattle.card_model.specs.Refusals.{bills}
+use Rattle.card_model.specs.Refusals.{IsBilledLater, bills}
 use Rattle.card_model.specs.Spans.{steps_among}
 use Rattle.card_model.specs.declared.segment.Interval.{Interval}
-use Rattle.card_daily.specs.Given.{AreInTurn, EndsWithAClosing, Given, IsBilledLater, IsSound, NamePayments, account_in, book_on, opened_in}
+use Rattle.card_daily.specs.Given.{AreInTurn, EndsWithAClosing, Given, IsSound, NamePayments, account_in, book_on, opened_in}
 use Rattle.card_book.specs.Stands.{steps_over}
 use Rattle.card_cases.specs.Account.{opening}
 use Rattle.card_cases.specs.Alone.{IsAlone, alone, given_alone}

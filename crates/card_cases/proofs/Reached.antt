@@ -15,12 +15,12 @@ use Rattle.card_model.specs.Cycles.{IssuedRow}
 use Rattle.card_model.specs.Deadlines.{resolves}
 use Rattle.card_model.specs.Everything.{everything}
 use Rattle.card_model.specs.Machine.{accepted}
-use Rattle.card_model.specs.Refusals.{Lists, bills, reason_against}
+use Rattle.card_model.specs.Refusals.{IsBilledLater, Lists, bills, reason_against}
 use Rattle.card_events.specs.Billing.{closing}
 use Rattle.card_events.specs.Range.{last_request_day}
 use Rattle.card_posts.specs.Change.{IsFirstChange, on, up_to}
 use Rattle.card_posts.specs.Posted.{last_accepted}
-use Rattle.card_daily.specs.Given.{AreInTurn, EndsWithAClosing, Given, IsBilledLater, IsSound, NamePayments}
+use Rattle.card_daily.specs.Given.{AreInTurn, EndsWithAClosing, Given, IsSound, NamePayments}
 use Rattle.card_book.specs.Stands.{steps_over}
 use Rattle.card_book.specs.StepCounts.{breaks_with}
 use Rattle.card_replay.specs.Replays.{MayReach, Replay, given_of, opened_lists, present_of}

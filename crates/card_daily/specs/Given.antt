@@ -18,7 +18,7 @@ use Rattle.card_model.specs.Caps.{row_for}
 use Rattle.card_model.specs.CycleDays.{IsOpening}
 use Rattle.card_model.specs.Cycles.{IssuedRow, Seen, seen_on}
 use Rattle.card_model.specs.Folds.{book, book_after}
-use Rattle.card_model.specs.Refusals.{Lists, Present, bills, plan_days}
+use Rattle.card_model.specs.Refusals.{IsBilledLater, Lists, Present, plan_days}
 use Rattle.card_posts.specs.Posted.{last_accepted}
 use Rattle.card_rates.specs.Segments.{ArePostsDated}
 
@@ -76,10 +76,6 @@ NamesAPayment history n _ = Unit {0}
 unfoldable pub NamePayments : List Kept → ℕ → List Kept → Type 0
 NamePayments history n [] = Unit {0}
 NamePayments history n (k ∷ ks) = NamesAPayment history n k.post × NamePayments history (suc n) ks
-
--- a Bill was accepted after its cycle's closing
-abbrev pub IsBilledLater : Anchor → Kept → Type 0
-IsBilledLater a k = (cycle : ℕ) → bills cycle k.post ≡ true → closing a cycle < k.accepted
 
 -- posts were accepted, and statements issued, in the order of their days, and what issues a cycle came after its closing
 pub record AreInTurn (l : Lists) : Type 0 where

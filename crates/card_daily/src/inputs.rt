@@ -179,7 +179,7 @@ impl<'a> Inputs<'a> {
     }
 
     /// The issued statement of a cycle that closes on a day or later. Where the cycle's isn't at the place of its number, it goes
-    /// over those that were issued after that day, and no others: the condition is for speed alone.
+    /// back over those that were issued after that day, up to the first that wasn't: the condition is for speed alone.
     pub fn issued_since(&self, cycle: u64, day: Day) -> Option<&Issued>
         requires { day ≤ closing (anchor_of self.now.history) cycle }
         ensures { option_copied result ≡ row_for cycle self.now.issued }

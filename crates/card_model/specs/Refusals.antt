@@ -1,6 +1,6 @@
 -- Why a post isn't accepted: the first reason in order, with its value. Those from 12 CFR 1026.9, .13 and .55 name their
 -- sections; the rest are the ledger's own.
-use Rattle.std.specs.Prelude.{ℕ, suc, ◌+◌, Bool, true, false, ◌&&◌, ◌||◌, not, ◌==◌, nat_le, nat_lt, if◌then◌else◌, max, List, [], ◌∷◌, length, Option, Some, None, pos}
+use Rattle.std.specs.Prelude.{ℕ, suc, ◌≡◌, ◌<◌, ◌+◌, Bool, true, false, ◌&&◌, ◌||◌, not, ◌==◌, nat_le, nat_lt, if◌then◌else◌, max, List, [], ◌∷◌, length, Option, Some, None, pos}
 use Rattle.std.specs.List.{count_by, filter, filter_map, list_any, reduce}
 use Rattle.std.specs.Option.{option_map, option_map_or, option_or}
 use Rattle.card_events.specs.Billing.{closing, next_on}
@@ -247,6 +247,10 @@ wrong_target now p target = where_true (not (holds_of (λ k. fits_target p k.pos
 abbrev pub bills : ℕ → Post → Bool
 bills cycle (post.Bill c) = c == cycle
 bills cycle _ = false
+
+-- a Bill was accepted after its cycle's closing
+abbrev pub IsBilledLater : Anchor → Kept → Type 0
+IsBilledLater a k = (cycle : ℕ) → bills cycle k.post ≡ true → closing a cycle < k.accepted
 
 -- the target is of another kind, or the cycle was issued by an earlier Bill
 unfoldable pub wrong_entry : Present → Post → Option Refusal

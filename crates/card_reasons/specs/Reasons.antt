@@ -1,5 +1,5 @@
 -- Why a post isn't accepted, in parts.
-use Rattle.std.specs.Prelude.{◌≡◌, ◌<◌, ◌≤◌, ℕ, Bool, true, false, not, nat_lt, nat_le, ◌==◌, ◌||◌, List, [], ◌∷◌, length, Option}
+use Rattle.std.specs.Prelude.{◌≡◌, ◌≤◌, ℕ, Bool, true, false, not, nat_lt, nat_le, ◌==◌, ◌||◌, List, [], ◌∷◌, length, Option}
 use Rattle.std.specs.List.{All}
 use Rattle.std.specs.List.Sorted.{IsNonDecreasingBy}
 use Rattle.std.specs.Option.{option_map, option_or}
@@ -15,7 +15,7 @@ use Rattle.card_events.specs.declared.post.Post.TheVariants as post
 use Rattle.card_events.specs.declared.reply.Refusal.{Refusal}
 use Rattle.card_events.specs.declared.reply.Refusal.TheVariants as refusal
 use Rattle.card_model.specs.Cycles.{IssuedRow}
-use Rattle.card_model.specs.Refusals.{Present, already_returned, bills, dispute_known, dispute_late, first_reason, first_year, no_open_dispute, reason_against, notice_pending, notice_too_short, number_from, outside_plan, plan_end_not_closing, plan_too_short, segments_full, unknown_plan, where_true, wrong_entry}
+use Rattle.card_model.specs.Refusals.{IsBilledLater, Present, already_returned, bills, dispute_known, dispute_late, first_reason, first_year, no_open_dispute, reason_against, notice_pending, notice_too_short, number_from, outside_plan, plan_end_not_closing, plan_too_short, segments_full, unknown_plan, where_true, wrong_entry}
 use Rattle.card_posts.specs.Posted.{Posted, StandsFor}
 
 -- what is judged today of an account with these posts
@@ -32,10 +32,6 @@ pub record HasCycles (a : Anchor) (history : List Kept) : Type 0 where
   pub anchor : a ≡ anchor_of history
   pub close_day : IsCloseDay a.close_day
   pub opened : a.opened ≤ last_request_day
-
--- a Bill was accepted after its cycle's closing
-abbrev pub IsBilledLater : Anchor → Kept → Type 0
-IsBilledLater a k = (cycle : ℕ) → bills cycle k.post ≡ true → closing a cycle < k.accepted
 
 -- posts were accepted in the order of their days, and Bills after their cycles' closings
 pub record AreInOrder (a : Anchor) (history : List Kept) : Type 0 where

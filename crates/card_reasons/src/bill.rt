@@ -95,8 +95,8 @@ pub fn bill_reason(posts: &Posts, anchor: &Anchor, today: Day, cycle: Num) -> Op
     }
 }
 
-/// The same, where the posts are in the order of their days: it reads those that were accepted after the cycle's closing, and no
-/// others. The condition is for speed alone.
+/// The same, where the posts are in the order of their days: it goes back over those that were accepted after the cycle's
+/// closing, up to the first that wasn't. The condition is for speed alone.
 pub fn ordered_bill_reason(
     posts: &Posts,
     anchor: &Anchor,

@@ -1,8 +1,8 @@
 use Rattle.std.proofs.Common.{◌≡◌, ◌<◌, true, sym, ap, ◌∙◌, subst}
 use Rattle.std.proofs.lemmas.List.Elements.{All-weaker}
 use Rattle.card_events.specs.declared.kept.Kept.{Kept}
-use Rattle.card_model.specs.Refusals.{bills}
-use Rattle.card_reasons.specs.Reasons.{IsBilledLater, closed_reason}
+use Rattle.card_model.specs.Refusals.{IsBilledLater, bills}
+use Rattle.card_reasons.specs.Reasons.{closed_reason}
 use Rattle.card_reasons.proofs.ReasonLemmas.{no_closing, some_closing}
 use Rattle.card_reasons.proofs.bill.ordered_bill_reason.Goals as goal
 
