@@ -9,7 +9,7 @@ use crate::marks::{Accruing, push_accruing};
 use crate::statement::cycle_in;
 use card_closing::Accrual;
 use card_daily::{Inputs, State, Track, is_sixty_days_late};
-use card_dayend::{next_span, opening_day, span_end, start};
+use card_dayend::{Cursor, next_span, opening_day, span_end, start};
 use card_events::{Cents, Day, NoMemory, Steps};
 use card_rates::RateBook;
 use card_segments::Segments;
@@ -129,8 +129,13 @@ impl Book {
         let _opening = opening_day(inputs);
         self.whole = false;
         let mut first = self.day_to_fold(inputs);
+        let mut cursor = Cursor {
+            posts: 0,
+            issues: 0,
+            cycle: None,
+        };
         while first <= to {
-            let end = span_end(inputs, &self.state.rates, first, to);
+            let end = span_end(inputs, &self.state.rates, first, to, &mut cursor);
             steps.tick();
             self.fold_span(alloc, inputs, track, first, end)?;
             first = end.next();

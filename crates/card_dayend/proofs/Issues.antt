@@ -1,5 +1,5 @@
 -- The next day of an issue, where statements stand in the order of their days.
-use Rattle.std.proofs.Common.{◌≡◌, ℕ, zero, suc, ◌<◌, ◌≤◌, Bool, true, false, ◌||◌, eqb, List, [], ◌∷◌, length, get_or, refl, sym, ap, ◌∙◌, arith, ◌⊎◌, inl, inr}
+use Rattle.std.proofs.Common.{◌≡◌, ℕ, zero, suc, ◌-◌, ◌<◌, ◌≤◌, Bool, true, false, ◌||◌, eqb, nat_lt, ltb-true, ltb-false, List, [], ◌∷◌, length, get_or, refl, sym, ap, ◌∙◌, arith, ◌⊎◌, inl, inr}
 use Rattle.std.specs.List.{list_any}
 use Rattle.std.specs.List.Sorted.{IsNonDecreasingBy}
 use Rattle.std.proofs.lemmas.Bool.{cases_lt, eq-eqb, eqb-true, ne_eqb}
@@ -8,7 +8,7 @@ use Rattle.card_model.specs.Cycles.{IssuedRow}
 use Rattle.card_rates.specs.Next.{IsNext}
 use Rattle.card_rates.proofs.Nearest.{next-never}
 use Rattle.card_dayend.proofs.BreakDays.{next-within}
-use Rattle.card_dayend.specs.Spans.{has_issue}
+use Rattle.card_dayend.specs.Spans.{IsIssueCut, has_issue}
 
 none-at : {X : Type 0} (p : X → Bool) (xs : List X) → ((k : ℕ) (d : X) → k < length xs → p (get_or xs k d) ≡ false) → list_any p xs ≡ false
 none-at p [] h = refl
@@ -26,6 +26,20 @@ some-at p (x ∷ xs) (suc k) d l e = or-right (p x) (list_any p xs) (some-at p x
 -- the place of the first statement of the day or later
 abbrev pub AreBefore : ℕ → List IssuedRow → ℕ → Type 0
 AreBefore day rows place = (k : ℕ) (d : IssuedRow) → k < place → k < length rows → (get_or rows k d).day < day
+
+-- a place parts them, where the statement in front of it was issued before the day and its own wasn't
+pub issue-cut : (rows : List IssuedRow) (day place : ℕ) → IsNonDecreasingBy (λ (x : IssuedRow). x.day) rows → 1 ≤ place → place < length rows
+    → ((d : IssuedRow) → nat_lt (get_or rows (place - 1) d).day day ≡ true) → ((d : IssuedRow) → nat_lt (get_or rows place d).day day ≡ false) → IsIssueCut rows day place
+issue-cut rows day place turn some within front back = record {
+  front = λ k d l m.
+      let up = turn k (place - 1) d (omega (arith, l)) (omega (arith, within)) in
+      let early = ltb-true _ _ (front d) in
+      omega (arith, up, early);
+  back = λ k d l m.
+      let up = turn place k d l m in
+      let late = ltb-false _ _ (back d) in
+      omega (arith, up, late);
+}
 
 -- the statement at that place is the next one
 pub issue-next : (rows : List IssuedRow) (place : ℕ) (r : IssuedRow) (first end day : ℕ) → IsNonDecreasingBy (λ (x : IssuedRow). x.day) rows → AreBefore first rows place → first ≤ r.day

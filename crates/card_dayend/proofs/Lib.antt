@@ -3,6 +3,7 @@ pub mod AtClosing
 pub mod BreakDays
 pub mod Closed
 pub mod Each
+pub mod Held
 pub mod Issues
 pub mod NextDay
 pub mod Opened

@@ -1,7 +1,7 @@
 -- Days on which nothing happens, and the break day behind them. Days are day numbers.
-use Rattle.std.specs.Prelude.{ℕ, ◌+◌, ◌-◌, ◌≤◌, ◌<◌, Bool, ◌&&◌, ◌==◌, nat_le, length, slice_index_or, List}
+use Rattle.std.specs.Prelude.{ℕ, ◌+◌, ◌-◌, ◌≡◌, ◌≤◌, ◌<◌, Bool, ◌&&◌, ◌==◌, nat_le, length, slice_index_or, List, Some, None, IfSome}
 use Rattle.std.specs.List.{list_any}
-use Rattle.card_events.specs.Billing.{closing}
+use Rattle.card_events.specs.Billing.{closing, due}
 use Rattle.card_events.specs.Business.{is_due}
 use Rattle.card_events.specs.Civil.{day_of_month}
 use Rattle.card_events.specs.Range.{last_request_day}
@@ -16,6 +16,8 @@ use Rattle.card_daily.specs.Given.{Given, IsSound, account_in, opened_in}
 use Rattle.card_daily.specs.Stands.{AreBefore}
 use Rattle.card_daily.specs.declared.state.State.{State}
 use Rattle.card_daily.specs.declared.track.Track.{Track}
+use Rattle.card_dayend.specs.declared.cursor.CycleDates.{CycleDates}
+use Rattle.card_dayend.specs.declared.cursor.Cursor.{Cursor}
 
 -- ---- break days
 -- a post of the corrected list, of any kind, is effective on the day
@@ -52,6 +54,24 @@ pub record IsCycleOf (a : Anchor) (number day : ℕ) : Type 0 where
   pub numbered : 1 ≤ number
   pub after : closing a (number - 1) < day
   pub upto : day ≤ closing a number
+
+-- the dates of a cycle, from a day of it on
+pub record AreDatesOf (a : Anchor) (d : CycleDates) : Type 0 where
+  pub cycle : IsCycleOf a d.number d.first
+  pub closes : d.closing ≡ closing a d.number
+  pub first_cycle : d.number ≡ 1 → d.after_due ≡ None
+  pub follows : 1 < d.number → d.after_due ≡ Some (due a (d.number - 1) + 1)
+
+-- a day that this cycle holds
+pub record HoldDay (a : Anchor) (d : CycleDates) (day : ℕ) : Type 0 where
+  pub dates : AreDatesOf a d
+  pub first : d.first ≤ day
+  pub upto : day ≤ d.closing
+  pub last : day ≤ last_request_day
+
+-- the dates that a cursor has are those of a cycle of the account
+abbrev pub IsCursorOf : Given → Cursor → Type 0
+IsCursorOf g c = IfSome c.cycle (AreDatesOf (anchor_of g.history))
 
 -- ---- quiet days
 -- the days before a day are folded, and so many from it on are no break days; the day behind them may be folded

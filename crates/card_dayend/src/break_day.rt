@@ -1,17 +1,22 @@
 // The next break day.
-ghost use Rattle.std.specs.Prelude.{◌≡◌, ◌-◌, ◌≤◌, ◌==◌, ℕ, List, [], nat_lt};
+ghost use Rattle.std.specs.Prelude.{◌≡◌, ◌-◌, ◌<◌, ◌≤◌, ◌==◌, ℕ, List, [], length, nat_lt, slice_index_or, true};
 ghost use Rattle.std.specs.List.Sorted.{IsNonDecreasingBy};
 ghost use Rattle.card_events.specs.Billing.{closing};
 ghost use Rattle.card_events.specs.Range.{last_request_day};
+ghost use Rattle.card_events.specs.declared.anchor.Anchor.{Anchor};
 ghost use Rattle.card_events.specs.History.{anchor_of};
 ghost use Rattle.card_posts.specs.Posted.{StandsFor};
+ghost use Rattle.card_rates.specs.Days.{place_of};
 ghost use Rattle.card_rates.specs.Next.{IsNext};
 ghost use Rattle.card_rates.specs.RateBooks.{rates_of};
+ghost use Rattle.card_rates.specs.SlotLaws.{IsCut};
+ghost use Rattle.card_model.specs.Cycles.{IssuedRow};
 ghost use Rattle.card_daily.specs.Given.{opened_in};
-ghost use Rattle.card_dayend.specs.Spans.{IsCycleOf, IsIssueCut, breaks_by, closes, follows_due, has_issue, has_post};
+ghost use Rattle.card_dayend.specs.Spans.{HoldDay, IsCursorOf, IsIssueCut, breaks_by, closes, follows_due, has_issue, has_post};
 
+use crate::cursor::{Cursor, CycleDates, dates_at};
 use card_daily::{Inputs, Issued};
-use card_events::{Anchor, Day, closing_date, cycle_of, due_date};
+use card_events::{Day, Slot};
 use card_posts::Posts;
 use card_rates::{RateBook, first_place};
 
@@ -23,38 +28,80 @@ fn next_at(first: Day, end: Day, day: Day) -> Day
     if first <= day && day < end { day } else { end }
 }
 
-// The next day with a post.
-fn next_post(posts: &Posts, first: Day, end: Day) -> Day
+fn is_early(slot: &Slot, day: Day) -> bool
+    ensures { result ≡ nat_lt slot.now.day day }
+{
+    slot.day < day
+}
+
+// Whether the slot in front of a place, where there is one, is of an earlier day.
+fn is_at_most(slots: &[Slot], near: usize, day: Day) -> bool
+    ensures { (place : ℕ) → IsCut slots.now day place → result ≡ true → near ≤ place }
+{
+    if near == 0 {
+        return false;
+    }
+    let before = near - 1;
+    if slots.len() <= before {
+        return false;
+    }
+    is_early(&slots[before], day)
+}
+
+// The place of a day, from a place on that isn't behind it.
+fn place_from(slots: &[Slot], near: usize, day: Day) -> usize
+    ensures { (end : ℕ) → IsCut slots.now day end → near ≤ end → result ≡ end }
+{
+    for place in near..slots.len() {
+        if !is_early(&slots[place], day) {
+            return place;
+        }
+    }
+    slots.len()
+}
+
+// The place of a day among the posts, from a place on where that isn't behind it.
+fn place_near(posts: &Posts, near: usize, day: Day) -> usize
+    ensures { (holidays : List ℕ) → StandsFor holidays posts.now → result ≡ place_of day posts.now.corrected }
+{
+    let slots = posts.in_order();
+    if is_at_most(slots, near, day) {
+        return place_from(slots, near, day);
+    }
+    first_place(posts, day)
+}
+
+// The next day with a post, which is looked for from a place on.
+fn next_post(posts: &Posts, near: &mut usize, first: Day, end: Day) -> Day
     requires { first ≤ end }
     ensures { (holidays : List ℕ) → StandsFor holidays posts.now → IsNext (has_post posts.now.corrected) first end result }
 {
-    match posts.in_order().get(first_place(posts, first)) {
+    let place = place_near(posts, *near, first);
+    *near = place;
+    match posts.in_order().get(place) {
         Some(slot) => next_at(first, end, slot.day),
         None => end,
     }
 }
 
-// The closing of the cycle that the first day lies in.
-fn next_closing(anchor: &Anchor, number: u32, first: Day, end: Day) -> Day
-    requires cycle { IsCycleOf anchor.now number first }
-    requires order { first ≤ end }
-    ensures next { IsNext (closes anchor.now) first end result }
-    ensures within { result ≤ closing anchor.now number }
+// The closing of the cycle that holds the first day.
+fn next_closing(dates: &CycleDates, first: Day, end: Day) -> Day
+    requires { first ≤ end }
+    ensures next { (a : Anchor) → HoldDay a dates.now first → IsNext (closes a) first end result }
+    ensures within { (a : Anchor) → HoldDay a dates.now first → result ≤ closing a dates.now.number }
 {
-    next_at(first, end, closing_date(anchor, number))
+    next_at(first, end, dates.closing)
 }
 
 // The next day after a due date, of days that this cycle holds. A due date comes before the next closing.
-fn next_after_due(anchor: &Anchor, number: u32, first: Day, end: Day) -> Day
-    requires cycle { IsCycleOf anchor.now number first }
-    requires order { first ≤ end }
-    requires within { end ≤ closing anchor.now number }
-    ensures { IsNext (follows_due anchor.now) first end result }
+fn next_after_due(dates: &CycleDates, first: Day, end: Day) -> Day
+    requires { first ≤ end }
+    ensures { (a : Anchor) → HoldDay a dates.now first → end ≤ closing a dates.now.number → IsNext (follows_due a) first end result }
 {
-    if number == 1 {
-        return end;
+    match dates.after_due {
+        Some(day) => next_at(first, end, day),
+        None => end,
     }
-    next_at(first, end, due_date(anchor, number - 1).next())
 }
 
 fn is_before(row: &Issued, day: Day) -> bool
@@ -71,13 +118,52 @@ fn count_before(issued: &[Issued], day: Day) -> usize
     issued.partition_point(|row| is_before(row, day))
 }
 
-// The next day of an issue.
-fn next_issue(issued: &[Issued], first: Day, end: Day) -> Day
+// Whether the statement at a place was issued before a day.
+fn is_early_at(issued: &[Issued], place: usize, day: Day) -> bool
+    requires { place < length issued.now }
+    ensures { (d : IssuedRow) → result ≡ nat_lt (slice_index_or issued.now place d).day day }
+{
+    is_before(&issued[place], day)
+}
+
+// Whether the statements in front of a place, of which there are some, were issued before a day, and the one at it wasn't.
+fn is_cut(issued: &[Issued], place: usize, day: Day) -> bool
+    requires { IsNonDecreasingBy (λ r. r.day) issued.now }
+    ensures { result ≡ true → IsIssueCut issued.now day place }
+{
+    let count = issued.len();
+    if count <= place {
+        return false;
+    }
+    if place == 0 {
+        return false;
+    }
+    if is_early_at(issued, place, day) {
+        return false;
+    }
+    is_early_at(issued, place - 1, day)
+}
+
+// How many statements were issued before a day, where it may be as many as before.
+fn count_before_near(issued: &[Issued], day: Day, near: usize) -> usize
+    requires { IsNonDecreasingBy (λ r. r.day) issued.now }
+    ensures { IsIssueCut issued.now day result }
+{
+    if is_cut(issued, near, day) {
+        return near;
+    }
+    count_before(issued, day)
+}
+
+// The next day of an issue, which is looked for near a place.
+fn next_issue(issued: &[Issued], near: &mut usize, first: Day, end: Day) -> Day
     requires order { first ≤ end }
     requires turn { IsNonDecreasingBy (λ r. r.day) issued.now }
     ensures { IsNext (has_issue issued.now) first end result }
 {
-    match issued.get(count_before(issued, first)) {
+    let place = count_before_near(issued, first, *near);
+    *near = place;
+    match issued.get(place) {
         Some(row) => next_at(first, end, row.day),
         None => end,
     }
@@ -85,22 +171,26 @@ fn next_issue(issued: &[Issued], first: Day, end: Day) -> Day
 
 /// The first break day from a day on, where it comes before the last one, and that last day otherwise. Break days are the days
 /// with a post, a closing or an issue, those after a due date, and those on which a rate changes, by the penalties begun so
-/// far. The first day isn't before the opening day nor after the last one, which is at most 2099-12-31. It takes no memory.
-pub fn span_end(inputs: &Inputs, rates: &RateBook, first: Day, to: Day) -> Day
+/// far. The first day isn't before the opening day nor after the last one, which is at most 2099-12-31. The cursor is one of
+/// this account, and stays so. It takes no memory.
+pub fn span_end(inputs: &Inputs, rates: &RateBook, first: Day, to: Day, cursor: &mut Cursor) -> Day
     requires opened { opened_in inputs.now ≤ first }
     requires order { first ≤ to }
     requires last { to ≤ last_request_day }
     requires rates { rates.now.segments ≡ (rates_of inputs.now.shared.holidays inputs.now.history []).segments }
-    ensures { IsNext (breaks_by inputs.now rates.now.penalties) first to result }
+    requires cursor { IsCursorOf inputs.now cursor.old }
+    ensures next { IsNext (breaks_by inputs.now rates.now.penalties) first to result }
+    ensures cursor { IsCursorOf inputs.now cursor.new }
 {
-    let posted = next_post(inputs.posts(), first, to);
+    let posted = next_post(inputs.posts(), &mut cursor.posts, first, to);
     if posted == first {
         return first;
     }
     let anchor = inputs.anchor();
-    let number = cycle_of(anchor, first);
-    let closing = next_closing(&anchor, number, first, posted);
-    let due = next_after_due(&anchor, number, first, closing);
-    let issued = next_issue(inputs.issued(), first, due);
+    let dates = dates_at(&anchor, first, &cursor.cycle);
+    cursor.cycle = Some(dates);
+    let closing = next_closing(&dates, first, posted);
+    let due = next_after_due(&dates, first, closing);
+    let issued = next_issue(inputs.issued(), &mut cursor.issues, first, due);
     rates.next_change(first, issued)
 }

@@ -5,11 +5,13 @@
 mod begin;
 mod break_day;
 mod closing;
+mod cursor;
 mod day;
 mod rows;
 
 pub use begin::{empty_rows, opening_day, start};
 pub use break_day::span_end;
 pub use closing::close_day;
+pub use cursor::{Cursor, CycleDates};
 pub use day::{next_day, next_span};
 pub use rows::{pass_quiet, row_day};

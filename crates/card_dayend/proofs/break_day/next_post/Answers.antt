@@ -18,8 +18,8 @@ returns-in-Some c = λ holidays stands.
     let first = c.args.first in
     let s = c.in-Some.slot.now in
     let order : c.in_order.result.now ≡ folding_order posts = c.in_order.ensures.order ∙ ap folding_order stands in
-    let place : c.first_place.result ≡ place_of first posts = c.first_place.ensures.place holidays stands ∙ ap (place_of first) stands in
-    let read = slice_get_read c.in_order.result.now _ c.first_place.result s refl c.in-Some.ensures.lookup.3.0 c.in-Some.ensures.lookup.1 in
+    let place : c.place_near-place.result ≡ place_of first posts = c.place_near-place.ensures holidays stands ∙ ap (place_of first) stands in
+    let read = slice_get_read c.in_order.result.now _ c.place_near-place.result s refl c.in-Some.ensures.lookup.3.0 c.in-Some.ensures.lookup.1 in
     let found : slice_get (folding_order posts) (place_of first posts) ≡ Some s = ap (λ xs. slice_get xs (place_of first posts)) (sym order) ∙ (ap (slice_get c.in_order.result.now) (sym place) ∙ read) in
     subst (λ (ps : List CorrectedPost). IsNext (has_post ps) first c.args.end c.next_at.result) (sym stands)
     (post-next a holidays history first c.args.end c.next_at.result s (slice_get_within (folding_order posts) (place_of first posts) s found) (get_or_from_slice_get (folding_order posts) (place_of first posts) s s found) c.next_at.ensures)
@@ -31,6 +31,6 @@ returns-in-None c = λ holidays stands.
     let posts = corrected a holidays history in
     let first = c.args.first in
     let order : c.in_order.result.now ≡ folding_order posts = c.in_order.ensures.order ∙ ap folding_order stands in
-    let place : c.first_place.result ≡ place_of first posts = c.first_place.ensures.place holidays stands ∙ ap (place_of first) stands in
+    let place : c.place_near-place.result ≡ place_of first posts = c.place_near-place.ensures holidays stands ∙ ap (place_of first) stands in
     let past = subst (λ (xs : List Slot). length xs ≤ place_of first posts) order (subst (λ n. length c.in_order.result.now ≤ n) place c.in-None.ensures.lookup.3) in
     subst (λ (ps : List CorrectedPost). IsNext (has_post ps) first c.args.end c.args.end) (sym stands) (post-none a holidays history first c.args.end c.requires past)

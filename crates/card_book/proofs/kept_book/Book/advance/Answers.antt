@@ -22,7 +22,7 @@ returns-in_err-fold_span-clause-most_spans g c =
     let given = c.args.inputs.now in
     let l = c.loop-alloc in
     let end = c.span_end-end.result in
-    let next = subst (λ (b : Summary). IsNext (breaks_by given b.state.rates.penalties) l.first c.args.to end) c.self-in-loop-alloc.view_is c.span_end-end.ensures in
+    let next = subst (λ (b : Summary). IsNext (breaks_by given b.state.rates.penalties) l.first c.args.to end) c.self-in-loop-alloc.view_is c.span_end-end.ensures.next in
     let step = more given l.self l.track l.first c.args.to end c.opening_day-opening.ensures.sound l.invariant.stands l.invariant.first c.requires.last next in
     omega (arith, c.tick.ensures, l.invariant.steps, step)
 
@@ -31,10 +31,10 @@ loop-alloc-preserved g c =
     let given = c.args.inputs.now in
     let l = c.loop-alloc in
     let end = c.span_end-end.result in
-    let low = c.span_end-end.ensures.low in
-    let high = c.span_end-end.ensures.high in
+    let low = c.span_end-end.ensures.next.low in
+    let high = c.span_end-end.ensures.next.high in
     let behind = c.next-first.ensures in
-    let next = subst (λ (b : Summary). IsNext (breaks_by given b.state.rates.penalties) l.first c.args.to end) c.self-in-loop-alloc.view_is c.span_end-end.ensures in
+    let next = subst (λ (b : Summary). IsNext (breaks_by given b.state.rates.penalties) l.first c.args.to end) c.self-in-loop-alloc.view_is c.span_end-end.ensures.next in
     let step = more given l.self l.track l.first c.args.to end c.opening_day-opening.ensures.sound l.invariant.stands l.invariant.first c.requires.last next in
     let rest = ap (steps_over given c.args.to) behind in
     record {
@@ -47,6 +47,7 @@ loop-alloc-preserved g c =
       most = omega (arith, c.tick.ensures, l.invariant.most, behind, low, l.invariant.begun);
       begins = begins-then c.args.track.now l.track c.fold_span.new.track l.invariant.begins c.fold_span.ensures.begins;
       room = room-then c.args.track.now l.track c.fold_span.new.track l.invariant.room c.fold_span.ensures.room;
+      cursor = c.span_end-end.ensures.cursor;
     }
 
 pub returns-in_err-fold_span-clause-room : goal.returns-in_err-fold_span-clause-room

@@ -1,6 +1,7 @@
 use Rattle.std.proofs.Common.{◌≡◌, ◌+◌, ◌-◌, ◌≤◌, false}
 use Rattle.card_book.specs.Stands.{StandsFor, day_to_fold, steps_over}
 use Rattle.card_daily.specs.Stands.{Begins, KeepsRoom}
+use Rattle.card_dayend.specs.Spans.{IsCursorOf}
 use Rattle.card_book.proofs.kept_book.Book.advance.Given as goal
 
 abbrev pub invariant-loop-alloc : goal.invariant-loop-alloc
@@ -14,6 +15,7 @@ invariant-loop-alloc g l = record {
   most : l.steps ≤ l.fn.steps + (l.first - day_to_fold l.inputs l.fn.self.day);
   begins : Begins l.fn.track l.track;
   room : KeepsRoom l.fn.track l.track;
+  cursor : IsCursorOf l.inputs l.cursor;
 }
 
 abbrev pub decreases-loop-alloc : goal.decreases-loop-alloc
