@@ -1,5 +1,5 @@
 -- The parts of a state at a closing, by their counts.
-use Rattle.std.proofs.Common.{◌≡◌, ℕ, suc, ◌+◌, ◌-◌, ◌≤◌, List, [], ◌∷◌, ◌++◌, append-nil, append_assoc, drop, length, length-append, map, replicate, refl, sym, ap, ◌∙◌, arith, ℤ, pos}
+use Rattle.std.proofs.Common.{◌≡◌, ℕ, ◌+◌, ◌-◌, ◌≤◌, List, [], ◌∷◌, ◌++◌, append-nil, append_assoc, drop, length, length-append, map, replicate, refl, sym, ap, ◌∙◌, arith, ℤ, pos}
 use Rattle.std.proofs.lemmas.List.{drop-replicate, length-map, replicate_more}
 use Rattle.card_events.specs.declared.kept.Kept.{Kept}
 use Rattle.card_closing.specs.Accruals.{Accrued, nothing_accrued}

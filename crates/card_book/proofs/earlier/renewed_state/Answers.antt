@@ -1,9 +1,8 @@
-use Rattle.std.proofs.Common.{◌≡◌, ◌+◌, ◌-◌, ◌++◌, length, refl, replicate, ap, ◌∙◌, arith}
+use Rattle.std.proofs.Common.{◌≡◌, ◌-◌, ◌++◌, length, refl, replicate, ap, ◌∙◌, arith}
 use Rattle.card_events.specs.declared.kept.Kept.{Kept}
 use Rattle.std.specs.Prelude.{List, ℕ}
 use Rattle.card_closing.specs.Accruals.{Accrued, nothing_accrued}
 use Rattle.card_rates.specs.RateBooks.{Rates, rates_of}
-use Rattle.card_rates.specs.Segments.{account_segments}
 use Rattle.card_book.proofs.StateParts.{rates-count, rows-each}
 use Rattle.card_book.proofs.earlier.renewed_state.Goals as goal
 

@@ -1,5 +1,4 @@
-use Rattle.std.proofs.Common.{◌≡◌, ◌-◌, ◌++◌, length, pos, replicate, ap, sym, ◌∙◌}
-use Rattle.card_rates.specs.Segments.{account_segments}
+use Rattle.std.proofs.Common.{◌-◌, ◌++◌, length, pos, replicate, ap, sym, ◌∙◌}
 use Rattle.card_book.proofs.StateParts.{balances-over}
 use Rattle.card_book.proofs.earlier.segments_with.Goals as goal
 

@@ -1,4 +1,4 @@
-use Rattle.std.proofs.Common.{◌≡◌, List, sym, subst}
+use Rattle.std.proofs.Common.{List, sym, subst}
 use Rattle.card_model.specs.Entries.{AreBalances}
 use Rattle.card_model.specs.declared.entry.Entry.{Entry}
 use Rattle.card_book.proofs.Fronts.{folded-to}

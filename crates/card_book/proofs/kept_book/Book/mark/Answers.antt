@@ -1,4 +1,4 @@
-use Rattle.std.proofs.Common.{◌≡◌, ◌+◌, ◌∙◌, length, ap, sym, subst, arith}
+use Rattle.std.proofs.Common.{◌∙◌, length, ap, sym, subst, arith}
 use Rattle.card_rates.specs.RateBooks.{AreByNumber}
 use Rattle.card_book.specs.Stands.{Summary}
 use Rattle.card_book.proofs.Rewinding.{numbered-in, rated-count}

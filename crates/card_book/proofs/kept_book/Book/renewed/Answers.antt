@@ -1,4 +1,4 @@
-use Rattle.std.proofs.Common.{◌≡◌, ℕ, ◌+◌, List, length, map, refl, ap, sym, subst, ◌∙◌, arith, true, Option, Some}
+use Rattle.std.proofs.Common.{◌≡◌, ℕ, ◌+◌, length, map, refl, ap, sym, subst, ◌∙◌, arith, true, Option, Some}
 use Rattle.card_closing.specs.Rows.{no_rows}
 use Rattle.card_daily.specs.declared.state.State.{State}
 use Rattle.card_book.proofs.Renewing.{renewed_books_stand}

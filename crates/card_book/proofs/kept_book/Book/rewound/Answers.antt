@@ -1,4 +1,4 @@
-use Rattle.std.proofs.Common.{◌≡◌, ℕ, ◌+◌, ◌-◌, ◌≤◌, ◌∙◌, List, drop, length, take, sym, ap, subst, arith, rules, true, Option, Some}
+use Rattle.std.proofs.Common.{◌≡◌, ℕ, ◌-◌, ◌≤◌, ◌∙◌, List, drop, length, take, sym, ap, subst, arith, rules, true, Option, Some}
 use Rattle.std.proofs.lemmas.List.{take_rest}
 use Rattle.card_model.specs.Cycles.{Cycle}
 use Rattle.card_model.specs.declared.entry.Entry.{Entry}
