@@ -98,6 +98,59 @@ start-finds h key (e ∷ es) (suc p) b s =
     let other : bytes_eq (key_of h e.number) key ≡ false = unlike (key_of h e.number) key (λ same. before e.hash (hash_of (key_of h e.number)) (hash_of key) b.0 same low) in
     rw other (start-finds h key es p b.1 (start-less e es (hash_of key) p s))
 
+-- ---- a search that begins behind smaller hashes
+-- the hashes before one that is smaller are smaller
+pub below-all : (x k : ℕ) (es : List HashedKey) → IsSorted es → k < length es → ((d : HashedKey) → nat_lt (get_or es k d).hash x ≡ true) → (i : ℕ) (d : HashedKey) → i < k → i < length es → (get_or es i d).hash < x
+below-all x k es s l low i d m n = is-less (get_or es i d).hash x (parted (λ y. nat_lt y x) (less-down x) es s i k d (omega (arith, m)) l (low d))
+
+start-more : (e : HashedKey) (es : List HashedKey) (x p : ℕ) → e.hash < x → IsStart es x p → IsStart (e ∷ es) x (suc p)
+start-more e es x p low s = record {
+  front = ahead;
+  back = past;
+  within = omega (arith, s.within);
+}
+  where
+    ahead : (i : ℕ) (d : HashedKey) → i < suc p → i < length (e ∷ es) → (get_or (e ∷ es) i d).hash < x
+    ahead zero d l m = low
+    ahead (suc i) d l m = s.front i d (omega (arith, l)) (omega (arith, m))
+
+    past : (i : ℕ) (d : HashedKey) → suc p ≤ i → i < length (e ∷ es) → x ≤ (get_or (e ∷ es) i d).hash
+    past zero d l m = absurd (omega (arith, l))
+    past (suc i) d l m = s.back i d (omega (arith, l)) (omega (arith, m))
+
+pub start-joined : (x r : ℕ) (es : List HashedKey) (p : ℕ) → ((i : ℕ) (d : HashedKey) → i < p → i < length es → (get_or es i d).hash < x) → p ≤ length es → IsStart (drop p es) x r → IsStart es x (p + r)
+start-joined x r [] zero low l s = let same : r ≡ 0 + r = omega arith in subst (λ q. IsStart [] x q) same s
+start-joined x r (e ∷ es) zero low l s = let same : r ≡ 0 + r = omega arith in subst (λ q. IsStart (e ∷ es) x q) same s
+start-joined x r [] (suc p) low l s = absurd (omega (arith, l))
+start-joined x r (e ∷ es) (suc p) low l s =
+    let more : suc (p + r) ≡ suc p + r = omega arith in
+    subst (λ q. IsStart (e ∷ es) x q) more
+    (start-more e es x (p + r) (low 0 e (omega arith) (omega arith)) (start-joined x r es p (λ i d m n. low (suc i) d (omega (arith, m)) (omega (arith, n))) (omega (arith, l)) s))
+
+end-more : (e : HashedKey) (es : List HashedKey) (x p : ℕ) → e.hash < x → IsEnd es x p → IsEnd (e ∷ es) x (suc p)
+end-more e es x p low s = record {
+  front = ahead;
+  back = past;
+  within = omega (arith, s.within);
+}
+  where
+    ahead : (i : ℕ) (d : HashedKey) → i < suc p → i < length (e ∷ es) → (get_or (e ∷ es) i d).hash ≤ x
+    ahead zero d l m = omega (arith, low)
+    ahead (suc i) d l m = s.front i d (omega (arith, l)) (omega (arith, m))
+
+    past : (i : ℕ) (d : HashedKey) → suc p ≤ i → i < length (e ∷ es) → x < (get_or (e ∷ es) i d).hash
+    past zero d l m = absurd (omega (arith, l))
+    past (suc i) d l m = s.back i d (omega (arith, l)) (omega (arith, m))
+
+pub end-joined : (x r : ℕ) (es : List HashedKey) (p : ℕ) → ((i : ℕ) (d : HashedKey) → i < p → i < length es → (get_or es i d).hash < x) → p ≤ length es → IsEnd (drop p es) x r → IsEnd es x (p + r)
+end-joined x r [] zero low l s = let same : r ≡ 0 + r = omega arith in subst (λ q. IsEnd [] x q) same s
+end-joined x r (e ∷ es) zero low l s = let same : r ≡ 0 + r = omega arith in subst (λ q. IsEnd (e ∷ es) x q) same s
+end-joined x r [] (suc p) low l s = absurd (omega (arith, l))
+end-joined x r (e ∷ es) (suc p) low l s =
+    let more : suc (p + r) ≡ suc p + r = omega arith in
+    subst (λ q. IsEnd (e ∷ es) x q) more
+    (end-more e es x (p + r) (low 0 e (omega arith) (omega arith)) (end-joined x r es p (λ i d m n. low (suc i) d (omega (arith, m)) (omega (arith, n))) (omega (arith, l)) s))
+
 -- ---- the entries from a place on
 pub rest-from : (es : List HashedKey) (p : ℕ) → take (length es - p) (drop p es) ≡ drop p es
 rest-from es p = let long : length (drop p es) ≡ length es - p = length-drop p es in take_all (length es - p) (drop p es) (omega (arith, long))

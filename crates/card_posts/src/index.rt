@@ -1,6 +1,7 @@
 // The numbers of an account's posts, by the hashes of their keys. A search reads this list alone, and the history only where the
-// hash is met.
-ghost use Rattle.std.specs.Prelude.{◌≡◌, ◌+◌, ◌<◌, ◌≤◌, ◌++◌, [], ◌∷◌, length, vec_len, vec_capacity};
+// hash is met. Keys that count up have hashes that ascend, so the last entries are looked at first: a new key mostly belongs there,
+// and a long list is not read from its middle.
+ghost use Rattle.std.specs.Prelude.{◌≡◌, ℕ, ◌+◌, ◌<◌, ◌≤◌, ◌++◌, [], ◌∷◌, nat_lt, length, slice_index_or, vec_len, vec_capacity};
 ghost use Rattle.card_events.specs.Limits.{post_limit};
 ghost use Rattle.card_events.specs.Keys.{with_key};
 ghost use Rattle.card_events.specs.declared.kept.Kept.{Kept};
@@ -11,6 +12,9 @@ use card_events::{Kept, Name};
 
 // How many hashes there are: those of 32 bits.
 const HASHES: u64 = 4_294_967_296;
+
+// How many of the last entries are looked at first: two lines of a cache.
+const LAST: usize = 16;
 
 // The hash of the key of a post, and the post's number.
 #[derive(Clone, Copy)]
@@ -51,12 +55,50 @@ pub fn hashed_key(key: &[u8], number: u32) -> HashedKey
     }
 }
 
+// whether an entry has a smaller hash
+fn is_below(entry: &HashedKey, hash: u32) -> bool
+    ensures { result ≡ nat_lt entry.now.hash hash }
+{
+    entry.hash < hash
+}
+
+// a place before which the hashes are smaller: that of the last entries, where it is so, or else the first
+fn last_from(index: &[HashedKey], hash: u32) -> usize
+    requires { IsSorted index.now }
+    ensures front { (i : ℕ) (d : HashedKey) → i < result → i < length index.now → (slice_index_or index.now i d).hash < hash }
+    ensures within { result ≤ length index.now }
+{
+    if index.len() < LAST {
+        return 0;
+    }
+    let at = index.len() - LAST;
+    let entry = &index[at];
+    if is_below(entry, hash) { at } else { 0 }
+}
+
+// where the entries among these begin that have this hash or a greater one
+fn start_among(index: &[HashedKey], hash: u32) -> usize
+    requires { IsSorted index.now }
+    ensures { IsStart index.now hash result }
+{
+    index.partition_point(|entry| entry.hash < hash)
+}
+
 // where the entries begin that have this hash or a greater one
 fn start_of(index: &[HashedKey], hash: u32) -> usize
     requires { IsSorted index.now }
     ensures { IsStart index.now hash result }
 {
-    index.partition_point(|entry| entry.hash < hash)
+    let from = last_from(index, hash);
+    from + start_among(&index[from..], hash)
+}
+
+// where the entries among these begin that have a greater hash
+fn end_among(index: &[HashedKey], hash: u32) -> usize
+    requires { IsSorted index.now }
+    ensures { IsEnd index.now hash result }
+{
+    index.partition_point(|entry| entry.hash <= hash)
 }
 
 // where the entries begin that have a greater hash
@@ -64,7 +106,8 @@ fn end_of(index: &[HashedKey], hash: u32) -> usize
     requires { IsSorted index.now }
     ensures { IsEnd index.now hash result }
 {
-    index.partition_point(|entry| entry.hash <= hash)
+    let from = last_from(index, hash);
+    from + end_among(&index[from..], hash)
 }
 
 // the first number among these whose post has a key, where none of them has a smaller hash than the key

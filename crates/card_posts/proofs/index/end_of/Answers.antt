@@ -1,14 +1,14 @@
-use Rattle.std.proofs.Common.{nat_le, rules, arith}
-use Rattle.std.proofs.lemmas.List.Sorted.{IsPartitionPoint-from_clause}
-use Rattle.card_posts.specs.declared.index.HashedKey.{HashedKey}
-use Rattle.card_posts.proofs.IndexLemmas.{is-up_to, not-up_to, parted, up_to-down}
+use Rattle.std.proofs.Common.{sym, subst}
+use Rattle.card_posts.specs.Index.{IsEnd, IsSorted}
+use Rattle.card_posts.proofs.IndexLemmas.{end-joined, rest-from, sorted-drop}
 use Rattle.card_posts.proofs.index.end_of.Goals as goal
+
+pub end_among-requires : goal.end_among-requires
+end_among-requires c = subst (λ u. IsSorted u) (sym (rest-from c.args.index.now c.last_from-from.result)) (sorted-drop c.args.index.now c.last_from-from.result c.requires)
 
 pub returns : goal.returns
 returns c =
-    let point = IsPartitionPoint-from_clause (λ (e : HashedKey). nat_le e.hash c.args.hash) _ _ c.partition_point.ensures.partitioned (parted (λ x. nat_le x c.args.hash) (up_to-down c.args.hash) c.args.index.now c.requires) (λ a r q k. search rules) in
-    record {
-      front = λ i d l m. is-up_to _ _ (point.0 i d (omega arith) l);
-      back = λ i d l m. not-up_to _ _ (point.1 i d l m);
-      within = c.partition_point.ensures.bound;
-    }
+    let from = c.last_from-from.result in
+    let place = c.end_among.result in
+    end-joined c.args.hash place c.args.index.now from c.last_from-from.ensures.front c.last_from-from.ensures.within
+    (subst (λ u. IsEnd u c.args.hash place) (rest-from c.args.index.now from) c.end_among.ensures)

@@ -1,14 +1,14 @@
-use Rattle.std.proofs.Common.{nat_lt, rules, arith}
-use Rattle.std.proofs.lemmas.List.Sorted.{IsPartitionPoint-from_clause}
-use Rattle.card_posts.specs.declared.index.HashedKey.{HashedKey}
-use Rattle.card_posts.proofs.IndexLemmas.{is-less, less-down, not-less, parted}
+use Rattle.std.proofs.Common.{sym, subst}
+use Rattle.card_posts.specs.Index.{IsSorted, IsStart}
+use Rattle.card_posts.proofs.IndexLemmas.{rest-from, sorted-drop, start-joined}
 use Rattle.card_posts.proofs.index.start_of.Goals as goal
+
+pub start_among-requires : goal.start_among-requires
+start_among-requires c = subst (λ u. IsSorted u) (sym (rest-from c.args.index.now c.last_from-from.result)) (sorted-drop c.args.index.now c.last_from-from.result c.requires)
 
 pub returns : goal.returns
 returns c =
-    let point = IsPartitionPoint-from_clause (λ (e : HashedKey). nat_lt e.hash c.args.hash) _ _ c.partition_point.ensures.partitioned (parted (λ x. nat_lt x c.args.hash) (less-down c.args.hash) c.args.index.now c.requires) (λ a r q k. search rules) in
-    record {
-      front = λ i d l m. is-less _ _ (point.0 i d (omega arith) l);
-      back = λ i d l m. not-less _ _ (point.1 i d l m);
-      within = c.partition_point.ensures.bound;
-    }
+    let from = c.last_from-from.result in
+    let place = c.start_among.result in
+    start-joined c.args.hash place c.args.index.now from c.last_from-from.ensures.front c.last_from-from.ensures.within
+    (subst (λ u. IsStart u c.args.hash place) (rest-from c.args.index.now from) c.start_among.ensures)
