@@ -170,19 +170,12 @@ fn statement(issued: Option<&Issued>) -> Option<&Cycle>
     }
 }
 
-// No rows, from a day on.
-fn begin(alloc: Global, rows: &mut CycleRows, first: Day)
-    ensures { rows.new ≡ no_rows first }
-{
-    *rows = CycleRows::start(alloc, first);
-}
-
 // No rows of any segment, from a day on.
-fn begin_all(alloc: Global, rows: &mut Vec<CycleRows>, first: Day)
+fn begin_all(rows: &mut Vec<CycleRows>, first: Day)
     ensures { rows.new.items ≡ map (λ (r : Rows). no_rows first) rows.old.items }
 {
     for i in 0..rows.len() {
-        begin(alloc, &mut rows[i], first);
+        rows[i].begin(first);
     }
 }
 
@@ -216,7 +209,7 @@ fn close_cycle(
         &mut track.entries,
     )?;
     track.cycles.push(cycle)?;
-    begin_all(alloc, &mut state.rows, day.next());
+    begin_all(&mut state.rows, day.next());
     Ok(())
 }
 

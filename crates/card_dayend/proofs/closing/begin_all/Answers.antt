@@ -7,7 +7,7 @@ pub loop-i-preserved : goal.loop-i-preserved
 loop-i-preserved c =
     let old = c.args.rows.now.items in
     let here : c.loop-i.i < length old = omega (arith, c.loop-i-test.true, c.len-i-end.ensures) in
-    anew-next (no_rows c.args.first) c.begin.new.rows old c.loop-i.rows.items c.loop-i.i here c.loop-i.invariant c.begin.ensures
+    anew-next (no_rows c.args.first) c.begin.new.self old c.loop-i.rows.items c.loop-i.i here c.loop-i.invariant c.begin.ensures
 
 pub returns : goal.returns
 returns c =
