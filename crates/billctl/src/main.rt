@@ -8,6 +8,7 @@ use card_ports::{Asking, Keeper, Lent, MemoryKeeper, Replies, StdSink, StdSource
 use card_sqlite::SqliteKeeper;
 use std::cell::RefCell;
 use std::io::{self, Write};
+use std::mem::forget;
 use std::process::ExitCode;
 
 // How many bytes of replies may wait until more is read, where the rows are in memory.
@@ -74,10 +75,12 @@ fn over<K: Keeper>(rt: &HostRuntime, words: &Vec<String>, room: usize, keeper: &
     }
 }
 
-// Rows in memory, for this run alone.
+// Rows in memory, for this run alone. They go with the process: to give each back first takes a part of a run's time.
 fn over_memory(rt: &HostRuntime, words: &Vec<String>) -> u8 {
     let mut keeper = MemoryKeeper::new(rt.alloc());
-    over(rt, words, reply_room(words), &mut keeper)
+    let status = over(rt, words, reply_room(words), &mut keeper);
+    forget(keeper);
+    status
 }
 
 // Rows in a file: a row is kept before its reply is written, and no reply waits. What was answered stands in the file and its
