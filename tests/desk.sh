@@ -5,7 +5,9 @@
 # and clients come that send nothing, a byte a second, half a head and a reset, 100 kB of head, two requests at once, and a
 # chunked body. Each gets its answer or is cut within the deadline, the next is served, each line says how its connection
 # ended, the rows are those of the requests that were answered 200, and each answer is one that docs/openapi.json describes.
-# Another server, whose output takes nothing for now, has closed its connection before the line of it is written.
+# Another server answers requests byte by byte as they stand here, and carries none out that is cut off, at whatever byte; a third,
+# whose disk is full, says so and goes on; and a fourth, whose output takes nothing for now, has closed its connection before the
+# line of it is written.
 #
 #     tests/desk.sh
 top=$(cd "$(dirname "$0")/.." && pwd) || exit 1
@@ -14,7 +16,9 @@ import http.client
 import json
 import os
 import re
+import resource
 import shutil
+import signal
 import socket
 import sqlite3
 import struct
@@ -295,11 +299,90 @@ def connected(port):
     fail("no server")
 
 
-def closed_before_its_line():
-    """The connection is at its end while its line can't be written yet, and then the line comes."""
+def free_port():
     with socket.socket() as free:
         free.bind(("127.0.0.1", 0))
-        port = free.getsockname()[1]
+        return free.getsockname()[1]
+
+
+def whole(status, kind, body):
+    """An answer, byte by byte."""
+    return f"HTTP/1.1 {status}\r\nContent-Type: {kind}\r\nContent-Length: {len(body)}\r\nConnection: close\r\n\r\n{body}".encode()
+
+
+TEXT = "text/plain; charset=utf-8"
+JSON = "application/json"
+POST = b"POST /posts HTTP/1.1\r\n"
+ROLL = POST + b'Content-Length: 34\r\n\r\n{"kind":"roll","day":"2024-01-28"}'
+
+# Requests to an empty ledger with their whole answers. The ledger stays empty until the last of them.
+WHOLE = (
+    (b"GET /work HTTP/1.1\r\n\r\n", whole("200 OK", TEXT, "")),
+    (b"DELETE /work HTTP/1.1\r\n\r\n", whole("405 Method Not Allowed", TEXT, "bad method\n")),
+    (
+        POST + b'Content-Length: 95\r\n\r\n{"kind":"charge","account":"h-1","key":"c1","day":"2023-12-29","place":"purchase","cents":1100}',
+        whole("409 Conflict", JSON, '{"name":"UnknownAccount","no":1}'),
+    ),
+    (b"GET /work HTTP/2.0\r\n\r\n", whole("400 Bad Request", TEXT, "bad request\n")),
+    (b"GET /work HTTP/1.1\r\nContent-Length: 1\r\nContent-Length: 1\r\n\r\n", whole("400 Bad Request", TEXT, "bad request\n")),
+    (POST + b"Transfer-Encoding: chunked\r\n\r\n", whole("400 Bad Request", JSON, "bad request\n")),
+    (POST + b"Content-Length: 1234567890\r\n\r\n", whole("400 Bad Request", JSON, "bad request\n")),
+    (POST + b"Content-Length: 16385\r\n\r\n", whole("413 Payload Too Large", JSON, "body too large\n")),
+    (b"GET /accounts/!/entries HTTP/1.1\r\n\r\n", whole("404 Not Found", TEXT, "none\n")),
+    (POST + b"Content-Length: 1\r\n\r\n{", whole("400 Bad Request", JSON, "bad request\n")),
+    (POST + b"Content-Length: 2\r\n\r\n[]", whole("422 Unprocessable Entity", JSON, '{"field":"kind"}')),
+    (
+        POST + b'Content-Length: 49\r\n\r\n{"kind":"penalty","account":"a","key":"q","zz":1}',
+        whole("422 Unprocessable Entity", JSON, '{"field":"zz"}'),
+    ),
+    *((ROLL[:count], b"") for count in range(len(ROLL))),
+    (ROLL + b"GET", whole("200 OK", JSON, '{"ok":0}')),
+)
+
+
+def served(place, talk, **how):
+    """A server of its own for these requests: each has to get its whole answer, and each line has to say so."""
+    port = free_port()
+    server = subprocess.Popen([PROGRAM, place, "serve", str(port), str(len(talk))], stdin=subprocess.DEVNULL, stdout=subprocess.PIPE, text=True, **how)
+    try:
+        for request, answer in talk:
+            back = b""
+            with connected(port) as client:
+                try:
+                    client.sendall(request)
+                    client.shutdown(socket.SHUT_WR)
+                    while piece := client.recv(65536):
+                        back += piece
+                except (ConnectionResetError, BrokenPipeError):
+                    pass
+            if back != answer:
+                fail(f"{request} is answered {back}, wanted {answer}")
+        written, _ = server.communicate(timeout=60)
+    finally:
+        server.kill()
+    wanted = [answer[9:12].decode() or "cut" for _, answer in talk]
+    if server.returncode != 0 or written.splitlines() != wanted:
+        fail(f"a server of its own ends with {server.returncode} and {written}")
+
+
+def full():
+    """From now on no file takes a byte behind its first 4,096: too few for a row, and enough to load the rows."""
+    signal.signal(signal.SIGXFSZ, signal.SIG_IGN)
+    resource.setrlimit(resource.RLIMIT_FSIZE, (4096, 4096))
+
+
+def on_a_full_disk(file):
+    """A request that can't be kept is told so and leaves nothing, what is asked is answered, and with room it is kept."""
+    if replies(file, ["roll 2024-01-27"]) != ["ok"]:
+        fail("a day isn't reached")
+    failed = (ROLL, whole("503 Service Unavailable", JSON, '{"fault":"keeper"}'))
+    served(file, (failed, WHOLE[0], failed), preexec_fn=full)
+    served(file, WHOLE[-1:])
+
+
+def closed_before_its_line():
+    """The connection is at its end while its line can't be written yet, and then the line comes."""
+    port = free_port()
     reader, writer = full_pipe()
     server = subprocess.Popen([PROGRAM, "-", "serve", str(port), "1"], stdin=subprocess.DEVNULL, stdout=writer)
     os.close(writer)
@@ -333,9 +416,7 @@ def main():
     try:
         with open(DESCRIPTION) as description:
             described = json.load(description)
-        with socket.socket() as free:
-            free.bind(("127.0.0.1", 0))
-            port = free.getsockname()[1]
+        port = free_port()
         todo = list(steps(work))
         file = os.path.join(work, "rows.db")
         server = subprocess.Popen([PROGRAM, file, "serve", str(port), str(len(todo))], stdin=subprocess.DEVNULL, stdout=subprocess.PIPE, text=True)
@@ -355,8 +436,10 @@ def main():
             fail(f"line {at + 1} of {len(wanted)}: {lines[at:at + 1]}, wanted {wanted[at:at + 1]}")
         if rows_of(file) != rows_of(os.path.join(work, "lined.db")):
             fail("the rows aren't those of the requests that were answered 200")
+        served("-", WHOLE)
+        on_a_full_disk(os.path.join(work, "full.db"))
         closed_before_its_line()
-        print(f"desk: {len(todo) + 1} connections, the answers, lines and rows that were wanted")
+        print(f"desk: {len(todo) + len(WHOLE) + 5} connections, the answers, lines and rows that were wanted")
     finally:
         shutil.rmtree(work)
 

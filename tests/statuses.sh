@@ -1,7 +1,7 @@
 #!/bin/sh
 # Runs the proved program where it can't go on, and holds its exit status and what it wrote against what
 # docs/FORMATS.md says: words that are no command, an account that isn't there, no input, an input that can't be read, an output that takes nothing,
-# rows that can't be kept, rows that are damaged, and too little memory.
+# rows that can't be kept, a file that another run has, a disk that is full, rows that are damaged, and too little memory.
 #
 #     tests/statuses.sh
 top=$(cd "$(dirname "$0")/.." && pwd) || exit 1
@@ -63,19 +63,77 @@ for words in 'export nobody' 'statement nobody 1' 'restate nobody 1'; do
         exit 1
     fi
 done
-python3 - "$rows/kept" <<'END'
-import sqlite3, sys
+python3 - "$program" "$rows" <<'END' || exit 1
+import os, resource, shutil, signal, sqlite3, subprocess, sys
 
-file = sqlite3.connect(sys.argv[1])
-file.execute("UPDATE kept SET body = substr(body, 1, length(body) - 1) WHERE seq = 3")
-file.commit()
+program, room = sys.argv[1:]
+ROLL, OPEN, CHARGE = map(bytes.fromhex, (
+    "010100004d47",
+    "01040161016f00004d47000000000000000500000000000007cf00000000000009c300000000000008970000000000000bb700000000000009c40000000000000064",
+    "01050161026331" "00004d47" "00" "00000000000004e2",
+))
+LINES = ["roll 2024-03-01", "open a o 2024-03-01 5 1999 2499 2199 2999 2500 100", "charge a c1 2024-03-01 purchase 1250"]
+SHOWN = "show a 2024-03-01 owed 1250 credit 0 held 0\n"
+
+
+def apply(file, lines, **how):
+    done = subprocess.run([program, file, "apply"], input="".join(line + "\n" for line in lines), capture_output=True, text=True, **how)
+    return done.returncode, done.stdout
+
+
+def expect(name, found, wanted):
+    if found != wanted:
+        sys.exit(f"statuses: {name}: {found}, wanted {wanted}")
+
+
+def keep(file, rows):
+    base = sqlite3.connect(file)
+    base.execute("DELETE FROM kept")
+    base.executemany("INSERT INTO kept VALUES (?, ?)", rows)
+    base.commit()
+    base.close()
+
+
+# rows as they are, out of turn, cut, twice, before what they stand on, and empty
+whole = os.path.join(room, "whole")
+expect("three lines", apply(whole, LINES), (0, "ok\nok 1\nok 2\n"))
+base = sqlite3.connect(whole)
+expect("three rows", base.execute("SELECT seq, body FROM kept ORDER BY seq").fetchall(), [(1, ROLL), (2, OPEN), (3, CHARGE)])
+base.close()
+for rows, wanted in (
+    ([(1, ROLL), (2, OPEN), (3, CHARGE)], (0, SHOWN)),
+    ([(1, ROLL), (2, OPEN), (4, CHARGE)], (8, "damaged 3\n")),
+    ([(1, ROLL), (2, OPEN), (3, CHARGE[:-1])], (8, "damaged 3\n")),
+    ([(1, ROLL), (2, OPEN), (3, OPEN)], (8, "damaged 3\n")),
+    ([(1, ROLL), (2, CHARGE), (3, OPEN)], (8, "damaged 2\n")),
+    ([(1, b""), (2, OPEN), (3, CHARGE)], (8, "damaged 1\n")),
+):
+    keep(whole, rows)
+    expect(f"the rows {rows}", apply(whole, ["show a"]), wanted)
+
+
+# a disk that takes no more than a page of a file, too little for a row: it isn't kept, and is when the line comes again
+def full():
+    signal.signal(signal.SIGXFSZ, signal.SIG_IGN)
+    resource.setrlimit(resource.RLIMIT_FSIZE, (4096, 4096))
+
+
+file = os.path.join(room, "full")
+expect("one line", apply(file, LINES[:1]), (0, "ok\n"))
+expect("a disk that is full", apply(file, ["show a"] + LINES[1:], preexec_fn=full), (5, "no 1 UnknownAccount\n"))
+expect("the same lines with room", apply(file, LINES[1:] + ["show a"]), (0, "ok 1\nok 2\n" + SHOWN))
+
+# a second run doesn't get the file that one has, which goes on
+first = subprocess.Popen([program, file, "apply"], stdin=subprocess.PIPE, stdout=subprocess.PIPE, text=True, bufsize=1)
+first.stdin.write("show a\n")
+expect("a run that has a file", first.stdout.readline(), SHOWN)
+expect("a second run on its file", apply(file, ["charge a c2 2024-03-01 purchase 5"]), (5, ""))
+first.stdin.write("charge a c3 2024-03-01 purchase 5\n")
+expect("the run that has it, after that", first.stdout.readline(), "ok 3\n")
+first.stdin.close()
+expect("its end", first.wait(), 0)
+expect("the rows behind both", apply(file, ["charge a c2 2024-03-01 purchase 5"]), (0, "ok 4\n"))
 END
-"$program" "$rows/kept" apply <"$day" >"$written"
-expect 'a third row without its last byte' $? 8
-if [ "$(cat "$written")" != 'damaged 3' ]; then
-    echo 'statuses: a third row without its last byte: the row is not named'
-    exit 1
-fi
 python3 - "$program" <<'END'
 import socket, subprocess, sys
 

@@ -1,5 +1,5 @@
 -- The account of the cases with its opening alone may be folded, and its fold to 2024-03-10 takes five steps.
-use Rattle.std.proofs.Common.{◌≡◌, ℕ, ◌<◌, Bool, false, List, [], ◌∷◌, refl, sym, ap, ◌∙◌, subst, arith, true, Option, Some, None}
+use Rattle.std.proofs.Common.{◌≡◌, ℕ, ◌+◌, ◌<◌, Bool, false, List, [], ◌∷◌, refl, sym, ap, ◌∙◌, subst, arith, true, Option, Some, None, inl}
 use Rattle.std.proofs.lemmas.List.Elements.{All-cons, All-nil}
 use Rattle.std.proofs.lemmas.List.Sorted.{IsNonDecreasingBy-short}
 use Rattle.std.specs.List.{All, count_by}
@@ -14,8 +14,9 @@ use Rattle.card_model.specs.Cycles.{IssuedRow}
 use Rattle.card_model.specs.Deadlines.{resolves}
 use Rattle.card_model.specs.Everything.{everything}
 use Rattle.card_model.specs.Refusals.{IsBilledLater, bills}
-use Rattle.card_model.specs.Spans.{steps_among}
+use Rattle.card_model.specs.Spans.{IsSpan, steps_among}
 use Rattle.card_model.specs.declared.segment.Interval.{Interval}
+use Rattle.card_model.proofs.Spans.{spans_are_steps}
 use Rattle.card_daily.specs.Given.{AreInTurn, EndsWithAClosing, Given, IsSound, NamePayments, account_in, book_on, opened_in}
 use Rattle.card_book.specs.Stands.{steps_over}
 use Rattle.card_cases.specs.Account.{opening}
@@ -79,16 +80,26 @@ no-penalties : (n : ℕ) (key : List ℕ) (accepted : ℕ) → (book_on (given_a
 unfolding everything
 no-penalties n key accepted = refl
 
-abbrev steps_with : ℕ → Given → List Interval → ℕ
-steps_with first g penalties = steps_among (is_break (account_in g) (corrected (anchor_of g.history) g.shared.holidays g.history) g.issued penalties) first 19792
+abbrev pub breaks_by : Given → List Interval → ℕ → Bool
+breaks_by g penalties = is_break (account_in g) (corrected (anchor_of g.history) g.shared.holidays g.history) g.issued penalties
 
-from-opening : (n : ℕ) (key : List ℕ) (accepted : ℕ) → steps_with 19728 (given_alone (alone n key accepted)) [] ≡ 5
-unfolding everything
-from-opening n key accepted = refl
+abbrev steps_with : ℕ → Given → List Interval → ℕ
+steps_with first g penalties = steps_among (breaks_by g penalties) first 19792
 
 behind-opening : (n : ℕ) (key : List ℕ) (accepted : ℕ) → steps_with 19729 (given_alone (alone n key accepted)) [] ≡ 4
 unfolding everything
 behind-opening n key accepted = refl
+
+opening-breaks : (n : ℕ) (key : List ℕ) (accepted : ℕ) → breaks_by (given_alone (alone n key accepted)) [] 19728 ≡ true
+unfolding everything
+opening-breaks n key accepted = refl
+
+-- the opening day is a step of its own
+from-opening : (n : ℕ) (key : List ℕ) (accepted : ℕ) → steps_with 19728 (given_alone (alone n key accepted)) [] ≡ 5
+from-opening n key accepted =
+    let breaks : ℕ → Bool = breaks_by (given_alone (alone n key accepted)) [] in
+    let first : IsSpan breaks 19728 0 19792 = record { quiet = λ i l. absurd (omega (arith, l)); within = omega arith; ends = inl (opening-breaks n key accepted) } in
+    spans_are_steps.one breaks 19728 0 19792 first ∙ ap (λ k. 1 + k) (behind-opening n key accepted)
 
 five : (n : ℕ) (key : List ℕ) (accepted : ℕ) → steps_over (given_alone (alone n key accepted)) 19792 19728 ≡ 5
 five n key accepted = ap (steps_with 19728 (given_alone (alone n key accepted))) (no-penalties n key accepted) ∙ from-opening n key accepted

@@ -1,3 +1,2 @@
 mod Alone
 mod Reached
-mod Sound

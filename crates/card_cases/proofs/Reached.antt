@@ -1,5 +1,5 @@
 -- The steps of the account with its opening alone, as it is folded on and a charge is accepted.
-use Rattle.std.proofs.Common.{◌≡◌, ℕ, ◌+◌, ◌<◌, ◌≤◌, true, false, nat_le, List, [], ◌∷◌, ◌++◌, refl, sym, ap, ◌∙◌, subst, arith, Some, None}
+use Rattle.std.proofs.Common.{◌≡◌, ℕ, ◌+◌, ◌<◌, ◌≤◌, ◌-◌, true, false, ◌||◌, nat_le, List, [], ◌∷◌, ◌++◌, refl, sym, ap, ◌∙◌, subst, arith, Some, None}
 use Rattle.std.proofs.lemmas.Bool.Decides.{nat_tests}
 use Rattle.std.proofs.lemmas.List.Elements.{All-cons, All-nil}
 use Rattle.std.proofs.lemmas.List.Sorted.{IsNonDecreasingBy-push, IsNonDecreasingBy-short}
@@ -10,22 +10,25 @@ use Rattle.card_events.specs.SharedRows.{SharedRows}
 use Rattle.card_events.specs.declared.kept.Kept.{Kept}
 use Rattle.card_events.specs.declared.post.Post.{Post}
 use Rattle.card_model.specs.Accepted.{HasFewCents, HasFewFees, HasFewRates}
+use Rattle.card_model.specs.Breaks.{breaks_among}
 use Rattle.card_model.specs.Caps.{row_for}
 use Rattle.card_model.specs.Cycles.{IssuedRow}
 use Rattle.card_model.specs.Deadlines.{resolves}
 use Rattle.card_model.specs.Everything.{everything}
 use Rattle.card_model.specs.Machine.{accepted}
 use Rattle.card_model.specs.Refusals.{IsBilledLater, Lists, bills, reason_against}
+use Rattle.card_model.specs.declared.segment.Interval.{Interval}
 use Rattle.card_events.specs.Billing.{closing}
 use Rattle.card_events.specs.Range.{last_request_day}
 use Rattle.card_posts.specs.Change.{IsFirstChange, on, up_to}
 use Rattle.card_posts.specs.Posted.{last_accepted}
-use Rattle.card_daily.specs.Given.{AreInTurn, EndsWithAClosing, Given, IsSound, NamePayments}
+use Rattle.card_daily.specs.Given.{AreInTurn, EndsWithAClosing, Given, IsSound, NamePayments, book_on}
 use Rattle.card_book.specs.Stands.{steps_over}
 use Rattle.card_book.specs.StepCounts.{breaks_with}
 use Rattle.card_replay.specs.Replays.{MayReach, Replay, given_of, opened_lists, present_of}
 use Rattle.card_replay.specs.Steps.{AreFewToPrepare, IsFirstBetween, first_in_cycle, steps_to}
-use Rattle.card_cases.proofs.Alone.{four, no-bill, no-days, sound}
+use Rattle.card_replay.proofs.Reaching.{one-step as one-step-alone}
+use Rattle.card_cases.proofs.Alone.{breaks_by, four, no-bill, no-days, sound}
 use Rattle.card_cases.specs.Account.{opening}
 use Rattle.card_cases.specs.Alone.{HasOpeningAlone, alone, charge, given_alone, lists_alone, no_rows}
 
@@ -52,12 +55,8 @@ from-lists P lists shared h e each = subst (λ s. P (given_of lists s)) (sym e) 
 pub sound-alone : (lists : Lists) (shared : SharedRows) → HasOpeningAlone lists → shared ≡ no_rows → IsSound (given_of lists shared)
 sound-alone lists shared h e = from-lists IsSound lists shared h e sound
 
-first-day : (n : ℕ) (key : List ℕ) (accepted : ℕ) → steps_over (given_alone (alone n key accepted)) 19728 19728 ≡ 1
-unfolding everything
-first-day n key accepted = refl
-
-pub one-step-first : (lists : Lists) (shared : SharedRows) → HasOpeningAlone lists → shared ≡ no_rows → steps_over (given_of lists shared) 19728 19728 ≡ 1
-one-step-first lists shared h e = from-lists (λ g. steps_over g 19728 19728 ≡ 1) lists shared h e first-day
+pub one-step-first : (lists : Lists) (shared : SharedRows) → steps_over (given_of lists shared) 19728 19728 ≡ 1
+one-step-first lists shared = one-step-alone (given_of lists shared) 19728
 
 -- ---- on later days
 on-day : (to reached count : ℕ) (shared : SharedRows) (r : Replay) → HasOpeningAlone r.lists → shared ≡ no_rows → r.folding.reached ≡ reached
@@ -68,12 +67,8 @@ on-day to reached count shared r h e day each =
 pub four-steps : (shared : SharedRows) (r : Replay) → HasOpeningAlone r.lists → shared ≡ no_rows → r.folding.reached ≡ 19728 → steps_to 19792 shared r ≡ 4
 four-steps shared r h e day = on-day 19792 19728 4 shared r h e day four
 
-next-day : (n : ℕ) (key : List ℕ) (accepted : ℕ) → steps_over (given_alone (alone n key accepted)) 19793 19793 ≡ 1
-unfolding everything
-next-day n key accepted = refl
-
 pub one-step : (shared : SharedRows) (r : Replay) → HasOpeningAlone r.lists → shared ≡ no_rows → r.folding.reached ≡ 19792 → steps_to 19793 shared r ≡ 1
-one-step shared r h e day = on-day 19793 19792 1 shared r h e day next-day
+one-step shared r h e day = on-day 19793 19792 1 shared r h e day (λ n key accepted. one-step-alone (given_alone (alone n key accepted)) 19793)
 
 pub no-step : (shared : SharedRows) (r : Replay) → HasOpeningAlone r.lists → shared ≡ no_rows → r.folding.reached ≡ 19793 → steps_to 19793 shared r ≡ 0
 no-step shared r h e day = on-day 19793 19793 0 shared r h e day (λ n key accepted. refl)
@@ -183,13 +178,28 @@ first-changed n key accepted name =
       differs = differs n key accepted name;
     }
 
-one-break : (n : ℕ) (key : List ℕ) (accepted : ℕ) (name : List ℕ) → breaks_with (given_alone (alone n key accepted)) (given_charged n key accepted name) (first_in_cycle (anchor_of (alone n key accepted)) 19794) 19794 ≡ 1
-unfolding everything
-one-break n key accepted name = refl
+-- the break days of its cycle up to today, by the penalties before it and after it, of which there are none
+abbrev breaks_beside : ℕ → List ℕ → ℕ → List ℕ → List Interval → List Interval → ℕ
+breaks_beside n key accepted name before after =
+    let first = first_in_cycle (anchor_of (alone n key accepted)) 19794 in
+    breaks_among (λ day. breaks_by (given_alone (alone n key accepted)) before day || breaks_by (given_charged n key accepted name) after day) first (19794 + 1 - first)
 
-to-reach : (n : ℕ) (key : List ℕ) (accepted : ℕ) → steps_over (given_alone (alone n key accepted)) 19794 19794 ≡ 1
+none-before-it : (n : ℕ) (key : List ℕ) (accepted : ℕ) → (book_on (given_alone (alone n key accepted)) 19794).penalties ≡ []
 unfolding everything
-to-reach n key accepted = refl
+none-before-it n key accepted = refl
+
+none-after-it : (n : ℕ) (key : List ℕ) (accepted : ℕ) (name : List ℕ) → (book_on (given_charged n key accepted name) 19794).penalties ≡ []
+unfolding everything
+none-after-it n key accepted name = refl
+
+one-beside : (n : ℕ) (key : List ℕ) (accepted : ℕ) (name : List ℕ) → breaks_beside n key accepted name [] [] ≡ 1
+unfolding everything
+one-beside n key accepted name = refl
+
+one-break : (n : ℕ) (key : List ℕ) (accepted : ℕ) (name : List ℕ) → breaks_with (given_alone (alone n key accepted)) (given_charged n key accepted name) (first_in_cycle (anchor_of (alone n key accepted)) 19794) 19794 ≡ 1
+one-break n key accepted name =
+    ap (λ p. breaks_beside n key accepted name p (book_on (given_charged n key accepted name) 19794).penalties) (none-before-it n key accepted)
+    ∙ (ap (breaks_beside n key accepted name []) (none-after-it n key accepted name) ∙ one-beside n key accepted name)
 
 three : (n : ℕ) (key : List ℕ) (since : ℕ) (name : List ℕ) (before after : ℕ) → AreFewToPrepare 19794 no_rows (lists_alone n key since) 19793 name charge before after → after ≤ before + 3
 three n key since name before after few =
@@ -197,7 +207,7 @@ three n key since name before after few =
     → after ≤ before + steps_over (given_alone (alone n key since)) 19794 19794 + (breaks_with (given_alone (alone n key since)) (given_of l no_rows) (first_in_cycle (anchor_of (alone n key since)) from) 19794 + 1)) (with-it n key since name) few in
     let most = few' 19794 (first-changed n key since name) in
     let one = one-break n key since name in
-    let reach = to-reach n key since in
+    let reach = one-step-alone (given_alone (alone n key since)) 19794 in
     omega (arith, most, one, reach)
 
 pub three-steps : (today : ℕ) (shared : SharedRows) (lists : Lists) (reached : ℕ) (name : List ℕ) (p : Post) (before after : ℕ) → today ≡ 19794 → shared ≡ no_rows → HasOpeningAlone lists → reached ≡ 19793 → p ≡ charge

@@ -16,6 +16,6 @@ returns-clause-one g c =
     let one : steps_over given c.day-opened.result (opening_in c.opening.result) ≡ 1 =
     ap (λ d. steps_over given d (opening_in c.opening.result)) c.day-opened.ensures
     ∙ (ap (λ p. steps_over given 19728 (opening_in p)) c.opening.ensures
-    ∙ one-step-first lists c.args.shared.now (opened-alone c.in_ok-key.key c.day-opened.result c.opening.result c.day-opened.ensures c.opening.ensures) c.requires.nothing) in
+    ∙ one-step-first lists c.args.shared.now) in
     let most = c.start.ensures.most in
     omega (arith, most, one)
