@@ -1,9 +1,8 @@
-use card_ports::{Body, Keeper, KeeperFault, Row};
-use card_sqlite::{SqliteKeeper, StoreKeeper, Told};
-use sqlite::{Alter, Connection, FileStore, Files, Options};
+use card_ports::{Body, KeeperFault, Row};
+use card_sqlite::StoreKeeper;
+use sqlite::{Alter, Connection, Files, Options};
 use sqlite_disk::{Crash, Disk, Fuse, Memory};
 use std::alloc::Global;
-use std::fs;
 use std::test::Fail;
 
 const ENDLESS: u64 = u64::MAX;
@@ -39,58 +38,35 @@ fn kept(loaded: Result<Vec<Row>, KeeperFault>) -> Option<usize> {
     Some(rows.len())
 }
 
-// Whether a database gives no rows, takes the two, and gives them. Over any store that tells its rows.
-fn keeps<S: Told + Drop>(alloc: Global, conn: Connection<S>, two: &[Row]) -> bool {
+// The rows of a store, to which more are added, if there are some: what is left of the store, and how many there were. None
+// where something stopped it. Over any store, since what is proved of a call over a file takes long.
+fn add<S: Alter + Drop>(alloc: Global, conn: Connection<S>, more: &[Row]) -> (S, Option<usize>) {
     let mut keeper = StoreKeeper::adopt(conn);
-    kept(keeper.load(alloc)) == Some(0)
-        && keeper.append_rows(two).is_ok()
-        && kept(keeper.load(alloc)) == Some(2)
+    let rows = kept(keeper.load_rows(alloc));
+    let done = more.is_empty() || keeper.append_rows(more).is_ok();
+    (
+        keeper.give_back().into_store(),
+        if done { rows } else { None },
+    )
 }
 
-#[test]
-fn rows_are_kept(rt: HostRuntime) -> Result<(), Fail> {
-    let alloc = rt.alloc();
-    let two = two_rows(alloc)?;
-    assert!(rt; keeps(alloc, Connection::open_in_memory(alloc)?, &two));
-    Ok(())
-}
-
-// An append of two rows: what is left of the store, and whether nothing stopped it. This and `rows_of` are over any store,
-// since what is proved of a call over a file takes long: `added` and `rows_in` make one each.
-fn add<S: Alter + Drop>(alloc: Global, conn: Connection<S>, two: &[Row]) -> (S, bool) {
-    let mut keeper = StoreKeeper::adopt(conn);
-    let done = keeper.load_rows(alloc).is_ok() && keeper.append_rows(two).is_ok();
-    (keeper.give_back().into_store(), done)
-}
-
-fn rows_of<S: Alter + Drop>(alloc: Global, conn: Connection<S>) -> Option<usize> {
-    let mut keeper = StoreKeeper::adopt(conn);
-    kept(keeper.load_rows(alloc))
-}
-
-// Two files, opened, or as they are where they can't be. Over any disk, so that no clause of a disk in memory is read for it.
-fn opened<D: Disk + Drop>(
+// The same over two files, and what is left of them; None also where they can't be opened. Over any disk, so that no clause of
+// a disk in memory is read for it.
+fn added<D: Disk + Drop>(
     alloc: Global,
     files: Files<D>,
     seed: u64,
-) -> Result<Connection<FileStore<D>>, Files<D>> {
+    more: &[Row],
+) -> (Files<D>, Option<usize>) {
     if !files.may_be_used() {
-        return Err(files);
+        return (files, None);
     }
     match Connection::open_files(alloc, files, Options::new(seed)) {
-        Ok(conn) => Ok(conn),
-        Err((_, left)) => Err(left.into_files()),
-    }
-}
-
-// An append of two rows over two files: what is left of the files, and whether nothing stopped it.
-fn added<D: Disk + Drop>(alloc: Global, files: Files<D>, two: &[Row]) -> (Files<D>, bool) {
-    match opened(alloc, files, 7) {
         Ok(conn) => {
-            let (store, done) = add(alloc, conn, two);
-            (store.close(), done)
+            let (store, rows) = add(alloc, conn, more);
+            (store.close(), rows)
         }
-        Err(files) => (files, false),
+        Err((_, left)) => (left.into_files(), None),
     }
 }
 
@@ -108,23 +84,17 @@ fn crashed(mut files: Files<Fused>) -> Files<Fused> {
     files
 }
 
-// The rows of two files. None where the files can't be opened or the rows aren't whole.
-fn rows_in<D: Disk + Drop>(alloc: Global, files: Files<D>) -> Option<usize> {
-    match opened(alloc, files, 8) {
-        Ok(conn) => rows_of(alloc, conn),
-        Err(_) => None,
-    }
-}
-
-// An append over files of which one stops after so many calls: whether nothing stopped it, and the rows that are left.
-fn run(alloc: Global, is_log: bool, calls: u64, two: &[Row]) -> (bool, Option<usize>) {
+// An append over files of which one stops after so many calls, and the same files after a crash: how many rows there were
+// before both, or None where something stopped it.
+fn run(alloc: Global, is_log: bool, calls: u64, two: &[Row]) -> (Option<usize>, Option<usize>) {
     let (log, db) = if is_log {
         (calls, ENDLESS)
     } else {
         (ENDLESS, calls)
     };
-    let (files, done) = added(alloc, stopping(alloc, log, db), two);
-    (done, rows_in(alloc, crashed(files)))
+    let (files, before) = added(alloc, stopping(alloc, log, db), 7, two);
+    let (_, after) = added(alloc, crashed(files), 8, &[]);
+    (before, after)
 }
 
 // Stops one of the files after 0 calls, 1 call and so on, until a run isn't stopped: how many runs were stopped, where each
@@ -132,8 +102,8 @@ fn run(alloc: Global, is_log: bool, calls: u64, two: &[Row]) -> (bool, Option<us
 fn stops(alloc: Global, is_log: bool, two: &[Row]) -> Option<u64> {
     for calls in 0u64..2000 {
         match run(alloc, is_log, calls, two) {
-            (true, Some(2)) => return Some(calls),
-            (false, Some(0 | 2)) => {}
+            (Some(0), Some(2)) => return Some(calls),
+            (None, Some(0 | 2)) => {}
             _ => return None,
         }
     }
@@ -143,53 +113,7 @@ fn stops(alloc: Global, is_log: bool, two: &[Row]) -> Option<u64> {
 #[test]
 fn stopped_at_each_call(rt: HostRuntime) -> Result<(), Fail> {
     let two = two_rows(rt.alloc())?;
-    let log = stops(rt.alloc(), true, &two);
-    let db = stops(rt.alloc(), false, &two);
-    assert!(rt; log.is_some());
-    assert!(rt; db.is_some());
-    Ok(())
-}
-
-fn path(alloc: Global) -> Result<String, Fail> {
-    Ok(String::from_str(alloc, "card_sqlite_test/rows")?)
-}
-
-// Whether a keeper gives no rows, takes the two, and is closed.
-fn takes(alloc: Global, mut keeper: SqliteKeeper, two: &[Row]) -> bool {
-    let none = kept(keeper.load(alloc)) == Some(0);
-    let taken = keeper.append(alloc, two).is_ok();
-    keeper.close().is_ok() && none && taken
-}
-
-// The rows that a keeper gives, and those that another gives while the first has the file. Both are closed, since what is
-// proved where one is let go takes long.
-fn gives(
-    alloc: Global,
-    mut first: SqliteKeeper,
-    mut second: SqliteKeeper,
-) -> (Option<usize>, Option<usize>) {
-    let rows = kept(first.load(alloc));
-    let others = kept(second.load(alloc));
-    let _ = second.close();
-    let _ = first.close();
-    (rows, others)
-}
-
-#[test]
-fn a_second_keeper_finds_the_rows(rt: HostRuntime) -> Result<(), Fail> {
-    let alloc = rt.alloc();
-    let _ = fs::remove_dir_all(&rt, "card_sqlite_test");
-    fs::create_dir(&rt, "card_sqlite_test")?;
-    let (first, second, third) = (path(alloc)?, path(alloc)?, path(alloc)?);
-    let two = two_rows(alloc)?;
-    assert!(rt; takes(alloc, SqliteKeeper::new(&rt, first), &two));
-    let (rows, others) = gives(
-        alloc,
-        SqliteKeeper::new(&rt, second),
-        SqliteKeeper::new(&rt, third),
-    );
-    assert_eq!(rt; rows, Some(2));
-    assert_eq!(rt; others, None);
-    fs::remove_dir_all(&rt, "card_sqlite_test")?;
+    assert!(rt; stops(rt.alloc(), true, &two).is_some());
+    assert!(rt; stops(rt.alloc(), false, &two).is_some());
     Ok(())
 }
