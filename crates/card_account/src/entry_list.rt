@@ -11,7 +11,7 @@ use std::alloc::Global;
 use std::marker::Model;
 
 /// The entries of an account in the order of the fold, and the segments on which they are.
-#[derive(Debug, Drop)]
+#[derive(Drop)]
 pub struct EntryList {
     entries: Vec<Entry>,
     segments: Vec<Segment>,

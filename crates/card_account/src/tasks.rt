@@ -13,7 +13,7 @@ use std::marker::Model;
 use std::sync::ledger::Ledger;
 
 /// Tasks in an order.
-#[derive(Debug, Drop)]
+#[derive(Drop)]
 pub struct Tasks {
     tasks: Vec<Task>,
 }

@@ -1,7 +1,7 @@
 use card_events::Refusal;
 
 /// What a post comes to, before it is carried out.
-#[derive(Clone, Copy, Debug)]
+#[derive(Clone, Copy)]
 pub enum Verdict {
     Refused(Refusal),
     /// The post of this number has the same key and content.

@@ -13,7 +13,7 @@ use std::alloc::Global;
 
 /// What a deferred plan in its period has accrued at the closing of a cycle (12 CFR 1026.55(b)(1), comment 55(b)(1)-3): the
 /// cycle's number, the number of the plan's segment, and the accrual.
-#[derive(Clone, Copy, Debug, PartialEq, Eq)]
+#[derive(Clone, Copy)]
 pub struct Accruing {
     pub cycle: u32,
     pub segment: u8,

@@ -26,7 +26,7 @@ use card_statement::{
 use std::alloc::Global;
 
 // The balance before a cycle as it was stated, and what changed in it since.
-#[derive(Clone, Copy, Debug, PartialEq, Eq)]
+#[derive(Clone, Copy)]
 struct Earlier {
     previous: Cents,
     corrections: Cents,
@@ -96,7 +96,7 @@ fn listed_of(alloc: Global, folded: &Folded, cycle: &Cycle) -> Result<Listed, No
 }
 
 // What a sheet takes of the fee table and of the terms.
-#[derive(Clone, Copy, Debug, PartialEq, Eq)]
+#[derive(Clone, Copy)]
 struct Stated {
     late_up_to: Cents,
     penalty: Bp,
@@ -122,7 +122,7 @@ fn stated_of(inputs: &Inputs, folded: &Folded, issue: Day) -> Stated
 }
 
 // The fees and the interest of the year to date.
-#[derive(Clone, Copy, Debug, PartialEq, Eq)]
+#[derive(Clone, Copy)]
 struct Years {
     fees: u128,
     interest: u128,

@@ -7,7 +7,7 @@ use std::marker::Model;
 
 /// The interest that a deferred balance accrues over the whole period of its plan (12 CFR 1026.55(b)(1), comment 55(b)(1)-3). Clauses see the
 /// number of its days, and the sum of their balances in cents, each times the daily rate in units of 10^-9.
-#[derive(Clone, Copy, Debug, PartialEq, Eq)]
+#[derive(Clone, Copy)]
 pub struct Accrual {
     days: u32,
     sum: u128,

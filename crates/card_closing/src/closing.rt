@@ -14,7 +14,7 @@ use std::alloc::Global;
 
 /// A cycle as its closing takes it: its number, from 1, its first day, its closing, its due date, and the closing after it;
 /// amounts in cents.
-#[derive(Clone, Copy, Debug, PartialEq, Eq)]
+#[derive(Clone, Copy)]
 pub struct Closing {
     pub number: u32,
     pub first: Day,

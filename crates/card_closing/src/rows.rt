@@ -5,7 +5,7 @@ use std::alloc::Global;
 use std::marker::Model;
 
 /// What a payment or a credit brought to a segment: its effective day, its cents, and the number of its post.
-#[derive(Clone, Copy, Debug, PartialEq, Eq)]
+#[derive(Clone, Copy)]
 pub struct Repayment {
     pub day: Day,
     pub cents: u64,

@@ -12,7 +12,7 @@ use card_events::{Bp, Day, daily};
 use card_model::GraceCase;
 
 /// Days in a row with the same balance in cents and the same rate.
-#[derive(Clone, Copy, Debug, PartialEq, Eq)]
+#[derive(Clone, Copy)]
 pub struct Run {
     pub days: u32,
     pub balance: u64,

@@ -11,7 +11,7 @@ use card_lines::read_number;
 use std::alloc::Global;
 
 /// What is asked for.
-#[derive(Debug, Drop)]
+#[derive(Drop)]
 pub enum Command {
     /// Reads request lines, and replies to each.
     Apply,

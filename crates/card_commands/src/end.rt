@@ -1,5 +1,5 @@
 /// Why a run ends before its input does.
-#[derive(Clone, Copy, Debug, PartialEq, Eq)]
+#[derive(Clone, Copy)]
 pub enum End {
     /// The source failed.
     Source,

@@ -6,7 +6,7 @@ use crate::end::End;
 use card_ports::SinkFault;
 
 /// How a call ends.
-#[derive(Clone, Copy, Debug, PartialEq, Eq)]
+#[derive(Clone, Copy)]
 pub enum Ended {
     /// The input was read to its end, and no line was refused; or all connections were attended to.
     Done,

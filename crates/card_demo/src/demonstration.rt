@@ -9,7 +9,7 @@ const MOST_CYCLES: u64 = 60;
 
 /// A demonstration: where its generator begins, how many accounts it opens, at most 1,000, and how many cycles they go through,
 /// 1 to 60.
-#[derive(Debug, Drop)]
+#[derive(Drop)]
 pub struct Demonstration {
     start: Num,
     accounts: u32,

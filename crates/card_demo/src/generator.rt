@@ -9,7 +9,7 @@ const FACTOR: u64 = 6_364_136_223_846_793_005;
 const SUMMAND: u64 = 1_442_695_040_888_963_407;
 
 /// A linear congruential generator. Clauses see it as the number below 2^64 where it is.
-#[derive(Debug, Drop)]
+#[derive(Drop)]
 pub struct Generator {
     x: u64,
 }

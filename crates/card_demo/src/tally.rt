@@ -2,7 +2,7 @@
 use std::marker::Model;
 
 /// How many requests there were, and how many of them were refused.
-#[derive(Debug, Drop)]
+#[derive(Drop)]
 pub struct Tally {
     count: u64,
     refused: u64,

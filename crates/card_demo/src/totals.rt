@@ -9,7 +9,7 @@ use card_events::Cents;
 use card_model::{Entry, EntryKind};
 
 /// What is owed, and of that interest and fees, in cents.
-#[derive(Clone, Copy, Debug)]
+#[derive(Clone, Copy)]
 pub struct Totals {
     pub owed: i128,
     pub interest: i128,

@@ -5,7 +5,7 @@ ghost use Rattle.card_events.specs.Money.{money_text, sign_text};
 use std::fmt;
 
 /// Cents of any size as an amount of money: an optional minus, the units, a point and two digits.
-#[derive(Clone, Copy, Debug)]
+#[derive(Clone, Copy)]
 pub struct WideMoney(pub i128);
 
 impl WideMoney {

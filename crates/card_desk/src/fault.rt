@@ -6,7 +6,7 @@ use card_events::NoMemory;
 use std::alloc::AllocError;
 
 /// Why a request was not carried out.
-#[derive(Clone, Copy, Debug, PartialEq, Eq)]
+#[derive(Clone, Copy, Debug)]
 pub enum Fault {
     /// The keeper failed.
     Keeper,
@@ -31,7 +31,7 @@ impl From<AllocError> for Fault {
 }
 
 /// Why kept rows give no desk.
-#[derive(Clone, Copy, Debug, PartialEq, Eq)]
+#[derive(Clone, Copy, Debug)]
 pub enum LoadFault {
     /// The keeper failed.
     Keeper,

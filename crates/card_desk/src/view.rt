@@ -2,7 +2,7 @@ use card_account::{EntryList, Statement, Tasks};
 use card_events::{Cents, Day, Name, Num};
 
 /// What can be asked of a desk.
-#[derive(Debug, Drop)]
+#[derive(Drop)]
 pub enum Ask {
     /// What is owed on the account today.
     Show(Name),

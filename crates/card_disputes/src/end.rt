@@ -12,7 +12,7 @@ use card_posts::Posts;
 
 // What ends a task: that a dispute is acknowledged or resolved, by its number, that a credit balance is refunded, or that a
 // rate is lowered.
-#[derive(Clone, Copy, Debug, PartialEq, Eq)]
+#[derive(Clone, Copy)]
 pub enum End {
     Acknowledged(u32),
     Resolved(u32),

@@ -1,7 +1,7 @@
 use crate::{Cents, Day, Name, Post};
 
 /// An accepted post: its number in the account, its key, the day on which it was accepted, and its content.
-#[derive(Debug, Drop)]
+#[derive(Drop)]
 pub struct Kept {
     pub number: u32,
     pub key: Name,
@@ -10,7 +10,7 @@ pub struct Kept {
 }
 
 /// A post in the corrected list: its effective day, its number and its corrected cents, 0 for kinds without cents.
-#[derive(Clone, Copy, Debug, PartialEq, Eq)]
+#[derive(Clone, Copy)]
 pub struct Slot {
     pub day: Day,
     pub number: u32,

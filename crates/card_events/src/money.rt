@@ -5,7 +5,7 @@ use crate::Cents;
 use std::fmt;
 
 /// Cents as an amount of money: an optional minus, the units, a point and two digits.
-#[derive(Clone, Copy, Debug, PartialEq, Eq, PartialOrd, Ord)]
+#[derive(Clone, Copy)]
 pub struct Money(pub Cents);
 
 impl Money {

@@ -2,7 +2,7 @@ use crate::dated::is_request_day;
 use crate::{Channel, Day, Num};
 
 /// The numbers of an account, as they were read. `Refusal::BadTerms` names the first that is out of its range.
-#[derive(Clone, Copy, Debug, PartialEq, Eq)]
+#[derive(Clone, Copy, PartialEq, Eq)]
 pub struct Terms {
     /// The day of the month on which cycles close, 1 to 28.
     pub close: Num,
@@ -19,7 +19,7 @@ pub struct Terms {
 }
 
 /// A category of transactions, which has a rate of its own.
-#[derive(Clone, Copy, Debug, PartialEq, Eq)]
+#[derive(Clone, Copy, PartialEq, Eq)]
 pub enum Category {
     Purchase,
     Cash,
@@ -27,7 +27,7 @@ pub enum Category {
 }
 
 /// Where a charge or a credit goes: to a category, or to the plan that the post of this number began.
-#[derive(Clone, Copy, Debug, PartialEq, Eq)]
+#[derive(Clone, Copy, PartialEq, Eq)]
 pub enum Place {
     Purchase,
     Cash,
@@ -36,21 +36,21 @@ pub enum Place {
 }
 
 /// A plan at a rate of its own, or one whose interest is charged at the end unless the balance is paid.
-#[derive(Clone, Copy, Debug, PartialEq, Eq)]
+#[derive(Clone, Copy, PartialEq, Eq)]
 pub enum PlanKind {
     Promo,
     Deferred,
 }
 
 /// What a review of a rate increase found (12 CFR 1026.59).
-#[derive(Clone, Copy, Debug, PartialEq, Eq)]
+#[derive(Clone, Copy, PartialEq, Eq)]
 pub enum Finding {
     Keep,
     Reduce,
 }
 
 /// A post of an account. Rates are in basis points, amounts in cents, minutes count from midnight; targets are numbers of posts.
-#[derive(Clone, Copy, Debug, PartialEq, Eq)]
+#[derive(Clone, Copy, PartialEq, Eq)]
 pub enum Post {
     /// The account begins.
     Open {

@@ -6,7 +6,7 @@ use std::marker::Model;
 
 /// A yearly rate in basis points, hundredths of a percent, from 0 to 9,999. It is the annual percentage rate that is
 /// shown (12 CFR 1026.14(b)).
-#[derive(Clone, Copy, Debug, PartialEq, Eq, PartialOrd, Ord)]
+#[derive(Clone, Copy, PartialEq, Eq, PartialOrd, Ord)]
 pub struct Bp {
     points: u16,
 }

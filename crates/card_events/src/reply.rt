@@ -1,7 +1,7 @@
 use crate::{Cents, Day};
 
 /// The answer to a request.
-#[derive(Clone, Copy, Debug, PartialEq, Eq)]
+#[derive(Clone, Copy)]
 pub enum Reply {
     /// The shared request was accepted.
     Done,
@@ -12,7 +12,7 @@ pub enum Reply {
 }
 
 /// Why a request isn't accepted. The first that holds is given, in this order.
-#[derive(Clone, Copy, Debug, PartialEq, Eq)]
+#[derive(Clone, Copy)]
 pub enum Refusal {
     /// No account has the name.
     UnknownAccount,

@@ -2,7 +2,7 @@ use crate::dated::is_request_day;
 use crate::{Day, Name, Num, Post};
 
 /// A request that all accounts share.
-#[derive(Clone, Copy, Debug, PartialEq, Eq)]
+#[derive(Clone, Copy)]
 pub enum Shared {
     /// Today is this day from now on.
     Roll(Day),
@@ -13,7 +13,7 @@ pub enum Shared {
 }
 
 /// A request of the machine.
-#[derive(Debug, Drop)]
+#[derive(Drop)]
 pub enum Request {
     Shared(Shared),
     /// A post of an account, under a key that is the account's own.

@@ -6,7 +6,7 @@ use card_events::Cents;
 
 /// A closed cycle as its due date sees it: its number, from 1, and its minimum payment and grace amount in cents, at least
 /// 0.
-#[derive(Clone, Copy, Debug, PartialEq, Eq)]
+#[derive(Clone, Copy)]
 pub struct DueCycle {
     pub cycle: u32,
     pub minimum: Cents,

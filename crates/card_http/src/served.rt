@@ -2,7 +2,7 @@
 use crate::status::Status;
 
 /// How a connection ends.
-#[derive(Clone, Copy, Debug, PartialEq, Eq)]
+#[derive(Clone, Copy)]
 pub enum Served {
     /// An answer of this status was written whole.
     Answered(Status),

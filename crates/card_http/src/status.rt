@@ -3,7 +3,7 @@ use card_events::Reply;
 use card_wire::Early;
 
 /// The status of an answer.
-#[derive(Clone, Copy, Debug, PartialEq, Eq)]
+#[derive(Clone, Copy)]
 pub enum Status {
     /// 200: what was asked for is done, or is in the body.
     Done,

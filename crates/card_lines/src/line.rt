@@ -4,7 +4,7 @@ ghost use Rattle.card_lines.specs.declared.line.LineFault.TheVariants.{Bad, Memo
 use card_events::{Name, NoMemory, Request};
 
 /// What a line says.
-#[derive(Debug, Drop)]
+#[derive(Drop)]
 pub enum Line {
     Request(Request),
     /// The account of this name is to be shown. It isn't a request, and isn't kept.
@@ -14,14 +14,14 @@ pub enum Line {
 }
 
 /// Why a line or a record isn't read.
-#[derive(Clone, Copy, Debug)]
+#[derive(Clone, Copy)]
 pub enum LineFault {
     Memory,
     Bad(u8),
 }
 
 /// The number of the first field that is bad.
-#[derive(Clone, Copy, Debug)]
+#[derive(Clone, Copy)]
 pub struct BadField(pub u8);
 
 impl From<BadField> for LineFault {

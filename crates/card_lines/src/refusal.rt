@@ -5,7 +5,7 @@ use card_events::{Cents, Day, Refusal};
 use std::fmt;
 
 /// The value that some refusals have.
-#[derive(Clone, Copy, Debug, PartialEq, Eq)]
+#[derive(Clone, Copy)]
 pub enum RefusalValue {
     /// The number of a post, or of a term.
     Number(u64),

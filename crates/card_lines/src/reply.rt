@@ -101,7 +101,7 @@ fn account_text(
 }
 
 /// What an account owes, and what is held as credit and in dispute, in cents.
-#[derive(Debug, Drop)]
+#[derive(Drop)]
 struct Balances {
     owed: Cents,
     credit: Cents,

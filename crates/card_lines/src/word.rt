@@ -3,7 +3,7 @@ ghost use Rattle.std.specs.Str.{bytes_eq};
 ghost use Rattle.card_lines.specs.Words.{word_of, post_kind_of, follow_up_of};
 
 /// A word that a line begins with.
-#[derive(Clone, Copy, Debug, PartialEq, Eq)]
+#[derive(Clone, Copy)]
 pub enum Word {
     Roll,
     Holiday,
@@ -13,7 +13,7 @@ pub enum Word {
 }
 
 /// A kind of post.
-#[derive(Clone, Copy, Debug, PartialEq, Eq)]
+#[derive(Clone, Copy)]
 pub enum PostKind {
     Open,
     Charge,

@@ -1,7 +1,7 @@
 use card_events::{Cents, Day};
 
 /// Why an entry stands.
-#[derive(Clone, Copy, Debug, PartialEq, Eq)]
+#[derive(Clone, Copy)]
 pub enum EntryKind {
     Charge,
     Credit,
@@ -14,7 +14,7 @@ pub enum EntryKind {
 }
 
 /// A movement on a segment. A plus raises what is owed; the post is 0 for interest and late fees.
-#[derive(Clone, Copy, Debug, PartialEq, Eq)]
+#[derive(Clone, Copy)]
 pub struct Entry {
     pub day: Day,
     pub segment: u8,
@@ -24,7 +24,7 @@ pub struct Entry {
 }
 
 /// The day, kind and post of entries that are made together.
-#[derive(Clone, Copy, Debug, PartialEq, Eq)]
+#[derive(Clone, Copy)]
 pub struct Note {
     pub day: Day,
     pub kind: EntryKind,

@@ -1,14 +1,14 @@
 use card_events::{Cents, Day};
 
 /// What a penalty fee is for (12 CFR 1026.52(b)).
-#[derive(Clone, Copy, Debug, PartialEq, Eq)]
+#[derive(Clone, Copy)]
 pub enum FeeKind {
     Late,
     Returned,
 }
 
 /// A penalty fee: the cycle whose due date it is for, its tier, and the cycle and day on which it was charged.
-#[derive(Clone, Copy, Debug, PartialEq, Eq)]
+#[derive(Clone, Copy)]
 pub struct Fee {
     pub due_cycle: u32,
     pub kind: FeeKind,

@@ -1,7 +1,7 @@
 use card_events::Day;
 
 /// How a balance bears interest in a cycle (12 CFR 1026.54).
-#[derive(Clone, Copy, Debug, PartialEq, Eq)]
+#[derive(Clone, Copy)]
 pub enum GraceCase {
     /// It bears none.
     None,

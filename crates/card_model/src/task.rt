@@ -2,7 +2,7 @@ use card_events::{Day, Name};
 
 /// What has to be done: to acknowledge or resolve a dispute (12 CFR 1026.13(c)), to refund a credit balance on request
 /// or after six months (12 CFR 1026.11(a)), to review a rate increase or lower the rate after a review (12 CFR 1026.59).
-#[derive(Clone, Copy, Debug, PartialEq, Eq)]
+#[derive(Clone, Copy)]
 pub enum TaskKind {
     Ack,
     Resolve,
@@ -13,7 +13,7 @@ pub enum TaskKind {
 }
 
 /// An open task of an account: its last day, and its post, 0 for a credit balance and a review.
-#[derive(Debug, Drop)]
+#[derive(Drop)]
 pub struct Task {
     pub by: Day,
     pub account: Name,

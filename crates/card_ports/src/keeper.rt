@@ -9,7 +9,7 @@ use card_events::NoMemory;
 use std::alloc::{AllocError, AllocFailed, Global};
 
 /// Why a keeper did nothing.
-#[derive(Clone, Copy, Debug, PartialEq, Eq)]
+#[derive(Clone, Copy, Debug)]
 pub enum KeeperFault {
     /// The outside failed.
     Failed,

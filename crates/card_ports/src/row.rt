@@ -5,7 +5,7 @@ use std::alloc::Global;
 use std::marker::Model;
 
 /// The bytes of a kept row.
-#[derive(Debug, Drop)]
+#[derive(Drop)]
 pub struct Body {
     bytes: Vec<u8>,
 }
@@ -45,7 +45,7 @@ impl Body {
 }
 
 /// A kept row: its number, counted from 1, and its bytes.
-#[derive(Debug, Drop)]
+#[derive(Drop)]
 pub struct Row {
     pub seq: u64,
     pub body: Body,

@@ -38,7 +38,7 @@ impl Model for Posts {
 }
 
 /// What became of a post: its number, and the earliest day on which the corrected list differs from what it was.
-#[derive(Clone, Copy, Debug, PartialEq, Eq)]
+#[derive(Clone, Copy)]
 pub struct Pushed {
     pub number: u32,
     pub from: Day,

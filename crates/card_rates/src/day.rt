@@ -9,7 +9,7 @@ use card_events::{Cents, Day, Post, Slot};
 use card_posts::Posts;
 
 /// A post as it counts now: its number, its effective day, its corrected cents (0 for kinds without cents), and its content.
-#[derive(Clone, Copy, Debug, PartialEq, Eq)]
+#[derive(Clone, Copy)]
 pub struct DayPost {
     pub number: u32,
     pub day: Day,

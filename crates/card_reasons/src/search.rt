@@ -12,7 +12,7 @@ use card_events::{Num, Post};
 use card_posts::Posts;
 
 /// What a post does: it issues a cycle, returns a payment, disputes a charge, or resolves a Dispute.
-#[derive(Clone, Copy, Debug)]
+#[derive(Clone, Copy)]
 pub enum Wanted {
     Bill(Num),
     Return(Num),

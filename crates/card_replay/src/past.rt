@@ -18,7 +18,7 @@ pub struct Past {
 }
 
 /// How long the lists of a past are, up to some closing: its `since` is as long as its cycles.
-#[derive(Clone, Copy, Debug, PartialEq, Eq)]
+#[derive(Clone, Copy)]
 pub struct Ends {
     pub entries: usize,
     pub cycles: usize,

@@ -1,7 +1,7 @@
 use card_events::{Name, Request};
 
 /// What a run takes, one after the other.
-#[derive(Debug, Drop)]
+#[derive(Drop)]
 pub enum Item {
     Request(Request),
     /// The account of this name is to be shown. A line may say so, and no record does.

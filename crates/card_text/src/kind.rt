@@ -4,7 +4,7 @@ ghost use Rattle.card_text.specs.Kinds.{kind_of};
 use card_lines::{PostKind, Word, read_word};
 
 /// The kinds of post that a record may give.
-#[derive(Clone, Copy, Debug, PartialEq, Eq)]
+#[derive(Clone, Copy)]
 pub enum RecordKind {
     Charge,
     Credit,

@@ -12,7 +12,7 @@ use card_lines::BadField;
 use csv::ByteRecord;
 
 /// What a charge and a merchant's credit have alike.
-#[derive(Clone, Copy, Debug)]
+#[derive(Clone, Copy)]
 pub struct Movement {
     day: Day,
     place: Place,

@@ -5,7 +5,7 @@ ghost use Rattle.card_wire.specs.Fields as spec;
 use card_lines::{PostKind, Word};
 
 /// A field of a request.
-#[derive(Clone, Copy, Debug, PartialEq, Eq)]
+#[derive(Clone, Copy)]
 pub enum Field {
     Account,
     Key,

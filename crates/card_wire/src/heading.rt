@@ -18,7 +18,7 @@ pub const HEAD_LIMIT: usize = 8192;
 pub const FIELD_LIMIT: usize = 64;
 
 /// How a head ends.
-#[derive(Clone, Copy, Debug, PartialEq, Eq)]
+#[derive(Clone, Copy)]
 pub enum HeadEnd {
     /// It is whole, and these are its parts.
     Whole(RequestSpans),

@@ -20,7 +20,7 @@ use serde_json::{Map, Value};
 use std::alloc::{AllocError, Global};
 
 /// Why a body gives no request.
-#[derive(Debug, Drop)]
+#[derive(Drop)]
 pub enum BodyFault {
     /// It isn't JSON.
     NotJson,

@@ -8,7 +8,7 @@ use card_events::is_name;
 use card_lines::read_number;
 
 /// What a path names.
-#[derive(Clone, Copy, Debug, PartialEq, Eq)]
+#[derive(Clone, Copy)]
 pub enum Route {
     /// `/posts`
     Posts,

@@ -1,5 +1,5 @@
 /// Why no further byte came.
-#[derive(Clone, Copy, Debug, PartialEq, Eq)]
+#[derive(Clone, Copy)]
 pub enum Stop {
     /// The input ended.
     Ended,

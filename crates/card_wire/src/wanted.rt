@@ -9,14 +9,14 @@ use crate::path::path_of;
 use crate::route::{Route, read_route};
 
 /// What a request asks for, and how many bytes its body has.
-#[derive(Clone, Copy, Debug, PartialEq, Eq)]
+#[derive(Clone, Copy)]
 pub struct Wanted {
     pub route: Route,
     pub length: u64,
 }
 
 /// Why a request is answered without its body. The first that applies is given, in this order.
-#[derive(Clone, Copy, Debug, PartialEq, Eq)]
+#[derive(Clone, Copy)]
 pub enum Early {
     /// A Transfer-Encoding is there, or Content-Length twice, or it isn't 1 to 9 digits.
     BadRequest,
