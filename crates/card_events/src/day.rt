@@ -3,7 +3,6 @@ ghost use Rattle.card_events.specs.Range.{IsDayNumber, first_calendar_day, last_
 ghost use Rattle.card_events.specs.Later.{clipped_day_at};
 ghost use Rattle.card_events.specs.Civil.{IsInCalendar, date_of, is_date, day_at, day_text};
 
-use jiff::civil::date;
 use jiff_core::civil;
 use std::fmt;
 use std::marker::Model;
@@ -158,10 +157,9 @@ impl Day {
 impl fmt::Display for Day {
     ghost output = { λ d. Some (day_text d) };
 
-    #[tactic(auto, unfolding(crate::specs::Civil::date_text))]
+    #[tactic(auto, using(crate::proofs::Texts::dates), unfolding(crate::specs::Civil::date_text))]
     fn fmt<W: fmt::Write>(&self, f: &mut fmt::Formatter<W>) -> fmt::Result {
-        let plain = self.date();
-        let date = date(plain.year, plain.month as i8, plain.day as i8);
-        write!(f, "{date}")
+        let (y, m, d) = self.ymd();
+        write!(f, "{y}-{}{}-{}{}", m / 10, m % 10, d / 10, d % 10)
     }
 }
