@@ -4,7 +4,7 @@ use Rattle.card_events.specs.declared.kept.Kept.{Kept}
 use Rattle.card_events.specs.declared.post.Post.{Post}
 use Rattle.card_events.specs.declared.post.Post.TheVariants as post
 use Rattle.card_fees.specs.Counting.{is_payment_at}
-use Rattle.card_posts.proofs.OneMore.{number-more}
+use Rattle.card_events.proofs.OneMore.{number-more}
 use Rattle.card_daily.proofs.Returning.{at-most}
 use Rattle.card_daily.specs.Given.{NamePayments, NamesAPayment}
 

@@ -14,3 +14,5 @@ pub mod LaterDays
 pub mod DueLaws
 pub mod MailLaws
 pub mod Agree
+pub mod OneMore
+pub mod IndexLemmas

@@ -15,3 +15,4 @@ pub mod Refusals
 pub mod Same
 pub mod SharedRows
 pub mod Blanks
+pub mod Index

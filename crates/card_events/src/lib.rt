@@ -8,6 +8,7 @@ mod calendar;
 mod credit;
 mod dated;
 mod day;
+pub mod index;
 mod kept;
 mod later;
 pub mod laws;
@@ -27,7 +28,7 @@ pub use billing::{after_closing, closing, closing_date, cycle_of, due, due_date}
 pub use calendar::{Calendar, next_business};
 pub use credit::credit_day;
 pub use day::Day;
-pub use kept::{Kept, Slot};
+pub use kept::{Kept, Slot, numbered};
 pub use later::{six_months_after, year_after};
 pub use limits::POST_LIMIT;
 pub use memory::NoMemory;

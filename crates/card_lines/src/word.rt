@@ -34,7 +34,7 @@ pub enum PostKind {
     Bill,
 }
 
-/// The text is this word, byte for byte. At a call with a word of the program it becomes a comparison or two.
+/// The text is this word, byte for byte. At a call with a word of the program, its length and first bytes are compared in place.
 #[inline(always)]
 pub fn is_word(text: &[u8], word: &[u8]) -> bool
     ensures { result ≡ bytes_eq text.now word.now }

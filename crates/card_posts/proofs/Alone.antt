@@ -15,7 +15,8 @@ use Rattle.card_posts.specs.declared.effect.Effect.{Effect}
 use Rattle.card_posts.proofs.DayLemmas.{day-by-later}
 use Rattle.card_posts.proofs.Following.{take-front}
 use Rattle.card_posts.proofs.Noted.{amend-confirmed, amend-other, resolve-amend, resolve-other}
-use Rattle.card_posts.proofs.OneMore.{cents-agree, effects-append, effects-length, more, plain-effects}
+use Rattle.card_events.proofs.OneMore.{more}
+use Rattle.card_posts.proofs.OneMore.{cents-agree, effects-append, effects-length, plain-effects}
 
 -- ---- whether a post waits
 either-first : (a b : Bool) → (a || b) ≡ false → a ≡ false

@@ -14,7 +14,8 @@ use Rattle.card_posts.specs.declared.effect.Effect.{Effect}
 use Rattle.card_posts.proofs.Alone.{amend-alone, no-names}
 use Rattle.card_posts.proofs.Changed.{change-one, change-same, first-change-exact}
 use Rattle.card_posts.proofs.Following.{corrected-is}
-use Rattle.card_posts.proofs.OneMore.{Agree, day-agree, effects-agree, effects-append, effects-length, more, number-more, plain-agree}
+use Rattle.card_events.proofs.OneMore.{more, number-more}
+use Rattle.card_posts.proofs.OneMore.{Agree, day-agree, effects-agree, effects-append, effects-length, plain-agree}
 use Rattle.card_posts.proofs.Noted.{resolve-amend, resolve-other}
 use Rattle.card_posts.proofs.Targets.{effects-at}
 

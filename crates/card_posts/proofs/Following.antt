@@ -18,7 +18,8 @@ use Rattle.card_posts.proofs.Numbers.{numbered-more}
 use Rattle.card_posts.proofs.Ordered.{on-in_order}
 use Rattle.card_posts.proofs.SlotLists.{slots-numbered}
 use Rattle.card_posts.specs.Order.{in_order, on_day}
-use Rattle.card_posts.proofs.OneMore.{effects-append, effects-length, more, names-append, plain-effects}
+use Rattle.card_events.proofs.OneMore.{more}
+use Rattle.card_posts.proofs.OneMore.{effects-append, effects-length, names-append, plain-effects}
 
 take-all : (n : ℕ) (xs : List Effect) → length xs ≡ n → take n xs ≡ xs
 take-all zero [] e = refl

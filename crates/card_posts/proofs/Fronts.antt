@@ -15,7 +15,8 @@ use Rattle.card_posts.specs.declared.correction.Correction.{Correction}
 use Rattle.card_posts.specs.declared.effect.Effect.{Effect}
 use Rattle.card_posts.proofs.Following.{corrected-is, plain-front, same-anchor}
 use Rattle.card_posts.proofs.Noted.{corrections-append, corrections-length, plain-kept}
-use Rattle.card_posts.proofs.OneMore.{effects-length, more}
+use Rattle.card_events.proofs.OneMore.{more}
+use Rattle.card_posts.proofs.OneMore.{effects-length}
 
 pub pop-front : (h : List Kept) (k : Kept) (n : ℕ) → n ≡ length (more h k) → take (n - 1) (more h k) ≡ h
 pop-front h k n e =

@@ -7,10 +7,10 @@ use Rattle.std.specs.Prelude.{slice_get}
 use Rattle.std.specs.Str.{bytes_eq}
 use Rattle.card_events.specs.Keys.{key_from, with_key}
 use Rattle.card_events.specs.declared.kept.Kept.{Kept}
-use Rattle.card_posts.specs.Index.{AreFrom, AreHashed, AreNumbers, IsIndex, IsSorted, first_with, hash_of, key_in, key_of}
-use Rattle.card_posts.specs.declared.index.HashedKey.{HashedKey}
-use Rattle.card_posts.proofs.IndexLemmas.{key-last, key-more, keys-more, none-last, same_bytes}
-use Rattle.card_posts.proofs.OneMore.{more}
+use Rattle.card_events.specs.Index.{AreFrom, AreHashed, AreNumbers, IsIndex, IsSorted, first_with, hash_of, key_in, key_of}
+use Rattle.card_events.specs.declared.index.HashedKey.{HashedKey}
+use Rattle.card_events.proofs.IndexLemmas.{key-last, key-more, keys-more, none-last, same_bytes}
+use Rattle.card_events.proofs.OneMore.{more}
 
 -- the entries with numbers up to a count
 abbrev pub numbers_to : ℕ → List HashedKey → List HashedKey

@@ -11,7 +11,6 @@ pub mod Changed
 pub mod Following
 pub mod Alone
 pub mod FirstWith
-pub mod IndexLemmas
 pub mod Opening
 pub mod Holidays
 pub mod Numbered

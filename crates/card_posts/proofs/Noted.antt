@@ -11,7 +11,8 @@ use Rattle.card_posts.specs.Corrections.{charge_in, charge_named, correction_of,
 use Rattle.card_posts.specs.Posted.{target_of}
 use Rattle.card_posts.specs.Stored.{NameEarlier}
 use Rattle.card_posts.specs.declared.correction.Correction.{Correction}
-use Rattle.card_posts.proofs.OneMore.{more, last_amend-more, confirmed-more, plain-amend, plain-confirmed, target-below, names-append}
+use Rattle.card_events.proofs.OneMore.{more}
+use Rattle.card_posts.proofs.OneMore.{last_amend-more, confirmed-more, plain-amend, plain-confirmed, target-below, names-append}
 
 pub corrections-length : (h : List Kept) (n : ℕ) (ks : List Kept) → length (corrections_from h n ks) ≡ length ks
 unfolding corrections_from

@@ -10,14 +10,11 @@ use Rattle.card_events.specs.History.{amend_of, amended_cents, amended_day, at_n
 use Rattle.card_events.specs.declared.kept.Kept.{Kept}
 use Rattle.card_events.specs.declared.post.Post.{Post}
 use Rattle.card_events.specs.declared.post.Post.TheVariants as post
+use Rattle.card_events.proofs.OneMore.{more, number-more}
 use Rattle.card_posts.specs.Corrections.{corrects}
 use Rattle.card_posts.specs.Effect.{effect_of, effects_from}
 use Rattle.card_posts.specs.Posted.{target_of}
 use Rattle.card_posts.specs.Stored.{NameEarlier}
-
--- with one more post
-abbrev pub more : List Kept → Kept → List Kept
-more h k = h ++ k ∷ []
 
 pub last_amend-more : (n : ℕ) (h : List Kept) (k : Kept) → last_amend n (more h k) ≡ option_or (amend_of n k.post) (last_amend n h)
 unfolding last_amend
@@ -31,15 +28,6 @@ last_amend-more n (q ∷ h) k = ap (λ o. option_or o (amend_of n q.post)) (last
     assoc : (a b c : Option (ℕ × ℕ)) → option_or (option_or a b) c ≡ option_or a (option_or b c)
     assoc None b c = refl
     assoc (Some x) b c = refl
-
-place-more : (n : ℕ) (h : List Kept) (k : Kept) → n < length h → slice_get (more h k) n ≡ slice_get h n
-place-more n [] k l = absurd (omega (arith, l))
-place-more zero (q ∷ h) k l = refl
-place-more (suc n) (q ∷ h) k l = place-more n h k (omega (arith, l))
-
-pub number-more : (n : ℕ) (h : List Kept) (k : Kept) → n ≤ length h → at_number n (more h k) ≡ at_number n h
-number-more zero h k l = refl
-number-more (suc n) h k l = place-more n h k (omega (arith, l))
 
 confirms-more : (n : ℕ) (h : List Kept) (k : Kept) (p : Post) → target_of p ≤ length h → confirms n (more h k) p ≡ confirms n h p
 confirms-more n h k (post.Open d t) l = refl

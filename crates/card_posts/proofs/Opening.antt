@@ -11,14 +11,14 @@ use Rattle.card_events.specs.declared.post.Post.{Post}
 use Rattle.card_events.specs.declared.post.Post.TheVariants as post
 use Rattle.card_posts.specs.Corrections.{corrections_from, some_waits, waits}
 use Rattle.card_posts.specs.Effect.{corrected_with, slot_by, slots_from}
-use Rattle.card_posts.specs.Index.{IsIndex, hash_of}
+use Rattle.card_events.specs.Index.{IsIndex, hash_of}
 use Rattle.card_posts.specs.Order.{in_order, placed}
 use Rattle.card_posts.specs.Posted.{AreNumbered, IsReceived, opens, target_of}
 use Rattle.card_posts.specs.Stored.{AreBeside, AreTimely, IsKept, NameEarlier}
 use Rattle.card_posts.specs.declared.correction.Correction.{Correction}
 use Rattle.card_posts.specs.declared.effect.Effect.{Effect}
-use Rattle.card_posts.specs.declared.index.HashedKey.{HashedKey}
-use Rattle.card_posts.proofs.IndexLemmas.{index-one}
+use Rattle.card_events.specs.declared.index.HashedKey.{HashedKey}
+use Rattle.card_events.proofs.IndexLemmas.{index-one}
 use Rattle.card_posts.proofs.Noted.{by_parts}
 
 no-target : (p : Post) → opens p ≡ true → target_of p < 1

@@ -9,18 +9,18 @@ use Rattle.card_posts.specs.Change.{IsFirstChange}
 use Rattle.card_posts.specs.Corrections.{some_waits}
 use Rattle.card_posts.specs.Draft.{IsCopyIfAny, IsDraft, IsRoomyIfAny, StoodIfAny, corrections_before, effects_before, slots_before}
 use Rattle.card_posts.specs.Effect.{corrected_with}
-use Rattle.card_posts.specs.Index.{IsIndex}
+use Rattle.card_events.specs.Index.{IsIndex}
 use Rattle.card_posts.specs.Posted.{Posted, StandsFor, target_of}
 use Rattle.card_posts.specs.Stored.{AreBeside, IsKept, NameEarlier}
 use Rattle.card_posts.specs.declared.correction.Correction.{Correction}
 use Rattle.card_posts.specs.declared.draft.Beside.{Beside}
 use Rattle.card_posts.specs.declared.draft.Draft.{Draft}
 use Rattle.card_posts.specs.declared.effect.Effect.{Effect}
-use Rattle.card_posts.specs.declared.index.HashedKey.{HashedKey}
+use Rattle.card_events.specs.declared.index.HashedKey.{HashedKey}
 use Rattle.card_posts.proofs.Following.{same-anchor}
 use Rattle.card_posts.proofs.Fronts.{beside-front, kept-front, plain-corrected, pop-front, with-front}
 use Rattle.card_posts.proofs.IndexFronts.{index-front, index-less, numbers_to}
-use Rattle.card_posts.proofs.OneMore.{more}
+use Rattle.card_events.proofs.OneMore.{more}
 
 -- what clauses see of posts that are stored
 abbrev pub posted_of : List Kept → List Effect → Bool → Posted

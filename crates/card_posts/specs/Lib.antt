@@ -2,7 +2,6 @@ pub mod Change
 pub mod Corrections
 pub mod Draft
 pub mod Effect
-pub mod Index
 pub mod Order
 pub mod Posted
 pub mod Stored

@@ -10,12 +10,12 @@ use Rattle.card_events.specs.declared.kept.Kept.{Kept}
 use Rattle.card_events.specs.declared.kept.Slot.{Slot}
 use Rattle.card_posts.specs.Corrections.{corrections, some_waits}
 use Rattle.card_posts.specs.Effect.{AreSmall, slots_from}
-use Rattle.card_posts.specs.Index.{IsIndex}
+use Rattle.card_events.specs.Index.{IsIndex}
 use Rattle.card_posts.specs.Order.{in_order}
 use Rattle.card_posts.specs.Posted.{AreNumbered, IsReceived, target_of}
 use Rattle.card_posts.specs.declared.correction.Correction.{Correction}
 use Rattle.card_posts.specs.declared.effect.Effect.{Effect}
-use Rattle.card_posts.specs.declared.index.HashedKey.{HashedKey}
+use Rattle.card_events.specs.declared.index.HashedKey.{HashedKey}
 
 -- each of these posts, the first of which is post n, is about an earlier one
 unfoldable pub NameEarlier : ℕ → List Kept → Type 0

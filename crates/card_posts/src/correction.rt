@@ -1,28 +1,18 @@
 // What later posts say of each post, by number.
-ghost use Rattle.std.specs.Prelude.{◌≡◌, ◌<◌, ◌≤◌, ◌++◌, [], ◌∷◌, length, option_copied};
+ghost use Rattle.std.specs.Prelude.{◌≡◌, ◌<◌, ◌≤◌, ◌++◌, [], ◌∷◌, length};
 ghost use Rattle.card_events.specs.History.{at_number};
 ghost use Rattle.card_events.specs.declared.kept.Kept.{Kept};
 ghost use Rattle.card_posts.specs.Corrections.{charge_in, charge_named, corrections_from, with_amend, with_confirmed};
 ghost use Rattle.card_posts.specs.Posted.{target_of};
 ghost use Rattle.card_posts.specs.Stored.{NameEarlier};
 
-use card_events::{Day, Kept, Num, Post};
+use card_events::{Day, Kept, Num, Post, numbered};
 
 // What later posts say of a post: the day and cents of the last Amend, and the sum that was confirmed as an error in it.
 #[derive(Clone, Copy)]
 pub struct Correction {
     pub amend: Option<(Day, Num)>,
     pub confirmed: u64,
-}
-
-// The post with a number.
-pub fn numbered(history: &[Kept], number: u64) -> Option<&Kept>
-    ensures { option_copied result ≡ at_number number history.now }
-{
-    if number == 0 {
-        return None;
-    }
-    history.get(number as usize - 1)
 }
 
 // the charge that a Dispute names, and 0 for what is none

@@ -8,9 +8,9 @@ ghost use Rattle.card_posts.specs.Order.{in_order};
 
 use crate::correction::Correction;
 use crate::effect::Effect;
-use crate::index::HashedKey;
 use crate::order::take_out;
 use crate::refresh::is_correction;
+use card_events::index::HashedKey;
 use card_events::{Day, NoMemory, Post, Slot};
 use std::alloc::Global;
 

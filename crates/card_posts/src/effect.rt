@@ -14,8 +14,8 @@ ghost use Rattle.card_posts.specs.Stored.{IsKept, IsTimely};
 ghost use Rattle.card_posts.specs.declared.effect.Effect.{Effect};
 ghost use Rattle.card_events.specs.declared.anchor.Anchor.{Anchor};
 
-use crate::correction::{Correction, numbered};
-use card_events::{Anchor, Calendar, Channel, Day, Kept, Num, Post, credit_day};
+use crate::correction::Correction;
+use card_events::{Anchor, Calendar, Channel, Day, Kept, Num, Post, credit_day, numbered};
 
 // What counts for a post now: its effective day and its corrected cents.
 #[derive(Clone, Copy)]

@@ -6,7 +6,6 @@ mod draft;
 mod effect;
 mod enter;
 mod foretold;
-mod index;
 pub mod laws;
 mod make;
 mod order;

@@ -1,13 +1,13 @@
-use crate::correction::{Correction, numbered};
+use crate::correction::Correction;
 use crate::draft::{Draft, beside_if_corrected, keep_first, put_back};
 use crate::effect::{Effect, no_cents};
 use crate::enter::enter;
 use crate::foretold::first_with;
-use crate::index::{HashedKey, enter_key, find, hashed_key};
 use crate::make::{copy_history, make_room_in, one, opening};
 use crate::order::{slot, slot_with};
 use crate::refresh::{is_correction, waits_with};
-use card_events::{Anchor, Calendar, Day, Kept, Name, NoMemory, Post, Slot};
+use card_events::index::{HashedKey, enter_key, find, hashed_key};
+use card_events::{Anchor, Calendar, Day, Kept, Name, NoMemory, Post, Slot, numbered};
 use std::alloc::Global;
 use std::marker::Model;
 

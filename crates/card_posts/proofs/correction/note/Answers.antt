@@ -7,7 +7,7 @@ use Rattle.card_posts.specs.Corrections.{charge_named, corrections_from, correct
 use Rattle.card_posts.specs.Posted.{target_of}
 use Rattle.card_posts.specs.Stored.{NameEarlier}
 use Rattle.card_posts.specs.declared.correction.Correction.{Correction}
-use Rattle.card_posts.proofs.OneMore.{more}
+use Rattle.card_events.proofs.OneMore.{more}
 use Rattle.card_posts.proofs.Noted.{amend-kept, amend-none, by_parts, corrections-length, named-below, plain-kept, resolve-kept, resolve-none}
 use Rattle.card_posts.proofs.correction.note.Goals as goal
 

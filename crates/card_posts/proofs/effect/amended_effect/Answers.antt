@@ -10,7 +10,7 @@ use Rattle.card_posts.specs.declared.correction.Correction.{Correction}
 use Rattle.card_posts.proofs.Alone.{day-lone, effect_by, get_or-default, parts, read-waits}
 use Rattle.card_posts.proofs.DayLemmas.{timely-at}
 use Rattle.card_posts.proofs.Noted.{amend-said, by_parts, corrections-at, corrections-length}
-use Rattle.card_posts.proofs.OneMore.{more}
+use Rattle.card_events.proofs.OneMore.{more}
 use Rattle.card_posts.proofs.effect.amended_effect.Goals as goal
 
 within : (n m : ℕ) → 0 < n → n ≤ m → n - 1 < m

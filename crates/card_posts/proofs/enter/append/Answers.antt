@@ -5,7 +5,7 @@ use Rattle.card_posts.specs.Corrections.{correction_of, corrections_from}
 use Rattle.card_posts.specs.Stored.{IsKept}
 use Rattle.card_posts.proofs.Following.{kept-more}
 use Rattle.card_posts.proofs.Noted.{by_parts, corrections-append, new-kept}
-use Rattle.card_posts.proofs.OneMore.{more}
+use Rattle.card_events.proofs.OneMore.{more}
 use Rattle.card_posts.proofs.enter.append.Goals as goal
 
 pub returns-clause-kept : goal.returns-clause-kept

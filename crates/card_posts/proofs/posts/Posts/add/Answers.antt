@@ -4,8 +4,8 @@ use Rattle.card_events.specs.declared.kept.Kept.{Kept}
 use Rattle.card_posts.specs.Corrections.{some_waits, waits}
 use Rattle.card_posts.specs.Effect.{corrected_with}
 use Rattle.card_posts.specs.Posted.{Posted, StandsFor}
-use Rattle.card_posts.specs.Index.{IsIndex}
-use Rattle.card_posts.specs.declared.index.HashedKey.{HashedKey}
+use Rattle.card_events.specs.Index.{IsIndex}
+use Rattle.card_events.specs.declared.index.HashedKey.{HashedKey}
 use Rattle.card_posts.proofs.Alone.{waits-more}
 use Rattle.card_posts.proofs.Following.{corrected-is, effects-back}
 use Rattle.card_posts.proofs.posts.Posts.add.Goals as goal

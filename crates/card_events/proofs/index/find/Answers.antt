@@ -1,8 +1,8 @@
 use Rattle.std.proofs.Common.{◌∙◌, ap, sym, subst}
 use Rattle.card_events.specs.Keys.{with_key}
-use Rattle.card_posts.specs.Index.{AreFrom, AreHashed, IsSorted, IsStart, first_with, hash_of}
-use Rattle.card_posts.proofs.IndexLemmas.{from-start, hashed-drop, rest-from, sorted-drop, start-finds}
-use Rattle.card_posts.proofs.index.find.Goals as goal
+use Rattle.card_events.specs.Index.{AreFrom, AreHashed, IsSorted, IsStart, first_with, hash_of}
+use Rattle.card_events.proofs.IndexLemmas.{from-start, hashed-drop, rest-from, sorted-drop, start-finds}
+use Rattle.card_events.proofs.index.find.Goals as goal
 
 pub find_among-requires-clause-hashed : goal.find_among-requires-clause-hashed
 find_among-requires-clause-hashed c = subst (λ u. AreHashed c.args.history.now u) (sym (rest-from c.args.index.now c.start_of-at.result)) (hashed-drop c.args.history.now c.args.index.now c.start_of-at.result c.requires.hashed)

@@ -1,9 +1,9 @@
 use Rattle.std.proofs.Common.{◌≡◌, ◌-◌, length, nat_lt, true, arith, ap, sym, ◌∙◌}
 use Rattle.std.specs.Prelude.{slice_index_or}
 use Rattle.std.proofs.lemmas.List.{get_or_default}
-use Rattle.card_posts.specs.declared.index.HashedKey.{HashedKey}
-use Rattle.card_posts.proofs.IndexLemmas.{below-all}
-use Rattle.card_posts.proofs.index.last_from.Goals as goal
+use Rattle.card_events.specs.declared.index.HashedKey.{HashedKey}
+use Rattle.card_events.proofs.IndexLemmas.{below-all}
+use Rattle.card_events.proofs.index.last_from.Goals as goal
 
 pub returns-then-is_below-clause-front : goal.returns-then-is_below-clause-front
 returns-then-is_below-clause-front c =

@@ -1,8 +1,8 @@
 use Rattle.std.proofs.Common.{◌≡◌, ◌+◌, ◌∙◌, suc, ap, sym, drop, arith}
 use Rattle.std.specs.Str.{bytes_eq}
-use Rattle.card_posts.specs.Index.{first_with}
-use Rattle.card_posts.proofs.IndexLemmas.{at-end, at-greater, at-other, at-same}
-use Rattle.card_posts.proofs.index.find_among.Goals as goal
+use Rattle.card_events.specs.Index.{first_with}
+use Rattle.card_events.proofs.IndexLemmas.{at-end, at-greater, at-other, at-same}
+use Rattle.card_events.proofs.index.find_among.Goals as goal
 
 pub returns-then-entry-hash : goal.returns-then-entry-hash
 returns-then-entry-hash c =

@@ -1,10 +1,10 @@
 use Rattle.std.proofs.lemmas.Grind.{common_steps}
 use Rattle.std.proofs.Common.{◌≡◌, ◌++◌, [], ◌∷◌, arith, ap, sym, subst, ◌∙◌}
 use Rattle.std.specs.List.{insert}
-use Rattle.card_posts.specs.Index.{IsEnd, IsIndex}
-use Rattle.card_posts.specs.declared.index.HashedKey.{HashedKey}
-use Rattle.card_posts.proofs.IndexLemmas.{index-more}
-use Rattle.card_posts.proofs.index.enter_key.Goals as goal
+use Rattle.card_events.specs.Index.{IsEnd, IsIndex}
+use Rattle.card_events.specs.declared.index.HashedKey.{HashedKey}
+use Rattle.card_events.proofs.IndexLemmas.{index-more}
+use Rattle.card_events.proofs.index.enter_key.Goals as goal
 
 pub returns : goal.returns
 returns c k same =

@@ -5,7 +5,7 @@ use Rattle.std.specs.Str.{bytes_eq}
 use Rattle.card_events.specs.History.{at_number}
 use Rattle.card_events.specs.Keys.{with_key}
 use Rattle.card_events.specs.declared.kept.Kept.{Kept}
-use Rattle.card_posts.specs.declared.index.HashedKey.{HashedKey}
+use Rattle.card_events.specs.declared.index.HashedKey.{HashedKey}
 
 -- a hash with one more byte: the bytes are digits to the base 31, and what lies above 32 bits is left out
 abbrev pub hash_step : ℕ → ℕ → ℕ

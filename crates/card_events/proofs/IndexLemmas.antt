@@ -10,9 +10,9 @@ use Rattle.std.specs.Prelude.{slice_get}
 use Rattle.std.specs.Str.{bytes_eq}
 use Rattle.card_events.specs.Keys.{key_from, with_key}
 use Rattle.card_events.specs.declared.kept.Kept.{Kept}
-use Rattle.card_posts.specs.Index.{AreFrom, AreHashed, AreNumbers, IsEnd, IsIndex, IsSorted, IsStart, first_with, hash_of, key_in, key_of}
-use Rattle.card_posts.specs.declared.index.HashedKey.{HashedKey}
-use Rattle.card_posts.proofs.OneMore.{more, number-more}
+use Rattle.card_events.specs.Index.{AreFrom, AreHashed, AreNumbers, IsEnd, IsIndex, IsSorted, IsStart, first_with, hash_of, key_in, key_of}
+use Rattle.card_events.specs.declared.index.HashedKey.{HashedKey}
+use Rattle.card_events.proofs.OneMore.{more, number-more}
 
 -- ---- numbers and their tests
 pub less-down : (z x y : ℕ) → x ≤ y → nat_lt y z ≡ true → nat_lt x z ≡ true

@@ -1,8 +1,8 @@
 use Rattle.std.proofs.Common.{nat_le, rules, arith}
 use Rattle.std.proofs.lemmas.List.Sorted.{IsPartitionPoint-from_clause}
-use Rattle.card_posts.specs.declared.index.HashedKey.{HashedKey}
-use Rattle.card_posts.proofs.IndexLemmas.{is-up_to, not-up_to, parted, up_to-down}
-use Rattle.card_posts.proofs.index.end_among.Goals as goal
+use Rattle.card_events.specs.declared.index.HashedKey.{HashedKey}
+use Rattle.card_events.proofs.IndexLemmas.{is-up_to, not-up_to, parted, up_to-down}
+use Rattle.card_events.proofs.index.end_among.Goals as goal
 
 pub returns : goal.returns
 returns c =

@@ -1,7 +1,7 @@
 use Rattle.std.proofs.Common.{sym, subst}
-use Rattle.card_posts.specs.Index.{IsEnd, IsSorted}
-use Rattle.card_posts.proofs.IndexLemmas.{end-joined, rest-from, sorted-drop}
-use Rattle.card_posts.proofs.index.end_of.Goals as goal
+use Rattle.card_events.specs.Index.{IsEnd, IsSorted}
+use Rattle.card_events.proofs.IndexLemmas.{end-joined, rest-from, sorted-drop}
+use Rattle.card_events.proofs.index.end_of.Goals as goal
 
 pub end_among-requires : goal.end_among-requires
 end_among-requires c = subst (λ u. IsSorted u) (sym (rest-from c.args.index.now c.last_from-from.result)) (sorted-drop c.args.index.now c.last_from-from.result c.requires)

@@ -1,14 +1,13 @@
 // The numbers of an account's posts, by the hashes of their keys. A search reads this list alone, and the history only where the
-// hash is met. Keys that count up have hashes that ascend, so the last entries are looked at first: a new key mostly belongs there,
-// and a long list is not read from its middle.
+// hash is met. The last entries are looked at first: short keys that count up have hashes that ascend, so a new one mostly belongs
+// there, and a long list is not read from its middle. Keys without an order, and long ones whose hashes wrap, pay one look more.
 ghost use Rattle.std.specs.Prelude.{◌≡◌, ℕ, ◌+◌, ◌<◌, ◌≤◌, ◌++◌, [], ◌∷◌, nat_lt, length, slice_index_or, vec_len, vec_capacity};
 ghost use Rattle.card_events.specs.Limits.{post_limit};
 ghost use Rattle.card_events.specs.Keys.{with_key};
 ghost use Rattle.card_events.specs.declared.kept.Kept.{Kept};
-ghost use Rattle.card_posts.specs.Index.{AreFrom, AreHashed, IsEnd, IsIndex, IsSorted, IsStart, first_with, hash_of, key_of};
+ghost use Rattle.card_events.specs.Index.{AreFrom, AreHashed, IsEnd, IsIndex, IsSorted, IsStart, first_with, hash_of, key_of};
 
-use crate::correction::numbered;
-use card_events::{Kept, Name};
+use crate::{Kept, Name, numbered};
 
 // How many hashes there are: those of 32 bits.
 const HASHES: u64 = 4_294_967_296;
@@ -16,7 +15,7 @@ const HASHES: u64 = 4_294_967_296;
 // How many of the last entries are looked at first: two lines of a cache.
 const LAST: usize = 16;
 
-// The hash of the key of a post, and the post's number.
+/// The hash of the key of a post, and the post's number.
 #[derive(Clone, Copy)]
 pub struct HashedKey {
     pub hash: u32,
@@ -45,7 +44,7 @@ fn hash_of(key: &[u8]) -> u32
     hash as u32
 }
 
-// A key with the number of its post.
+/// A key with the number of its post.
 pub fn hashed_key(key: &[u8], number: u32) -> HashedKey
     ensures { result ≡ record { hash = hash_of key.now; number = number } }
 {
@@ -129,7 +128,7 @@ fn find_among(history: &[Kept], entries: &[HashedKey], key: &[u8], hash: u32) ->
     None
 }
 
-// The number of the post with a key.
+/// The number of the post with a key: the first one, should there be more.
 pub fn find(history: &[Kept], index: &[HashedKey], key: &Name) -> Option<u32>
     requires { IsIndex history.now index.now }
     ensures { result ≡ with_key key.now history.now }
@@ -140,7 +139,7 @@ pub fn find(history: &[Kept], index: &[HashedKey], key: &Name) -> Option<u32>
     find_among(history, &index[at..], key, hash)
 }
 
-// Puts the number of a new post into its place, with room for it.
+/// Puts the number of the next post, which has this key, into its place. It takes no memory: the list has room.
 pub fn enter_key(history: &[Kept], index: &mut Vec<HashedKey>, key: &Name)
     requires few { length history.now < post_limit }
     requires index { IsIndex history.now index.old.items }

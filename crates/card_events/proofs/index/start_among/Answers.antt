@@ -1,8 +1,8 @@
 use Rattle.std.proofs.Common.{nat_lt, rules, arith}
 use Rattle.std.proofs.lemmas.List.Sorted.{IsPartitionPoint-from_clause}
-use Rattle.card_posts.specs.declared.index.HashedKey.{HashedKey}
-use Rattle.card_posts.proofs.IndexLemmas.{is-less, less-down, not-less, parted}
-use Rattle.card_posts.proofs.index.start_among.Goals as goal
+use Rattle.card_events.specs.declared.index.HashedKey.{HashedKey}
+use Rattle.card_events.proofs.IndexLemmas.{is-less, less-down, not-less, parted}
+use Rattle.card_events.proofs.index.start_among.Goals as goal
 
 pub returns : goal.returns
 returns c =

@@ -1,7 +1,7 @@
 use Rattle.std.proofs.Common.{sym, subst}
-use Rattle.card_posts.specs.Index.{IsSorted, IsStart}
-use Rattle.card_posts.proofs.IndexLemmas.{rest-from, sorted-drop, start-joined}
-use Rattle.card_posts.proofs.index.start_of.Goals as goal
+use Rattle.card_events.specs.Index.{IsSorted, IsStart}
+use Rattle.card_events.proofs.IndexLemmas.{rest-from, sorted-drop, start-joined}
+use Rattle.card_events.proofs.index.start_of.Goals as goal
 
 pub start_among-requires : goal.start_among-requires
 start_among-requires c = subst (λ u. IsSorted u) (sym (rest-from c.args.index.now c.last_from-from.result)) (sorted-drop c.args.index.now c.last_from-from.result c.requires)
