@@ -96,14 +96,6 @@ mail_unmet a h xs receipt o low small never = by (cases_lt (first_month a + due_
     by (inr none) = mail_day-none a xs receipt (omega (arith, h.first)) (last_due-none a h receipt (omega (arith, h.first)) (omega arith) none)
 
 -- ---- the three cases
-pub credit_late : (a : Anchor) (xs : List ℕ) (receipt minute : ℕ) (mail : Bool) → cutoff < minute → credit_day a xs receipt minute mail ≡ receipt + 1
-unfolding credit_day
-credit_late a xs receipt minute mail l = let test : nat_lt cutoff minute ≡ true = grind (arith, nat_tests) in rw test refl
-
 pub credit_mail : (a : Anchor) (xs : List ℕ) (receipt minute : ℕ) → minute ≤ cutoff → credit_day a xs receipt minute true ≡ mail_day a xs receipt
 unfolding credit_day
 credit_mail a xs receipt minute l = let test : nat_lt cutoff minute ≡ false = grind (arith, nat_tests) in rw test refl
-
-pub credit_other : (a : Anchor) (xs : List ℕ) (receipt minute : ℕ) → minute ≤ cutoff → credit_day a xs receipt minute false ≡ receipt
-unfolding credit_day
-credit_other a xs receipt minute l = let test : nat_lt cutoff minute ≡ false = grind (arith, nat_tests) in rw test refl
