@@ -4,10 +4,11 @@
     dev/doc_names.py [FILE..]        README.md and docs/*.md where none are given
 
 Reads what stands between backticks. A word such as `card_book::Book::advance` has to be a function, type or module of that crate's
-src/, a word such as `Folds.antt: book` a definition in a file of that name, and a path has to be there, from the top of the repository
-or below crates/. Other words are passed over. It prints each name that isn't found, with its line, and ends with 1 where there is one.
+src/, a word such as `Folds.antt: book` a definition in a file of that name, a path has to be there, from the top of the repository
+or below crates/, and a name alone, with an underscore or a capital, has to stand somewhere in the code. Other words are passed over. It prints each name that isn't found, with its line, and ends with 1 where there is one.
 Standard library alone; it proves nothing and needs no kit.
 """
+import functools
 import glob
 import os
 import re
@@ -19,6 +20,7 @@ HANDED_ON = r"pub use [^;]*\b{0}\b[^;]*;"
 DEFINITION = r"(?:^|\s)(?:pub )?(?:record pub|pub record|abbrev pub|unfoldable pub|pub|data pub)\s+(?:record |data )?{0}\b|^\s*{0}\b"
 
 
+@functools.cache
 def text_of(pattern):
     return "\n".join(open(name, encoding="utf-8").read() for name in sorted(glob.glob(pattern, recursive=True)))
 
@@ -36,6 +38,11 @@ def files_named(path):
     return [name for place in places for name in glob.glob(place) or glob.glob(place + ".*")]
 
 
+@functools.cache
+def all_names():
+    return set(re.findall(r"\w+", text_of(f"{TOP}/crates/*/src/**/*.rt") + text_of(f"{TOP}/crates/*/specs/*.antt")))
+
+
 def is_there(word):
     if "NAME" in word:
         return True
@@ -49,8 +56,10 @@ def is_there(word):
         return any(found[2] is None or re.search(pattern, text, re.M) for text in texts)
     if re.fullmatch(r"(?:card_\w+|crates|docs|tests|bench|dev|examples)(?:/[\w.-]+)+/?", word):
         return bool(files_named(word.rstrip("/")))
-    if re.fullmatch(r"card_\w+", word):
-        return os.path.isdir(f"{TOP}/crates/{word}")
+    if os.path.isdir(f"{TOP}/crates/{word}"):
+        return True
+    if re.fullmatch(r"[A-Za-z]\w*", word) and ("_" in word or word[0].isupper()):
+        return word in all_names()
     return True
 
 
