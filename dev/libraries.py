@@ -90,19 +90,6 @@ def build_all(builder, wanted, lanes):
     return all(done.values())
 
 
-def above(names):
-    """The crates that stand on those named, by crates.txt, and how many there are of all."""
-    lines = [line.split(":") for line in open(f"{kit.TOP}/crates.txt", encoding="utf-8") if ":" in line and not line.startswith("#")]
-    uses = {name.split()[0]: set(rest.split()) for name, rest in lines}
-    if set(names) - set(uses):
-        sys.exit(f"{' '.join(set(names) - set(uses))}: no crate of crates.txt")
-    found, grown = set(names), True
-    while grown:
-        more = {name for name, on in uses.items() if on & found} - found
-        found, grown = found | more, bool(more)
-    return sorted(found - set(names)), len(uses)
-
-
 def main():
     parser = argparse.ArgumentParser(description=__doc__, formatter_class=argparse.RawDescriptionHelpFormatter)
     parser.add_argument("names", nargs="+", metavar="NAME", help="a crate of crates.txt; what stands below it is built")
@@ -111,13 +98,13 @@ def main():
     parser.add_argument("--lanes", type=int, default=2, help="how many crates at once (2)")
     parser.add_argument("--jobs", type=int, default=1, help="jobs of each crate (1, which takes the fewest processor seconds)")
     words = parser.parse_args()
-    if words.above:
-        found, count = above(words.names)
-        print(f"{len(found)} of {count}: {' '.join(found)}")
-        return
     rt = kit.load()
     crates = kit.crates(rt)
     chosen = [kit.named(crates, name) for name in words.names]
+    if words.above:
+        above = [it.name for it in crates.values() if any(low in it.below() for low in chosen)]
+        print(f"{len(above)} of {len(crates)}: {' '.join(above)}")
+        return
     below = {low.name for it in chosen for low in [*it.below(), *([it] if words.itself else [])]}
     stands = build_all(Builder(rt, words.jobs), [it for it in crates.values() if it.name in below], words.lanes)
     sys.exit(0 if stands else 1)
