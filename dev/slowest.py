@@ -36,9 +36,9 @@ def checked(rt, crate, with_tests):
         for line in run.stdout:
             now = seconds_of(run.pid, last)
             if line.startswith(("checked ", "ahead")):
-                yield now - last, line.split(",")[0].strip()[:110]
+                yield now - last, line.split(",")[0].removeprefix("checked ").strip()[:110]
                 last = now
-            elif not line.startswith("fn "):
+            elif "error" in line or line.startswith("logic="):
                 print(line.rstrip()[:200])
         run.wait()
 
