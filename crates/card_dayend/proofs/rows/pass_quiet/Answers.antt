@@ -43,12 +43,10 @@ accrue_all-requires-clause-few c =
     let h = c.requires.awaits in
     quiet-few h.given c.args.first c.args.days c.args.state.now h.track h.quiet
 
-pub returns-then-days-eq0 : goal.returns-then-days-eq0
-returns-then-days-eq0 c = record { passed = λ g t h. stays g c.args.first c.args.days c.args.state.now t c.if-days-eq0.true h }
+pub returns-then-days-eq0-clause-passed : goal.returns-then-days-eq0-clause-passed
+returns-then-days-eq0-clause-passed c = λ g t h. stays g c.args.first c.args.days c.args.state.now t c.if-days-eq0.true h
 
-pub returns : goal.returns
-returns c = record {
-  passed = λ g t h.
-      passed g c.args.first c.args.days c.args.state.now _ t (omega (arith, c.if-days-eq0.false)) h
-      (record { segments = refl; rates = refl; balances = c.accrue_all.ensures.balances; rows = c.in_ok-add_rows.ensures; accruals = c.accrue_all.ensures.accruals });
-}
+pub returns-clause-passed : goal.returns-clause-passed
+returns-clause-passed c = λ g t h.
+    passed g c.args.first c.args.days c.args.state.now _ t (omega (arith, c.if-days-eq0.false)) h
+    (record { segments = refl; rates = refl; balances = c.accrue_all.ensures.balances; rows = c.in_ok-add_rows.ensures; accruals = c.accrue_all.ensures.accruals })
