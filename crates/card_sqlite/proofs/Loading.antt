@@ -1,5 +1,5 @@
 -- What a load gives and leaves.
-use Rattle.std.proofs.Common.{◌≡◌, ◌⊎◌, inl, inr, ℕ, List, [], ◌∷◌, ◌++◌, ◌+◌, ◌<◌, map, length, take, get_or, Ok, Err, Result, All, IsTrue, OnOk, IfOk, Vec, refl, sym, ap, subst, ◌∙◌, arith}
+use Rattle.std.proofs.Common.{◌≡◌, inl, inr, ℕ, List, [], ◌∷◌, ◌++◌, ◌+◌, ◌<◌, map, length, take, get_or, Ok, Err, Result, All, OnOk, IfOk, Vec, refl, sym, ap, subst, ◌∙◌, arith}
 use Rattle.std.specs.declared.alloc.Global.{Global}
 use Rattle.std.proofs.lemmas.List.{take_more, map-append}
 use Rattle.std.proofs.lemmas.List.Elements.{All-push}
@@ -9,9 +9,8 @@ use Rattle.sqlite.specs.declared.error.Error.{Error}
 use Rattle.sqlite_schema.specs.declared.schema.Schema.{Schema}
 use Rattle.sqlite.specs.Effect.{Database}
 use Rattle.sqlite.specs.Values.{IsInt}
-use Rattle.sqlite.specs.State.{State}
 use Rattle.card_ports.specs.declared.row.Row.{Row}
-use Rattle.card_sqlite.specs.Kept.{no_schema, kept_schema, shown, row_in, IsFor, Creates, AreShown, AreKept, Keeps, Stays, StaysKept}
+use Rattle.card_sqlite.specs.Kept.{kept_schema, shown, row_in, IsFor, Creates, AreShown, AreKept, Keeps}
 use Rattle.card_sqlite.proofs.Order.{empty_keeps}
 
 no_more : {X : Type 0} (xs : List X) → length xs ≡ 0 → xs ≡ []
@@ -29,6 +28,11 @@ pub given : (old mid : Database) (records : List Record) (r : Result (Vec Row Gl
     → IfOk r (λ rows. rows.items ≡ map row_in records) → OnOk r (All (λ r. IsInt (column r 0)) records) → IfOk r (λ rows. Keeps old rows.items)
 given old mid records (Ok rows) made are read ints = gives old mid records rows.items made are read ints
 given old mid records (Err e) made are read ints = tt
+
+-- and the table is as it was made
+pub still_made : (old mid new : Database) (r : Result (Vec Row Global) Error) → Creates old mid → new ≡ mid → OnOk r (Creates old new)
+still_made old mid new (Ok rows) made same = subst (Creates old) (sym same) made
+still_made old mid new (Err e) made same = tt
 
 -- a database with the same rows, whether the table is new or not
 pub kept_by : (old new : Database) → Creates old new → IsFor new.schema × ((rows : List Row) → Keeps old rows → Keeps new rows)

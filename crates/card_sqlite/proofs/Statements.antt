@@ -1,6 +1,5 @@
 -- What the three statements do.
-use Rattle.std.proofs.Common.{◌≡◌, ◌⊎◌, inl, inr, ℕ, pos, negsuc, List, [], ◌∷◌, ◌++◌, map, codes, Bool, true, false, not, ◌&&◌, cond, Some, None, Ok, Err, Result, IfOk, IfErr, OnOk, OnErr, IsTrue, Option, MatchBool, refl, sym, ap, subst, subst₂, ◌∙◌, ◌+◌, ◌<◌, ◌≤◌, length, get_or, arith}
-use Rattle.std.proofs.lemmas.Bool.{cases_Bool}
+use Rattle.std.proofs.Common.{◌≡◌, ◌⊎◌, inl, inr, ℕ, pos, List, [], ◌∷◌, map, Bool, true, false, not, ◌&&◌, cond, Some, None, Ok, Err, Result, IfErr, OnOk, OnErr, IsTrue, Option, MatchBool, refl, sym, ap, subst, subst₂, ◌∙◌, ◌+◌, ◌<◌, length, get_or, arith}
 use Rattle.std.specs.Prelude.{IsPermutation, IsSorted, All, flat_map}
 use Rattle.std.specs.Ordering.{is_lt, ordering_then}
 use Rattle.std.specs.declared.cmp.Ordering.{Ordering}
@@ -10,17 +9,16 @@ use Rattle.std.proofs.lemmas.List.Sorted.{All-permutation, IsPermutation-map}
 use Rattle.std.proofs.lemmas.List.Elements.{All-from_recursion}
 use Rattle.std.specs.List.{AllByRecursion}
 use Rattle.sqlite_value.specs.declared.value.Value.{Value}
-use Rattle.sqlite_value.specs.declared.value.Value.TheVariants.{Null, Int, Text, Blob}
+use Rattle.sqlite_value.specs.declared.value.Value.TheVariants.{Null, Int, Blob}
 use Rattle.sqlite_value.specs.Order.{Row as Record, column}
 use Rattle.sqlite_trees.specs.Tree.{Trees, put_row}
 use Rattle.sqlite_sql.specs.Ops.{unary}
 use Rattle.sqlite_sql.specs.Query.{IsAnswer, Output, output, output_cmp}
 use Rattle.sqlite_sql.specs.Program.{overlay}
-use Rattle.sqlite_schema.specs.declared.schema.Table.{Table}
 use Rattle.sqlite_schema.specs.declared.schema.Kind.TheVariants.{Integer}
 use Rattle.sqlite_schema.specs.declared.command.Source.TheVariants.{Values}
-use Rattle.sqlite_schema.specs.declared.command.Command.TheVariants.{Insert, Select, CreateTable, Nothing}
-use Rattle.sqlite_rules.specs.Edit.{Edit, edit_of, edited, left_by, are_fresh, is_taken}
+use Rattle.sqlite_schema.specs.declared.command.Command.TheVariants.{Insert, CreateTable, Nothing}
+use Rattle.sqlite_rules.specs.Edit.{edit_of, edited, left_by, are_fresh, is_taken}
 use Rattle.sqlite_rules.specs.Cast.{cast}
 use Rattle.sqlite_rules.specs.declared.error.Rowids.TheVariants.{Chosen}
 use Rattle.sqlite_catalog.specs.Change.{created, next_tree}
@@ -35,7 +33,7 @@ use Rattle.sqlite.specs.Listing.{understood}
 use Rattle.sqlite.specs.Effect.{Database}
 use Rattle.sqlite.specs.State.{State, mode_of, Writes, Executes, ExecutesIn, IsNotRun, ExecutesInside, KeepsCommit, IsUnchanged, IsRolledBack, FailsToQuery, FailsToShow, Shown, RunsCommand, shows_rows}
 use Rattle.sqlite.specs.Steps.{FailsToCommit}
-use Rattle.sqlite.proofs.Callers.{IsPlain, command_of, statement_of, runs_as, reads_as, one_step}
+use Rattle.sqlite.proofs.Callers.{IsPlain, statement_of, runs_as, reads_as, one_step}
 use Rattle.card_ports.specs.declared.row.Row.{Row}
 use Rattle.card_sqlite.specs.Kept.{create_text, insert_text, select_text, kept, no_schema, kept_schema, AddsRow, IsFor, Creates, Stays, IsSettled, AreShown, shown, by_seq}
 use Rattle.card_sqlite.proofs.Texts.{create_missing, create_there, insert_is, select_is, create_plain, create_there_plain, insert_plain, select_plain, terms, query}

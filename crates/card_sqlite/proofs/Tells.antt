@@ -1,5 +1,5 @@
 -- The rows that a keeper tells are those that its database keeps.
-use Rattle.std.proofs.Common.{◌≡◌, ◌⊎◌, inl, inr, ℕ, ◌+◌, ◌<◌, zero, suc, ℤ, pos, negsuc, Bool, true, false, not, ◌&&◌, ◌||◌, ◌==◌, cond, List, [], ◌∷◌, ◌++◌, map, length, get_or, All, Some, None, Option, Ok, Err, Result, Vec, IfOk, OnOk, OnErr, IsTrue, Ordering, Less, refl, sym, ap, ap₂, subst, subst₂, is_some, ◌∙◌, arith, is_lt, is_gt, IsPermutation, IsSorted}
+use Rattle.std.proofs.Common.{◌≡◌, ◌⊎◌, inl, inr, ℕ, Bool, true, false, not, ◌&&◌, List, [], ◌∷◌, ◌++◌, map, length, Some, None, Option, Ok, Err, Result, Vec, IfOk, OnOk, OnErr, IsTrue, Less, refl, sym, ap, ap₂, subst, subst₂, is_some, ◌∙◌, arith, is_gt}
 use Rattle.std.specs.declared.alloc.Global.{Global}
 use base.Stored.{Gv, gnil, gnum, gcons}
 use Rattle.std.specs.Cmp.{IsTotalOrder, on_total}
@@ -10,11 +10,10 @@ use Rattle.std.specs.List.{AllByRecursion}
 use Rattle.std.proofs.lemmas.Bool.{eqb-true, eq-eqb}
 use Rattle.sqlite_value.specs.declared.value.Value.{Value}
 use Rattle.sqlite_value.specs.declared.value.Value.TheVariants.{Null, Int, Real, Text, Blob}
-use Rattle.sqlite_value.specs.Order.{Row as Record, column, value_cmp}
+use Rattle.sqlite_value.specs.Order.{Row as Record, column}
 use Rattle.sqlite_value.proofs.OrderLemmas.{value_cmp_total}
 use Rattle.sqlite_trees.specs.Tree.{Trees, IsAscending, IsTable, rowid}
 use Rattle.sqlite_trees.specs.View.{View, is_int, IsShaped}
-use Rattle.sqlite_trees.specs.declared.store.Shape.TheVariants as shape
 use Rattle.sqlite_schema.specs.declared.schema.Schema.{Schema}
 use Rattle.sqlite_schema.specs.contracts.schema.Schema.{the_row}
 use Rattle.sqlite_catalog.specs.Listing.{IsSound}
@@ -26,7 +25,7 @@ use Rattle.sqlite.specs.Effect.{Database}
 use Rattle.sqlite.specs.Values.{IsInt}
 use Rattle.card_ports.specs.declared.row.Row.{Row}
 use Rattle.card_ports.specs.declared.keeper.KeeperFault.{KeeperFault}
-use Rattle.card_sqlite.specs.Kept.{no_schema, kept_schema, shown, row_in, by_seq, IsFor, AreShown, AreKept, Keeps, KeepsAll, Extends}
+use Rattle.card_sqlite.specs.Kept.{no_schema, kept_schema, shown, row_in, by_seq, IsFor, AreKept, Keeps, KeepsAll, Extends}
 use Rattle.card_sqlite.specs.Told.{IsShown, same_code, same_schema, is_for, rows_in, told}
 use Rattle.card_ports.specs.Rows.{next_seq, are_from, GoOn, KeepsRows, AddsRows, GivesRows, SameRowsTold}
 use Rattle.sqlite_trees.specs.declared.store.Store.{Ghosts}

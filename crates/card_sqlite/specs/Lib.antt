@@ -2,3 +2,5 @@ pub mod Kept
 pub mod Faults
 pub mod Told
 pub mod Closed
+pub mod Calls
+pub mod Connected

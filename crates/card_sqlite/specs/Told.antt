@@ -1,6 +1,6 @@
 -- Stores that tell what they hold, and the rows that a keeper over one tells.
-use Rattle.std.specs.Prelude.{◌≡◌, Bool, true, false, not, ◌&&◌, ◌||◌, if◌then◌else◌, ◌==◌, List, [], ◌∷◌, map, Option, Some, None, IsTrue}
-use base.Stored.{Gv, gnil, gnum, gcons, Coded}
+use Rattle.std.specs.Prelude.{◌≡◌, Bool, true, false, not, ◌&&◌, ◌||◌, if◌then◌else◌, ◌==◌, List, [], map, Option, Some, None, IsTrue}
+use base.Stored.{Gv, gnil, gnum, gcons}
 use Rattle.std.proofs.Common.{refl, sym, true≢false}
 use Rattle.sqlite_trees.specs.declared.memory.MemStore.{MemStore}
 use Rattle.sqlite_trees.specs.Memory.{memory_view, memory_is_ordered, memory_is_listed}

@@ -1,4 +1,6 @@
-ghost use Rattle.std.specs.Prelude.{◌≡◌};
+ghost use Rattle.std.specs.Prelude.{◌≡◌, None, IfNone, IfSome, OnOk, IsErr};
+ghost use Rattle.card_sqlite.specs.Calls.{Loads, Appends};
+ghost use Rattle.card_sqlite.specs.Connected.{conn_of, connected, Between};
 
 use crate::StoreKeeper;
 use crate::fault::fault_of;
@@ -39,12 +41,16 @@ fn connect(store: &Option<Store<File>>, rt: &HostRuntime, path: &str) -> Made<Fi
     }
 }
 
-// Takes the connection that was made. This and the next two are over any store: what is proved of a call of one of them over
+// Takes the connection that was made. This and the next three are over any store: what is proved of a call of one of them over
 // a file takes long, so a load and an append are one such call.
 fn take<S: Alter + Drop>(
     store: &mut Option<StoreKeeper<S>>,
     made: Made<S>,
-) -> Result<(), KeeperFault> {
+) -> Result<(), KeeperFault>
+    ensures ok { OnOk result (conn_of store.new ≡ connected store.old made) }
+    ensures err { IsErr result → connected store.old made ≡ None }
+    ensures none { connected store.old made ≡ None → store.new ≡ store.old }
+{
     match made {
         Ok(Some(conn)) => {
             *store = Some(StoreKeeper::adopt(conn));
@@ -55,18 +61,32 @@ fn take<S: Alter + Drop>(
     }
 }
 
-// Adds the rows, where there are some to add, and gives none. Else gives the rows that are kept.
+// Adds the rows, and gives none.
+fn add<S: Alter>(
+    store: &mut StoreKeeper<S>,
+    alloc: Global,
+    rows: &[Row],
+) -> Result<Vec<Row>, KeeperFault>
+    ensures { Appends S.Store rows.now store.old.conn store.new.conn result }
+{
+    match store.append_rows(rows) {
+        Ok(()) => Ok(Vec::new(alloc)),
+        Err(fault) => Err(fault),
+    }
+}
+
+// Adds the rows, where some are handed on. Else gives the rows that are kept.
 fn answer<S: Alter>(
     store: &mut StoreKeeper<S>,
     alloc: Global,
     more: Option<&[Row]>,
-) -> Result<Vec<Row>, KeeperFault> {
+) -> Result<Vec<Row>, KeeperFault>
+    ensures loads { IfNone more.entry (Loads S.Store store.old.conn store.new.conn result) }
+    ensures appends { IfSome more.entry (λ rows. Appends S.Store rows.now store.old.conn store.new.conn result) }
+{
     match more {
         None => store.load_rows(alloc),
-        Some(rows) => {
-            store.append_rows(rows)?;
-            Ok(Vec::new(alloc))
-        }
+        Some(rows) => add(store, alloc, rows),
     }
 }
 
@@ -75,7 +95,11 @@ fn answer_over<S: Alter + Drop>(
     made: Made<S>,
     alloc: Global,
     more: Option<&[Row]>,
-) -> Result<Vec<Row>, KeeperFault> {
+) -> Result<Vec<Row>, KeeperFault>
+    ensures loads { IfNone more.entry (Between (connected store.old made) (conn_of store.new) (λ old new. Loads S.Store old new result)) }
+    ensures appends { IfSome more.entry (λ rows. Between (connected store.old made) (conn_of store.new) (λ old new. Appends S.Store rows.now old new result)) }
+    ensures unconnected { connected store.old made ≡ None → IsErr result × (store.new ≡ store.old) }
+{
     take(store, made)?;
     match store {
         Some(store) => answer(store, alloc, more),

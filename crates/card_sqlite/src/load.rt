@@ -69,6 +69,7 @@ fn rows_of(alloc: Global, records: &[Record]) -> Result<Vec<Row>, Error>
 /// Makes the table where it is missing, and gives its rows.
 pub(crate) fn load<S: Alter>(conn: &mut Connection<S>, alloc: Global) -> Result<Vec<Row>, Error>
     ensures given { HasCleanDisk (state S.Store conn.new) → IsFor (state S.Store conn.old).now.schema → IfOk result (λ rows. Keeps (state S.Store conn.old).now rows.items) }
+    ensures made { HasCleanDisk (state S.Store conn.new) → IsFor (state S.Store conn.old).now.schema → OnOk result (Creates (state S.Store conn.old).now (state S.Store conn.new).now) }
     ensures kept { HasCleanDisk (state S.Store conn.new) → IsFor (state S.Store conn.old).now.schema → IsSettled (state S.Store conn.old) → StaysKept (state S.Store conn.old) (state S.Store conn.new) }
     ensures mode { HasCleanDisk (state S.Store conn.new) → IsFor (state S.Store conn.old).now.schema → IsSettled (state S.Store conn.old) → (state S.Store conn.new).in_transaction ≡ false }
     ensures clean { doubt (state S.Store conn.old).is_clean ≤ doubt (state S.Store conn.new).is_clean }

@@ -1,8 +1,8 @@
-ghost use Rattle.std.specs.Prelude.{◌≡◌, ◌≤◌, false, IsTrue, IfOk, OnOk, OnErr, IsErrOf};
+ghost use Rattle.std.specs.Prelude.{◌≡◌, ◌≤◌, OnOk, IsErrOf};
 ghost use Rattle.card_ports.specs.Counts.{Rose};
-ghost use Rattle.sqlite.specs.State.{HasCleanDisk, IsLive, Survives};
+ghost use Rattle.sqlite.specs.State.{IsLive};
 ghost use Rattle.sqlite.specs.Held.{state};
-ghost use Rattle.card_sqlite.specs.Kept.{kept_schema, IsFor, Keeps, KeepsAll, Extends, Grows};
+ghost use Rattle.card_sqlite.specs.Calls.{Loads, Appends};
 
 use crate::append::append;
 use crate::fault::fault_of;
@@ -36,11 +36,7 @@ pub(crate) fn counted(faults: &mut u64, fault: KeeperFault) -> KeeperFault
 
 // Loads where no transaction is under way and the schema is the ledger's. Else nothing is done.
 fn load_if_fit<S: Alter>(conn: &mut Connection<S>, alloc: Global) -> Result<Vec<Row>, KeeperFault>
-    ensures given { HasCleanDisk (state S.Store conn.new) → IfOk result (λ rows. Keeps (state S.Store conn.old).now rows.items) }
-    ensures kept { HasCleanDisk (state S.Store conn.new) → IsTrue (state S.Store conn.new).is_open → KeepsAll (state S.Store conn.old).now (state S.Store conn.new).now }
-    ensures mode { HasCleanDisk (state S.Store conn.new) → (state S.Store conn.old).in_transaction ≡ false → (state S.Store conn.new).in_transaction ≡ false }
-    ensures busy { IsTrue conn.old.in_transaction → conn.new ≡ conn.old }
-    ensures idle { (IsFor (state S.Store conn.old).now.schema → ⊥) → conn.new ≡ conn.old }
+    ensures loads { Loads S.Store conn.old conn.new result }
 {
     if !conn.is_autocommit() || !fits(conn.schema()) {
         return Err(KeeperFault::Failed);
@@ -53,12 +49,7 @@ fn load_if_fit<S: Alter>(conn: &mut Connection<S>, alloc: Global) -> Result<Vec<
 
 // Adds the rows where no transaction is under way and the table is there. Else nothing is done.
 fn append_if_fit<S: Alter>(conn: &mut Connection<S>, rows: &[Row]) -> Result<(), KeeperFault>
-    ensures added { HasCleanDisk (state S.Store conn.new) → OnOk result (Extends (state S.Store conn.old).now rows.now (state S.Store conn.new).now) }
-    ensures err { HasCleanDisk (state S.Store conn.new) → IsTrue (state S.Store conn.new).is_open → OnErr result ((state S.Store conn.new).now ≡ (state S.Store conn.old).now) }
-    ensures crash { Survives (state S.Store conn.old) (state S.Store conn.new) (Grows (state S.Store conn.old).now.trees rows.now) }
-    ensures mode { HasCleanDisk (state S.Store conn.new) → (state S.Store conn.old).in_transaction ≡ false → (state S.Store conn.new).in_transaction ≡ false }
-    ensures busy { IsTrue conn.old.in_transaction → conn.new ≡ conn.old }
-    ensures idle { ((state S.Store conn.old).now.schema ≡ kept_schema → ⊥) → conn.new ≡ conn.old }
+    ensures appends { Appends S.Store rows.now conn.old conn.new result }
 {
     if !conn.is_autocommit() || !is_kept_alone(conn.schema()) {
         return Err(KeeperFault::Failed);
@@ -106,11 +97,7 @@ impl<S: Alter> StoreKeeper<S> {
     /// seq below 0 is given with seq 0. `Failed`, which is counted, comes where a transaction is under way, where the database
     /// has anything but the table `kept`, or where a statement fails; `Memory` where memory was wanted and isn't there.
     pub fn load_rows(&mut self, alloc: Global) -> Result<Vec<Row>, KeeperFault>
-        ensures given { HasCleanDisk (state S.Store self.new.conn) → IfOk result (λ rows. Keeps (state S.Store self.old.conn).now rows.items) }
-        ensures kept { HasCleanDisk (state S.Store self.new.conn) → IsTrue (state S.Store self.new.conn).is_open → KeepsAll (state S.Store self.old.conn).now (state S.Store self.new.conn).now }
-        ensures mode { HasCleanDisk (state S.Store self.new.conn) → (state S.Store self.old.conn).in_transaction ≡ false → (state S.Store self.new.conn).in_transaction ≡ false }
-        ensures busy { IsTrue self.old.conn.in_transaction → self.new.conn ≡ self.old.conn }
-        ensures idle { (IsFor (state S.Store self.old.conn).now.schema → ⊥) → self.new.conn ≡ self.old.conn }
+        ensures loads { Loads S.Store self.old.conn self.new.conn result }
         ensures count { self.old.faults ≤ self.new.faults }
         ensures unfailed { OnOk result (self.new.faults ≡ self.old.faults) }
         ensures cause { IsErrOf result KeeperFault.Failed → Rose self.old.faults self.new.faults }
@@ -127,12 +114,7 @@ impl<S: Alter> StoreKeeper<S> {
     /// statement fails; `Memory` where memory was wanted and isn't there. After both the rows are as they were. A crash leaves
     /// the rows from before, or with all of the new ones.
     pub fn append_rows(&mut self, rows: &[Row]) -> Result<(), KeeperFault>
-        ensures added { HasCleanDisk (state S.Store self.new.conn) → OnOk result (Extends (state S.Store self.old.conn).now rows.now (state S.Store self.new.conn).now) }
-        ensures err { HasCleanDisk (state S.Store self.new.conn) → IsTrue (state S.Store self.new.conn).is_open → OnErr result ((state S.Store self.new.conn).now ≡ (state S.Store self.old.conn).now) }
-        ensures crash { Survives (state S.Store self.old.conn) (state S.Store self.new.conn) (Grows (state S.Store self.old.conn).now.trees rows.now) }
-        ensures mode { HasCleanDisk (state S.Store self.new.conn) → (state S.Store self.old.conn).in_transaction ≡ false → (state S.Store self.new.conn).in_transaction ≡ false }
-        ensures busy { IsTrue self.old.conn.in_transaction → self.new.conn ≡ self.old.conn }
-        ensures idle { ((state S.Store self.old.conn).now.schema ≡ kept_schema → ⊥) → self.new.conn ≡ self.old.conn }
+        ensures appends { Appends S.Store rows.now self.old.conn self.new.conn result }
         ensures count { self.old.faults ≤ self.new.faults }
         ensures unfailed { OnOk result (self.new.faults ≡ self.old.faults) }
         ensures cause { IsErrOf result KeeperFault.Failed → Rose self.old.faults self.new.faults }

@@ -1,4 +1,4 @@
-use Rattle.std.proofs.Common.{◌≡◌, sym, subst, arith, rules, IsTrue, OnErr, true, refl}
+use Rattle.std.proofs.Common.{◌≡◌, sym, subst, arith, rules, IsTrue, OnErr, refl}
 use Rattle.sqlite_trees.specs.Tree.{Trees}
 use Rattle.sqlite.specs.State.{HasCleanDisk, Survives}
 use Rattle.sqlite.specs.Held.{state}

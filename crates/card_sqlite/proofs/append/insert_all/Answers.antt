@@ -1,4 +1,4 @@
-use Rattle.std.proofs.Common.{◌≡◌, take, ◌++◌, [], ◌∷◌, ◌∙◌, sym, ap, subst, arith, IsTrue}
+use Rattle.std.proofs.Common.{take, ◌++◌, [], ◌∷◌, ◌∙◌, sym, ap, subst, arith}
 use Rattle.std.proofs.lemmas.List.{take_more}
 use Rattle.sqlite.specs.State.{HasCleanDisk}
 use Rattle.sqlite.specs.Held.{state}

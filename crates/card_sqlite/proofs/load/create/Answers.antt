@@ -1,4 +1,4 @@
-use Rattle.std.proofs.Common.{◌≡◌, []}
+use Rattle.std.proofs.Common.{[]}
 use Rattle.sqlite.specs.Held.{state}
 use Rattle.card_sqlite.specs.Kept.{create_text}
 use Rattle.card_sqlite.proofs.Statements.{creates_for, settles_for, stays_executed, mode_created}

@@ -1,4 +1,4 @@
-use Rattle.std.proofs.Common.{◌≡◌, List, [], Ok, Err, Result, OnOk, OnErr, IfOk, IfErr, Vec}
+use Rattle.std.proofs.Common.{◌≡◌, [], Ok, Err, Result, OnOk, OnErr, IfOk, IfErr, Vec}
 use Rattle.std.specs.declared.alloc.Global.{Global}
 use Rattle.sqlite_value.specs.Order.{Row as Record}
 use Rattle.sqlite.specs.declared.error.Error.{Error}

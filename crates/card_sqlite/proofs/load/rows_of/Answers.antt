@@ -1,4 +1,4 @@
-use Rattle.std.proofs.Common.{◌≡◌, take, All, subst, arith, rules}
+use Rattle.std.proofs.Common.{All, subst}
 use Rattle.sqlite_value.specs.Order.{column}
 use Rattle.sqlite.specs.Values.{IsInt}
 use Rattle.std.proofs.lemmas.List.{take_all}

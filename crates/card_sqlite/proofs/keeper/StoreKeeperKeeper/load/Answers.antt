@@ -1,5 +1,4 @@
-use Rattle.std.proofs.Common.{◌≡◌, true, ap, IsTrue, OnOk, OnErr, IfOk, inr}
-use Rattle.sqlite.specs.State.{State, HasCleanDisk}
+use Rattle.std.proofs.Common.{ap}
 use Rattle.sqlite.specs.Held.{state}
 use Rattle.card_sqlite.proofs.Tells.{good, clean_shown, given_result, told_kept_all, told_same}
 use Rattle.card_sqlite.proofs.keeper.StoreKeeperKeeper.load.Goals as goal
@@ -11,7 +10,7 @@ returns-clause-given g c =
     let old = state g.S.Store before in
     let new = state g.S.Store after in
     let shows = g.met.S.Told.shows in
-    given_result _ old new (λ t. good g.S.Store before (shows before.store t) c.schema-before.ensures) (λ t. good g.S.Store after (shows after.store t) c.schema-after.ensures) c.load_rows-loaded.result (λ t. c.load_rows-loaded.ensures.given (clean_shown g.S.Store after (shows after.store t)))
+    given_result _ old new (λ t. good g.S.Store before (shows before.store t) c.schema-before.ensures) (λ t. good g.S.Store after (shows after.store t) c.schema-after.ensures) c.load_rows-loaded.result (λ t. c.load_rows-loaded.ensures.loads.given (clean_shown g.S.Store after (shows after.store t)))
 
 pub returns-clause-kept : goal.returns-clause-kept
 returns-clause-kept g c =
@@ -20,7 +19,7 @@ returns-clause-kept g c =
     let old = state g.S.Store before in
     let new = state g.S.Store after in
     let shows = g.met.S.Told.shows in
-    told_kept_all _ old new (λ t. good g.S.Store before (shows before.store t) c.schema-before.ensures) (λ t. good g.S.Store after (shows after.store t) c.schema-after.ensures) (λ t. c.load_rows-loaded.ensures.mode (clean_shown g.S.Store after (shows after.store t))) (λ t. c.load_rows-loaded.ensures.kept (clean_shown g.S.Store after (shows after.store t)) (shows after.store t).is_open)
+    told_kept_all _ old new (λ t. good g.S.Store before (shows before.store t) c.schema-before.ensures) (λ t. good g.S.Store after (shows after.store t) c.schema-after.ensures) (λ t. c.load_rows-loaded.ensures.loads.mode (clean_shown g.S.Store after (shows after.store t))) (λ t. c.load_rows-loaded.ensures.loads.kept (clean_shown g.S.Store after (shows after.store t)) (shows after.store t).is_open)
 
 pub returns-clause-told : goal.returns-clause-told
 returns-clause-told g c =
@@ -29,4 +28,4 @@ returns-clause-told g c =
     let old = state g.S.Store before in
     let new = state g.S.Store after in
     let shows = g.met.S.Told.shows in
-    told_same _ old new (told_kept_all _ old new (λ t. good g.S.Store before (shows before.store t) c.schema-before.ensures) (λ t. good g.S.Store after (shows after.store t) c.schema-after.ensures) (λ t. c.load_rows-loaded.ensures.mode (clean_shown g.S.Store after (shows after.store t))) (λ t. c.load_rows-loaded.ensures.kept (clean_shown g.S.Store after (shows after.store t)) (shows after.store t).is_open)) (λ inside. ap (state g.S.Store) (c.load_rows-loaded.ensures.busy inside)) (λ unfit. ap (state g.S.Store) (c.load_rows-loaded.ensures.idle unfit))
+    told_same _ old new (told_kept_all _ old new (λ t. good g.S.Store before (shows before.store t) c.schema-before.ensures) (λ t. good g.S.Store after (shows after.store t) c.schema-after.ensures) (λ t. c.load_rows-loaded.ensures.loads.mode (clean_shown g.S.Store after (shows after.store t))) (λ t. c.load_rows-loaded.ensures.loads.kept (clean_shown g.S.Store after (shows after.store t)) (shows after.store t).is_open)) (λ inside. ap (state g.S.Store) (c.load_rows-loaded.ensures.loads.busy inside)) (λ unfit. ap (state g.S.Store) (c.load_rows-loaded.ensures.loads.idle unfit))
