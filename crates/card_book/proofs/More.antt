@@ -43,11 +43,3 @@ span-stands g b s t u first day since whole open' h now l high q folded e =
       folded = folded;
       since = e ∙ (ap (λ n. since_after n day b.credit_since) (credit-is g day s sums) ∙ (ap (since_after (credit_balance (book_on g day).entries) day) h.since ∙ sym next));
     }
-
--- where the first day that isn't folded follows a day, that day is the last folded
-pub reached-day : (g : Given) (day : Option ℕ) (to : ℕ) → opened_in g ≤ to → day_to_fold g day ≡ to + 1 → day ≡ Some to
-reached-day g None to l e = absurd (no l e)
-  where
-    no : opened_in g ≤ to → opened_in g ≡ to + 1 → ⊥
-    no l e = omega arith
-reached-day g (Some day) to l e = let same : day ≡ to = omega arith in ap Some same

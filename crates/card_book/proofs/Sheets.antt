@@ -66,12 +66,6 @@ closed-through g None zero c s l e = let none : None ≡ Some c = e in absurd (c
 closed-through g None (suc k) c s l e = let none : None ≡ Some c = e in absurd (cc)
 closed-through g (Some day) k c s l e = closed-on g day k c s l e
 
--- a closed cycle is in the book of its closing, at the same place
-pub same-at-closing : (g : Given) (day k : ℕ) (c : Cycle) → cycle_at k (book_on g day).cycles ≡ Some c → cycle_at k (book_on g c.closing).cycles ≡ cycle_at k (book_on g day).cycles
-same-at-closing g day k c e =
-    let cut = closings_are_cuts g.history g.issued g.shared day k c e in
-    ap (cycle_at k) (sym cut.cycles) ∙ cycle-take (book_on g day).cycles k k (omega arith)
-
 -- no cycle is closed before the opening day
 none-early : (g : Given) (day : ℕ) → day + 1 ≤ opened_in g → (book_on g day).cycles ≡ []
 unfolding book book_after

@@ -27,7 +27,7 @@ use Rattle.card_model.specs.Interest.{row}
 use Rattle.card_model.specs.Segments.{SegmentTerms, newest, segment_at}
 use Rattle.card_model.specs.declared.entry.Entry.{Entry}
 use Rattle.card_model.specs.declared.fee.Fee.{Fee}
-use Rattle.card_events.specs.Money.{daily}
+use Rattle.card_events.specs.Money.{daily, rate_limit}
 use Rattle.card_events.specs.declared.post.Post.TheVariants as post
 use Rattle.card_model.specs.declared.entry.EntryKind.TheVariants as kind
 use Rattle.card_model.specs.declared.segment.Sort.TheVariants as sort
@@ -307,7 +307,7 @@ rows_small posts history issued shared day n j l e s =
     chain x y z a b = omega arith
 
 -- ---- sums of rows times rates
-daily-small : (bp : ℕ) → bp ≤ 9999 → daily bp ≤ 2739452
+daily-small : (bp : ℕ) → bp ≤ rate_limit → daily bp ≤ 2739452
 unfolding daily
 daily-small bp l = omega arith
 
@@ -318,7 +318,7 @@ product-small x y m n a b = chain (x * y) (m * y) (m * n) (mul-le-mul_right y a)
     chain x y z a b = omega arith
 
 -- days of at most c each
-sum-small : (f rate : ℕ → ℕ) (m c : ℕ) → m * 2739452 ≡ c → (first n : ℕ) → ((x : ℕ) → first ≤ x → x < first + n → f x ≤ m) → ((x : ℕ) → rate x ≤ 9999) → rate_sum f rate first n ≤ n * c
+sum-small : (f rate : ℕ → ℕ) (m c : ℕ) → m * 2739452 ≡ c → (first n : ℕ) → ((x : ℕ) → first ≤ x → x < first + n → f x ≤ m) → ((x : ℕ) → rate x ≤ rate_limit) → rate_sum f rate first n ≤ n * c
 sum-small f rate m c e first zero h r = omega arith
 sum-small f rate m c e first (suc n) h r =
     let here = product-small (f first) (daily (rate first)) m 2739452 (h first (omega arith) (omega arith)) (daily-small (rate first) (r first)) in

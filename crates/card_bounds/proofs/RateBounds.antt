@@ -20,6 +20,7 @@ use Rattle.card_model.specs.Rates.{Begun, Lowering, after_end, bears_as, bears_i
 use Rattle.card_model.specs.Segments.{SegmentTerms, is_over, is_plan, is_sort, last_that, opening_vintage, opening_vintages, segment_of, segments}
 use Rattle.card_model.specs.declared.segment.Sort.{Sort}
 use Rattle.card_events.specs.declared.post.Post.TheVariants as post
+use Rattle.card_events.specs.Money.{rate_limit}
 use Rattle.card_model.specs.declared.segment.Sort.TheVariants as sort
 
 -- ---- Lowers and penalties
@@ -36,7 +37,7 @@ capped-less : (ls : List Lowering) (s : Sort) (day : ℕ) (b : Begun) → capped
 unfolding capped
 capped-less ls s day b = lowered-less s b.from day ls b.rate
 
-penalties-small : (ls : List Lowering) (penalty : ℕ) (s : Sort) (day : ℕ) (began : List ℕ) (a : ℕ) → penalty ≤ 9999 → a ≤ 9999 → fold (with_penalty ls penalty s day) a began ≤ 9999
+penalties-small : (ls : List Lowering) (penalty : ℕ) (s : Sort) (day : ℕ) (began : List ℕ) (a : ℕ) → penalty ≤ rate_limit → a ≤ rate_limit → fold (with_penalty ls penalty s day) a began ≤ rate_limit
 penalties-small ls penalty s day [] a p h = h
 penalties-small ls penalty s day (x ∷ xs) a p h =
     penalties-small ls penalty s day xs (with_penalty ls penalty s day a x) p (both a (capped ls s day (record { rate = penalty; from = x })) h (chain _ _ _ (capped-less ls s day (record { rate = penalty; from = x })) p))
@@ -44,21 +45,21 @@ penalties-small ls penalty s day (x ∷ xs) a p h =
     chain : (x y z : ℕ) → x ≤ y → y ≤ z → x ≤ z
     chain x y z a b = omega arith
 
-    both : (x y : ℕ) → x ≤ 9999 → y ≤ 9999 → max x y ≤ 9999
+    both : (x y : ℕ) → x ≤ rate_limit → y ≤ rate_limit → max x y ≤ rate_limit
     both x y a b = omega arith
 
 -- ---- segments
 abbrev IsSmall : SegmentTerms → Type 0
-IsSmall g = (g.rate ≤ 9999) × (g.after ≤ 9999)
+IsSmall g = (g.rate ≤ rate_limit) × (g.after ≤ rate_limit)
 
 abbrev IsSmallPost : CorrectedPost → Type 0
-IsSmallPost p = posted_rate p.post ≤ 9999
+IsSmallPost p = posted_rate p.post ≤ rate_limit
 
 abbrev IsSmallOption : Option SegmentTerms → Type 0
 IsSmallOption None = Unit {0}
 IsSmallOption (Some g) = IsSmall g
 
-segment-small : (id n : ℕ) (p : Post) → posted_rate p ≤ 9999 → IsSmallOption (segment_of id n p)
+segment-small : (id n : ℕ) (p : Post) → posted_rate p ≤ rate_limit → IsSmallOption (segment_of id n p)
 segment-small id n (post.Plan d k r e f) h = (omega arith, omega arith)
 segment-small id n (post.Notice d c r e) h = (h, omega arith)
 segment-small id n (post.Open d t) h = tt
@@ -87,15 +88,15 @@ added-small (p ∷ ps) h = by (segment_of p.segment p.number p.post) (segment-sm
 
 -- the rates of the terms
 pub record AreSmallTerms (t : Terms) : Type 0 where
-  pub purchase : t.purchase ≤ 9999
-  pub cash : t.cash ≤ 9999
-  pub transfer : t.transfer ≤ 9999
-  pub penalty : t.penalty ≤ 9999
+  pub purchase : t.purchase ≤ rate_limit
+  pub cash : t.cash ≤ rate_limit
+  pub transfer : t.transfer ≤ rate_limit
+  pub penalty : t.penalty ≤ rate_limit
 
 no_terms-small : AreSmallTerms no_terms
 no_terms-small = record { purchase = omega arith; cash = omega arith; transfer = omega arith; penalty = omega arith }
 
-terms_in-small : (p : Post) → posted_rate p ≤ 9999 → AreSmallTerms (terms_in p)
+terms_in-small : (p : Post) → posted_rate p ≤ rate_limit → AreSmallTerms (terms_in p)
 terms_in-small (post.Open d t) h = record { purchase = omega arith; cash = omega arith; transfer = omega arith; penalty = omega arith }
 terms_in-small (post.Charge d p c) h = no_terms-small
 terms_in-small (post.Credit d p c) h = no_terms-small
@@ -125,7 +126,7 @@ corrected-small a holidays history n id (k ∷ ks) h = All-cons IsSmallPost _ _ 
 
 opening-small : (opened : ℕ) (t : Terms) (gs : List SegmentTerms) → AreSmallTerms t → All IsSmall gs → All IsSmall (opening_vintages opened t ++ gs)
 opening-small opened t gs s h =
-    let none : 0 ≤ 9999 = omega arith in
+    let none : 0 ≤ rate_limit = omega arith in
     let purchase = opening_vintage 2 sort.Purchase opened t.purchase in
     let cash = opening_vintage 3 sort.Cash opened t.cash in
     let transfer = opening_vintage 4 sort.Transfer opened t.transfer in
@@ -140,23 +141,23 @@ segments-small history issued shared on h =
     opening-small a.opened (terms_of history) _ t (added-small (seen_on a shared history issued on).posts posts)
 
 -- ---- the rate
-last-small : (p : SegmentTerms → Bool) (gs : List SegmentTerms) → All IsSmall gs → (begun_of (last_that p gs)).rate ≤ 9999
+last-small : (p : SegmentTerms → Bool) (gs : List SegmentTerms) → All IsSmall gs → (begun_of (last_that p gs)).rate ≤ rate_limit
 last-small p [] h = omega arith
 last-small p (g ∷ gs) h = by (last_that p gs) (p g) (All-head IsSmall g gs h) (last-small p gs (All-tail IsSmall g gs h))
   where
-    by : (o : Option SegmentTerms) (t : Bool) → IsSmall g → (begun_of o).rate ≤ 9999 → (begun_of (option_or o (cond t (Some g) None))).rate ≤ 9999
+    by : (o : Option SegmentTerms) (t : Bool) → IsSmall g → (begun_of o).rate ≤ rate_limit → (begun_of (option_or o (cond t (Some g) None))).rate ≤ rate_limit
     by (Some x) t s i = i
     by None true s i = s.0
     by None false s i = i
 
-own-small : (gs : List SegmentTerms) (day : ℕ) (g : SegmentTerms) → All IsSmall gs → IsSmall g → (own gs day g).rate ≤ 9999
+own-small : (gs : List SegmentTerms) (day : ℕ) (g : SegmentTerms) → All IsSmall gs → IsSmall g → (own gs day g).rate ≤ rate_limit
 own-small gs day g h s = by (is_plan g) (last-small (bears_in day g.sort g.id) gs h)
   where
-    by : (t : Bool) → (begun_of (last_that (bears_in day g.sort g.id) gs)).rate ≤ 9999 → (cond t (record { rate = g.after; from = after_end g.ends }) (begun_of (last_that (bears_in day g.sort g.id) gs))).rate ≤ 9999
+    by : (t : Bool) → (begun_of (last_that (bears_in day g.sort g.id) gs)).rate ≤ rate_limit → (cond t (record { rate = g.after; from = after_end g.ends }) (begun_of (last_that (bears_in day g.sort g.id) gs))).rate ≤ rate_limit
     by true i = s.1
     by false i = i
 
-rate-small : (ls : List Lowering) (penalty : ℕ) (began : List ℕ) (gs : List SegmentTerms) (day : ℕ) (g : SegmentTerms) → penalty ≤ 9999 → All IsSmall gs → IsSmall g → rate_on ls penalty began gs day g ≤ 9999
+rate-small : (ls : List Lowering) (penalty : ℕ) (began : List ℕ) (gs : List SegmentTerms) (day : ℕ) (g : SegmentTerms) → penalty ≤ rate_limit → All IsSmall gs → IsSmall g → rate_on ls penalty began gs day g ≤ rate_limit
 unfolding rate_on
 rate-small ls penalty began gs day g p h s =
     let lasting = penalties-small ls penalty (bears_as g) day began (capped ls (bears_as g) day (own gs day g)) p (chain _ _ _ (capped-less ls (bears_as g) day (own gs day g)) (own-small gs day g h s)) in
@@ -165,7 +166,7 @@ rate-small ls penalty began gs day g p h s =
     chain : (x y z : ℕ) → x ≤ y → y ≤ z → x ≤ z
     chain x y z a b = omega arith
 
-    by : (t u v : Bool) (x : ℕ) → x ≤ 9999 → cond t 0 (cond u (cond v g.rate 0) x) ≤ 9999
+    by : (t u v : Bool) (x : ℕ) → x ≤ rate_limit → cond t 0 (cond u (cond v g.rate 0) x) ≤ rate_limit
     by true u v x l = omega arith
     by false true true x l = s.0
     by false true false x l = omega arith
@@ -177,5 +178,5 @@ rates_small = record {
       let all = segments-small history issued shared on h in
       let t = terms-small history h in
       rate-small _ (terms_of history).penalty _ _ day g t.penalty all (All-contains IsSmall _ g all c);
-  plans = λ history issued shared on h. All-weaker IsSmall (λ (g : SegmentTerms). g.rate ≤ 9999) (λ g s. s.0) _ (segments-small history issued shared on h);
+  plans = λ history issued shared on h. All-weaker IsSmall (λ (g : SegmentTerms). g.rate ≤ rate_limit) (λ g s. s.0) _ (segments-small history issued shared on h);
 }

@@ -1,7 +1,7 @@
 -- How large balances, rows and sums can be, from the limits on posts, cents, fees and days alone.
 use Rattle.std.specs.Prelude.{ℕ, ◌+◌, ◌*◌, ◌==◌, ◌≡◌, ◌≤◌, ◌<◌, cond, length, List, ◌++◌, Option, pos, ◌≤ℤ◌, neg_ℤ, nat_abs}
 use Rattle.std.specs.List.{All, Contains, filter, range_with_len, sum_by}
-use Rattle.card_events.specs.Money.{daily}
+use Rattle.card_events.specs.Money.{daily, rate_limit}
 use Rattle.card_events.specs.History.{CorrectedPost, anchor_of}
 use Rattle.card_events.specs.SharedRows.{SharedRows}
 use Rattle.card_events.specs.declared.kept.Kept.{Kept}
@@ -127,7 +127,7 @@ rate_sum amount rate first n = sum_by (λ x. amount x * daily (rate x)) (range_w
 -- the amounts of n days from the first are within the bound of rows, and rates are below 10,000 basis points
 pub record IsRateSum (posts : ℕ) (amount rate : ℕ → ℕ) (first n : ℕ) : Type 0 where
   pub amounts : (x : ℕ) → first ≤ x → x < first + n → amount x ≤ most_owing posts
-  pub rates : (x : ℕ) → rate x ≤ 9999
+  pub rates : (x : ℕ) → rate x ≤ rate_limit
 
 -- 2,739,452 billionths is the greatest daily rate
 pub record SumsSmall : Type 0 where
@@ -157,10 +157,10 @@ pub record RatesSmall : Type 0 where
   pub days :
       (history : List Kept) (issued : List IssuedRow) (shared : SharedRows) (on day : ℕ) (b : Book) (g : SegmentTerms) → All HasFewRates history
       → Contains (all_segments (account_of history) (seen_on (anchor_of history) shared history issued on)) g
-      → rate_in (account_of history) (seen_on (anchor_of history) shared history issued on) b day g ≤ 9999
+      → rate_in (account_of history) (seen_on (anchor_of history) shared history issued on) b day g ≤ rate_limit
   pub plans :
       (history : List Kept) (issued : List IssuedRow) (shared : SharedRows) (on : ℕ) → All HasFewRates history
-      → All (λ g. g.rate ≤ 9999) (all_segments (account_of history) (seen_on (anchor_of history) shared history issued on))
+      → All (λ g. g.rate ≤ rate_limit) (all_segments (account_of history) (seen_on (anchor_of history) shared history issued on))
 
 -- ---- the interest of a cycle
 -- the sum of the interest entries of a day

@@ -1,5 +1,6 @@
 // Days, numbers, names and tables.
 ghost use Rattle.std.specs.Prelude.{◌≡◌, ◌≤◌};
+ghost use Rattle.card_events.specs.Business.{last_minute};
 
 use card_events::{Anchor, Calendar, Channel, Day, Money, Name, Num, closing, credit_day, due};
 use card_fees::FeeTable;
@@ -69,7 +70,7 @@ fn first_cycles(rt: HostRuntime) {
 
 // The day as of which an online payment of 2024-11-24, a due date, counts.
 fn credited(rt: &impl Abort, alloc: Global, minute: u16) -> i32
-    requires { minute ≤ 1_439 }
+    requires { minute ≤ last_minute }
 {
     let anchor = Anchor {
         opened: day(rt, 19_723),

@@ -119,27 +119,4 @@ are-fit bs t h few w e k =
     }
 
 -- ---- the minimum payment of a balance up to 10^17 reads no more of any amount
-pub minimum-limited : (nb : ℤ) (floor pct charges past_due : ℕ) → nb ≤ℤ pos 100_000_000_000_000_000
-    → minimum_of nb (min floor 100_000_000_000_000_000) pct (min charges 100_000_000_000_000_000) (min past_due 100_000_000_000_000_000) ≡ minimum_of nb floor pct charges past_due
-minimum-limited (pos n) floor pct charges past_due h = limited n floor _ charges past_due (omega (arith, ints, h))
-  where
-    limited : (n f p c d : ℕ) → n ≤ 100_000_000_000_000_000
-        → min n (max (min f 100_000_000_000_000_000) (p + min c 100_000_000_000_000_000) + min d 100_000_000_000_000_000) ≡ min n (max f (p + c) + d)
-    limited n f p c d h = omega (arith, h)
-minimum-limited (negsuc n) floor pct charges past_due h = refl
-
 -- ---- what a balance has beyond an amount
-pub beyond-is : (z : ℤ) (n : ℕ) → pos 0 ≤ℤ z → unsigned_abs z - n ≡ at_least_zero (z -ℤ pos n)
-beyond-is (pos m) n h = above (pos m -ℤ pos n) m n refl
-  where
-    above : (d : ℤ) (m n : ℕ) → d ≡ pos m -ℤ pos n → m - n ≡ at_least_zero d
-    above (pos k) m n e = omega (arith, ints, e)
-    above (negsuc k) m n e = omega (arith, ints, e)
-beyond-is (negsuc m) n h = absurd (omega (arith, ints, h))
-
-pub none-beyond : (z : ℤ) (n : ℕ) → z <ℤ pos 0 → 0 ≡ at_least_zero (z -ℤ pos n)
-none-beyond z n h = below (z -ℤ pos n) (omega (arith, ints, h))
-  where
-    below : (d : ℤ) → d <ℤ pos 0 → 0 ≡ at_least_zero d
-    below (pos k) e = absurd (omega (arith, ints, e))
-    below (negsuc k) e = refl

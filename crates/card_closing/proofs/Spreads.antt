@@ -52,10 +52,6 @@ length-spread a [] = refl
 length-spread a (x ∷ xs) =
     omega (arith, length-append (equal_days a x.days x.balance x.rate) (spread (a + x.days) xs), length-equal_days a x.days x.balance x.rate, length-spread (a + x.days) xs, sum_by-cons (λ (r : Run). r.days) x xs)
 
--- the days of a run are among all
-pub days_within : (i : ℕ) (xs : List Run) (d : Run) → i < length xs → run_days (take i xs) + (get_or xs i d).days ≤ run_days xs
-days_within i xs d l = omega (arith, sum_by_more (λ (r : Run). r.days) xs i d l, sum_by-take-le (λ (r : Run). r.days) xs (i + 1))
-
 -- ---- rows that grow
 -- a run of more days
 abbrev pub longer : ℕ → Run → Run

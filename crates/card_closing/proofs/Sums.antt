@@ -9,13 +9,6 @@ use Rattle.card_closing.specs.declared.rows.Repayment.{Repayment}
 use Rattle.card_closing.specs.declared.runs.Run.{Run}
 use Rattle.card_closing.proofs.Spreads.{spread_more}
 
--- one repayment more
-pub lowered_more : (repaid : List Repayment) (day due i balance left : ℕ) (r d : Repayment) → i < length repaid → r ≡ get_or repaid i d → left ≡ balance - repaid_later (take i repaid) day due
-    → balance - repaid_later (take (i + 1) repaid) day due ≡ left - cond (ltb day r.day && leb r.day due) r.cents 0
-lowered_more repaid day due i balance left r d l e h =
-    let more = sum_by_more (λ (r : Repayment). cond (ltb day r.day && leb r.day due) r.cents 0) repaid i d l in
-    rw (more, ← e) (omega arith)
-
 -- equal days of one rate
 pub rate_out : (f : DayRow → ℕ) (a n balance rate : ℕ) → sum_by (λ (r : DayRow). f r * daily r.rate) (equal_days a n balance rate) ≡ sum_by f (equal_days a n balance rate) * daily rate
 rate_out f a zero balance rate = omega arith

@@ -1,5 +1,6 @@
 // Whether a minimum payment is sixty days late, and when a penalty then begins.
 ghost use Rattle.std.specs.Prelude.{◌≡◌, ◌+◌, ◌≤◌, ℕ, List};
+ghost use Rattle.card_events.specs.Range.{last_calendar_day};
 ghost use Rattle.card_events.specs.Billing.{IsCloseDay};
 ghost use Rattle.card_closing.specs.PenaltyLate.{owes_by};
 ghost use Rattle.card_posts.specs.Posted.{StandsFor};
@@ -23,7 +24,7 @@ pub fn owes_sixty_days(posts: &Posts, a: &Anchor, c: &DueCycle, day: Day) -> boo
 /// The day on which a penalty begins that is notified on a day: 45 days after it (12 CFR 1026.9(g)(1)(i)). The day is at most
 /// 2102-11-17.
 pub fn begin_after(day: Day) -> Day
-    requires { day ≤ 48_531 }
+    requires { day + 45 ≤ last_calendar_day }
     ensures { result ≡ day + 45 }
 {
     day.plus(45)

@@ -223,35 +223,6 @@ did_after a b c p q xs ys end.Endless fed did = absurd did
 pub fell_then : (a b c : Sides) (p q : Progress) (xs ys : List ℕ) (e : End) → Fed a b p xs q → FellAt b c q ys e → FellAt a c p (xs ++ ys) e
 fell_then a b c p q xs ys e fed fell = record { did = did_after a b c p q xs ys e fed fell.did; cause = failed_after a b c e fed.counts fell.cause }
 
--- more bytes stand behind those
-held_longer : (a b : Sides) (p : Progress) (xs ys : List ℕ) → HeldAt a b p xs → HeldAt a b p (xs ++ ys)
-held_longer a b p xs ys held =
-    let same : take held.count xs ≡ take held.count (xs ++ ys) = sym (take-append-le held.count xs ys held.within) in
-    record { count = held.count; within = omega (arith, length-append xs ys, held.within); did = did_same a b _ _ _ _ (ap (text_all p) same) (ap (rows_all p) same) held.did }
-
-stopped_longer : (a b : Sides) (p : Progress) (xs ys : List ℕ) → StoppedAt a b p xs → StoppedAt a b p (xs ++ ys)
-stopped_longer a b p xs ys stop =
-    let same : take stop.count xs ≡ take stop.count (xs ++ ys) = sym (take-append-le stop.count xs ys stop.within) in
-    let fewer : take (stop.count - 1) xs ≡ take (stop.count - 1) (xs ++ ys) = sym (take-append-le (stop.count - 1) xs ys (omega (arith, stop.within))) in
-    record {
-      count = stop.count;
-      within = omega (arith, length-append xs ys, stop.within);
-      took = record {
-        bytes = stop.took.bytes;
-        taken = stop.took.taken;
-        whole = subst (λ (x : List ℕ). IsFront (text_all p x) stop.took.bytes) fewer stop.took.whole;
-        front = subst (λ (x : List ℕ). IsFront stop.took.bytes (text_all p x)) same stop.took.front;
-      };
-      kept = subst (λ (x : List ℕ). AddsRows a.keeper.rows b.keeper.rows (rows_all p x)) same stop.kept;
-    }
-
-pub fell_longer : (a b : Sides) (p : Progress) (xs ys : List ℕ) (e : End) → FellAt a b p xs e → FellAt a b p (xs ++ ys) e
-fell_longer a b p xs ys end.Source fell = absurd fell.cause
-fell_longer a b p xs ys end.Sink fell = record { did = stopped_longer a b p xs ys fell.did; cause = fell.cause }
-fell_longer a b p xs ys end.Keeper fell = record { did = held_longer a b p xs ys fell.did; cause = fell.cause }
-fell_longer a b p xs ys end.Memory fell = record { did = stopped_longer a b p xs ys fell.did; cause = fell.cause }
-fell_longer a b p xs ys end.Endless fell = absurd fell.cause
-
 -- ---- with the source
 
 ran_none : {I K : Type 0} (a : Outside I K) (p : Progress) → Fits a.rows p.ledger → Ran a a p p 0

@@ -28,19 +28,6 @@ use Rattle.card_commands.proofs.SideLemmas.{front_trans, took_whole, took_part, 
 
 -- ---- reading
 
-pub taken_none : (a : SourceSide) → HasTaken a a []
-taken_none a = record { read = Consumes-nil a.left; count = refl }
-
-taken_then : (a b c : SourceSide) (xs ys : List ℕ) → HasTaken a b xs → HasTaken b c ys → HasTaken a c (xs ++ ys)
-taken_then a b c xs ys one two = record { read = Consumes-trans a.left b.left c.left xs ys one.read two.read; count = two.count ∙ one.count }
-
--- a piece more
-pub taken_more : (a b c : SourceSide) (before now : List ℕ) (n : ℕ) → HasTaken a b before → TookMore b c before now n → HasTaken a c now
-taken_more a b c before now n one two = subst (HasTaken a c) (sym two.joined) (taken_then a b c before two.more one two.taken)
-
-pub length_more : (a b : SourceSide) (before now : List ℕ) (n : ℕ) → TookMore a b before now n → length now ≡ length before + n
-length_more a b before now n took = ap length took.joined ∙ length-append before took.more ∙ ap (λ (k : ℕ). length before + k) took.length_is
-
 -- bytes were read before, and then no more came
 pub fell_later : (a b c : SourceSide) (before : List ℕ) (e : End) → HasTaken a b before → FellInPiece b c e → FellTaking a c e
 fell_later a b c before end.Source one two =
@@ -49,10 +36,6 @@ fell_later a b c before end.Memory one two = record { bytes = before ++ two.byte
 fell_later a b c before end.Sink one two = absurd two.cause
 fell_later a b c before end.Keeper one two = absurd two.cause
 fell_later a b c before end.Endless one two = absurd two.cause
-
--- so many bytes were read, and no end came
-pub fell_endless : (a b : SourceSide) (bytes : List ℕ) → HasTaken a b bytes → length bytes ≡ records.limit → FellTaking a b end.Endless
-fell_endless a b bytes one all = record { bytes = bytes; read = one.read; cause = (all, one.count) }
 
 -- ---- handling
 
@@ -93,17 +76,10 @@ left_more all done (y ∷ left) x parts first =
     let same : x ≡ y = cc first in
     subst (λ (z : Item). all ≡ (done ++ z ∷ []) ++ left) (sym same) (parts ∙ sym (append_assoc done (y ∷ []) left))
 
-pub fewer_left : (left : List Item) (x : Item) → Some x ≡ slice_get left 0 → length (drop 1 left) < length left
-fewer_left [] x first = cc first
-fewer_left (y ∷ left) x first = omega arith
-
 -- no item is left
 pub none_left : (all done left : List Item) → all ≡ done ++ left → ◌≡◌ {A = Option Item} None (slice_get left 0) → done ≡ all
 none_left all done [] parts none = sym (parts ∙ append-nil done)
 none_left all done (y ∷ left) parts none = cc none
-
-pub handled_whole : (a b : Sides) (p q : Run) (all done : List Item) → done ≡ all → HandledAll a b p done q → HandledAll a b p all q
-handled_whole a b p q all done same handled = subst (λ (l : List Item). HandledAll a b p l q) same handled
 
 -- all texts were written whole
 front_whole : (a b : Sides) (s : State) (done : List Item) → Did a b (text_of s done) (rows_kept s done) → DidFront a b s done
@@ -192,23 +168,6 @@ pub record Imports {I K : Type 0} (old new : Outside I K) (s : State) (e : Ended
 -- the input wasn't read to its end
 pub import_unread : {I K : Type 0} (old new : Outside I K) (s : State) (e : End) (x : Ended) → x ≡ ended_by e → sides_of new ≡ sides_of old → FellTaking (source_of old) (source_of new) e → Imports old new s x
 import_unread old new s e x is same fell = subst (Imports old new s) (sym is) (record { ran = unread_run old new s e same fell; cause = unread_cause old new e same fell })
-
-read_run : {I K : Type 0} (old new : Outside I K) (s : State) (bytes : List ℕ) (refused : Bool) → TookAllLeft (source_of old) (source_of new) bytes → Did (sides_of old) (sides_of new) (text_of s (items_of_bytes bytes)) (rows_kept s (items_of_bytes bytes))
-    → refused ≡ any_refused s (items_of_bytes bytes) → Runs old new records s (ended_of (Ok refused))
-read_run old new s bytes true took did is = record { bytes = bytes; read = took.taken.read; stands = (took.ends, (did.written, did.kept), sym is) }
-read_run old new s bytes false took did is = record { bytes = bytes; read = took.taken.read; stands = (took.ends, (did.written, did.kept), sym is) }
-
-read_cause : {I K : Type 0} (old new : Outside I K) (refused : Bool) → new.source_faults ≡ old.source_faults → SameCounts (sides_of old) (sides_of new) → HasCause old new (ended_of (Ok refused))
-unfolding HasCause
-read_cause old new true same counts = record { source = same; sides = counts }
-read_cause old new false same counts = record { source = same; sides = counts }
-
--- all records were handled
-pub import_read : {I K : Type 0} (old new : Outside I K) (p q : Run) (bytes : List ℕ) (refused : Bool) (x : Ended) → x ≡ ended_of (Ok refused) → refused ≡ q.refused → p.refused ≡ false → TookAllLeft (source_of old) (source_of new) bytes
-    → HandledAll (sides_of old) (sides_of new) p (items_of_bytes bytes) q → Imports old new p.ledger x
-import_read old new p q bytes refused x is same new_run took handled =
-    let any : refused ≡ any_refused p.ledger (items_of_bytes bytes) = same ∙ handled.refused ∙ ap (λ b. b || any_refused p.ledger (items_of_bytes bytes)) new_run in
-    subst (Imports old new p.ledger) (sym is) (record { ran = read_run old new p.ledger bytes refused took handled.did any; cause = read_cause old new refused took.taken.count handled.counts })
 
 fell_run : {I K : Type 0} (old new : Outside I K) (s : State) (bytes : List ℕ) (e : End) → TookAllLeft (source_of old) (source_of new) bytes → FellAmong (sides_of old) (sides_of new) s (items_of_bytes bytes) e → Runs old new records s (ended_by e)
 fell_run old new s bytes end.Source took fell = absurd fell.cause

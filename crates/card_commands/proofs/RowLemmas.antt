@@ -13,12 +13,6 @@ pub AddsRows-nil : (a : Option (List Row)) → AddsRows a a []
 AddsRows-nil None = tt
 AddsRows-nil (Some a) = sym (append-nil a)
 
--- rows that stay grew by nothing
-pub kept_adds : (a b : Option (List Row)) → KeepsRows a b → AddsRows a b []
-kept_adds None b k = tt
-kept_adds (Some a) None k = absurd k
-kept_adds (Some a) (Some b) k = k ∙ sym (append-nil a)
-
 -- rows that stayed before, and then grew
 pub kept_then : (a b c : Option (List Row)) (xs : List Row) → KeepsRows a b → AddsRows b c xs → AddsRows a c xs
 kept_then None b c xs k p = tt

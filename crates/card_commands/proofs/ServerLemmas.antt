@@ -235,10 +235,6 @@ has_more a b c s t u n one two =
       counts = record { sink = two.counts.sink ∙ one.counts.sink; door = two.counts.door ∙ one.counts.door };
     }
 
--- the ledger that the next is served over
-pub has_fits : (a b : Parties) (s t : State) (n : ℕ) → HasAttended a b s t n → Fits b.sides.keeper.rows t
-has_fits a b s t n one = subst (λ (q : State). Fits b.sides.keeper.rows q) (sym one.ledger) one.attended.fits
-
 -- all were attended to
 pub has_all : (a b : Parties) (s t : State) (n : ℕ) → HasAttended a b s t n → Serves (HavePassed a.door.visits b.door.visits) n s a b ended.Done
 has_all a b s t n one =

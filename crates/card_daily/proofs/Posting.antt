@@ -136,10 +136,6 @@ unfolding effect
 credit-fees issued a seen p b on cents pl = refl
 
 -- ---- amounts
-pub at_least-most : (z : ℤ) (n : ℕ) → z ≤ℤ pos n → at_least_zero z ≤ n
-at_least-most (pos m) n l = omega (arith, ints)
-at_least-most (negsuc m) n l = omega arith
-
 -- ---- the book after a post
 -- it has more entries and fees, and cycles and penalties are as they were
 pub record IsAdded (b c : Book) : Type 0 where

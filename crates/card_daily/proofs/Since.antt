@@ -27,16 +27,6 @@ found cycle rows i r s l is e =
     let one = All-get_or (λ (x : IssuedRow). row_for x.cycle rows ≡ Some x) rows i r l s in
     subst (λ n. row_for n rows ≡ Some r) e (subst (λ (x : IssuedRow). row_for x.cycle rows ≡ Some x) (sym is) one)
 
-pub none-more : (cycle : ℕ) (rows : List IssuedRow) (i : ℕ) (r : IssuedRow) → i < length rows → r ≡ get_or rows i r → (r.cycle ≡ cycle → ⊥) → NoneFrom cycle (i + 1) rows → NoneFrom cycle i rows
-none-more cycle rows i r l is other h k d low m e = by (cases_lt i k)
-  where
-    by : (i < k) ⊎ (k ≤ i) → ⊥
-    by (inl n) = h k d (omega (arith, n)) m e
-    by (inr n) =
-        let same : k ≡ i = omega (arith, low, n) in
-        let here : get_or rows k d ≡ r = ap (λ j. get_or rows j d) same ∙ (get_or_default rows i d r l ∙ sym is) in
-        other (ap (λ (x : IssuedRow). x.cycle) (sym here) ∙ e)
-
 -- where one of them was issued by the day, no earlier one is of it
 pub none-before : (cycle day : ℕ) (rows : List IssuedRow) (i : ℕ) (r : IssuedRow) → i < length rows → r ≡ get_or rows i r → r.day ≤ day → IsNonDecreasingBy (λ (x : IssuedRow). x.day) rows
     → All (λ (x : IssuedRow). x.cycle ≡ cycle → day < x.day) rows → NoneFrom cycle (i + 1) rows → NoneFrom cycle 0 rows
@@ -49,9 +39,3 @@ none-before cycle day rows i r l is early order later h k d low m e = by (cases_
         let up = order k i d n l in
         let late = All-get_or (λ (x : IssuedRow). x.cycle ≡ cycle → day < x.day) rows k d m later e in
         absurd (omega (arith, here, up, late, early))
-
--- a statement is issued after the closing of its cycle, and so after each earlier day
-pub issued-later : (a : Anchor) (cycle day : ℕ) (rows : List IssuedRow) → day ≤ closing a cycle → All (λ (x : IssuedRow). closing a x.cycle < x.day) rows → All (λ (x : IssuedRow). x.cycle ≡ cycle → day < x.day) rows
-issued-later a cycle day rows l h =
-    All-weaker (λ (x : IssuedRow). closing a x.cycle < x.day) (λ (x : IssuedRow). x.cycle ≡ cycle → day < x.day)
-    (λ x m e. let same = ap (closing a) e in omega (arith, l, m, same)) rows h

@@ -94,10 +94,3 @@ each-done f ts old now i l e =
     e ∙ (ap (λ xs. xs ++ drop i old) (take_all i (each_with f ts old) (omega (arith, long))) ∙ (ap (λ xs. each_with f ts old ++ xs) (drop_all i old l) ∙ append-nil (each_with f ts old)))
 
 -- ---- kept segments
--- behind Credit and Held, each kept segment is that of its terms
-pub segment-at : (segments : List Segment) (rates : Rates) (id : ℕ) (d : Segment) → AreRated segments rates → 2 ≤ id → id - 2 < length rates.segments
-    → get_or segments id d ≡ kept_segment (get_or rates.segments (id - 2) no_segment)
-segment-at segments rates id d h l m =
-    let place : 2 + (id - 2) ≡ id = omega arith in
-    ap (λ n. get_or segments n d) (sym place) ∙ (sym (get_or-drop 2 segments (id - 2) d)
-    ∙ (ap (λ ss. get_or ss (id - 2) d) h.kept ∙ get_or-map kept_segment rates.segments (id - 2) no_segment d m))

@@ -223,16 +223,6 @@ amid-room g day done b s t sound o l h =
     subst (All HasRoom) (sym h.rows)
     (All-map HasRoom (rows_amid g day done b) ts (All-weaker (Contains ts) (λ x. HasRoom (rows_amid g day done b x)) (λ x c. rows-room g day done b x sound o l) ts (All-contains_itself ts)))
 
-deferred-parts : (t : SegmentTerms) (day : ℕ) → is_deferred_on day t ≡ true → (is_sort sort.Deferred t.sort ≡ true) × (leb t.begins day ≡ true) × (is_over t.ends day ≡ false)
-deferred-parts t day e = by (is_sort sort.Deferred t.sort) (leb t.begins day) (is_over t.ends day) e
-  where
-    by : (a b c : Bool) → (a && b && not c) ≡ true → (a ≡ true) × (b ≡ true) × (c ≡ false)
-    by true true false e = (refl, refl, refl)
-    by true true true e = cc
-    by true false true e = cc
-    by true false false e = cc
-    by false b c e = cc
-
 -- no accrual counts as many days as the calendar has
 pub amid-few : (g : Given) (day : ℕ) (s : State) (k : Track) → IsSound g → opened_in g ≤ day → day ≤ last_request_day → AreAmid g day (posts_of g day) s k → All (λ (a : Accrued). a.days + 1 ≤ 40000) s.accruals.items
 amid-few g day s k sound o l h =

@@ -1,4 +1,4 @@
-ghost use Rattle.std.specs.Prelude.{◌≡◌, ℕ, ◌+◌, ◌-◌, ◌<◌, ◌≤◌, length, pos, slice_index_or, OnOk};
+ghost use Rattle.std.specs.Prelude.{◌≡◌, ℕ, ◌+◌, ◌-◌, ◌<◌, ◌≤◌, length, pos, slice_index_or, IsOk, OnOk};
 ghost use Rattle.card_model.specs.Limits.{balance_limit};
 ghost use Rattle.card_events.specs.Range.{last_request_day};
 ghost use Rattle.std.specs.List.{All, Contains, list_any};
@@ -180,6 +180,7 @@ pub fn row_day(day: Day, state: &mut State) -> Result<(), NoMemory>
 pub fn pass_quiet(first: Day, days: u32, state: &mut State) -> Result<(), NoMemory>
     requires awaits { AwaitsBreak first days state.old }
     ensures passed { OnOk result ((g : Given) (t : Track) → IsQuietFrom g first days state.old t → AreBefore g (first + days) state.new t) }
+    ensures none { days ≡ 0 → IsOk result }
 {
     if days == 0 {
         return Ok(());

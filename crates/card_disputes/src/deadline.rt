@@ -30,7 +30,7 @@ pub fn cycle_on(anchor: &Anchor, day: Day) -> u32
     requires opened { anchor.now.opened ≤ last_reckoned_day }
     requires dated { day ≤ last_reckoned_day }
     ensures value { result ≡ cycle_of anchor.now day }
-    ensures bound { result ≤ 47_847 }
+    ensures bound { result ≤ last_reckoned_day + 1 }
 {
     if day < anchor.opened {
         cycle_of(*anchor, anchor.opened)

@@ -90,24 +90,3 @@ next-is n i es e s h l few here so one =
 
 pub all-high : (n : ℕ) (es : List Entry) → moved es ≤ balance_limit → sum_of (is_held_by n) es ≤ℤ pos balance_limit
 all-high n es few = let high = (held-within n es).1 in omega (arith, ints, high, few)
-
--- entries of at most 10^9 cents each
-next-moves : (es : List Entry) (i : ℕ) (d : Entry) → i < length es → moved (take (i + 1) es) ≡ moved (take i es) + moves (get_or es i d)
-unfolding moved
-next-moves es i d l =
-    let e = get_or es i d in
-    let one : moved (e ∷ []) ≡ moves e = sum_by-cons moves e [] ∙ plus-nothing (moves e) in
-    ap moved (take_more es i d l) ∙ (moved-append (take i es) (e ∷ []) ∙ ap (λ n. moved (take i es) + n) one)
-  where
-    plus-nothing : (n : ℕ) → n + 0 ≡ n
-    plus-nothing n = omega arith
-
-pub none-moves : (es : List Entry) → moved (take 0 es) ≤ 0 * 1_000_000_000
-unfolding moved
-none-moves es = omega arith
-
-pub few-more : (es : List Entry) (e : Entry) (i : ℕ) → i < length es → e ≡ get_or es i e → moves e ≤ 1_000_000_000 → moved (take i es) ≤ i * 1_000_000_000 → moved (take (i + 1) es) ≤ (i + 1) * 1_000_000_000
-few-more es e i l here few so =
-    let next = next-moves es i e l in
-    let same = ap moves here in
-    omega (arith, next, same, few, so)

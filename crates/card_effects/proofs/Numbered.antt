@@ -152,10 +152,3 @@ charge-is history issued shared day n =
     let seen = filter early (filter folds cs) in
     let numbers : Numbers 1 seen = numbers-filter early 1 (filter folds cs) (numbers-filter folds 1 cs (slots-number a shared.holidays history 1 5 history)) in
     charge-in (post_at n seen) ∙ ap (option_map day_post) (sym (charge-of n 1 seen numbers))
-
-pub charge-by : (day : ℕ) (p : DayPost) → p.day ≤ day → IfSome (if_charge p) (λ q. q.day ≤ day)
-charge-by day p l = by (is_charge p.post)
-  where
-    by : (t : Bool) → IfSome (cond t (Some p) None) (λ q. q.day ≤ day)
-    by true = l
-    by false = tt

@@ -5,9 +5,7 @@ pub mod Ranks
 pub mod Repaid
 pub mod Returned
 pub mod Standing
-pub mod TestAccount
 pub mod Accounts
 pub mod HoldEntering
 pub mod HoldLaws
 pub mod Seen
-pub mod HoldTestAccount

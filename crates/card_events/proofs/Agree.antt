@@ -2,7 +2,7 @@
 use Rattle.std.proofs.Common.{◌≡◌, ℕ, zero, suc, ◌+◌, ◌-◌, ◌<◌, ◌≤◌, Bool, false, cond, not, ◌&&◌, ◌||◌, nat_lt, nat_eq, List, Option, Some, None, refl, ap, ◌∙◌, arith}
 use Rattle.std.proofs.lemmas.Bool.Decides.{nat_tests}
 use Rattle.card_events.specs.declared.anchor.Anchor.{Anchor}
-use Rattle.card_events.specs.Business.{AgreeUpTo, is_holiday, is_weekday, is_business, is_due, due_before, mail_day, credit_day, with_holiday}
+use Rattle.card_events.specs.Business.{AgreeUpTo, is_holiday, is_weekday, is_business, is_due, due_before, mail_day, credit_day, with_holiday, cutoff}
 use Rattle.card_events.proofs.Holidays.{with_holiday-is}
 
 pub is_business-agrees : (last : ℕ) (xs ys : List ℕ) → AgreeUpTo last xs ys → (day : ℕ) → day ≤ last → is_business xs day ≡ is_business ys day
@@ -25,7 +25,7 @@ mail_day-agrees a receipt xs ys h =
 pub credit_day-agrees : (a : Anchor) (receipt minute : ℕ) (mail : Bool) (xs ys : List ℕ) → AgreeUpTo receipt xs ys → credit_day a xs receipt minute mail ≡ credit_day a ys receipt minute mail
 unfolding credit_day
 credit_day-agrees a receipt minute mail xs ys h =
-    ap (λ d. cond (nat_lt 1020 minute) (receipt + 1) (cond mail d receipt)) (mail_day-agrees a receipt xs ys h)
+    ap (λ d. cond (nat_lt cutoff minute) (receipt + 1) (cond mail d receipt)) (mail_day-agrees a receipt xs ys h)
 
 -- a holiday loaded for a later day changes nothing up to this one
 pub with_holiday-agrees : (last day : ℕ) (xs : List ℕ) → last < day → AgreeUpTo last (with_holiday day xs) xs

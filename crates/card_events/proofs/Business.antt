@@ -6,7 +6,7 @@ use Rattle.card_events.specs.Civil.{first_day}
 use Rattle.card_events.specs.Business.{is_holiday, is_business, next_business}
 use Rattle.card_events.specs.Kept.{AreHolidays}
 use Rattle.card_events.proofs.Months.{first_day-from, first_day-below}
-use Rattle.card_events.specs.Range.{last_request_day, last_calendar_day}
+use Rattle.card_events.specs.Range.{last_request_day, last_reckoned_day, last_calendar_day}
 
 -- where some day passes, the first one isn't later
 pub first_day-at_most : (p : ℕ → Bool) (more day x : ℕ) → day ≤ x → p x ≡ true → first_day p more day ≤ x
@@ -47,16 +47,16 @@ late_business xs day h l w =
     rw (weekday, no_holiday 0 xs day h l) refl
 
 -- a business day comes soon after the last holidays
-soon : (xs : List ℕ) (day : ℕ) → AreHolidays 0 xs → (x : ℕ) × (day + 1 ≤ x) × (x ≤ max 47_482 (day + 3)) × (is_business xs x ≡ true)
+soon : (xs : List ℕ) (day : ℕ) → AreHolidays 0 xs → (x : ℕ) × (day + 1 ≤ x) × (x ≤ max (last_request_day + 1) (day + 3)) × (is_business xs x ≡ true)
 soon xs day h = by (cases_lt last_request_day day) (cases_lt ((day + 1 + 3) % 7) 5) (cases_lt ((day + 2 + 3) % 7) 5)
   where
-    by : (last_request_day < day) ⊎ (day ≤ last_request_day) → ((day + 1 + 3) % 7 < 5) ⊎ (5 ≤ (day + 1 + 3) % 7) → ((day + 2 + 3) % 7 < 5) ⊎ (5 ≤ (day + 2 + 3) % 7) → (x : ℕ) × (day + 1 ≤ x) × (x ≤ max 47_482 (day + 3)) × (is_business xs x ≡ true)
-    by (inr early) a b = (47_482, omega arith, omega arith, late_business xs 47_482 h (omega arith) (omega arith))
+    by : (last_request_day < day) ⊎ (day ≤ last_request_day) → ((day + 1 + 3) % 7 < 5) ⊎ (5 ≤ (day + 1 + 3) % 7) → ((day + 2 + 3) % 7 < 5) ⊎ (5 ≤ (day + 2 + 3) % 7) → (x : ℕ) × (day + 1 ≤ x) × (x ≤ max (last_request_day + 1) (day + 3)) × (is_business xs x ≡ true)
+    by (inr early) a b = (last_request_day + 1, omega arith, omega arith, late_business xs (last_request_day + 1) h (omega arith) (omega arith))
     by (inl late) (inl a) b = (day + 1, omega arith, omega arith, late_business xs (day + 1) h (omega arith) a)
     by (inl late) (inr a) (inl b) = (day + 2, omega arith, omega arith, late_business xs (day + 2) h (omega arith) b)
     by (inl late) (inr a) (inr b) = (day + 3, omega arith, omega arith, late_business xs (day + 3) h (omega arith) (omega arith))
 
-pub next_business-near : (xs : List ℕ) (day : ℕ) → AreHolidays 0 xs → next_business xs day ≤ max 47_482 (day + 3)
+pub next_business-near : (xs : List ℕ) (day : ℕ) → AreHolidays 0 xs → next_business xs day ≤ max (last_request_day + 1) (day + 3)
 unfolding next_business
 next_business-near xs day h =
     let s = soon xs day h in
@@ -66,7 +66,7 @@ pub next_business-later : (xs : List ℕ) (day : ℕ) → day < next_business xs
 unfolding next_business
 next_business-later xs day = omega (arith, first_day-from (is_business xs) (last_calendar_day - day) (day + 1))
 
-pub next_business-is : (xs : List ℕ) (day : ℕ) → AreHolidays 0 xs → day ≤ 47_846 → is_business xs (next_business xs day) ≡ true
+pub next_business-is : (xs : List ℕ) (day : ℕ) → AreHolidays 0 xs → day ≤ last_reckoned_day → is_business xs (next_business xs day) ≡ true
 unfolding next_business
 next_business-is xs day h small =
     let s = soon xs day h in
@@ -88,16 +88,16 @@ starts xs day next e =
     let room : 48_577 - (day + 1) ≡ last_calendar_day - day = omega arith in
     rw e (ap (λ n. first_day (is_business xs) n (day + 1)) room)
 
-pub small : (xs : List ℕ) (day next : ℕ) → AreHolidays 0 xs → day ≤ 47_846 → first_day (is_business xs) (48_577 - next) next ≡ next_business xs day → next ≤ 47_849
+pub small : (xs : List ℕ) (day next : ℕ) → AreHolidays 0 xs → day ≤ last_reckoned_day → first_day (is_business xs) (48_577 - next) next ≡ next_business xs day → next ≤ 47_849
 small xs day next h l e = omega (arith, first_day-from (is_business xs) (48_577 - next) next, next_business-near xs day h)
 
-pub goes_on : (xs : List ℕ) (day next later : ℕ) → AreHolidays 0 xs → day ≤ 47_846 → first_day (is_business xs) (48_577 - next) next ≡ next_business xs day → is_business xs next ≡ false → later ≡ next + 1 → first_day (is_business xs) (48_577 - later) later ≡ next_business xs day
+pub goes_on : (xs : List ℕ) (day next later : ℕ) → AreHolidays 0 xs → day ≤ last_reckoned_day → first_day (is_business xs) (48_577 - next) next ≡ next_business xs day → is_business xs next ≡ false → later ≡ next + 1 → first_day (is_business xs) (48_577 - later) later ≡ next_business xs day
 goes_on xs day next later h l e none s =
     let low = small xs day next h l e in
     let room : 48_577 - next ≡ suc (48_577 - (next + 1)) = omega arith in
     rw s (sym (skip (is_business xs) (48_577 - (next + 1)) next (48_577 - next) room none) ∙ e)
 
-pub stops : (xs : List ℕ) (day next : ℕ) → AreHolidays 0 xs → day ≤ 47_846 → first_day (is_business xs) (48_577 - next) next ≡ next_business xs day → is_business xs next ≡ true → next ≡ next_business xs day
+pub stops : (xs : List ℕ) (day next : ℕ) → AreHolidays 0 xs → day ≤ last_reckoned_day → first_day (is_business xs) (48_577 - next) next ≡ next_business xs day → is_business xs next ≡ true → next ≡ next_business xs day
 stops xs day next h l e is =
     let low = small xs day next h l e in
     let room : 48_577 - next ≡ suc (48_577 - (next + 1)) = omega arith in

@@ -65,12 +65,6 @@ early_due a x h = let no : nat_lt (closing a 1) x ≡ false = grind (arith, nat_
     both true = refl
     both false = refl
 
-pub first_closing : (a : Anchor) → IsAnchor a → closing a 1 ≡ day_in_month (first_month a) a.close_day
-first_closing a h =
-    let bounds = first_month-bounds a h in
-    let none : first_month a + 0 ≡ first_month a = omega arith in
-    closing_is a h 0 (omega (arith, bounds.1)) ∙ ap (λ i. day_in_month i a.close_day) none
-
 pub first_due : (a : Anchor) → IsAnchor a → due a 1 ≡ day_in_month (first_month a + due_shift a.close_day) (due_day_of_month a.close_day)
 first_due a h =
     let bounds = first_month-bounds a h in

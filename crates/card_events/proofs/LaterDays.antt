@@ -8,7 +8,7 @@ use Rattle.card_events.specs.Later.{clipped_day_at, six_months_on, year_on}
 use Rattle.card_events.proofs.Counts.{number_is}
 use Rattle.card_events.proofs.DateFacts.{day_at-range, from_calendar, date_of-in_calendar, day_at-date_of, after_first}
 use Rattle.card_events.proofs.Months.{length_bounds}
-use Rattle.card_events.specs.Range.{last_calendar_day, first_calendar_day}
+use Rattle.card_events.specs.Range.{last_calendar_day, first_calendar_day, last_reckoned_day}
 
 pub clipped-range : (y m d : ℕ) → 2011 ≤ y → y ≤ 2102 → 1 ≤ m → m ≤ 12 → 1 ≤ d → (first_calendar_day ≤ clipped_day_at y m d) × (clipped_day_at y m d ≤ last_calendar_day)
 unfolding clipped_day_at
@@ -28,12 +28,12 @@ unfolding clipped_day_at
 clipped-number year month day y m d ey em ed y1 d1 =
     rw (ey, em, ed) (number_is y m (min d (month_length y m)) y1 (omega (arith, length_bounds y m)))
 
-day_2101 : day_at 2101 1 1 ≡ 47_847
+day_2101 : day_at 2101 1 1 ≡ last_reckoned_day + 1
 unfolding day_at days_before_year days_of_months
 day_2101 = refl
 
 -- a day up to 2100-12-31 lies in a year up to 2100
-pub year_small : (n : ℕ) → first_calendar_day ≤ n → n ≤ 47_846 → (date_of n).year ≤ 2100
+pub year_small : (n : ℕ) → first_calendar_day ≤ n → n ≤ last_reckoned_day → (date_of n).year ≤ 2100
 year_small n low high = by (cases_lt 2100 (date_of n).year)
   where
     h : IsInCalendar (date_of n).year (date_of n).month (date_of n).day

@@ -6,7 +6,7 @@ use Rattle.card_events.specs.Range.{last_request_day}
 use Rattle.card_events.specs.declared.anchor.Anchor.{Anchor}
 use Rattle.card_events.specs.Civil.{date_of}
 use Rattle.card_events.specs.Billing.{due_day_of_month, due}
-use Rattle.card_events.specs.Business.{is_business, next_business, is_due, mail_day, credit_day, IsMet, IsGreatestMet}
+use Rattle.card_events.specs.Business.{is_business, next_business, is_due, mail_day, credit_day, IsMet, IsGreatestMet, cutoff}
 use Rattle.card_events.specs.Kept.{AreHolidays}
 use Rattle.card_events.specs.Months.{IsLastDue, month_from, first_month, due_shift}
 use Rattle.card_events.proofs.Cycles.{IsAnchor}
@@ -96,14 +96,6 @@ mail_unmet a h xs receipt o low small never = by (cases_lt (first_month a + due_
     by (inr none) = mail_day-none a xs receipt (omega (arith, h.first)) (last_due-none a h receipt (omega (arith, h.first)) (omega arith) none)
 
 -- ---- the three cases
-pub credit_late : (a : Anchor) (xs : List ℕ) (receipt minute : ℕ) (mail : Bool) → 1020 < minute → credit_day a xs receipt minute mail ≡ receipt + 1
+pub credit_mail : (a : Anchor) (xs : List ℕ) (receipt minute : ℕ) → minute ≤ cutoff → credit_day a xs receipt minute true ≡ mail_day a xs receipt
 unfolding credit_day
-credit_late a xs receipt minute mail l = let test : nat_lt 1020 minute ≡ true = grind (arith, nat_tests) in rw test refl
-
-pub credit_mail : (a : Anchor) (xs : List ℕ) (receipt minute : ℕ) → minute ≤ 1020 → credit_day a xs receipt minute true ≡ mail_day a xs receipt
-unfolding credit_day
-credit_mail a xs receipt minute l = let test : nat_lt 1020 minute ≡ false = grind (arith, nat_tests) in rw test refl
-
-pub credit_other : (a : Anchor) (xs : List ℕ) (receipt minute : ℕ) → minute ≤ 1020 → credit_day a xs receipt minute false ≡ receipt
-unfolding credit_day
-credit_other a xs receipt minute l = let test : nat_lt 1020 minute ≡ false = grind (arith, nat_tests) in rw test refl
+credit_mail a xs receipt minute l = let test : nat_lt cutoff minute ≡ false = grind (arith, nat_tests) in rw test refl

@@ -47,6 +47,10 @@ mail_day a holidays receipt =
 abbrev pub cutoff : ℕ
 cutoff = 1020
 
+-- the last minute of a day, 23:59
+abbrev pub last_minute : ℕ
+last_minute = 1439
+
 -- a day on which an account may receive a payment: none before its opening, and a day of requests. Its closing day is one
 -- that every month has
 pub record MayReceiveOn (a : Anchor) (receipt : ℕ) : Type 0 where

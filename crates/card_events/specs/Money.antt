@@ -2,6 +2,10 @@
 use Rattle.std.specs.Prelude.{ℕ, ◌+◌, ◌*◌, ◌/◌, ◌%◌, List, [], ◌∷◌, ◌++◌, ℤ, pos, negsuc, unsigned_abs}
 use Rattle.std.specs.Fmt.{decimal}
 
+-- the greatest yearly rate, in basis points
+abbrev pub rate_limit : ℕ
+rate_limit = 9999
+
 -- the daily rate, in billionths, of a yearly rate in basis points: a 365th, rounded down, in leap years too
 unfoldable pub daily : ℕ → ℕ
 daily bp = bp * 100_000 / 365

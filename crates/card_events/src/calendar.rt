@@ -89,7 +89,7 @@ pub fn next_business(day: Day, cal: &Calendar) -> Day
     requires { day ≤ last_reckoned_day }
     ensures value { result ≡ next_business cal.now day }
     ensures later { day < result }
-    ensures near { result ≤ max 47_482 (day + 3) }
+    ensures near { result ≤ max (last_request_day + 1) (day + 3) }
 {
     let mut next = day.next();
     while !cal.is_business(next) {

@@ -1,12 +1,13 @@
 ghost use Rattle.std.specs.Prelude.{◌≡◌, ◌+◌, ◌<◌, ◌≤◌, ◌&&◌, ◌==◌, not, IfSome};
 ghost use Rattle.card_events.specs.Range.{last_request_day, first_calendar_day};
 ghost use Rattle.card_events.specs.Billing.{IsCloseDay};
-ghost use Rattle.card_events.specs.Business.{MayReceiveOn, is_business, is_mail, next_business, mail_day, credit_day};
+ghost use Rattle.card_events.specs.Business.{last_minute, MayReceiveOn, is_business, is_mail, next_business, mail_day, credit_day};
 ghost use Rattle.card_events.specs.Kept.{AreHolidays};
 ghost use Rattle.card_events.specs.Months.{IsLastDue};
 
 use crate::billing::{day_in_month, due_place, month_from};
 use crate::calendar::next_business;
+use crate::limits::CUTOFF;
 use crate::{Anchor, Calendar, Channel, Day};
 
 /// The day as of which a payment is credited (12 CFR 1026.10). One received after 17:00, minute 1,020 of the day, is
@@ -16,12 +17,12 @@ use crate::{Anchor, Calendar, Channel, Day};
 #[tactic(auto, unfolding(crate::specs::Business::credit_day))]
 pub fn credit_day(a: Anchor, receipt: Day, minute: u16, channel: Channel, cal: &Calendar) -> Day
     requires receipt { MayReceiveOn a receipt }
-    requires minute { minute ≤ 1_439 }
+    requires minute { minute ≤ last_minute }
     ensures value { result ≡ credit_day a cal.now receipt minute (is_mail channel) }
     ensures from_opening { a.opened ≤ result }
     ensures up_to_the_next { result ≤ receipt + 1 }
 {
-    if minute > 1_020 {
+    if minute > CUTOFF {
         return receipt.next();
     }
     match channel {

@@ -3,6 +3,7 @@ ghost use Rattle.card_events.specs.Range.{IsDayNumber, first_calendar_day, last_
 ghost use Rattle.card_events.specs.Later.{clipped_day_at};
 ghost use Rattle.card_events.specs.Civil.{IsInCalendar, date_of, is_date, day_at, day_text};
 
+use jiff::civil::Date;
 use jiff_core::civil;
 use std::fmt;
 use std::marker::Model;
@@ -39,9 +40,9 @@ impl Day {
         if y < 2011 || y > 2102 || m > 12 || d > 31 {
             return None;
         }
-        match civil::Date::new(y as i16, m as i8, d as i8) {
+        match Date::new(y as i16, m as i8, d as i8) {
             Ok(date) => Some(Day {
-                number: date.to_unix_epoch_day() as u32,
+                number: date.to_plain().to_unix_epoch_day() as u32,
             }),
             Err(_) => None,
         }
@@ -103,7 +104,7 @@ impl Day {
         ensures last { self ≤ last_calendar_day }
     {
         let date = self.date();
-        (date.year as u16, date.month, date.day)
+        (date.year() as u16, date.month() as u8, date.day() as u8)
     }
 
     // the day with this date, or the last one of its month where that has no such day
@@ -139,7 +140,7 @@ impl Day {
         }
     }
 
-    fn date(self) -> civil::Date
+    fn date(self) -> Date
         ensures year { result.year ≡ pos (date_of self).year }
         ensures month { result.month ≡ (date_of self).month }
         ensures day { result.day ≡ (date_of self).day }
@@ -148,7 +149,7 @@ impl Day {
         ensures last { self ≤ last_calendar_day }
     {
         match civil::Date::from_unix_epoch_day(self.number as i64) {
-            Ok(date) => date,
+            Ok(date) => Date::from_plain(date),
             Err(_) => unreachable!(),
         }
     }
@@ -157,9 +158,8 @@ impl Day {
 impl fmt::Display for Day {
     ghost output = { λ d. Some (day_text d) };
 
-    #[tactic(auto, using(crate::proofs::Texts::dates), unfolding(crate::specs::Civil::date_text))]
+    #[tactic(auto, unfolding(crate::specs::Civil::date_text))]
     fn fmt<W: fmt::Write>(&self, f: &mut fmt::Formatter<W>) -> fmt::Result {
-        let (y, m, d) = self.ymd();
-        write!(f, "{y}-{}{}-{}{}", m / 10, m % 10, d / 10, d % 10)
+        write!(f, "{}", self.date())
     }
 }

@@ -4,7 +4,7 @@ ghost use Rattle.std.specs.Prelude.{◌≡◌, ◌≢◌, ℕ, ◌+◌, ◌-◌,
 ghost use Rattle.card_events.specs.Range.{last_calendar_day};
 ghost use Rattle.card_events.specs.Civil.{date_of, day_of_month, next_month, year_of_next_month};
 ghost use Rattle.card_events.specs.Billing.{IsCloseDay, closing, due_day_of_month, due, is_timely};
-ghost use Rattle.card_events.specs.Business.{AgreeUpTo, MayReceiveOn, IsMet, IsGreatestMet, credit_day};
+ghost use Rattle.card_events.specs.Business.{AgreeUpTo, MayReceiveOn, IsMet, IsGreatestMet, credit_day, cutoff};
 
 use crate::{Anchor, Calendar, Day};
 
@@ -49,7 +49,7 @@ pub fn due_dates(a: Anchor, k: u32, issued: Day)
 /// the day of receipt (12 CFR 1026.10(d)).
 pub fn mail(a: Anchor, receipt: Day, minute: u16, cal: &Calendar)
     requires receipt { MayReceiveOn a receipt }
-    requires in_time { minute ≤ 1_020 }
+    requires in_time { minute ≤ cutoff }
     ensures met { (k : ℕ) → 1 ≤ k → IsMet cal.now receipt (due a k) → IsGreatestMet a cal.now receipt (credit_day a cal.now receipt minute true) }
     ensures unmet { ((k : ℕ) → 1 ≤ k → ¬ (IsMet cal.now receipt (due a k))) → credit_day a cal.now receipt minute true ≡ receipt }
 {
@@ -68,11 +68,6 @@ pub fn later_holidays(
     requires { AgreeUpTo receipt these.now those.now }
     ensures { credit_day a these.now receipt minute by_mail ≡ credit_day a those.now receipt minute by_mail }
 {
-    let _ = (
-        a,
-        minute,
-        by_mail,
-        these.is_business(receipt),
-        those.is_business(receipt),
-    );
+    let _ = (a, minute, by_mail);
+    let _ = (these.is_business(receipt), those.is_business(receipt));
 }

@@ -1,7 +1,8 @@
 ghost use Rattle.std.specs.Prelude.{◌≡◌, ◌≤◌, ◌^◌, ℕ, pos, ◌≤ℤ◌, unsigned_abs, SomeIff, Some, OnSome, IfSome};
-ghost use Rattle.card_events.specs.Money.{daily, interest, portion};
+ghost use Rattle.card_events.specs.Money.{daily, interest, portion, rate_limit};
 
 use crate::Cents;
+use crate::limits::RATE_LIMIT;
 use std::marker::Model;
 
 /// A yearly rate in basis points, hundredths of a percent, from 0 to 9,999. It is the annual percentage rate that is
@@ -18,15 +19,15 @@ impl Model for Bp {
 
     ghost inverse = { λ n. record { points = n } };
 
-    ghost invariant = { λ b. b.points ≤ 9_999 };
+    ghost invariant = { λ b. b.points ≤ rate_limit };
 }
 
 impl Bp {
     /// The rate of so many basis points. None comes exactly where that is above 9,999.
     pub fn new(n: u64) -> Option<Bp>
-        ensures { SomeIff result (n ≤ 9_999) n }
+        ensures { SomeIff result (n ≤ rate_limit) n }
     {
-        if n > 9_999 {
+        if n > RATE_LIMIT as u64 {
             return None;
         }
         Some(Bp { points: n as u16 })
@@ -35,7 +36,7 @@ impl Bp {
     /// Basis points, 0 to 9,999.
     pub fn get(self) -> u16
         ensures value { result ≡ self }
-        ensures bound { self ≤ 9_999 }
+        ensures bound { self ≤ rate_limit }
     {
         self.points
     }

@@ -10,9 +10,9 @@ use Rattle.card_events.specs.declared.post.Post.{Post}
 use Rattle.card_events.specs.declared.post.Post.TheVariants as post
 use Rattle.card_model.specs.CycleDays.{HasItsDays}
 use Rattle.card_model.specs.Cycles.{Cycle, Seen}
-use Rattle.card_model.specs.Payments.{asked, counted, has_due_payment, is_between, is_payment, is_returned, met, past_due, returns, sixty_days_late}
+use Rattle.card_model.specs.Payments.{asked, counted, has_due_payment, is_between, is_payment, is_returned, met, past_due, returns}
 use Rattle.card_model.specs.Payments as fold
-use Rattle.card_fees.specs.Due.{HaveTheirDays, is_late_from, is_met, owes_sixty_days, past_due_at, seen_of}
+use Rattle.card_fees.specs.Due.{is_met, owes_sixty_days, past_due_at, seen_of}
 use Rattle.card_fees.specs.Laws.{SeesPosts}
 use Rattle.card_fees.proofs.Slots.{any-filter, any-same, sum-filter, sum-same}
 
@@ -142,10 +142,3 @@ owes-fold a posts seen k c sees h =
     ∙ ap (λ d. nat_lt (d + 60) seen.day && nat_lt (counted seen.posts (c.closing + 1) seen.day) (asked seen.issued (Some c))) h.due
     ∙ ap (λ n. nat_lt (due a k + 60) seen.day && nat_lt n (asked seen.issued (Some c)))
     (ap (λ x. counted seen.posts (x + 1) seen.day) h.closing ∙ counted-seen seen posts (closing a k + 1) seen.day sees (omega arith))
-
-pub late-fold : (a : Anchor) (posts : List CorrectedPost) (seen : Seen) (k : ℕ) (cycles : List Cycle) → SeesPosts seen posts → HaveTheirDays a k cycles → sixty_days_late seen cycles ≡ is_late_from a posts seen.day k (map (λ c. pos (asked seen.issued (Some c))) cycles)
-unfolding sixty_days_late is_late_from HaveTheirDays
-late-fold a posts seen k [] sees h = refl
-late-fold a posts seen k (c ∷ cs) sees h =
-    ap (λ b. b || list_any (fold.owes_sixty_days seen) cs) (owes-fold a posts seen k c sees h.0)
-    ∙ ap (λ b. owes_sixty_days a posts seen.day k (pos (asked seen.issued (Some c))) || b) (late-fold a posts seen (suc k) cs sees h.1)

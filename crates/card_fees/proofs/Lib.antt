@@ -3,7 +3,6 @@ pub mod Slots
 pub mod RowsFound
 pub mod Days
 pub mod Payments
-pub mod Late
 pub mod Fold
 pub mod Before
 pub mod Charges

@@ -23,21 +23,7 @@ past_due_at a posts k minimum_before = minimum_before - counted posts (closing a
 abbrev pub owes_sixty_days : Anchor → List CorrectedPost → ℕ → ℕ → ℤ → Bool
 owes_sixty_days a posts day k minimum = nat_lt (due a k + 60) day && nat_lt (counted posts (closing a k + 1) day) (at_least_zero minimum)
 
--- this is so of one of the minimum payments, where the first is that of cycle k
-unfoldable pub is_late_from : Anchor → List CorrectedPost → ℕ → ℕ → List ℤ → Bool
-is_late_from a posts day k [] = false
-is_late_from a posts day k (m ∷ ms) = owes_sixty_days a posts day k m || is_late_from a posts day (suc k) ms
-
--- the account is sixty days late on a day, by the minimum payments from cycle 1 on
-abbrev pub is_sixty_days_late : Anchor → List CorrectedPost → ℕ → List ℤ → Bool
-is_sixty_days_late a posts day minimums = is_late_from a posts day 1 minimums
-
 -- ---- what the fold sees on a day
 -- of the corrected list the fold of a day sees the posts that it folds, up to that day
 abbrev pub seen_of : ℕ → List CorrectedPost → List CorrectedPost
 seen_of day posts = filter (λ p. nat_le p.day day) (filter (λ p. is_folded p.post) posts)
-
--- each cycle has the calendar's number and days, where the first is cycle k
-unfoldable pub HaveTheirDays : Anchor → ℕ → List Cycle → Type 0
-HaveTheirDays a k [] = Unit {0}
-HaveTheirDays a k (c ∷ cs) = HasItsDays a k c × HaveTheirDays a (suc k) cs

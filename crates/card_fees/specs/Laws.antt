@@ -10,12 +10,12 @@ use Rattle.card_model.specs.CycleDays.{HasItsDays}
 use Rattle.card_model.specs.Cycles.{Cycle, IssuedRow, Seen}
 use Rattle.card_model.specs.Fees.{fee_cents, fee_for, last_due}
 use Rattle.card_model.specs.Folds.{book}
-use Rattle.card_model.specs.Payments.{asked, counted, met, past_due, sixty_days_late}
+use Rattle.card_model.specs.Payments.{asked, counted, met, past_due}
 use Rattle.card_model.specs.declared.fee.Fee.{Fee}
 use Rattle.card_model.specs.declared.fee.FeeKind.{FeeKind}
 use Rattle.card_model.specs.declared.fee.FeeKind.TheVariants as fee
 use Rattle.card_fees.specs.Charged.{AreOneEach, fee_by}
-use Rattle.card_fees.specs.Due.{HaveTheirDays, is_met, is_sixty_days_late, past_due_at, seen_of}
+use Rattle.card_fees.specs.Due.{is_met, past_due_at, seen_of}
 use Rattle.card_fees.specs.declared.charge.Cause.{Cause}
 
 -- a fee is at most the minimum payment of its due date, and at most that of the last due date before its day
@@ -73,9 +73,3 @@ abbrev pub PastDueOfTheFold : Type 0
 PastDueOfTheFold =
     (a : Anchor) (posts : List CorrectedPost) (seen : Seen) (k : ℕ) (c : Cycle) → SeesPosts seen posts → HasItsDays a k c → closing a (k + 1) ≤ seen.day
     → past_due seen (closing a (k + 1)) (Some c) ≡ past_due_at a posts (k + 1) (asked seen.issued (Some c))
-
--- whether the account is sixty days late
-abbrev pub LateOfTheFold : Type 0
-LateOfTheFold =
-    (a : Anchor) (posts : List CorrectedPost) (seen : Seen) (cycles : List Cycle) → SeesPosts seen posts → HaveTheirDays a 1 cycles
-    → sixty_days_late seen cycles ≡ is_sixty_days_late a posts seen.day (map (λ c. pos (asked seen.issued (Some c))) cycles)

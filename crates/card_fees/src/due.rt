@@ -2,7 +2,7 @@
 ghost use Rattle.std.specs.Prelude.{◌≡◌, ℕ, ◌+◌, ◌-◌, ◌<◌, ◌≤◌, nat_lt, List, Some, ◌≤ℤ◌, pos, unsigned_abs};
 ghost use Rattle.card_events.specs.Range.{last_calendar_day};
 ghost use Rattle.card_events.specs.Billing.{IsCloseDay, closing, due};
-ghost use Rattle.card_fees.specs.Due.{is_late_from, is_met, is_sixty_days_late, owes_sixty_days, past_due_at};
+ghost use Rattle.card_fees.specs.Due.{is_met, owes_sixty_days, past_due_at};
 ghost use Rattle.card_fees.specs.Limits.{payments_limit};
 ghost use Rattle.card_model.specs.Payments as payments;
 ghost use Rattle.card_posts.specs.Posted.{StandsFor};
@@ -101,33 +101,4 @@ pub fn owes_sixty_days(posts: &Posts, a: &Anchor, k: u32, minimum: Cents, day: D
         return false;
     }
     since_closing(posts, a, k, day) < minimum as u64
-}
-
-/// Whether the account is sixty days late on a day (12 CFR 1026.55(b)(4)): some due date lies more than 60 days back,
-/// and the payments credited since its closing, without those returned by the day, are below its minimum payment. The
-/// minimum payments are those of cycles 1, 2 and so on, in cents, 0 where a statement has no due payment. The corrected
-/// list is that of the posts under some calendar. It takes no memory.
-pub fn sixty_days_late(posts: &Posts, a: Anchor, minimums: &[Cents], day: Day) -> bool
-    requires close_day { IsCloseDay a.close_day }
-    ensures { (holidays : List ℕ) → StandsFor holidays posts.now → result ≡ is_sixty_days_late a posts.now.corrected day minimums.now }
-{
-    for i in 0..minimums.len() {
-        if owes_at(posts, &a, i, &minimums[i], day) {
-            return true;
-        }
-    }
-    false
-}
-
-// whether it is so of the cycle at a place, where cycle 1 has place 0
-fn owes_at(posts: &Posts, a: &Anchor, i: usize, minimum: &Cents, day: Day) -> bool
-    requires close_day { IsCloseDay a.now.close_day }
-    requires small { i < 9_223_372_036_854_775_807 }
-    ensures { (holidays : List ℕ) → StandsFor holidays posts.now → result ≡ owes_sixty_days a.now posts.now.corrected day (i + 1) minimum.now }
-{
-    let _last = day.number();
-    if i >= u32::MAX as usize {
-        return false;
-    }
-    owes_sixty_days(posts, a, i as u32 + 1, *minimum, day)
 }

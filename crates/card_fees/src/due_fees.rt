@@ -1,6 +1,7 @@
 // The late fee for a due date that wasn't met.
 ghost use Rattle.std.specs.Prelude.{◌≡◌, ℕ, ◌+◌, ◌<◌, ◌≤◌, ◌≤ℤ◌, List, Some, min, pos, option_copied};
 ghost use Rattle.card_events.specs.Billing.{IsCloseDay, due};
+ghost use Rattle.card_events.specs.Range.{last_reckoned_day};
 ghost use Rattle.card_fees.specs.DueFee.{capped, cents_for, fee_sum, late_by};
 ghost use Rattle.card_model.specs.Caps.{fee_above};
 ghost use Rattle.card_model.specs.Fees.{fee_cents};
@@ -94,7 +95,7 @@ pub fn due_fee(
 ) -> Option<Fee>
     requires close_day { IsCloseDay a.now.close_day }
     requires cycle { 1 ≤ c.now.cycle }
-    requires last { due a.now c.now.cycle < 47_846 }
+    requires last { due a.now c.now.cycle < last_reckoned_day }
     requires low { pos 0 ≤ℤ c.now.minimum }
     ensures { (holidays : List ℕ) → StandsFor holidays posts.now → result ≡ late_by table.now (option_copied issued.entry) fees.now a.now posts.now.corrected c.now }
 {

@@ -1,5 +1,5 @@
 //! Laws on penalty fees and due dates. Their functions do nothing; their clauses are what holds.
-ghost use Rattle.card_fees.specs.Laws.{CountedInThePast, DueDatesHaveOneFee, FeesAreWithin, FeesOfTheFold, FeesStayOneEach, LateFeesOfTheFold, LateOfTheFold, MetOfTheFold, PastDueOfTheFold};
+ghost use Rattle.card_fees.specs.Laws.{CountedInThePast, DueDatesHaveOneFee, FeesAreWithin, FeesOfTheFold, FeesStayOneEach, LateFeesOfTheFold, MetOfTheFold, PastDueOfTheFold};
 
 /// A penalty fee is at most the minimum payment of its due date, and at most that of the last due date before its day
 /// (12 CFR 1026.52(b)(2)(i)(A)).
@@ -40,9 +40,4 @@ pub fn met_of_the_fold()
 /// So is what is past due at the next closing.
 pub fn past_due_of_the_fold()
     ensures { PastDueOfTheFold }
-{}
-
-/// So is whether the account is sixty days late.
-pub fn late_of_the_fold()
-    ensures { LateOfTheFold }
 {}

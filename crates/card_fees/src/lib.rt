@@ -19,7 +19,7 @@ mod table;
 pub use card_model::{Fee, FeeKind, GraceCase};
 pub use charge::{late_fee, returned_fee};
 pub use counting::{counted, counted_before, credited};
-pub use due::{met, owes_sixty_days, past_due, sixty_days_late};
+pub use due::{met, owes_sixty_days, past_due};
 pub use due_cycle::{DueCycle, asked};
 pub use due_fees::{capped_fee, due_fee};
 pub use grace::{paid, purchase_case};

@@ -29,6 +29,7 @@ use Rattle.card_events.specs.declared.reply.Refusal.TheVariants as refusal
 use Rattle.card_events.specs.declared.request.Request.TheVariants as request
 use Rattle.card_events.specs.declared.request.Shared.TheVariants as shared
 use Rattle.card_events.specs.declared.post.Post.TheVariants as post
+use Rattle.card_events.specs.Money.{rate_limit}
 use Rattle.card_model.specs.Sheets.{issued_sheet_of}
 use Rattle.card_model.proofs.Issue.{row_for-append}
 
@@ -100,15 +101,15 @@ few-cents now (post.Bill c) h = omega arith
 
 -- ---- rates and terms
 -- a post that is no Open
-few-rates : (now : Present) (p : Post) → is_open p ≡ false → is_out_of_range now p ≡ false → posted_rate p ≤ 9999
+few-rates : (now : Present) (p : Post) → is_open p ≡ false → is_out_of_range now p ≡ false → posted_rate p ≤ rate_limit
 unfolding is_out_of_range
 few-rates now (post.Plan d k r e f) o h =
-    let parts = or-false (ltb 9999 r) (ltb 9999 f) h in
-    let rate = not-above r 9999 parts.0 in
-    let after = not-above f 9999 parts.1 in
+    let parts = or-false (ltb rate_limit r) (ltb rate_limit f) h in
+    let rate = not-above r rate_limit parts.0 in
+    let after = not-above f rate_limit parts.1 in
     omega arith
-few-rates now (post.Notice d c r e) o h = not-above r 9999 h
-few-rates now (post.Lower d c r) o h = not-above r 9999 h
+few-rates now (post.Notice d c r e) o h = not-above r rate_limit h
+few-rates now (post.Lower d c r) o h = not-above r rate_limit h
 few-rates now (post.Open d t) o h = cc
 few-rates now (post.Charge d q c) o h = omega arith
 few-rates now (post.Credit d q c) o h = omega arith
@@ -125,7 +126,7 @@ few-rates now (post.Amend t d c) o h = omega arith
 few-rates now (post.Bill c) o h = omega arith
 
 pub record GoodOpening (p : Post) : Type 0 where
-  pub rate : posted_rate p ≤ 9999
+  pub rate : posted_rate p ≤ rate_limit
   pub terms : AreInRange (terms_in p)
 
 above-zero : (n : ℕ) → eqb n 0 ≡ false → 1 ≤ n
@@ -135,10 +136,10 @@ above-zero (suc n) h = omega arith
 terms-reasons : Terms → List (Option Refusal)
 terms-reasons t =
     where_true ((eqb t.close 0) || ltb 28 t.close) (refusal.BadTerms 1)
-    ∷ where_true (ltb 9999 t.purchase) (refusal.BadTerms 2)
-    ∷ where_true (ltb 9999 t.cash) (refusal.BadTerms 3)
-    ∷ where_true (ltb 9999 t.transfer) (refusal.BadTerms 4)
-    ∷ where_true (ltb 9999 t.penalty) (refusal.BadTerms 5)
+    ∷ where_true (ltb rate_limit t.purchase) (refusal.BadTerms 2)
+    ∷ where_true (ltb rate_limit t.cash) (refusal.BadTerms 3)
+    ∷ where_true (ltb rate_limit t.transfer) (refusal.BadTerms 4)
+    ∷ where_true (ltb rate_limit t.penalty) (refusal.BadTerms 5)
     ∷ where_true (ltb 1000000 t.floor) (refusal.BadTerms 6)
     ∷ where_true (ltb 10000 t.pct) (refusal.BadTerms 7) ∷ []
 
@@ -147,10 +148,10 @@ unfolding terms-reasons
 good-terms d t h =
     let none = all-none (terms-reasons t) h in
     let close = or-false (eqb t.close 0) (ltb 28 t.close) (where-false _ _ none.0) in
-    let purchase = not-above t.purchase 9999 (where-false _ _ none.1.0) in
-    let cash = not-above t.cash 9999 (where-false _ _ none.1.1.0) in
-    let transfer = not-above t.transfer 9999 (where-false _ _ none.1.1.1.0) in
-    let penalty = not-above t.penalty 9999 (where-false _ _ none.1.1.1.1.0) in
+    let purchase = not-above t.purchase rate_limit (where-false _ _ none.1.0) in
+    let cash = not-above t.cash rate_limit (where-false _ _ none.1.1.0) in
+    let transfer = not-above t.transfer rate_limit (where-false _ _ none.1.1.1.0) in
+    let penalty = not-above t.penalty rate_limit (where-false _ _ none.1.1.1.1.0) in
     record {
       rate = omega arith;
       terms = record {

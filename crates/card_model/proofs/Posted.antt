@@ -70,11 +70,3 @@ unfolding debit
 debit-known note s x credit n z h =
     All-append (λ e. e.segment < n) (entry_of note 0 (pos (min x credit))) (entry_of note s (pos (x - credit)))
     (entry_of-known note 0 (pos (min x credit)) n z) (entry_of-known note s (pos (x - credit)) n h)
-
-pub credit-debit : (note : Note) (s x credit : ℕ) → 0 < s → balance 0 (debit note s x credit) ≡ pos (min x credit)
-unfolding debit
-credit-debit note s x credit h =
-    let other : eqb s 0 ≡ false = ne_eqb s 0 (λ e. omega arith) in
-    let first = balance-entry_of note 0 (pos (min x credit)) 0 in
-    let second = rw other at (balance-entry_of note s (pos (x - credit)) 0) in
-    sum_of-append (λ e. eqb e.segment 0) (entry_of note 0 (pos (min x credit))) (entry_of note s (pos (x - credit))) ∙ rw (first, second) (omega (arith, ints))

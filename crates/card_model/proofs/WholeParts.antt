@@ -233,9 +233,6 @@ either_lasts hs n low h (Some g) a q e l =
 pub excess_lasts : Lasts excess_rule
 excess_lasts n low hs h a e l = either_lasts hs n low h (best is_last_two sooner_end hs) a refl e l
 
-pub rate_lasts : Lasts rate_rule
-rate_lasts n low hs h a e l = best-steady all_pass higher_rate steady_by_rate n low hs h a e l
-
 -- a write at the place of a holding is what is paid on its segment
 pub set-paid_at : (hs : List Holding) (i n low : ℕ) (x : Holding) → Ascends low hs → i < length hs → x ≡ get_or hs i x → (low ≤ x.id) × (set hs i (paid_on n x) ≡ paid_at x.id n hs)
 unfolding paid_at

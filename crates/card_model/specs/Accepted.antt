@@ -9,6 +9,7 @@ use Rattle.card_events.specs.declared.post.Post.{Post}
 use Rattle.card_events.specs.declared.post.Post.TheVariants as post
 use Rattle.card_events.specs.declared.post.Terms.{Terms}
 use Rattle.card_events.specs.declared.request.Request.{Request}
+use Rattle.card_events.specs.Money.{rate_limit}
 use Rattle.card_model.specs.Caps.{row_for}
 use Rattle.card_model.specs.Cycles.{IssuedRow}
 use Rattle.card_model.specs.Deadlines.{resolves}
@@ -55,7 +56,7 @@ HasFewCents k = posted_cents k.post ≤ 1000000000
 
 -- no rate above 9,999 basis points
 abbrev pub HasFewRates : Kept → Type 0
-HasFewRates k = posted_rate k.post ≤ 9999
+HasFewRates k = posted_rate k.post ≤ rate_limit
 
 -- the lists of an account
 pub record AreAccepted (lists : Lists) : Type 0 where

@@ -19,6 +19,8 @@ use Rattle.card_events.specs.declared.post.Post.{Post}
 use Rattle.card_events.specs.declared.post.Post.TheVariants as post
 use Rattle.card_events.specs.declared.reply.Refusal.{Refusal}
 use Rattle.card_events.specs.declared.reply.Refusal.TheVariants as refusal
+use Rattle.card_events.specs.Money.{rate_limit}
+use Rattle.card_events.specs.Business.{last_minute}
 use Rattle.card_model.specs.Books.{Book}
 use Rattle.card_model.specs.Cycles.{IssuedRow, Seen, seen_on}
 use Rattle.card_model.specs.Deadlines.{increases, last_notice_day, resolves}
@@ -87,10 +89,10 @@ abbrev pub bad_terms : Post → Option Refusal
 bad_terms (post.Open _ t) =
     first_reason (
     where_true ((t.close == 0) || nat_lt 28 t.close) (refusal.BadTerms 1)
-    ∷ where_true (nat_lt 9999 t.purchase) (refusal.BadTerms 2)
-    ∷ where_true (nat_lt 9999 t.cash) (refusal.BadTerms 3)
-    ∷ where_true (nat_lt 9999 t.transfer) (refusal.BadTerms 4)
-    ∷ where_true (nat_lt 9999 t.penalty) (refusal.BadTerms 5)
+    ∷ where_true (nat_lt rate_limit t.purchase) (refusal.BadTerms 2)
+    ∷ where_true (nat_lt rate_limit t.cash) (refusal.BadTerms 3)
+    ∷ where_true (nat_lt rate_limit t.transfer) (refusal.BadTerms 4)
+    ∷ where_true (nat_lt rate_limit t.penalty) (refusal.BadTerms 5)
     ∷ where_true (nat_lt 1000000 t.floor) (refusal.BadTerms 6)
     ∷ where_true (nat_lt 10000 t.pct) (refusal.BadTerms 7) ∷ [])
 bad_terms _ = None
@@ -112,14 +114,14 @@ is_above_claim cents k = at k.post
 unfoldable pub is_out_of_range : Present → Post → Bool
 is_out_of_range now (post.Charge _ _ cents) = is_no_amount cents
 is_out_of_range now (post.Credit _ _ cents) = is_no_amount cents
-is_out_of_range now (post.Payment _ minute _ cents) = is_no_amount cents || nat_lt 1439 minute
+is_out_of_range now (post.Payment _ minute _ cents) = is_no_amount cents || nat_lt last_minute minute
 is_out_of_range now (post.Refund cents) = is_no_amount cents
 is_out_of_range now (post.Dispute _ _ cents) = is_no_amount cents
 is_out_of_range now (post.Amend _ _ cents) = nat_lt 1000000000 cents
 is_out_of_range now (post.Resolve _ target cents) = nat_lt 1000000000 cents || holds_of (is_above_claim cents) (named now target)
-is_out_of_range now (post.Plan _ _ rate _ after) = nat_lt 9999 rate || nat_lt 9999 after
-is_out_of_range now (post.Notice _ _ rate _) = nat_lt 9999 rate
-is_out_of_range now (post.Lower _ _ rate) = nat_lt 9999 rate
+is_out_of_range now (post.Plan _ _ rate _ after) = nat_lt rate_limit rate || nat_lt rate_limit after
+is_out_of_range now (post.Notice _ _ rate _) = nat_lt rate_limit rate
+is_out_of_range now (post.Lower _ _ rate) = nat_lt rate_limit rate
 is_out_of_range now (post.Bill cycle) = (cycle == 0) || nat_lt last_request_day (closing (anchor_now now) cycle)
 is_out_of_range now _ = false
 

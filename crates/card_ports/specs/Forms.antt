@@ -1,5 +1,5 @@
 -- What the forms in memory stand for.
-use Rattle.std.specs.Prelude.{◌≡◌, ℕ, ◌+◌, ◌-◌, ◌^◌, Bool, nat_lt, ◌==◌, if◌then◌else◌, List, [], map, Option, None, Some}
+use Rattle.std.specs.Prelude.{◌≡◌, ℕ, ◌+◌, ◌-◌, ◌^◌, Bool, nat_lt, ◌==◌, ◌||◌, if◌then◌else◌, List, [], length, map, Option, None, Some}
 use Rattle.std.specs.List.{list_any}
 use Rattle.card_ports.specs.Visits.{Wire, Visits}
 
@@ -68,3 +68,15 @@ visits_of e = record { left = map wire_of e.left; closed = map wire_of e.closed;
 -- a door with these connections, which listens on no port yet
 abbrev pub new_entrance : List Line → List ℕ → Entrance
 new_entrance left fails = record { left = left; closed = []; out = 0; port = None; calls = no_calls fails }
+
+-- whether the next accept fails: it is a listed call, or no connection is left
+abbrev pub fails_to_accept : Entrance → Bool
+fails_to_accept e = fails_next e.calls || (length e.left == 0)
+
+-- the accept is made, and counts as a fault where it fails
+abbrev pub after_accept : Entrance → Calls
+after_accept e = record {
+  fails = e.calls.fails;
+  made = count_on e.calls.made;
+  faults = if fails_to_accept e then count_on e.calls.faults else e.calls.faults;
+}

@@ -62,8 +62,10 @@ impl MemoryDoor {
 }
 
 impl Door for MemoryDoor {
-    ghost use Rattle.std.specs.Prelude.{Some};
-    ghost use Rattle.card_ports.specs.Forms.{visits_of};
+    ghost use Rattle.std.specs.Prelude.{◌≡◌, ◌↔◌, ◌<◌, [], ◌∷◌, ◌++◌, true, Some, IsErr, IfOk, OnOk, OnErr};
+    ghost use Rattle.card_ports.specs.Counts.{IsCounted};
+    ghost use Rattle.card_ports.specs.Visits.{Accepts, listening, closing};
+    ghost use Rattle.card_ports.specs.Forms.{visits_of, wire_of, fails_next, after_call, fails_to_accept, after_accept};
 
     type Conn = MemoryLink;
 
@@ -71,7 +73,15 @@ impl Door for MemoryDoor {
 
     ghost faults = { λ d. d.calls.faults };
 
-    fn listen(&mut self, port: u16) -> Result<(), Failed> {
+    fn listen(&mut self, port: u16) -> Result<(), Failed>
+        ensures ok { OnOk result (visits_of self.new ≡ listening port (visits_of self.old)) }
+        ensures err { OnErr result (visits_of self.new ≡ visits_of self.old) }
+        ensures counts { IsCounted self.old.calls.faults self.new.calls.faults result }
+
+        // It fails at the listed calls, and counts that.
+        ensures fails { (fails_next self.old.calls ≡ true) ↔ IsErr result }
+        ensures calls { self.new.calls ≡ after_call self.old.calls }
+    {
         if self.calls.fails_now() {
             return Err(Failed);
         }
@@ -79,7 +89,17 @@ impl Door for MemoryDoor {
         Ok(())
     }
 
-    fn accept(&mut self) -> Result<MemoryLink, Failed> {
+    fn accept(&mut self) -> Result<MemoryLink, Failed>
+        ensures ok { IfOk result (λ link. Accepts (Some (visits_of self.old)) (Some (visits_of self.new)) (wire_of link)) }
+        ensures fresh { IfOk result (λ link. link.calls.faults ≡ 0) }
+        ensures err { OnErr result (visits_of self.new ≡ visits_of self.old) }
+        ensures counts { IsCounted self.old.calls.faults self.new.calls.faults result }
+
+        // It gives the connection as it is, fails at the listed calls and where none is left, and counts that.
+        ensures first { IfOk result (λ link. self.old.left ≡ link ∷ self.new.left) }
+        ensures fails { (fails_to_accept self.old ≡ true) ↔ IsErr result }
+        ensures calls { self.new.calls ≡ after_accept self.old }
+    {
         if self.calls.fails_now() {
             return Err(Failed);
         }
@@ -95,7 +115,14 @@ impl Door for MemoryDoor {
         }
     }
 
-    fn close(&mut self, conn: MemoryLink) {
+    fn close(&mut self, conn: MemoryLink)
+        requires out { 0 < self.old.out }
+        ensures closed { visits_of self.new ≡ closing (wire_of conn) (visits_of self.old) }
+
+        // The connection is kept as it is, and no call that can fail was made.
+        ensures last { self.new.closed ≡ self.old.closed ++ conn ∷ [] }
+        ensures calls { self.new.calls ≡ self.old.calls }
+    {
         self.out -= 1;
         self.closed.push_reserved(conn);
     }

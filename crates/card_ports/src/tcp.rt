@@ -209,7 +209,9 @@ impl<'a, R: Net + Clock> TcpDoor<'a, R> {
     ghost use Rattle.std.specs.Prelude.{◌≡◌, IfOk};
 
     /// A door that doesn't listen yet, with no fault counted.
-    pub fn new(system: &'a R) -> TcpDoor<'a, R> {
+    pub fn new(system: &'a R) -> TcpDoor<'a, R>
+        ensures faults { result.faults ≡ 0 }
+    {
         TcpDoor {
             system,
             listener: None,

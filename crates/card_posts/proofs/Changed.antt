@@ -51,12 +51,6 @@ renewed-front (suc i) new [] l m = absurd (omega (arith, l))
 renewed-front (suc i) [] (y ∷ ys) l m = absurd (omega (arith, m))
 renewed-front (suc i) (x ∷ xs) (y ∷ ys) l m = ap (λ u. x ∷ u) (renewed-front i xs ys (omega (arith, l)) (omega (arith, m)))
 
-pub renewed-length : (i : ℕ) (new old : List Effect) → i ≤ length old → length old ≤ length new → length (take i new ++ drop i old) ≡ length old
-renewed-length zero new old l m = refl
-renewed-length (suc i) new [] l m = absurd (omega (arith, l))
-renewed-length (suc i) [] (y ∷ ys) l m = absurd (omega (arith, m))
-renewed-length (suc i) (x ∷ xs) (y ∷ ys) l m = ap suc (renewed-length i xs ys (omega (arith, l)) (omega (arith, m)))
-
 pub renewed-at : (i : ℕ) (new old : List Effect) (d : Effect) → i < length old → length old ≤ length new → get_or (take i new ++ drop i old) i d ≡ get_or old i d
 renewed-at i new [] d l m = absurd (omega (arith, l))
 renewed-at i [] (y ∷ ys) d l m = absurd (omega (arith, m))

@@ -7,6 +7,7 @@ use Rattle.card_events.specs.declared.kept.Kept.{Kept}
 use Rattle.card_events.specs.declared.kept.Slot.{Slot}
 use Rattle.card_events.specs.declared.post.Post.{Post}
 use Rattle.card_events.specs.declared.post.Post.TheVariants as post
+use Rattle.card_events.specs.Business.{last_minute}
 use Rattle.card_posts.specs.Order.{in_order}
 
 -- the accepted posts, in order of acceptance; what counts of each now, by number; and whether there is room for one more
@@ -61,7 +62,7 @@ IsPastDay opened accepted day = (opened ≤ day) × (day ≤ accepted)
 
 -- a payment came in on such a day, at a minute of it, and an Amend gives such a day. Nothing is asked of other posts
 abbrev pub IsReceived : ℕ → ℕ → Post → Type 0
-IsReceived opened accepted (post.Payment day minute _ _) = IsPastDay opened accepted day × (minute ≤ 1_439)
+IsReceived opened accepted (post.Payment day minute _ _) = IsPastDay opened accepted day × (minute ≤ last_minute)
 IsReceived opened accepted (post.Amend _ day _) = IsPastDay opened accepted day
 IsReceived opened accepted _ = Unit {0}
 

@@ -1,7 +1,8 @@
 // A post that is entered for a while, and taken back.
-ghost use Rattle.std.specs.Prelude.{◌≡◌, ◌<◌, ◌≤◌, length, nat_le, vec_len, vec_capacity, IfOk, None};
+ghost use Rattle.std.specs.Prelude.{◌≡◌, ◌<◌, ◌≤◌, length, nat_le, vec_len, vec_capacity, false, IsOk, IfOk, None};
 ghost use Rattle.std.specs.List.{filter};
 ghost use Rattle.card_events.specs.Limits.{post_limit};
+ghost use Rattle.card_posts.specs.Corrections.{corrects};
 ghost use Rattle.card_posts.specs.Draft.{IsCopy, IsCopyIfAny, IsRoomyIfAny, corrections_before, effects_before, slots_before};
 ghost use Rattle.card_posts.specs.Effect.{slots_from};
 ghost use Rattle.card_posts.specs.Order.{in_order};
@@ -76,7 +77,8 @@ pub fn beside_if_corrected(
     effects: &[Effect],
     order: &[Slot],
 ) -> Result<Option<Beside>, NoMemory>
-    ensures { IfOk result (IsCopyIfAny post.now corrections.now effects.now order.now) }
+    ensures copy { IfOk result (IsCopyIfAny post.now corrections.now effects.now order.now) }
+    ensures alone { corrects post.now ≡ false → IsOk result }
 {
     if is_correction(post) {
         Ok(Some(copy_beside(alloc, corrections, effects, order)?))

@@ -2,7 +2,7 @@
 ghost use Rattle.std.specs.Prelude.{◌≡◌, ℕ, ◌+◌, ◌-◌, ◌<◌, ◌≤◌, ◌++◌, false, List, [], ◌∷◌, Option, Some, max, length, take, slice_index_or, unwrap_or};
 ghost use Rattle.card_events.specs.Range.{last_request_day};
 ghost use Rattle.card_events.specs.Billing.{IsCloseDay};
-ghost use Rattle.card_events.specs.Business.{credit_day, is_mail};
+ghost use Rattle.card_events.specs.Business.{credit_day, is_mail, last_minute};
 ghost use Rattle.card_events.specs.History.{amended_cents, amended_day, cents_of, effective_day};
 ghost use Rattle.card_events.specs.declared.kept.Kept.{Kept};
 ghost use Rattle.card_events.specs.declared.post.Post.TheVariants as kind;
@@ -162,7 +162,7 @@ fn credited(
     requires close_day { IsCloseDay anchor.now.close_day }
     requires opened { anchor.now.opened ≤ receipt }
     requires last { receipt ≤ last_request_day }
-    requires minute { minute ≤ 1_439 }
+    requires minute { minute ≤ last_minute }
     ensures { result ≡ credit_day anchor.now calendar.now receipt minute (is_mail channel) }
 {
     credit_day(*anchor, receipt, minute.get() as u16, channel, calendar)

@@ -249,20 +249,15 @@ impl Posts {
         requires received { IsReceived (anchor_of self.old.history).opened accepted post.now }
         ensures draft { IfOk result (IsDraft (record { number = length self.old.history + 1; key = key; accepted = accepted; post = post.now }) self.old self.new) }
         ensures stands { OnOk result (StandsFor calendar.now self.new) }
+        ensures alone { corrects post.now ≡ false → IsOk result }
         ensures err { OnErr result (self.new ≡ self.old) }
     {
-        let before = beside_if_corrected(
-            alloc,
-            post,
-            &self.corrections,
-            &self.effects,
-            &self.order,
-        )?;
+        let kept = beside_if_corrected(alloc, post, &self.corrections, &self.effects, &self.order)?;
         let waits = self.waits;
         let pushed = self.add(key, accepted, post, calendar);
         Ok(Draft {
             from: pushed.from,
-            before,
+            before: kept,
             waits,
         })
     }

@@ -14,12 +14,6 @@ next-there number first end l m = record {
   some = λ a. eq-eqb number number refl;
 }
 
-pub next-elsewhere : (number first end : ℕ) → first ≤ end → (first ≤ number → number < end → ⊥) → IsNext (λ x. eqb number x) first end end
-next-elsewhere number first end l h = record {
-  low = l;
-  high = omega arith;
-  none = λ x a b. ne_eqb number x (λ e. h (omega (arith, e, a)) (omega (arith, e, b)));
-  some = λ a. absurd (omega (arith, a));
 }
 
 -- no day passes

@@ -34,9 +34,6 @@ parted-same p q xs same h i j d low l e = sym (same (get_or xs i d)) ∙ h i j d
 pub parted-before : (day : ℕ) (xs : List Slot) → IsAscending xs → IsPartitionedBy (λ (s : Slot). nat_lt s.day day) xs
 parted-before day xs h = parted-same (λ s. before s (start_of day)) (λ s. nat_lt s.day day) xs (λ s. before-start s day) (ascending-parted (start_of day) xs h)
 
-pub parted-through : (day : ℕ) (xs : List Slot) → IsAscending xs → IsPartitionedBy (λ (s : Slot). nat_le s.day day) xs
-parted-through day xs h = parted-same (λ s. before s (start_of (day + 1))) (λ s. nat_le s.day day) xs (λ s. before-next s day) (ascending-parted (start_of (day + 1)) xs h)
-
 -- ---- counting
 pub count-cons : {X : Type 0} (p : X → Bool) (x : X) (xs : List X) → count_by p (x ∷ xs) ≡ cond (p x) 1 0 + count_by p xs
 count-cons p x xs = sum_by-cons (λ y. cond (p y) 1 0) x xs

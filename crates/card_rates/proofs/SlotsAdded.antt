@@ -130,11 +130,3 @@ add-none items ks i n e = rw e (ap (λ x. items ++ kept_from n x) (none ks) ∙ 
     none : (xs : List Kept) → drop (length xs) xs ≡ []
     none [] = refl
     none (x ∷ xs) = none xs
-
--- each post of the history has days of requests
-pub dated-at : (ks : List Kept) (i : ℕ) (k : Kept) → ArePostsDated ks → at_number (i + 1) ks ≡ Some k → is_dated_post k.post ≡ true
-dated-at ks i k h e =
-    let one : suc i ≡ i + 1 = omega arith in
-    let there : slice_get ks i ≡ Some k = ap (λ n. at_number n ks) one ∙ e in
-    let same : get_or ks i k ≡ k = get_or_from_slice_get ks i k k there in
-    ap (λ (x : Kept). is_dated_post x.post) (sym same) ∙ All-get_or (λ (x : Kept). is_dated_post x.post ≡ true) ks i k (slice_get_within ks i k there) h

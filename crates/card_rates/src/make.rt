@@ -2,6 +2,7 @@
 ghost use Rattle.std.specs.Prelude.{◌≡◌, ◌+◌, ◌<◌, ◌≤◌, ◌++◌, [], length, OnOk, IfOk, Some};
 ghost use Rattle.std.specs.List.{All, cons_option, count_by, filter_map};
 ghost use Rattle.card_events.specs.History.{adds_segment, at_number, opening_in, terms_in};
+ghost use Rattle.card_events.specs.Money.{rate_limit};
 ghost use Rattle.card_model.specs.Accepted.{HasFewRates, posted_rate};
 ghost use Rattle.card_model.specs.Rates.{lowering_of};
 ghost use Rattle.card_model.specs.Segments.{opening_vintage, opening_vintages, segment_of};
@@ -15,7 +16,7 @@ use card_posts::{Posts, VINTAGE_DAYS};
 use std::alloc::Global;
 
 fn rate_of(points: Num) -> Bp
-    requires { points ≤ 9_999 }
+    requires { points ≤ rate_limit }
     ensures { result ≡ points }
 {
     Bp::new(points.get()).unwrap()
@@ -23,7 +24,7 @@ fn rate_of(points: Num) -> Bp
 
 // the segment that a post adds
 fn segment_in(id: u8, number: u32, post: &Post) -> Option<RatedSegment>
-    requires { posted_rate post.now ≤ 9_999 }
+    requires { posted_rate post.now ≤ rate_limit }
     ensures { result ≡ segment_of id number post.now }
 {
     match post {
@@ -64,7 +65,7 @@ fn segment_in(id: u8, number: u32, post: &Post) -> Option<RatedSegment>
 
 // what a Lower caps
 fn cap_in(post: &Post) -> Option<RateCap>
-    requires { posted_rate post.now ≤ 9_999 }
+    requires { posted_rate post.now ≤ rate_limit }
     ensures { result ≡ lowering_of post.now }
 {
     match post {
@@ -100,7 +101,7 @@ fn vintage(id: u8, sort: Sort, opened: Day, rate: Bp) -> RatedSegment
 // The three vintages of the post that opens an account.
 pub fn first_segments(alloc: Global, opening: &Post) -> Result<Vec<RatedSegment>, NoMemory>
     requires opens { 1 ≤ (terms_in opening.now).close }
-    requires rates { posted_rate opening.now ≤ 9_999 }
+    requires rates { posted_rate opening.now ≤ rate_limit }
     ensures { IfOk result (λ segments. segments.items ≡ opening_vintages (opening_in opening.now) (terms_in opening.now)) }
 {
     match opening {
@@ -118,7 +119,7 @@ pub fn first_segments(alloc: Global, opening: &Post) -> Result<Vec<RatedSegment>
 // The penalty rate of the post that opens an account.
 pub fn penalty_rate_in(opening: &Post) -> Bp
     requires opens { 1 ≤ (terms_in opening.now).close }
-    requires rates { posted_rate opening.now ≤ 9_999 }
+    requires rates { posted_rate opening.now ≤ rate_limit }
     ensures { result ≡ (terms_in opening.now).penalty }
 {
     match opening {
@@ -146,7 +147,7 @@ fn add(
     number: u32,
     post: &Post,
 ) -> Result<(), NoMemory>
-    requires rates { posted_rate post.now ≤ 9_999 }
+    requires rates { posted_rate post.now ≤ rate_limit }
     requires few { length segments.old.items ≤ 62 }
     ensures segments { OnOk result (segments.new.items ≡ segments.old.items ++ cons_option (segment_of (length segments.old.items + 2) number post.now) []) }
     ensures caps { OnOk result (caps.new.items ≡ caps.old.items ++ cons_option (lowering_of post.now) []) }

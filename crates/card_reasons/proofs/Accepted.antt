@@ -13,6 +13,7 @@ use Rattle.card_events.specs.declared.kept.Kept.{Kept}
 use Rattle.card_events.specs.declared.post.Post.{Post}
 use Rattle.card_events.specs.declared.post.Post.TheVariants as post
 use Rattle.card_events.specs.declared.reply.Refusal.TheVariants as refusal
+use Rattle.card_events.specs.Business.{last_minute}
 use Rattle.card_model.specs.Refusals.{Present, account_full, amount_range, anchor_now, day_ahead, day_before_open, first_reason, fits_target, holds_of, is_no_amount, is_out_of_range, not_closed, reason_against, reasons, wrong_entry, wrong_target}
 use Rattle.card_posts.specs.Posted.{IsReceived, target_of}
 
@@ -40,10 +41,10 @@ paid : (now : Present) (day minute cents : ℕ) (by : Channel) → reason_agains
 unfolding is_out_of_range
 paid now day minute cents by none =
     let p = post.Payment day minute by cents in
-    let range : (is_no_amount cents || nat_lt 1439 minute) ≡ false = range_none now p none in
+    let range : (is_no_amount cents || nat_lt last_minute minute) ≡ false = range_none now p none in
     let ahead : nat_lt now.today day ≡ false = where_none (nat_lt now.today day) refusal.DayAhead (ahead_none now p none) in
     let before : nat_lt day (anchor_now now).opened ≡ false = where_none (nat_lt day (anchor_now now).opened) refusal.DayBeforeOpen (before_none now p none) in
-    ((ltb-false day (anchor_now now).opened before, ltb-false now.today day ahead), ltb-false 1439 minute (or_parts (is_no_amount cents) (nat_lt 1439 minute) range).1)
+    ((ltb-false day (anchor_now now).opened before, ltb-false now.today day ahead), ltb-false last_minute minute (or_parts (is_no_amount cents) (nat_lt last_minute minute) range).1)
 
 -- an Amend gives such a day
 amended : (now : Present) (target day cents : ℕ) → reason_against now (post.Amend target day cents) ≡ None → IsReceived (anchor_now now).opened now.today (post.Amend target day cents)

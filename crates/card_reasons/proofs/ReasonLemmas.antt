@@ -19,6 +19,8 @@ use Rattle.card_events.specs.declared.post.Post.TheVariants as post
 use Rattle.card_events.specs.declared.post.Terms.{Terms}
 use Rattle.card_events.specs.declared.reply.Refusal.{Refusal}
 use Rattle.card_events.specs.declared.reply.Refusal.TheVariants as refusal
+use Rattle.card_events.specs.Money.{rate_limit}
+use Rattle.card_events.specs.Business.{last_minute}
 use Rattle.card_model.specs.Entries.{credit_balance}
 use Rattle.card_model.specs.Payments.{sixty_days_late}
 use Rattle.card_model.specs.Refusals
@@ -103,7 +105,7 @@ credit_reasons now day cents p =
     let q = post.Credit day p cents in
     joined (amount_range now q) (day_ahead now.today q) (day_before_open now q) (Refusals.unknown_plan now q ∷ None ∷ []) (account_full now)
 
-pub payment_reasons : (now : Present) (day minute cents : ℕ) (by : Channel) → WithAdded now (post.Payment day minute by cents) day (is_no_amount cents || nat_lt 1439 minute) (None)
+pub payment_reasons : (now : Present) (day minute cents : ℕ) (by : Channel) → WithAdded now (post.Payment day minute by cents) day (is_no_amount cents || nat_lt last_minute minute) (None)
 unfolding early_reason place_reason end_reason target_reason returned_reason notice_reason claim_reason open_dispute_reason reason_against Refusals.is_out_of_range Refusals.unknown_plan Refusals.outside_plan Refusals.plan_end_not_closing Refusals.plan_too_short Refusals.wrong_entry Refusals.already_returned Refusals.first_year Refusals.notice_pending Refusals.not_delinquent Refusals.dispute_late Refusals.dispute_known Refusals.no_open_dispute Refusals.not_closed Refusals.refund_too_large Refusals.nothing_to_review
 payment_reasons now day minute cents by =
     let q = post.Payment day minute by cents in
@@ -121,19 +123,19 @@ return_reasons now day target =
     let q = post.Return day target in
     joined (amount_range now q) (day_ahead now.today q) (day_before_open now q) (Refusals.wrong_entry now q ∷ Refusals.already_returned now q ∷ []) (account_full now)
 
-pub plan_reasons : (now : Present) (day rate end after : ℕ) (kind : PlanKind) → WithAdded now (post.Plan day kind rate end after) day (nat_lt 9999 rate || nat_lt 9999 after) (end_reason now (post.Plan day kind rate end after))
+pub plan_reasons : (now : Present) (day rate end after : ℕ) (kind : PlanKind) → WithAdded now (post.Plan day kind rate end after) day (nat_lt rate_limit rate || nat_lt rate_limit after) (end_reason now (post.Plan day kind rate end after))
 unfolding early_reason place_reason end_reason target_reason returned_reason notice_reason claim_reason open_dispute_reason reason_against Refusals.is_out_of_range Refusals.unknown_plan Refusals.outside_plan Refusals.plan_end_not_closing Refusals.plan_too_short Refusals.wrong_entry Refusals.already_returned Refusals.first_year Refusals.notice_pending Refusals.not_delinquent Refusals.dispute_late Refusals.dispute_known Refusals.no_open_dispute Refusals.not_closed Refusals.refund_too_large Refusals.nothing_to_review
 plan_reasons now day rate end after kind =
     let q = post.Plan day kind rate end after in
     joined (amount_range now q) (day_ahead now.today q) (day_before_open now q) (Refusals.plan_end_not_closing now q ∷ Refusals.plan_too_short q ∷ segments_full now q ∷ []) (account_full now)
 
-pub notice_reasons : (now : Present) (day rate effective : ℕ) (category : Category) → WithAdded now (post.Notice day category rate effective) day (nat_lt 9999 rate) (notice_reason now (post.Notice day category rate effective))
+pub notice_reasons : (now : Present) (day rate effective : ℕ) (category : Category) → WithAdded now (post.Notice day category rate effective) day (nat_lt rate_limit rate) (notice_reason now (post.Notice day category rate effective))
 unfolding early_reason place_reason end_reason target_reason returned_reason notice_reason claim_reason open_dispute_reason reason_against Refusals.is_out_of_range Refusals.unknown_plan Refusals.outside_plan Refusals.plan_end_not_closing Refusals.plan_too_short Refusals.wrong_entry Refusals.already_returned Refusals.first_year Refusals.notice_pending Refusals.not_delinquent Refusals.dispute_late Refusals.dispute_known Refusals.no_open_dispute Refusals.not_closed Refusals.refund_too_large Refusals.nothing_to_review
 notice_reasons now day rate effective category =
     let q = post.Notice day category rate effective in
     joined (amount_range now q) (day_ahead now.today q) (day_before_open now q) (segments_full now q ∷ Refusals.notice_too_short q ∷ Refusals.first_year now q ∷ Refusals.notice_pending now q ∷ []) (account_full now)
 
-pub lower_reasons : (now : Present) (day rate : ℕ) (category : Category) → WithAdded now (post.Lower day category rate) day (nat_lt 9999 rate) (None)
+pub lower_reasons : (now : Present) (day rate : ℕ) (category : Category) → WithAdded now (post.Lower day category rate) day (nat_lt rate_limit rate) (None)
 unfolding early_reason place_reason end_reason target_reason returned_reason notice_reason claim_reason open_dispute_reason reason_against Refusals.is_out_of_range Refusals.unknown_plan Refusals.outside_plan Refusals.plan_end_not_closing Refusals.plan_too_short Refusals.wrong_entry Refusals.already_returned Refusals.first_year Refusals.notice_pending Refusals.not_delinquent Refusals.dispute_late Refusals.dispute_known Refusals.no_open_dispute Refusals.not_closed Refusals.refund_too_large Refusals.nothing_to_review
 lower_reasons now day rate category =
     let q = post.Lower day category rate in

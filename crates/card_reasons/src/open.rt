@@ -4,7 +4,7 @@ ghost use Rattle.card_events.specs.Billing.{IsCloseDay};
 ghost use Rattle.card_events.specs.declared.post.Post.TheVariants as post;
 ghost use Rattle.card_model.specs.Refusals.{bad_terms, first_reason, reason_to_open, where_true};
 
-use card_events::{Day, Refusal, Terms};
+use card_events::{Day, RATE_LIMIT, Refusal, Terms};
 
 // The first term that is out of its range: the closing day is 1 to 28, rates are at most 9,999 basis points, the floor is
 // at most 1,000,000 cents, the part at most 10,000 basis points.
@@ -14,13 +14,13 @@ fn bad_term(terms: &Terms) -> Option<Refusal>
 {
     if terms.close.get() == 0 || terms.close.get() > 28 {
         Some(Refusal::BadTerms(1))
-    } else if terms.purchase.get() > 9_999 {
+    } else if terms.purchase.get() > RATE_LIMIT as u64 {
         Some(Refusal::BadTerms(2))
-    } else if terms.cash.get() > 9_999 {
+    } else if terms.cash.get() > RATE_LIMIT as u64 {
         Some(Refusal::BadTerms(3))
-    } else if terms.transfer.get() > 9_999 {
+    } else if terms.transfer.get() > RATE_LIMIT as u64 {
         Some(Refusal::BadTerms(4))
-    } else if terms.penalty.get() > 9_999 {
+    } else if terms.penalty.get() > RATE_LIMIT as u64 {
         Some(Refusal::BadTerms(5))
     } else if terms.floor.get() > 1_000_000 {
         Some(Refusal::BadTerms(6))

@@ -1,5 +1,7 @@
 // Why posts aren't accepted: the first reason in order.
 ghost use Rattle.std.specs.Prelude.{◌≡◌, ◌≤◌, true, false, List, nat_lt, ◌||◌};
+ghost use Rattle.card_events.specs.Business.{last_minute};
+ghost use Rattle.card_events.specs.Money.{rate_limit};
 ghost use Rattle.card_events.specs.Range.{last_request_day};
 ghost use Rattle.card_events.specs.declared.anchor.Channel.{Channel};
 ghost use Rattle.card_disputes.specs.Histories.{AreInCalendar};
@@ -25,8 +27,11 @@ use crate::place::{charged_place, credited_place};
 use crate::plan::plan_end;
 use crate::returned::returned_target;
 use crate::review::review_day;
-use card_events::{Anchor, Category, Day, Num, Place, Post, Refusal};
+use card_events::{Anchor, Category, Day, Num, Place, Post, RATE_LIMIT, Refusal};
 use card_posts::Posts;
+
+// the last minute of a day, 23:59
+const LAST_MINUTE: u64 = 1_439;
 
 // Why a charge isn't accepted today.
 fn charge_reason(
@@ -64,9 +69,9 @@ fn credit_reason(
 
 // A payment of no amount, or at no minute of a day.
 fn is_no_payment(minute: Num, cents: Num) -> bool
-    ensures { result ≡ (spec.is_no_amount cents || nat_lt 1439 minute) }
+    ensures { result ≡ (spec.is_no_amount cents || nat_lt last_minute minute) }
 {
-    is_no_amount(cents) || minute.get() > 1_439
+    is_no_amount(cents) || minute.get() > LAST_MINUTE
 }
 
 // Why a payment isn't accepted today.
@@ -118,13 +123,13 @@ fn amend_reason(
 }
 
 fn is_no_rate(rate: Num) -> bool
-    ensures { result ≡ nat_lt 9999 rate }
+    ensures { result ≡ nat_lt rate_limit rate }
 {
-    rate.get() > 9_999
+    rate.get() > RATE_LIMIT as u64
 }
 
 fn are_no_rates(rate: Num, after: Num) -> bool
-    ensures { result ≡ (nat_lt 9999 rate || nat_lt 9999 after) }
+    ensures { result ≡ (nat_lt rate_limit rate || nat_lt rate_limit after) }
 {
     is_no_rate(rate) || is_no_rate(after)
 }

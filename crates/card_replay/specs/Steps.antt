@@ -17,10 +17,6 @@ use Rattle.card_replay.specs.Replays.{Replay, given_of, present_of}
 abbrev pub steps_to : ℕ → SharedRows → Replay → ℕ
 steps_to today shared r = steps_over (given_of r.lists shared) today (r.folding.reached + 1)
 
--- the break days from the day last reached to today
-abbrev pub breaks_to : ℕ → SharedRows → Replay → ℕ
-breaks_to today shared r = breaks_from (given_of r.lists shared) r.folding.reached today
-
 -- the first day of the cycle that a day lies in
 abbrev pub first_in_cycle : Anchor → ℕ → ℕ
 first_in_cycle a day = closing a (cycle_of a day - 1) + 1

@@ -1,6 +1,7 @@
 use Rattle.std.proofs.Common.{ℕ, ◌+◌, ◌<◌, ◌≤◌, sym, ap, ◌∙◌, arith, subst}
 use Rattle.card_events.specs.Billing.{closing, due}
 use Rattle.card_events.specs.History.{anchor_of, corrected}
+use Rattle.card_events.specs.Range.{last_reckoned_day}
 use Rattle.card_fees.specs.DueLaws.{issued_fees}
 use Rattle.card_fees.specs.declared.due_cycle.DueCycle.{DueCycle}
 use Rattle.card_model.specs.Caps.{row_for}
@@ -57,9 +58,9 @@ due_fee-requires-clause-last c =
     let day = c.requires.due in
     let last = c.requires.dated.last in
     let on = is.days.due in
-    let here : due (anchor_of g.history) c.args.cycle.now.number < 47846 = omega arith in
-    subst (λ (x : DueCycle). due c.anchor-anchor.result x.cycle < 47846) (sym c.due_cycle-due.ensures)
-    (subst (λ a. due a c.args.cycle.now.number < 47846) (sym c.anchor-anchor.ensures.value) here)
+    let here : due (anchor_of g.history) c.args.cycle.now.number < last_reckoned_day = omega arith in
+    subst (λ (x : DueCycle). due c.anchor-anchor.result x.cycle < last_reckoned_day) (sym c.due_cycle-due.ensures)
+    (subst (λ a. due a c.args.cycle.now.number < last_reckoned_day) (sym c.anchor-anchor.ensures.value) here)
 
 pub returns : goal.returns
 returns c =

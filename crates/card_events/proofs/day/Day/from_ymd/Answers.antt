@@ -1,6 +1,7 @@
 use Rattle.std.proofs.Common.{rules, ◌≡◌, ◌∙◌, ℕ, ℤ, pos, ap, arith, w8, w16, w32, to_z, of_z, true, FitsSigned, nat_abs}
 use Rattle.std.proofs.lemmas.Int.{to_z_pos, to_z-of_z}
 use Rattle.jiff_core.proofs.DateLemmas.{civil}
+use Rattle.jiff_core.specs.Date.{epoch_day}
 use Rattle.card_events.specs.Civil.{is_date, day_at}
 use Rattle.card_events.proofs.DateFacts.{made_date, day_at-range}
 use Rattle.card_events.proofs.day.Day.from_ymd.Goals as goal
@@ -19,7 +20,7 @@ made c =
     let d : to_z w8 c.args.d ≡ pos c.args.d = to_z_pos w8 c.args.d (omega arith) in
     let made = made_date date.year date.month date.day c.args.y c.args.m c.args.d (civil date) (value.0 ∙ y) (value.1 ∙ m) (value.2 ∙ d) (omega arith) (omega arith) in
     let fits : FitsSigned w32 c.to_unix_epoch_day.result = search rules in
-    record { is = made.0; number = to_z-of_z w32 c.to_unix_epoch_day.result fits ∙ c.to_unix_epoch_day.ensures.value ∙ made.1 }
+    record { is = made.0; number = to_z-of_z w32 c.to_unix_epoch_day.result fits ∙ c.to_unix_epoch_day.ensures.value ∙ ap epoch_day c.to_plain.ensures ∙ made.1 }
 
 pub overflow_cast-result : goal.overflow_cast-result
 overflow_cast-result c =
