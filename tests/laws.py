@@ -16,7 +16,8 @@ They are written from the words of the regulation and share nothing with the pro
                 kind that is no more than the first amount stands before it, in its cycle or one of the six before
                 (.52(b)(1)(ii))
     excess      what is paid above the minimum payment goes to no balance while one at a higher rate is left unpaid, deferred
-                balances in the last two cycles of their period before all; and to none at all while something is unpaid (.53)
+                balances in the last two cycles of their period before all; to none more than is owed there; and none of it becomes
+                a credit balance while something is unpaid (.53)
     credited    a payment is credited in full as of the day on which it came in; on the next day where that was after 17:00; as
                 of the due date where it is mail that makes up for one without business; and not later than one that came in
                 after it by the same channel, unless that one is such mail (.10)
@@ -368,26 +369,33 @@ def out_of_turn(parts, unpaid, rates, deferred):
     """The cents that went to a balance while another one that comes before it was left unpaid."""
     wrong = 0
     for segment, cents in parts.items():
+        others = [g for g, left in unpaid.items() if left > 0 and g != segment]
         if segment in deferred:
             continue
-        before = [g for g, left in unpaid.items() if left > 0 and (segment == "credit" or g in deferred or rates[g] > rates[segment])]
-        wrong += cents if before else 0
+        if any(segment == "credit" or g in deferred or rates[g] > rates[segment] for g in others):
+            wrong += cents
     return wrong
+
+
+def rates_on(account, day):
+    """The rates of a day, where its cycle is closed and has one rate for each balance."""
+    cycle = account.cycle_of(day)
+    return account.cycles[cycle].rates if cycle in account.cycles and has_one_rate(account, cycle) else {}
 
 
 def check_payment(account, payments, payment, plans, count):
     """The part above the minimum payment may not be among the cents that went out of turn."""
-    owed, parts = balances_before(account, payment.place), parts_of(account, payment)
-    rates = account.cycles[account.cycle_of(payment.credited)].rates
-    if not set(owed) <= set(rates):
+    owed, parts, rates = balances_before(account, payment.place), parts_of(account, payment), rates_on(account, payment.credited)
+    for segment, cents in parts.items():
+        if segment != "credit" and cents > owed.get(segment, 0):
+            raise Broken(f"excess: {account.name}: more of payment {payment.number} went to {segment} than is owed there")
+    if len(owed) > 1 and not set(owed) <= set(rates):
         count["excess, passed over"] += 1
         return
-    count["excess"] += 1
-    unpaid = {segment: cents - parts.get(segment, 0) for segment, cents in owed.items()}
+    unpaid = {segment: cents - parts[segment] for segment, cents in owed.items()}
     deferred = {segment for segment in owed if is_in_last_two_cycles(account, plans, segment, payment.credited)}
-    count["excess, deferred"] += bool(deferred)
-    for segment in set(parts) - set(owed) - {"credit"}:
-        raise Broken(f"excess: {account.name}: payment {payment.number} went to {segment}, on which nothing is owed")
+    count["excess"] += len(owed) > 1
+    count["excess, deferred"] += len(owed) > 1 and bool(deferred)
     wrong, minimum = out_of_turn(parts, unpaid, rates, deferred), minimum_left(account, payments, payment)
     if wrong > minimum:
         raise Broken(f"excess: {account.name}: {wrong} cents of payment {payment.number} went out of turn, and {minimum} are the minimum part")
@@ -396,15 +404,8 @@ def check_payment(account, payments, payment, plans, count):
 def check_excess(account, papers, count):
     payments, plans = payments_of(account), plans_of(account)
     for payment in payments.values():
-        if payment.credited is None:
-            continue
-        if payment.cents <= minimum_left(account, payments, payment) or len(balances_before(account, payment.place)) < 2:
-            continue  # nothing to choose
-        cycle = account.cycle_of(payment.credited)
-        if cycle not in account.cycles or not has_one_rate(account, cycle):
-            count["excess, passed over"] += 1
-            continue
-        check_payment(account, payments, payment, plans, count)
+        if payment.credited and payment.cents > minimum_left(account, payments, payment):
+            check_payment(account, payments, payment, plans, count)
 
 
 # ---- the day of credit (12 CFR 1026.10)
