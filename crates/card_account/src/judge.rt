@@ -10,7 +10,7 @@ use card_book::{Folded, Present};
 use card_events::{Num, Post, Refusal};
 use card_reasons::{is_no_amount, ordered_bill_reason, penalty_reason, post_reason, refund_reason};
 
-/// Whether a post is judged by the book of today: a Penalty, or a Refund that is in its range.
+/// Whether a post is judged by the book of today: a Penalty or a Refund.
 pub fn reads_book(post: &Post) -> bool
     ensures { result ≡ reads_book post.now }
 {

@@ -13,6 +13,7 @@ use card_dayend::{Cursor, next_span, opening_day, span_end, start};
 use card_events::{Cents, Day, NoMemory, Steps};
 use card_rates::RateBook;
 use card_segments::Segments;
+use card_statement::balance_on;
 use std::alloc::Global;
 use std::marker::Model;
 use std::sync::ledger::Ledger;
@@ -23,17 +24,6 @@ fn has_credit(segments: &Segments) -> bool
 {
     let _five = segments.len();
     segments.balance(0) < 0
-}
-
-// The balance of a segment, 0 where there is no such segment.
-fn balance_in(segments: &Segments, segment: u8) -> Cents
-    ensures { result ≡ slice_index_or segments.now.balances segment (pos 0) }
-{
-    if segment < segments.len() {
-        segments.balance(segment)
-    } else {
-        0
-    }
 }
 
 // Since when there is a credit balance, after a day that ends with one or without.
@@ -264,7 +254,7 @@ impl Book {
     pub fn balance(&self, segment: u8) -> Cents
         ensures { (g : Given) (t : Track) → StandsFor g self.now t → result ≡ balance segment (book_through g self.now.day).entries }
     {
-        balance_in(&self.state.segments, segment)
+        balance_on(&self.state.segments, segment)
     }
 
     /// The segments of the account's posts, with their balances.

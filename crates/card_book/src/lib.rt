@@ -4,7 +4,6 @@
 mod copies;
 mod earlier;
 mod folded;
-mod from_opening;
 mod kept_book;
 pub mod laws;
 mod marks;

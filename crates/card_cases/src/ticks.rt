@@ -1,4 +1,4 @@
-// The steps of a Book and the statement that it gives: the account of the cases with its opening alone, folded to 2024-03-10.
+// The steps of a Book and the cycles that it closes: the account of the cases with its opening alone, folded to 2024-03-10.
 ghost use Rattle.std.specs.Prelude.{◌≡◌, ◌+◌, [], IfOk, OnOk};
 ghost use Rattle.card_cases.specs.Alone.{IsAlone, given_alone, no_rows};
 ghost use Rattle.card_book.specs.Stands as kept;
@@ -9,7 +9,7 @@ ghost use Rattle.card_events.specs.Blanks.{IsBlankOf};
 use crate::account::opening;
 use crate::values::{day, name};
 use card_book::Book;
-use card_daily::{Inputs, Statement, Track};
+use card_daily::{Cycle, Inputs, Track};
 use card_events::{NoMemory, Steps};
 use card_fees::SharedRows;
 use card_posts::Posts;
@@ -57,14 +57,14 @@ fn folded<L: Ledger>(
     Ok(book)
 }
 
-// The statement of the first of its two cycles, with a counter of its own.
-fn first_statement<L: Ledger>(
+// The first of its two cycles, with a counter of its own.
+fn first_cycle<L: Ledger>(
     rt: &impl Abort,
     alloc: Global,
     posts: &Posts,
     inputs: &Inputs,
     blank: Blank,
-) -> Result<Statement, NoMemory>
+) -> Result<Cycle, NoMemory>
     requires own { IsBlankOf L.name L.parts blank.name blank.parts }
     requires alone { IsAlone posts.now.history }
     requires given { inputs.now ≡ given_alone posts.now.history }
@@ -76,25 +76,23 @@ fn first_statement<L: Ledger>(
     };
     let mut steps = Steps::<L>::new(blank);
     let book = folded(rt, alloc, posts, inputs, &mut track, &mut steps)?;
-    assert!(rt; track.cycles.len() == 2);
-    book.statement(alloc, inputs, &track, 1, day(rt, 19_759))
+    assert!(rt; book.whole() && track.cycles.len() == 2);
+    track.cycles[0].copy(alloc)
 }
 
-// Nothing happened in the first cycle, and its statement is issued on the day after its closing.
-fn is_first(statement: &Statement) -> bool {
-    statement.issue.number() == 19_759
-        && statement.cycle.closing.number() == 19_758
-        && statement.cycle.new_balance == 0
+// Nothing happened in it.
+fn is_first(cycle: &Cycle) -> bool {
+    cycle.number == 1 && cycle.closing.number() == 19_758 && cycle.new_balance == 0
 }
 
 // With a counter that counts nothing.
 #[test]
-fn a_book_and_its_statement(rt: HostRuntime) -> Result<(), Fail> {
+fn a_book_and_its_cycles(rt: HostRuntime) -> Result<(), Fail> {
     let alloc = rt.alloc();
     let shared = SharedRows::new(alloc);
     let posts = opened(&rt, alloc)?;
     let inputs = inputs(&posts, &shared);
-    let statement = first_statement::<Brand>(&rt, alloc, &posts, &inputs, Blank::new(1))?;
-    assert!(rt; is_first(&statement));
+    let cycle = first_cycle::<Brand>(&rt, alloc, &posts, &inputs, Blank::new(1))?;
+    assert!(rt; is_first(&cycle));
     Ok(())
 }

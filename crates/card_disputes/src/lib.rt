@@ -14,7 +14,7 @@ mod tasks;
 pub use card_model::{Task, TaskKind};
 pub use deadline::{ack_by, lower_by, refund_by, resolve_by};
 pub use increase::has_increase;
-pub use notice::last_notice_day;
+pub use notice::{last_notice_day, named};
 pub use order::in_work_order;
 pub use review::review_by;
 pub use tasks::work_of;

@@ -15,8 +15,8 @@ use crate::deadline::cycle_on;
 use card_events::{Anchor, Day, Kept, Num, Post};
 use card_posts::Posts;
 
-// the post with a number
-fn named(posts: &Posts, number: Num) -> Option<&Kept>
+/// The post with a number. None comes exactly where no post has it.
+pub fn named(posts: &Posts, number: Num) -> Option<&Kept>
     ensures { option_copied result ≡ at_number number posts.now.history }
 {
     if number.get() > posts.len() as u64 {

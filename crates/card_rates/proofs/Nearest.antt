@@ -14,8 +14,6 @@ next-there number first end l m = record {
   some = λ a. eq-eqb number number refl;
 }
 
-}
-
 -- no day passes
 pub next-never : (p : ℕ → Bool) (first end : ℕ) → first ≤ end → ((x : ℕ) → first ≤ x → x < end → p x ≡ false) → IsNext p first end end
 next-never p first end l h = record { low = l; high = omega arith; none = h; some = λ a. absurd (omega (arith, a)) }

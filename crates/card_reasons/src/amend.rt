@@ -6,7 +6,8 @@ ghost use Rattle.card_model.specs.Effects.{place_charged};
 ghost use Rattle.card_model.specs.Refusals.{Present, first_reason, fits_target, holds_of, where_true};
 ghost use Rattle.card_model.specs.Refusals as spec;
 
-use crate::place::{is_outside_place, named};
+use crate::place::is_outside_place;
+use card_disputes::named;
 use card_events::{Day, Num, Post, Refusal};
 use card_posts::Posts;
 

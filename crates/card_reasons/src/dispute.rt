@@ -9,9 +9,8 @@ ghost use Rattle.card_disputes.specs.Histories.{AreInCalendar};
 ghost use Rattle.card_reasons.specs.Reasons.{claim_reason, open_dispute_reason};
 
 use crate::day::first_of;
-use crate::place::named;
 use crate::search::{Wanted, number_of};
-use card_disputes::last_notice_day;
+use card_disputes::{last_notice_day, named};
 use card_events::{Anchor, Day, Kept, Num, Post, Refusal};
 use card_posts::Posts;
 

@@ -6,19 +6,9 @@ ghost use Rattle.card_events.specs.declared.post.Post.TheVariants as post;
 ghost use Rattle.card_model.specs.Refusals.{Present};
 ghost use Rattle.card_model.specs.Refusals as spec;
 
-use card_events::{Day, Kept, Num, Place, Post, Refusal};
+use card_disputes::named;
+use card_events::{Day, Num, Place, Post, Refusal};
 use card_posts::Posts;
-
-/// The post with a number. None comes exactly where no post has it.
-pub fn named(posts: &Posts, number: Num) -> Option<&Kept>
-    ensures { option_copied result ≡ at_number number posts.now.history }
-{
-    if number.get() > posts.len() as u64 {
-        None
-    } else {
-        posts.get(number.get() as u32)
-    }
-}
 
 // The first and the last day of a Plan.
 fn plan_days(post: &Post) -> Option<(Day, Day)>

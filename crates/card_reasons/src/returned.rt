@@ -8,8 +8,8 @@ ghost use Rattle.card_fees.specs.Counting.{is_payment_at};
 ghost use Rattle.card_model.specs.Payments as spec;
 ghost use Rattle.card_model.specs.Refusals.{Present, first_reason, holds_of, number_from, where_true};
 
-use crate::place::named;
 use crate::search::{Wanted, number_of};
+use card_disputes::named;
 use card_events::{Num, Post, Refusal};
 use card_posts::Posts;
 

@@ -34,11 +34,11 @@ use Rattle.card_replay.proofs.MarksFront.{among-front, marks-front}
 use Rattle.card_replay.proofs.NextClosing.{closing-dated, closing-none}
 use Rattle.card_replay.specs.Pasts.{AreWithin, IsFront}
 use Rattle.card_replay.proofs.Unread.{eve-on}
-use Rattle.card_replay.specs.Refolds.{AreEndsOf, IsAgain, IsAtClosing, IsAtOpening, IsBeforeChange, MayBegin, MayGoBack, MayGoBackOn, cycle_before}
+use Rattle.card_replay.specs.Rewinds.{AreEndsOf, IsAgain, IsAtClosing, IsAtOpening, IsBeforeChange, MayBegin, MayGoBack, MayGoBackOn, cycle_before}
 use Rattle.card_replay.specs.Replays.{BeginsAgain, HasMarks, IsEve}
 use Rattle.card_replay.specs.Steps.{first_in_cycle}
 use Rattle.card_replay.specs.declared.change.Recorded.TheVariants as recorded
-use Rattle.card_replay.specs.declared.change.Refolded.{Refolded}
+use Rattle.card_replay.specs.declared.change.TakenBack.{TakenBack}
 use Rattle.card_replay.specs.declared.eve.Eve.{Eve}
 use Rattle.card_replay.specs.declared.past.Ends.{Ends}
 use Rattle.card_replay.specs.declared.past.Past.{Past}
@@ -286,7 +286,7 @@ module _ {old g : Given} {p : Post} {from reached : ℕ} {b : Summary} {past : P
           }
 
   -- the opening day, where none closed before it
-  pub opening-again : (r : Refolded) → cycle_before g from ≡ 0 → IsAtOpening g r → IsAgain g from reached past r
+  pub opening-again : (r : TakenBack) → cycle_before g from ≡ 0 → IsAtOpening g r → IsAgain g from reached past r
   opening-again r none is =
       let a = anchor_of g.history in
       let first : closing a (cycle_before g from) ≡ a.opened - 1 = ap (closing a) none ∙ closing-none a in
@@ -385,7 +385,7 @@ eve-back p from k b past e copy begin dated whole stands g reached may =
     eve-again may.change.before e (subst (λ n. MayBegin past p from n e) may.number begin) may.change.stood copy dated whole (stands g)
 
 -- to a closing, whether there is an eve or not
-pub closing-back : {E : Type 0} (p : Post) (from k : ℕ) (b : Summary) (past : Past) (eve : Option Eve) (result : Result (Option Refolded) E)
+pub closing-back : {E : Type 0} (p : Post) (from k : ℕ) (b : Summary) (past : Past) (eve : Option Eve) (result : Result (Option TakenBack) E)
     → IfOk result (λ made. IfSome made (λ r. (g : Given) (f reached : ℕ) → MayGoBack g p f k reached b past → IsAgain g f reached past r))
     → IfOk result (λ made. IfSome made (λ r. (g : Given) (reached : ℕ) → MayGoBackOn g p from k reached b past eve → IsAgain g from reached past r))
 closing-back p from k b past eve (Ok None) h = tt

@@ -16,7 +16,7 @@ use Rattle.card_book.proofs.RatesGoOn.{rates_go_on}
 use Rattle.card_book.specs.GoingOn.{Continues, sets_rates}
 use Rattle.card_book.specs.Stands.{StandsFor, Summary}
 use Rattle.card_replay.proofs.LaterRows.{some-posts}
-use Rattle.card_replay.specs.Refolds.{IsOneMore}
+use Rattle.card_replay.specs.Rewinds.{IsOneMore}
 
 pub same-anchor : (ks : List Kept) (k : Kept) → 1 ≤ length ks → anchor_of (ks ++ k ∷ []) ≡ anchor_of ks
 same-anchor [] k some = absurd (omega (arith, some))

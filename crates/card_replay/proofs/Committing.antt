@@ -19,16 +19,16 @@ use Rattle.card_book.specs.Stands.{StandsFor, Summary}
 use Rattle.card_replay.proofs.Changed.{same-anchor}
 use Rattle.card_replay.proofs.LaterRows.{some-posts}
 use Rattle.card_replay.proofs.Unread.{issues-nothing, unread-stands}
-use Rattle.card_replay.specs.Changes.{IsChangeOf, IsCommitted, IsPrepared, IsRefolded, IsRefoldedBy, IsTaken, issued_as, lists_with}
-use Rattle.card_replay.specs.Refolds.{IsAgain}
+use Rattle.card_replay.specs.Changes.{IsChangeOf, IsCommitted, IsPrepared, HasRewound, IsRewoundBy, IsTaken, issued_as, lists_with}
+use Rattle.card_replay.specs.Rewinds.{IsAgain}
 use Rattle.card_replay.specs.Replays.{Folding, IsEve, IsFolding, IsReplay, MayReach, Replay, given_of, present_of}
 use Rattle.card_replay.specs.Steps.{IsFirstBetween, IsNear, first_in_cycle}
 use Rattle.card_replay.specs.declared.change.Change.{Change}
-use Rattle.card_replay.specs.declared.change.Refolded.{Refolded}
+use Rattle.card_replay.specs.declared.change.TakenBack.{TakenBack}
 
 -- ---- the folding after it
-refolded-folding : (g : Given) (x : Refolded) (old new : Folding) → IsRefolded x old new → IsFolding g (record { reached = x.reached; book = x.book; past = new.past; eve = None }) → IsFolding g new
-refolded-folding g x old new taken h = record {
+rewound-folding : (g : Given) (x : TakenBack) (old new : Folding) → HasRewound x old new → IsFolding g (record { reached = x.reached; book = x.book; past = new.past; eve = None }) → IsFolding g new
+rewound-folding g x old new taken h = record {
   day = ap (λ (s : Summary). s.day) taken.book ∙ (h.day ∙ ap Some (sym taken.reached));
   whole = ap (λ (s : Summary). s.whole) taken.book ∙ h.whole;
   stands = subst (λ (s : Summary). StandsFor g s new.past.track) (sym taken.book) h.stands;
@@ -44,8 +44,8 @@ least-right : (x y z : ℕ) → y ≤ z → min x y ≤ z
 least-right x y z l = omega (arith, l)
 
 -- it stays
-not-refolded : (shared : SharedRows) (today : ℕ) (key : List ℕ) (p : Post) (r : Replay) → IsFolding (given_of (accepted (present_of today shared r.lists) key p) shared) r.folding → IsRefoldedBy shared today key p None r
-not-refolded shared today key p r h = record {
+not-rewound : (shared : SharedRows) (today : ℕ) (key : List ℕ) (p : Post) (r : Replay) → IsFolding (given_of (accepted (present_of today shared r.lists) key p) shared) r.folding → IsRewoundBy shared today key p None r
+not-rewound shared today key p r h = record {
   earlier = λ f taken. let same = ap (λ (x : Folding). x.reached) taken in omega (arith, same);
   near = λ f taken from first.
       let same = ap (λ (x : Folding). x.reached) taken in
@@ -54,9 +54,9 @@ not-refolded shared today key p r h = record {
 }
 
 -- a post that no fold reads
-pub unread-refolded : (shared : SharedRows) (today : ℕ) (key : List ℕ) (p : Post) (r : Replay) → is_unread p ≡ true → IsReplay shared r → MayReach today r → IsSound (given_of (accepted (present_of today shared r.lists) key p) shared)
-    → IsRefoldedBy shared today key p None r
-unread-refolded shared today key p r u h may sound = not-refolded shared today key p r (unread-stands today shared r.lists key p r.folding u may.later h.sound sound h.folding)
+pub unread-rewound : (shared : SharedRows) (today : ℕ) (key : List ℕ) (p : Post) (r : Replay) → is_unread p ≡ true → IsReplay shared r → MayReach today r → IsSound (given_of (accepted (present_of today shared r.lists) key p) shared)
+    → IsRewoundBy shared today key p None r
+unread-rewound shared today key p r u h may sound = not-rewound shared today key p r (unread-stands today shared r.lists key p r.folding u may.later h.sound sound h.folding)
 
 -- with no row the lists are those with the post alone
 abbrev pub with_post : Lists → List ℕ → ℕ → Post → SharedRows → Given
@@ -71,12 +71,12 @@ with-post shared today key p l u =
     let none : l.issued ++ issues (present_of today shared l) p ≡ l.issued = ap (λ rows. l.issued ++ rows) (issues-nothing today shared l p u) ∙ append-nil l.issued in
     ap (λ rows. given_with (l.posts ++ kept_as (length l.posts + 1) key today p ∷ []) rows shared) none
 
-pub late-refolded : (shared : SharedRows) (today : ℕ) (key : List ℕ) (p : Post) (r : Replay) → is_unread p ≡ false → IsFolding (with_post r.lists key today p shared) r.folding → IsRefoldedBy shared today key p None r
-late-refolded shared today key p r u h = not-refolded shared today key p r (subst (λ g. IsFolding g r.folding) (sym (with-post shared today key p r.lists u)) h)
+pub late-rewound : (shared : SharedRows) (today : ℕ) (key : List ℕ) (p : Post) (r : Replay) → is_unread p ≡ false → IsFolding (with_post r.lists key today p shared) r.folding → IsRewoundBy shared today key p None r
+late-rewound shared today key p r u h = not-rewound shared today key p r (subst (λ g. IsFolding g r.folding) (sym (with-post shared today key p r.lists u)) h)
 
-pub again-refolded : (shared : SharedRows) (today : ℕ) (key : List ℕ) (p : Post) (r : Replay) (from : ℕ) (x : Refolded) → is_unread p ≡ false → IsAgain (with_post r.lists key today p shared) from r.folding.reached r.folding.past x
-    → ((day : ℕ) → IsFirstBetween shared r.lists (accepted (present_of today shared r.lists) key p) day → first_in_cycle (anchor_of r.lists.posts) day ≤ x.reached + 1) → IsRefoldedBy shared today key p (Some x) r
-again-refolded shared today key p r from x u again near = record {
+pub again-rewound : (shared : SharedRows) (today : ℕ) (key : List ℕ) (p : Post) (r : Replay) (from : ℕ) (x : TakenBack) → is_unread p ≡ false → IsAgain (with_post r.lists key today p shared) from r.folding.reached r.folding.past x
+    → ((day : ℕ) → IsFirstBetween shared r.lists (accepted (present_of today shared r.lists) key p) day → first_in_cycle (anchor_of r.lists.posts) day ≤ x.reached + 1) → IsRewoundBy shared today key p (Some x) r
+again-rewound shared today key p r from x u again near = record {
   earlier = λ f taken. let same = taken.reached in let low = again.earlier in omega (arith, same, low);
   near = λ f taken day first.
       let same = taken.reached in
@@ -84,12 +84,12 @@ again-refolded shared today key p r from x u again near = record {
       least-left (first_in_cycle (anchor_of r.lists.posts) day) (r.folding.reached + 1) (f.reached + 1) (omega (arith, low, same));
   next = λ f taken.
       subst (λ g. IsFolding g f) (sym (with-post shared today key p r.lists u))
-      (refolded-folding (with_post r.lists key today p shared) x r.folding f taken (again.folding f.past taken.past));
+      (rewound-folding (with_post r.lists key today p shared) x r.folding f taken (again.folding f.past taken.past));
 }
 
 -- it is so for an account with the same lists and folding
-pub refolded-same : (shared : SharedRows) (today : ℕ) (key : List ℕ) (p : Post) (made : Option Refolded) (old new : Replay) → new.lists ≡ old.lists → new.folding ≡ old.folding → IsRefoldedBy shared today key p made old → IsRefoldedBy shared today key p made new
-refolded-same shared today key p made old new lists folding h = record {
+pub rewound-same : (shared : SharedRows) (today : ℕ) (key : List ℕ) (p : Post) (made : Option TakenBack) (old new : Replay) → new.lists ≡ old.lists → new.folding ≡ old.folding → IsRewoundBy shared today key p made old → IsRewoundBy shared today key p made new
+rewound-same shared today key p made old new lists folding h = record {
   earlier = λ f taken. let low = h.earlier f (before f taken) in let same = ap (λ (x : Folding). x.reached) folding in omega (arith, low, same);
   near = λ f taken.
       subst (λ (l : Lists). IsNear shared l (accepted (present_of today shared l) key p) new.folding.reached f.reached) (sym lists)
@@ -147,12 +147,12 @@ committed-lists shared today key p c r new is issued committed = committed.lists
 
 committed-stands : (shared : SharedRows) (today : ℕ) (key : List ℕ) (p : Post) (c : Change) (r new : Replay) → IsReplay shared r → MayReach today r → IsChangeOf key today p c
     → issued_as c.issued ≡ issues (present_of today shared r.lists) p → reason_against (present_of today shared r.lists) p ≡ None → IsSound (given_of (accepted (present_of today shared r.lists) key p) shared)
-    → IsRefoldedBy shared today key p c.refolded r → IsCommitted shared c r new → IsNext shared today new
-committed-stands shared today key p c r new h may is issued none sound refolded committed =
+    → IsRewoundBy shared today key p c.rewound r → IsCommitted shared c r new → IsNext shared today new
+committed-stands shared today key p c r new h may is issued none sound rewound committed =
     let lists : new.lists ≡ accepted (present_of today shared r.lists) key p = committed-lists shared today key p c r new is issued committed in
     let all = accepts shared today key p r h may (received (present_of today shared r.lists) p none) in
-    let folding : IsFolding (given_of (accepted (present_of today shared r.lists) key p) shared) new.folding = refolded.next new.folding committed.folding in
-    let reached = refolded.earlier new.folding committed.folding in
+    let folding : IsFolding (given_of (accepted (present_of today shared r.lists) key p) shared) new.folding = rewound.next new.folding committed.folding in
+    let reached = rewound.earlier new.folding committed.folding in
     let later = may.later in
     let dated = h.dated in
     let low : (anchor_of (accepted (present_of today shared r.lists) key p).posts).opened ≤ new.folding.reached = folding.stands.opened new.folding.reached folding.day in
@@ -175,8 +175,8 @@ committed-stands shared today key p c r new h may is issued none sound refolded 
 -- ---- prepared
 pub is-prepared : (shared : SharedRows) (today : ℕ) (key : List ℕ) (p : Post) (c : Change) (r : Replay) → IsReplay shared r → MayReach today r → r.has_room ≡ true → IsChangeOf key today p c
     → issued_as c.issued ≡ issues (present_of today shared r.lists) p → reason_against (present_of today shared r.lists) p ≡ None → IsSound (given_of (accepted (present_of today shared r.lists) key p) shared)
-    → IsRefoldedBy shared today key p c.refolded r → IsPrepared shared c r
-is-prepared shared today key p c r h may room is issued none sound refolded =
+    → IsRewoundBy shared today key p c.rewound r → IsPrepared shared c r
+is-prepared shared today key p c r h may room is issued none sound rewound =
     let now = present_of today shared r.lists in
     let last = may.last in
     let day = is.today in
@@ -191,9 +191,9 @@ is-prepared shared today key p c r h may room is issued none sound refolded =
         received = subst (λ (q : Post). IsReceived (anchor_of r.lists.posts).opened c.today q) (sym is.post) (subst (λ d. IsReceived (anchor_of r.lists.posts).opened d p) (sym day) (received now p none));
       };
       issued = issued ∙ (ap (issues now) (sym is.post) ∙ ap (λ d. issues (present_of d shared r.lists) c.post) (sym day));
-      next = λ new committed. (committed-stands shared today key p c r new h may is issued none sound refolded committed).replay;
-      reach_next = λ new committed. subst (λ d. MayReach d new) (sym day) (committed-stands shared today key p c r new h may is issued none sound refolded committed).reach;
+      next = λ new committed. (committed-stands shared today key p c r new h may is issued none sound rewound committed).replay;
+      reach_next = λ new committed. subst (λ d. MayReach d new) (sym day) (committed-stands shared today key p c r new h may is issued none sound rewound committed).reach;
       near = λ new committed.
           subst (λ (l : Lists). IsNear shared r.lists l r.folding.reached new.folding.reached) (sym (committed-lists shared today key p c r new is issued committed))
-          (refolded.near new.folding committed.folding);
+          (rewound.near new.folding committed.folding);
     }

@@ -20,14 +20,14 @@ use Rattle.card_daily.specs.Given.{Given, IsSound}
 use Rattle.card_book.specs.Rewound.{AreFolded}
 use Rattle.card_replay.proofs.Again.{closed-at, folded-before, number-is}
 use Rattle.card_replay.proofs.Changed.{anchor-stays, same-anchor}
-use Rattle.card_replay.proofs.Committing.{again-refolded, given_with, late-refolded, with-post, with_post}
+use Rattle.card_replay.proofs.Committing.{again-rewound, given_with, late-rewound, with-post, with_post}
 use Rattle.card_replay.proofs.LateChange.{late-stands}
 use Rattle.card_replay.proofs.LaterRows.{some-posts}
-use Rattle.card_replay.specs.Changes.{IsReadyFor, IsRefoldedBy, MayPrepare}
-use Rattle.card_replay.specs.Refolds.{IsAgain, IsOneMore, MayGoBackOn, MayRefoldOn, cycle_before}
+use Rattle.card_replay.specs.Changes.{IsReadyFor, IsRewoundBy, MayPrepare}
+use Rattle.card_replay.specs.Rewinds.{IsAgain, IsOneMore, MayGoBackOn, MayRewindOn, cycle_before}
 use Rattle.card_replay.specs.Replays.{IsReplay, Replay, given_of, posted_of, present_of}
 use Rattle.card_replay.specs.Steps.{IsFirstBetween, first_in_cycle}
-use Rattle.card_replay.specs.declared.change.Refolded.{Refolded}
+use Rattle.card_replay.specs.declared.change.TakenBack.{TakenBack}
 
 -- ---- the account with the post among the others
 -- the draft, its first changed day, and the inputs with it
@@ -62,9 +62,9 @@ drafted shared today key name p r old new rows d h u sound posts kept issued nam
       };
     }
 
-pub may-refold : (shared : SharedRows) (today : ℕ) (key : List ℕ) (p : Post) (r : Replay) (from : ℕ) → IsReplay shared r → IsOneMore (given_of r.lists shared) (with_post r.lists key today p shared) p from → from ≤ r.folding.reached
-    → MayRefoldOn (with_post r.lists key today p shared) p from r.folding.reached r.folding.book r.folding.past r.folding.eve
-may-refold shared today key p r from h more l =
+pub may-rewind : (shared : SharedRows) (today : ℕ) (key : List ℕ) (p : Post) (r : Replay) (from : ℕ) → IsReplay shared r → IsOneMore (given_of r.lists shared) (with_post r.lists key today p shared) p from → from ≤ r.folding.reached
+    → MayRewindOn (with_post r.lists key today p shared) p from r.folding.reached r.folding.book r.folding.past r.folding.eve
+may-rewind shared today key p r from h more l =
     let folding = h.folding in
     record {
       old = given_of r.lists shared;
@@ -97,7 +97,7 @@ more-told shared today key p r from h first =
 -- before it, where it isn't after the day reached, and behind which closing it lies
 pub record IsTold (shared : SharedRows) (today : ℕ) (key : List ℕ) (p : Post) (r : Replay) (from cycle : ℕ) : Type 0 where
   pub more : IsOneMore (given_of r.lists shared) (with_post r.lists key today p shared) p from
-  pub change : MayRefoldOn (with_post r.lists key today p shared) p from r.folding.reached r.folding.book r.folding.past r.folding.eve
+  pub change : MayRewindOn (with_post r.lists key today p shared) p from r.folding.reached r.folding.book r.folding.past r.folding.eve
   pub number : cycle ≡ cycle_before (with_post r.lists key today p shared) from
   pub folded : AreFolded r.folding.book r.folding.past.track
   pub closed : cycle ≤ length r.folding.past.track.cycles.items
@@ -108,7 +108,7 @@ pub told : (shared : SharedRows) (today : ℕ) (key : List ℕ) (p : Post) (r : 
 told shared today key p r from h first l number anchor =
     let g = with_post r.lists key today p shared in
     let more = more-told shared today key p r from h first in
-    let change = may-refold shared today key p r from h.replay more l in
+    let change = may-rewind shared today key p r from h.replay more l in
     let same = number-is g from number (anchor ∙ sym (anchor-stays (given_of r.lists shared) g p from more)) in
     record {
       more = more;
@@ -144,7 +144,7 @@ one-first : (a b : ℕ) (old new : List CorrectedPost) → IsFirstChange a old n
 one-first a b old new h k = let low = same-first a b old new h k in let high = same-first b a old new k h in omega (arith, low, high)
 
 -- so the last closing before it is the one that was meant
-near-first : (shared : SharedRows) (today : ℕ) (key : List ℕ) (p : Post) (r : Replay) (from day : ℕ) (x : Refolded) → is_unread p ≡ false → IsOneMore (given_of r.lists shared) (with_post r.lists key today p shared) p from
+near-first : (shared : SharedRows) (today : ℕ) (key : List ℕ) (p : Post) (r : Replay) (from day : ℕ) (x : TakenBack) → is_unread p ≡ false → IsOneMore (given_of r.lists shared) (with_post r.lists key today p shared) p from
     → IsAgain (with_post r.lists key today p shared) from r.folding.reached r.folding.past x → IsFirstBetween shared r.lists (accepted (present_of today shared r.lists) key p) day → first_in_cycle (anchor_of r.lists.posts) day ≤ x.reached + 1
 near-first shared today key p r from day x u more again first =
     let g = with_post r.lists key today p shared in
@@ -154,34 +154,34 @@ near-first shared today key p r from day x u more again first =
     (subst (λ (a : Anchor). first_in_cycle a from ≤ x.reached + 1) (anchor-stays (given_of r.lists shared) g p from more) again.near)
 
 -- ---- what it is taken back to
-pub made-refolded : (shared : SharedRows) (today : ℕ) (key : List ℕ) (p : Post) (r : Replay) (from : ℕ) (made : Option Refolded) → is_unread p ≡ false → reason_against (present_of today shared r.lists) p ≡ None
+pub made-rewound : (shared : SharedRows) (today : ℕ) (key : List ℕ) (p : Post) (r : Replay) (from : ℕ) (made : Option TakenBack) → is_unread p ≡ false → reason_against (present_of today shared r.lists) p ≡ None
     → IsReplay shared r → IsReadyFor today p r → IsOneMore (given_of r.lists shared) (with_post r.lists key today p shared) p from → (made ≡ None → r.folding.reached < from)
-    → IfSome made (IsAgain (with_post r.lists key today p shared) from r.folding.reached r.folding.past) → IsRefoldedBy shared today key p made r
-made-refolded shared today key p r from None u none h ready more late again =
-    late-refolded shared today key p r u (late-stands (present_of today shared r.lists) (given_of r.lists shared) (with_post r.lists key today p shared) p from r.folding none (late refl) ready more h.folding)
-made-refolded shared today key p r from (Some x) u none h ready more late again = again-refolded shared today key p r from x u again (λ day first. near-first shared today key p r from day x u more again first)
+    → IfSome made (IsAgain (with_post r.lists key today p shared) from r.folding.reached r.folding.past) → IsRewoundBy shared today key p made r
+made-rewound shared today key p r from None u none h ready more late again =
+    late-rewound shared today key p r u (late-stands (present_of today shared r.lists) (given_of r.lists shared) (with_post r.lists key today p shared) p from r.folding none (late refl) ready more h.folding)
+made-rewound shared today key p r from (Some x) u none h ready more late again = again-rewound shared today key p r from x u again (λ day first. near-first shared today key p r from day x u more again first)
 
-pub result-refolded : {E : Type 0} (shared : SharedRows) (today : ℕ) (key : List ℕ) (p : Post) (r : Replay) (from : ℕ) (result : Result (Option Refolded) E) → is_unread p ≡ false → reason_against (present_of today shared r.lists) p ≡ None
+pub result-rewound : {E : Type 0} (shared : SharedRows) (today : ℕ) (key : List ℕ) (p : Post) (r : Replay) (from : ℕ) (result : Result (Option TakenBack) E) → is_unread p ≡ false → reason_against (present_of today shared r.lists) p ≡ None
     → IsReplay shared r → IsReadyFor today p r → IsOneMore (given_of r.lists shared) (with_post r.lists key today p shared) p from → IfOk result (λ made. made ≡ None → r.folding.reached < from)
-    → IfOk result (λ made. IfSome made (IsAgain (with_post r.lists key today p shared) from r.folding.reached r.folding.past)) → IfOk result (λ made. IsRefoldedBy shared today key p made r)
-result-refolded shared today key p r from (Ok made) u none h ready more late again = made-refolded shared today key p r from made u none h ready more late again
-result-refolded shared today key p r from (Err e) u none h ready more late again = tt
+    → IfOk result (λ made. IfSome made (IsAgain (with_post r.lists key today p shared) from r.folding.reached r.folding.past)) → IfOk result (λ made. IsRewoundBy shared today key p made r)
+result-rewound shared today key p r from (Ok made) u none h ready more late again = made-rewound shared today key p r from made u none h ready more late again
+result-rewound shared today key p r from (Err e) u none h ready more late again = tt
 
 -- what it is taken back to with no fold
-pub back-refolded : (shared : SharedRows) (today : ℕ) (key : List ℕ) (p : Post) (r : Replay) (from cycle : ℕ) (x : Refolded) → MayPrepare shared today key p r → IsTold shared today key p r from cycle
-    → ((g : Given) (reached : ℕ) → MayGoBackOn g p from cycle reached r.folding.book r.folding.past r.folding.eve → IsAgain g from reached r.folding.past x) → IsRefoldedBy shared today key p (Some x) r
-back-refolded shared today key p r from cycle x h is again =
-    made-refolded shared today key p r from (Some x) h.read h.no_reason h.replay h.ready is.more (λ e. let no : Some x ≡ None = e in absurd (cc))
+pub back-rewound : (shared : SharedRows) (today : ℕ) (key : List ℕ) (p : Post) (r : Replay) (from cycle : ℕ) (x : TakenBack) → MayPrepare shared today key p r → IsTold shared today key p r from cycle
+    → ((g : Given) (reached : ℕ) → MayGoBackOn g p from cycle reached r.folding.book r.folding.past r.folding.eve → IsAgain g from reached r.folding.past x) → IsRewoundBy shared today key p (Some x) r
+back-rewound shared today key p r from cycle x h is again =
+    made-rewound shared today key p r from (Some x) h.read h.no_reason h.replay h.ready is.more (λ e. let no : Some x ≡ None = e in absurd (cc))
     (again (with_post r.lists key today p shared) r.folding.reached (record { change = is.change; number = is.number }))
 
 -- where it changes only later days
-pub later-refolded : (shared : SharedRows) (today : ℕ) (key : List ℕ) (p : Post) (r : Replay) (from : ℕ) → MayPrepare shared today key p r → IsFirstWith shared.holidays today p (posted_of r) from
-    → r.folding.reached < from → IsRefoldedBy shared today key p None r
-later-refolded shared today key p r from h first l =
-    made-refolded shared today key p r from None h.read h.no_reason h.replay h.ready (more-told shared today key p r from h first) (λ e. l) tt
+pub later-rewound : (shared : SharedRows) (today : ℕ) (key : List ℕ) (p : Post) (r : Replay) (from : ℕ) → MayPrepare shared today key p r → IsFirstWith shared.holidays today p (posted_of r) from
+    → r.folding.reached < from → IsRewoundBy shared today key p None r
+later-rewound shared today key p r from h first l =
+    made-rewound shared today key p r from None h.read h.no_reason h.replay h.ready (more-told shared today key p r from h first) (λ e. l) tt
 
 -- ---- in memory of its own
-pub if-any-refolded : {E : Type 0} (shared : SharedRows) (today : ℕ) (key : List ℕ) (p : Post) (r : Replay) (made : Option Refolded) (result : Result (Option Refolded) E) → IfOk result (λ x. x ≡ made)
-    → IsRefoldedBy shared today key p made r → IfOk result (λ x. IsRefoldedBy shared today key p x r)
-if-any-refolded shared today key p r made (Ok x) is h = subst (λ m. IsRefoldedBy shared today key p m r) (sym is) h
-if-any-refolded shared today key p r made (Err e) is h = tt
+pub if-any-rewound : {E : Type 0} (shared : SharedRows) (today : ℕ) (key : List ℕ) (p : Post) (r : Replay) (made : Option TakenBack) (result : Result (Option TakenBack) E) → IfOk result (λ x. x ≡ made)
+    → IsRewoundBy shared today key p made r → IfOk result (λ x. IsRewoundBy shared today key p x r)
+if-any-rewound shared today key p r made (Ok x) is h = subst (λ m. IsRewoundBy shared today key p m r) (sym is) h
+if-any-rewound shared today key p r made (Err e) is h = tt

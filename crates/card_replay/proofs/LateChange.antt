@@ -19,7 +19,7 @@ use Rattle.card_book.specs.GoingOn.{sets_rates}
 use Rattle.card_replay.proofs.Changed.{continues-before}
 use Rattle.card_replay.proofs.Unread.{folding-on}
 use Rattle.card_replay.specs.Needs.{is_bill, needs_today}
-use Rattle.card_replay.specs.Refolds.{IsOneMore}
+use Rattle.card_replay.specs.Rewinds.{IsOneMore}
 use Rattle.card_replay.specs.Replays.{Folding, IsFolding}
 
 -- ---- the corrected list of one post more

@@ -20,7 +20,7 @@ use Rattle.card_replay.specs.Pasts.{IsRecorded}
 use Rattle.card_replay.specs.Replays.{Folding, IsFolding, IsReplay, MayReach, Replay, given_of, present_of}
 use Rattle.card_replay.specs.Steps.{IsNear}
 use Rattle.card_replay.specs.declared.change.Change.{Change}
-use Rattle.card_replay.specs.declared.change.Refolded.{Refolded}
+use Rattle.card_replay.specs.declared.change.TakenBack.{TakenBack}
 
 -- the row that was issued, if one was
 abbrev pub issued_as : Option IssuedRow → List IssuedRow
@@ -56,21 +56,21 @@ lists_with c l =
     }
 
 -- The folding stays where the post takes it nowhere; else it is that of the earlier day, and there is no eve
-pub record IsRefolded (r : Refolded) (old new : Folding) : Type 0 where
+pub record HasRewound (r : TakenBack) (old new : Folding) : Type 0 where
   pub reached : new.reached ≡ r.reached
   pub book : new.book ≡ r.book
   pub past : IsRecorded r.recorded old.past new.past
   pub eve : new.eve ≡ None
 
-abbrev pub IsTaken : Option Refolded → Folding → Folding → Type 0
+abbrev pub IsTaken : Option TakenBack → Folding → Folding → Type 0
 IsTaken None old new = new ≡ old
-IsTaken (Some r) old new = IsRefolded r old new
+IsTaken (Some r) old new = HasRewound r old new
 
 -- The account after the post. That is all that is said of it, so where this post was prepared it follows that it stands
 pub record IsCommitted (shared : SharedRows) (c : Change) (old new : Replay) : Type 0 where
   pub lists : new.lists ≡ lists_with c old.lists
   pub corrected : new.corrected ≡ corrected (anchor_of new.lists.posts) shared.holidays new.lists.posts
-  pub folding : IsTaken c.refolded old.folding new.folding
+  pub folding : IsTaken c.rewound old.folding new.folding
 
 -- ---- preparing it
 -- the post may be added to the account's posts
@@ -110,7 +110,7 @@ pub record IsPrepared (shared : SharedRows) (c : Change) (r : Replay) : Type 0 w
 
 -- what this post takes the account back to, if to anything: whatever the account becomes by taking it, it stands at the end of a day
 -- that isn't after the one that was reached, nor before the last closing before the change
-pub record IsRefoldedBy (shared : SharedRows) (today : ℕ) (key : List ℕ) (p : Post) (made : Option Refolded) (r : Replay) : Type 0 where
+pub record IsRewoundBy (shared : SharedRows) (today : ℕ) (key : List ℕ) (p : Post) (made : Option TakenBack) (r : Replay) : Type 0 where
   pub earlier : (f : Folding) → IsTaken made r.folding f → f.reached ≤ r.folding.reached
   pub near :
       (f : Folding) → IsTaken made r.folding f → IsNear shared r.lists (accepted (present_of today shared r.lists) key p) r.folding.reached f.reached

@@ -1,7 +1,7 @@
 pub mod Changes
 pub mod Laws
 pub mod Pasts
-pub mod Refolds
+pub mod Rewinds
 pub mod Replays
 pub mod Steps
 pub mod Needs

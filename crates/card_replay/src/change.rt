@@ -15,7 +15,7 @@ pub enum Recorded {
 /// What a post takes an account back to: the Book at the end of an earlier day, that day, and what is recorded up to then. With the
 /// post among the others it is folded on from there when it is next asked.
 #[derive(Drop)]
-pub struct Refolded {
+pub struct TakenBack {
     pub book: Book,
     pub reached: Day,
     pub recorded: Recorded,
@@ -24,41 +24,41 @@ pub struct Refolded {
 /// What a post takes an account back to, if to anything. It lies in memory of its own, since most posts take it nowhere. Clauses see
 /// it as an option.
 #[derive(Drop)]
-pub struct RefoldedIfAny {
-    made: Option<Box<Refolded>>,
+pub struct TakenBackIfAny {
+    made: Option<Box<TakenBack>>,
 }
 
-impl Model for RefoldedIfAny {
+impl Model for TakenBackIfAny {
     ghost use Rattle.std.specs.Prelude.{Option};
     ghost use Rattle.std.specs.Option.{option_map};
-    ghost use Rattle.card_replay.specs.declared.change.Refolded.{Refolded};
+    ghost use Rattle.card_replay.specs.declared.change.TakenBack.{TakenBack};
 
-    ghost Value = { Option Refolded };
+    ghost Value = { Option TakenBack };
 
     ghost view = { λ r. option_map (λ b. b.value) r.made };
 }
 
-impl RefoldedIfAny {
+impl TakenBackIfAny {
     ghost use Rattle.std.specs.Prelude.{◌≡◌, None, Some, IfOk};
     ghost use Rattle.std.specs.Option.{option_map};
 
     /// Nothing.
-    pub fn none() -> RefoldedIfAny
+    pub fn none() -> TakenBackIfAny
         ensures { result ≡ None }
     {
-        RefoldedIfAny { made: None }
+        TakenBackIfAny { made: None }
     }
 
     /// This.
-    pub fn of(alloc: Global, made: Refolded) -> Result<RefoldedIfAny, NoMemory>
+    pub fn of(alloc: Global, made: TakenBack) -> Result<TakenBackIfAny, NoMemory>
         ensures { IfOk result (λ r. r ≡ Some made) }
     {
         let made = Box::new(alloc, made)?;
-        Ok(RefoldedIfAny { made: Some(made) })
+        Ok(TakenBackIfAny { made: Some(made) })
     }
 
     /// It as an option, where it lies.
-    pub fn into_boxed(self) -> Option<Box<Refolded>>
+    pub fn into_boxed(self) -> Option<Box<TakenBack>>
         ensures { option_map (λ b. b.value) result ≡ self }
     {
         self.made
@@ -117,5 +117,5 @@ pub struct Change {
     pub post: Post,
     pub today: Day,
     pub issued: IssuedIfAny,
-    pub refolded: RefoldedIfAny,
+    pub rewound: TakenBackIfAny,
 }

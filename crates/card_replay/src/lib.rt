@@ -7,8 +7,8 @@ mod folding;
 mod issuing;
 pub mod laws;
 mod past;
-mod refolding;
 mod replay;
+mod rewinding;
 mod statement;
 mod taking;
 

@@ -4,12 +4,12 @@ ghost use Rattle.card_book.specs.Stands.{day_to_fold, steps_over};
 ghost use Rattle.card_replay.specs.Pasts.{AreSame, PastBegins};
 ghost use Rattle.card_replay.specs.Replays.{FoldsOn, IsFolding};
 
-use crate::change::{Change, IssuedIfAny, Refolded, RefoldedIfAny};
+use crate::change::{Change, IssuedIfAny, TakenBack, TakenBackIfAny};
 use crate::eve::Eve;
 use crate::folding::{first_book, fold_on};
 use crate::issuing::{closed_number, issued_by, push_issued};
 use crate::past::{Past, cut, ends_of, nothing};
-use crate::refolding::{cycles_before, go_back, is_unread, needs_today, refold_if_reached};
+use crate::rewinding::{cycles_before, go_back, is_unread, needs_today, rewind_if_reached};
 use crate::statement::statement_at;
 use crate::taking::take_if_any;
 use card_book::{Book, Folded, Inputs, Issued, Statement};
@@ -90,7 +90,7 @@ impl Replay {
     ghost use Rattle.card_rates.specs.Segments.{account_segments};
     ghost use Rattle.card_daily.specs.Given.{IsSound};
     ghost use Rattle.card_book.specs.Stands.{steps_over};
-    ghost use Rattle.card_replay.specs.Changes.{IsChangeOf, IsCommitted, IsPrepared, IsReadyFor, IsRefoldedBy, MayPrepare, issued_as};
+    ghost use Rattle.card_replay.specs.Changes.{IsChangeOf, IsCommitted, IsPrepared, IsReadyFor, IsRewoundBy, MayPrepare, issued_as};
     ghost use Rattle.card_posts.specs.Draft.{IsFirstWith};
     ghost use Rattle.card_replay.specs.Replays.{IsReplay, IsToday, MayReach, SameLists, given_of, opened_lists, posted_of, present_of};
     ghost use Rattle.card_replay.specs.Steps.{AreFewToPrepare, IsNear, steps_to};
@@ -230,11 +230,11 @@ impl Replay {
         today: Day,
         shared: &SharedRows,
         steps: &mut Steps<L>,
-    ) -> Result<Option<Refolded>, NoMemory>
+    ) -> Result<Option<TakenBack>, NoMemory>
         requires may { MayPrepare shared.now today key.now post.now self.old }
         ensures same { SameLists self.old self.new }
         ensures folding { self.new.folding ≡ self.old.folding }
-        ensures refolded { IfOk result (λ made. IsRefoldedBy shared.now today key.now post.now made self.old) }
+        ensures rewound { IfOk result (λ made. IsRewoundBy shared.now today key.now post.now made self.old) }
         ensures most { steps.new ≤ steps.old + 1 }
     {
         let key = key.copy(alloc)?;
@@ -242,7 +242,7 @@ impl Replay {
             .posts
             .draft(alloc, key, today, post, shared.calendar())?;
         let inputs = Inputs::new(&self.posts, &self.issued, shared);
-        let made = refold_if_reached(
+        let made = rewind_if_reached(
             alloc,
             &inputs,
             post,
@@ -266,16 +266,16 @@ impl Replay {
         today: Day,
         shared: &SharedRows,
         steps: &mut Steps<L>,
-    ) -> Result<RefoldedIfAny, NoMemory>
+    ) -> Result<TakenBackIfAny, NoMemory>
         requires may { MayPrepare shared.now today key.now post.now self.old }
         ensures same { SameLists self.old self.new }
         ensures folding { self.new.folding ≡ self.old.folding }
-        ensures refolded { IfOk result (λ made. IsRefoldedBy shared.now today key.now post.now made self.old) }
+        ensures rewound { IfOk result (λ made. IsRewoundBy shared.now today key.now post.now made self.old) }
         ensures most { steps.new ≤ steps.old + 1 }
     {
         match self.drafted(alloc, key, post, today, shared, steps)? {
-            Some(earlier) => RefoldedIfAny::of(alloc, earlier),
-            None => Ok(RefoldedIfAny::none()),
+            Some(earlier) => TakenBackIfAny::of(alloc, earlier),
+            None => Ok(TakenBackIfAny::none()),
         }
     }
 
@@ -290,25 +290,25 @@ impl Replay {
         from: Day,
         shared: &SharedRows,
         steps: &mut Steps<L>,
-    ) -> Result<RefoldedIfAny, NoMemory>
+    ) -> Result<TakenBackIfAny, NoMemory>
         requires may { MayPrepare shared.now today key.now post.now self.old }
         requires first { IsFirstWith shared.now.holidays today post.now (posted_of self.old) from }
         requires reached { from ≤ self.old.folding.reached }
         ensures same { SameLists self.old self.new }
         ensures folding { self.new.folding ≡ self.old.folding }
-        ensures refolded { IfOk result (λ made. IsRefoldedBy shared.now today key.now post.now made self.old) }
+        ensures rewound { IfOk result (λ made. IsRewoundBy shared.now today key.now post.now made self.old) }
         ensures most { steps.new ≤ steps.old + 1 }
     {
         let cycle = cycles_before(&self.posts.anchor(), from);
         let back = go_back(alloc, post, from, cycle, &self.book, &self.past, &self.eve)?;
         match back {
-            Some(earlier) => RefoldedIfAny::of(alloc, earlier),
+            Some(earlier) => TakenBackIfAny::of(alloc, earlier),
             None => self.drafted_if_any(alloc, key, post, today, shared, steps),
         }
     }
 
     // What a post that a fold reads takes the account back to, where the first day is known that it changes.
-    fn refolded_from<L: Ledger>(
+    fn rewound_from<L: Ledger>(
         &mut self,
         alloc: Global,
         key: &Name,
@@ -317,22 +317,22 @@ impl Replay {
         from: Day,
         shared: &SharedRows,
         steps: &mut Steps<L>,
-    ) -> Result<RefoldedIfAny, NoMemory>
+    ) -> Result<TakenBackIfAny, NoMemory>
         requires may { MayPrepare shared.now today key.now post.now self.old }
         requires first { IsFirstWith shared.now.holidays today post.now (posted_of self.old) from }
         ensures same { SameLists self.old self.new }
         ensures folding { self.new.folding ≡ self.old.folding }
-        ensures refolded { IfOk result (λ made. IsRefoldedBy shared.now today key.now post.now made self.old) }
+        ensures rewound { IfOk result (λ made. IsRewoundBy shared.now today key.now post.now made self.old) }
         ensures most { steps.new ≤ steps.old + 1 }
     {
         if self.reached < from {
-            return Ok(RefoldedIfAny::none());
+            return Ok(TakenBackIfAny::none());
         }
         self.gone_back(alloc, key, post, today, from, shared, steps)
     }
 
     // What a post takes the account back to, where it changes something up to the day reached. The account stays as it is.
-    fn refolded<L: Ledger>(
+    fn rewound<L: Ledger>(
         &mut self,
         alloc: Global,
         key: &Name,
@@ -340,7 +340,7 @@ impl Replay {
         today: Day,
         shared: &SharedRows,
         steps: &mut Steps<L>,
-    ) -> Result<RefoldedIfAny, NoMemory>
+    ) -> Result<TakenBackIfAny, NoMemory>
         requires replay { IsReplay shared.now self.old }
         requires reach { MayReach today self.old }
         requires ready { IsReadyFor today post.now self.old }
@@ -350,15 +350,15 @@ impl Replay {
         requires sound { IsSound (given_of (accepted (present_of today shared.now self.old.lists) key.now post.now) shared.now) }
         ensures same { SameLists self.old self.new }
         ensures folding { self.new.folding ≡ self.old.folding }
-        ensures refolded { IfOk result (λ made. IsRefoldedBy shared.now today key.now post.now made self.old) }
+        ensures rewound { IfOk result (λ made. IsRewoundBy shared.now today key.now post.now made self.old) }
         ensures most { steps.new ≤ steps.old + 1 }
     {
         if is_unread(post) {
-            return Ok(RefoldedIfAny::none());
+            return Ok(TakenBackIfAny::none());
         }
         let told = self.posts.first_change(today, post, shared.calendar());
         match told {
-            Some(from) => self.refolded_from(alloc, key, post, today, from, shared, steps),
+            Some(from) => self.rewound_from(alloc, key, post, today, from, shared, steps),
             None => self.drafted_if_any(alloc, key, post, today, shared, steps),
         }
     }
@@ -395,13 +395,13 @@ impl Replay {
         self.reach_for(alloc, post, today, shared, steps)?;
         let issued = self.issued_today(alloc, post, today, shared)?;
         self.make_room()?;
-        let refolded = self.refolded(alloc, &key, post, today, shared, steps)?;
+        let rewound = self.rewound(alloc, &key, post, today, shared, steps)?;
         Ok(Change {
             key,
             post: *post,
             today,
             issued,
-            refolded,
+            rewound,
         })
     }
 
@@ -423,7 +423,7 @@ impl Replay {
             &mut self.past,
             &mut self.eve,
             self.reached,
-            change.refolded,
+            change.rewound,
         );
         self.reached = reached;
         let pushed = self

@@ -1,9 +1,9 @@
 // Taking an account back to what a post leaves of its book.
 ghost use Rattle.std.specs.Prelude.{◌≡◌};
-ghost use Rattle.card_replay.specs.Changes.{IsRefolded, IsTaken};
+ghost use Rattle.card_replay.specs.Changes.{HasRewound, IsTaken};
 ghost use Rattle.card_replay.specs.Pasts.{IsRecorded};
 
-use crate::change::{Recorded, Refolded, RefoldedIfAny};
+use crate::change::{Recorded, TakenBack, TakenBackIfAny};
 use crate::eve::Eve;
 use crate::past::{Past, cut};
 use card_book::Book;
@@ -20,14 +20,14 @@ fn take(past: &mut Past, recorded: Recorded)
 }
 
 // Takes a Book and its past back to an earlier day, and answers that day; the eve is dropped. It takes no memory.
-fn take_boxed(book: &mut Book, past: &mut Past, eve: &mut Option<Eve>, boxed: Box<Refolded>) -> Day
-    ensures { IsRefolded boxed.value (record { reached = 0; book = book.old; past = past.old; eve = eve.old }) (record { reached = result; book = book.new; past = past.new; eve = eve.new }) }
+fn take_boxed(book: &mut Book, past: &mut Past, eve: &mut Option<Eve>, boxed: Box<TakenBack>) -> Day
+    ensures { HasRewound boxed.value (record { reached = 0; book = book.old; past = past.old; eve = eve.old }) (record { reached = result; book = book.new; past = past.new; eve = eve.new }) }
 {
-    let refolded = Box::into_inner(boxed);
+    let rewound = Box::into_inner(boxed);
     *eve = None;
-    *book = refolded.book;
-    take(past, refolded.recorded);
-    refolded.reached
+    *book = rewound.book;
+    take(past, rewound.recorded);
+    rewound.reached
 }
 
 /// Takes a Book and its past back to an earlier day, where a post asks for it, and answers the day that is then reached; the eve is
@@ -37,11 +37,11 @@ pub fn take_if_any(
     past: &mut Past,
     eve: &mut Option<Eve>,
     reached: Day,
-    refolded: RefoldedIfAny,
+    rewound: TakenBackIfAny,
 ) -> Day
-    ensures { IsTaken refolded (record { reached = reached; book = book.old; past = past.old; eve = eve.old }) (record { reached = result; book = book.new; past = past.new; eve = eve.new }) }
+    ensures { IsTaken rewound (record { reached = reached; book = book.old; past = past.old; eve = eve.old }) (record { reached = result; book = book.new; past = past.new; eve = eve.new }) }
 {
-    match refolded.into_boxed() {
+    match rewound.into_boxed() {
         Some(boxed) => take_boxed(book, past, eve, boxed),
         None => reached,
     }

@@ -9,5 +9,5 @@ use Rattle.card_book.proofs.kept_book.Book.balance.Goals as goal
 pub returns : goal.returns
 returns c g t h =
     let i = subst (λ s. StandsFor g s t) (sym c.self.view_is) h in
-    to_z-of_z w64 c.balance_in.result (record { sfits = c.balance_in.type_inv })
-    ∙ (c.balance_in.ensures ∙ (balance-is g _ t c.args.segment i ∙ ap (λ (b : Summary). balance c.args.segment (book_through g b.day).entries) c.self.view_is))
+    to_z-of_z w64 c.balance_on.result (record { sfits = c.balance_on.type_inv })
+    ∙ (c.balance_on.ensures ∙ (balance-is g _ t c.args.segment i ∙ ap (λ (b : Summary). balance c.args.segment (book_through g b.day).entries) c.self.view_is))

@@ -50,7 +50,7 @@ returns c =
     record {
       lists = ap (λ hs. lists_by hs c.push_issued.new.list.items) posts ∙ ap (lists_by (old.lists.posts ++ kept_as (length old.lists.posts + 1) change.key change.today change.post ∷ [])) issued;
       corrected = subst (λ holidays. StandsFor holidays c.add-pushed.new.self) c.calendar.ensures c.add-pushed.ensures.stands;
-      folding = subst (λ (f : Folding). IsTaken change.refolded f folding) (ap (λ (r : Replay). r.folding) c.self.view_is) c.take_if_any-reached.ensures;
+      folding = subst (λ (f : Folding). IsTaken change.rewound f folding) (ap (λ (r : Replay). r.folding) c.self.view_is) c.take_if_any-reached.ensures;
     } in
     record {
       committed = committed;

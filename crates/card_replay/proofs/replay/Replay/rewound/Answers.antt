@@ -3,17 +3,17 @@ use Rattle.std.specs.Prelude.{IfSome}
 use Rattle.card_events.specs.History.{anchor_of, corrected}
 use Rattle.card_reasons.proofs.Accepted.{few, received, target_there}
 use Rattle.card_posts.specs.Posted.{IsReceived, StandsFor}
-use Rattle.card_replay.proofs.Committing.{unread-refolded}
+use Rattle.card_replay.proofs.Committing.{unread-rewound}
 use Rattle.card_posts.specs.Draft.{IsFirstWith}
-use Rattle.card_replay.specs.Changes.{IsRefoldedBy}
+use Rattle.card_replay.specs.Changes.{IsRewoundBy}
 use Rattle.card_replay.specs.Replays.{Replay, posted_of, present_of}
-use Rattle.card_replay.proofs.replay.Replay.refolded.Goals as goal
+use Rattle.card_replay.proofs.replay.Replay.rewound.Goals as goal
 
 -- ---- what no fold reads
-pub returns-then-is_unread-clause-refolded : goal.returns-then-is_unread-clause-refolded
-returns-then-is_unread-clause-refolded g c =
-    subst (λ made. IsRefoldedBy c.args.shared.now c.args.today c.args.key.now c.args.post.now made c.args.self.now) (sym c.none.ensures)
-    (unread-refolded c.args.shared.now c.args.today c.args.key.now c.args.post.now c.args.self.now (sym c.is_unread.ensures ∙ c.if-is_unread.true) c.requires.replay c.requires.reach c.requires.sound)
+pub returns-then-is_unread-clause-rewound : goal.returns-then-is_unread-clause-rewound
+returns-then-is_unread-clause-rewound g c =
+    subst (λ made. IsRewoundBy c.args.shared.now c.args.today c.args.key.now c.args.post.now made c.args.self.now) (sym c.none.ensures)
+    (unread-rewound c.args.shared.now c.args.today c.args.key.now c.args.post.now c.args.self.now (sym c.is_unread.ensures ∙ c.if-is_unread.true) c.requires.replay c.requires.reach c.requires.sound)
 
 pub returns-then-is_unread-clause-folding : goal.returns-then-is_unread-clause-folding
 returns-then-is_unread-clause-folding g c = refl
@@ -45,8 +45,8 @@ first_change-told-requires-clause-received g c =
     subst (λ (x : Replay). IsReceived (anchor_of x.lists.posts).opened c.args.today c.args.post.now) (sym c.self.view_is)
     (received (present_of c.args.today c.args.shared.now c.args.self.now.lists) c.args.post.now c.requires.no_reason)
 
-pub refolded_from-requires-clause-may : goal.refolded_from-requires-clause-may
-refolded_from-requires-clause-may g c = record {
+pub rewound_from-requires-clause-may : goal.rewound_from-requires-clause-may
+rewound_from-requires-clause-may g c = record {
   replay = c.requires.replay;
   reach = c.requires.reach;
   ready = c.requires.ready;
@@ -57,8 +57,8 @@ refolded_from-requires-clause-may g c = record {
   read = sym c.is_unread.ensures ∙ c.if-is_unread.false;
 }
 
-pub refolded_from-requires-clause-first : goal.refolded_from-requires-clause-first
-refolded_from-requires-clause-first g c =
+pub rewound_from-requires-clause-first : goal.rewound_from-requires-clause-first
+rewound_from-requires-clause-first g c =
     let today = c.args.today in
     let p = c.args.post.now in
     let from = c.in-Some.from in

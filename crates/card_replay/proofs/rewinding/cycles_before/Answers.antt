@@ -1,7 +1,7 @@
 use Rattle.std.proofs.Common.{sym, arith}
 use Rattle.std.proofs.lemmas.Bool.Decides.{nat_tests}
 use Rattle.card_replay.proofs.CycleBefore.{none-before}
-use Rattle.card_replay.proofs.refolding.cycles_before.Goals as goal
+use Rattle.card_replay.proofs.rewinding.cycles_before.Goals as goal
 
 pub returns-then-lt : goal.returns-then-lt
 returns-then-lt c =

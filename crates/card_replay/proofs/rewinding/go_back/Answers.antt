@@ -1,7 +1,7 @@
 use Rattle.std.proofs.Common.{subst}
 use Rattle.card_replay.proofs.Again.{closing-back, eve-back}
-use Rattle.card_replay.specs.Refolds.{MayGoBackOn}
-use Rattle.card_replay.proofs.refolding.go_back.Goals as goal
+use Rattle.card_replay.specs.Rewinds.{MayGoBackOn}
+use Rattle.card_replay.proofs.rewinding.go_back.Goals as goal
 
 pub returns-in_ok-copy-in-Some-clause-again : goal.returns-in_ok-copy-in-Some-clause-again
 returns-in_ok-copy-in-Some-clause-again c = λ g reached may.

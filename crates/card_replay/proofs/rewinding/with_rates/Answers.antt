@@ -1,5 +1,5 @@
 use Rattle.card_replay.proofs.Again.{closed-at, folded-before}
-use Rattle.card_replay.proofs.refolding.with_rates.Goals as goal
+use Rattle.card_replay.proofs.rewinding.with_rates.Goals as goal
 
 pub at_closing-requires-clause-folded : goal.at_closing-requires-clause-folded
 at_closing-requires-clause-folded c = folded-before c.requires.change.before

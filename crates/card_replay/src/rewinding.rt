@@ -10,9 +10,9 @@ ghost use Rattle.card_daily.specs.Given.{Given, opened_in};
 ghost use Rattle.card_book.specs.Rewound.{AreFolded};
 ghost use Rattle.card_book.specs.GoingOn as going;
 ghost use Rattle.card_replay.specs.Needs as needs;
-ghost use Rattle.card_replay.specs.Refolds.{IsAgain, IsAtClosing, IsAtOpening, MayBegin, MayGoBack, MayGoBackOn, MayRefold, MayRefoldOn, cycle_before};
+ghost use Rattle.card_replay.specs.Rewinds.{IsAgain, IsAtClosing, IsAtOpening, MayBegin, MayGoBack, MayGoBackOn, MayRewind, MayRewindOn, cycle_before};
 
-use crate::change::{Recorded, Refolded};
+use crate::change::{Recorded, TakenBack};
 use crate::eve::Eve;
 use crate::folding::first_book;
 use crate::past::{Past, ends_at, nothing};
@@ -78,7 +78,7 @@ fn closing_of(past: &Past, cycle: u32) -> Day
 }
 
 // Back to the closing of a cycle: with the rates of the posts up to then.
-fn at_closing(alloc: Global, cycle: u32, book: &Book, past: &Past) -> Result<Refolded, NoMemory>
+fn at_closing(alloc: Global, cycle: u32, book: &Book, past: &Past) -> Result<TakenBack, NoMemory>
     requires folded { AreFolded book.now past.now.track }
     requires some { 1 ≤ cycle }
     requires closed { cycle ≤ length past.now.track.cycles.items }
@@ -89,7 +89,7 @@ fn at_closing(alloc: Global, cycle: u32, book: &Book, past: &Past) -> Result<Ref
     let ends = ends_at(past, cycle);
     let day = closing_of(past, cycle);
     let earlier = book.rewound(alloc, &past.track, cycle, since, &past.accrued)?;
-    Ok(Refolded {
+    Ok(TakenBack {
         book: earlier,
         reached: day,
         recorded: Recorded::Front(ends),
@@ -106,15 +106,15 @@ fn with_rates(
     reached: Day,
     book: &Book,
     past: &Past,
-) -> Result<Refolded, NoMemory>
-    requires change { MayRefold inputs.now post.now from reached book.now past.now }
+) -> Result<TakenBack, NoMemory>
+    requires change { MayRewind inputs.now post.now from reached book.now past.now }
     requires number { cycle ≡ cycle_before inputs.now from }
     requires some { 1 ≤ cycle }
     ensures { IfOk result (IsAgain inputs.now from reached past.now) }
 {
     let earlier = at_closing(alloc, cycle, book, past)?;
     let renewed = earlier.book.renewed(alloc, inputs)?;
-    Ok(Refolded {
+    Ok(TakenBack {
         book: renewed,
         reached: earlier.reached,
         recorded: earlier.recorded,
@@ -126,7 +126,7 @@ fn at_opening<L: Ledger>(
     alloc: Global,
     inputs: &Inputs,
     steps: &mut Steps<L>,
-) -> Result<Refolded, NoMemory>
+) -> Result<TakenBack, NoMemory>
     requires last { opened_in inputs.now ≤ last_request_day }
     ensures opening { IfOk result (IsAtOpening inputs.now) }
     ensures most { steps.new ≤ steps.old + 1 }
@@ -134,7 +134,7 @@ fn at_opening<L: Ledger>(
     let anchor = inputs.anchor();
     let mut first = nothing(alloc);
     let book = first_book(alloc, inputs, &mut first, anchor.opened, steps)?;
-    Ok(Refolded {
+    Ok(TakenBack {
         book,
         reached: anchor.opened,
         recorded: Recorded::Anew(first),
@@ -152,8 +152,8 @@ fn at_cycle<L: Ledger>(
     book: &Book,
     past: &Past,
     steps: &mut Steps<L>,
-) -> Result<Refolded, NoMemory>
-    requires change { MayRefold inputs.now post.now from reached book.now past.now }
+) -> Result<TakenBack, NoMemory>
+    requires change { MayRewind inputs.now post.now from reached book.now past.now }
     requires number { cycle ≡ cycle_before inputs.now from }
     ensures again { IfOk result (IsAgain inputs.now from reached past.now) }
     ensures most { steps.new ≤ steps.old + 1 }
@@ -193,7 +193,7 @@ fn at_closing_if_any(
     cycle: u32,
     book: &Book,
     past: &Past,
-) -> Result<Option<Refolded>, NoMemory>
+) -> Result<Option<TakenBack>, NoMemory>
     requires folded { AreFolded book.now past.now.track }
     requires closed { cycle ≤ length past.now.track.cycles.items }
     requires marked { length past.now.since.items ≡ length past.now.track.cycles.items }
@@ -221,7 +221,7 @@ pub fn go_back(
     book: &Book,
     past: &Past,
     eve: &Option<Eve>,
-) -> Result<Option<Refolded>, NoMemory>
+) -> Result<Option<TakenBack>, NoMemory>
     requires folded { AreFolded book.now past.now.track }
     requires closed { cycle ≤ length past.now.track.cycles.items }
     requires marked { length past.now.since.items ≡ length past.now.track.cycles.items }
@@ -229,7 +229,7 @@ pub fn go_back(
     ensures none { IfOk result (λ made. made ≡ None → (cycle ≡ 0) ⊎ (going.sets_rates post.now ≡ true)) }
 {
     match eve {
-        Some(eve) if may_begin(eve, past, post, from, cycle) => Ok(Some(Refolded {
+        Some(eve) if may_begin(eve, past, post, from, cycle) => Ok(Some(TakenBack {
             book: eve.book.copy(alloc)?,
             reached: eve.day,
             recorded: Recorded::Front(eve.ends),
@@ -241,7 +241,7 @@ pub fn go_back(
 /// Goes back behind what one more post changes, over inputs with that post: to the eve or to the last closing before it, with new
 /// rates where the post sets some, or to the opening day. The Book of the day reached, the past and the eve stand for the account
 /// without the post. At most one day is folded, the opening day.
-pub fn refold<L: Ledger>(
+pub fn rewind<L: Ledger>(
     alloc: Global,
     inputs: &Inputs,
     post: &Post,
@@ -251,8 +251,8 @@ pub fn refold<L: Ledger>(
     past: &Past,
     eve: &Option<Eve>,
     steps: &mut Steps<L>,
-) -> Result<Refolded, NoMemory>
-    requires change { MayRefoldOn inputs.now post.now from reached book.now past.now eve.now }
+) -> Result<TakenBack, NoMemory>
+    requires change { MayRewindOn inputs.now post.now from reached book.now past.now eve.now }
     ensures again { IfOk result (IsAgain inputs.now from reached past.now) }
     ensures most { steps.new ≤ steps.old + 1 }
 {
@@ -265,7 +265,7 @@ pub fn refold<L: Ledger>(
 }
 
 /// The same where the first changed day isn't after the day reached; where it is, the Book goes on.
-pub fn refold_if_reached<L: Ledger>(
+pub fn rewind_if_reached<L: Ledger>(
     alloc: Global,
     inputs: &Inputs,
     post: &Post,
@@ -275,8 +275,8 @@ pub fn refold_if_reached<L: Ledger>(
     past: &Past,
     eve: &Option<Eve>,
     steps: &mut Steps<L>,
-) -> Result<Option<Refolded>, NoMemory>
-    requires change { from ≤ reached → MayRefoldOn inputs.now post.now from reached book.now past.now eve.now }
+) -> Result<Option<TakenBack>, NoMemory>
+    requires change { from ≤ reached → MayRewindOn inputs.now post.now from reached book.now past.now eve.now }
     ensures later { IfOk result (λ made. made ≡ None → reached < from) }
     ensures again { IfOk result (λ made. IfSome made (IsAgain inputs.now from reached past.now)) }
     ensures most { steps.new ≤ steps.old + 1 }
@@ -284,6 +284,6 @@ pub fn refold_if_reached<L: Ledger>(
     if reached < from {
         return Ok(None);
     }
-    let made = refold(alloc, inputs, post, from, reached, book, past, eve, steps)?;
+    let made = rewind(alloc, inputs, post, from, reached, book, past, eve, steps)?;
     Ok(Some(made))
 }

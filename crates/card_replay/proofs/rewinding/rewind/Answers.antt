@@ -3,8 +3,8 @@ use Rattle.std.specs.Prelude.{IfSome}
 use Rattle.card_model.specs.CycleDays.{IsOpening}
 use Rattle.card_replay.proofs.Again.{closed-at, folded-before, number-is}
 use Rattle.card_daily.specs.Given.{Given}
-use Rattle.card_replay.specs.Refolds.{IsAgain, MayGoBackOn}
-use Rattle.card_replay.proofs.refolding.refold.Goals as goal
+use Rattle.card_replay.specs.Rewinds.{IsAgain, MayGoBackOn}
+use Rattle.card_replay.proofs.rewinding.rewind.Goals as goal
 
 pub cycles_before-cycle-requires-clause-opening : goal.cycles_before-cycle-requires-clause-opening
 cycles_before-cycle-requires-clause-opening g c = subst IsOpening (sym c.anchor.ensures.value) c.anchor.ensures.sound.opening

@@ -1,6 +1,6 @@
 use Rattle.std.proofs.Common.{sym, ◌∙◌, arith}
 use Rattle.card_replay.proofs.Again.{opened-before-reached, opening-again}
-use Rattle.card_replay.proofs.refolding.at_cycle.Goals as goal
+use Rattle.card_replay.proofs.rewinding.at_cycle.Goals as goal
 
 pub at_opening-requires : goal.at_opening-requires
 at_opening-requires g c =

@@ -1,6 +1,6 @@
 use Rattle.std.proofs.Common.{arith}
 use Rattle.std.proofs.lemmas.Bool.Decides.{nat_tests}
-use Rattle.card_replay.proofs.refolding.refold_if_reached.Goals as goal
+use Rattle.card_replay.proofs.rewinding.rewind_if_reached.Goals as goal
 
 pub returns-then-lt-clause-later : goal.returns-then-lt-clause-later
 returns-then-lt-clause-later g c = λ e.
@@ -8,8 +8,8 @@ returns-then-lt-clause-later g c = λ e.
     let means = c.lt.ensures in
     grind (arith, nat_tests, less, means)
 
-pub refold-requires : goal.refold-requires
-refold-requires g c =
+pub rewind-requires : goal.rewind-requires
+rewind-requires g c =
     let less = c.if-lt.false in
     let means = c.lt.ensures in
     record { change = c.requires.change (grind (arith, nat_tests, less, means)) }

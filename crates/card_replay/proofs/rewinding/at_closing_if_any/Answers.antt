@@ -1,5 +1,5 @@
 use Rattle.std.proofs.Common.{sym, ◌∙◌, arith}
-use Rattle.card_replay.proofs.refolding.at_closing_if_any.Goals as goal
+use Rattle.card_replay.proofs.rewinding.at_closing_if_any.Goals as goal
 
 pub at_closing-requires-clause-some : goal.at_closing-requires-clause-some
 at_closing-requires-clause-some c = omega (arith, c.if-cycle-eq0.false)

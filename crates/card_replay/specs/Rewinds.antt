@@ -17,7 +17,7 @@ use Rattle.card_book.specs.GoingOn.{sets_rates}
 use Rattle.card_replay.specs.Pasts.{IsRecorded}
 use Rattle.card_replay.specs.Replays.{IsEve, IsFolding}
 use Rattle.card_replay.specs.Steps.{first_in_cycle}
-use Rattle.card_replay.specs.declared.change.Refolded.{Refolded}
+use Rattle.card_replay.specs.declared.change.TakenBack.{TakenBack}
 use Rattle.card_replay.specs.declared.eve.Eve.{Eve}
 use Rattle.card_replay.specs.declared.past.Ends.{Ends}
 use Rattle.card_replay.specs.declared.past.Past.{Past}
@@ -58,23 +58,23 @@ pub record IsBeforeChange (old g : Given) (p : Post) (from reached : ℕ) (b : S
   pub folding : IsFolding old (record { reached = reached; book = b; past = past; eve = None })
 
 -- so they do for some account
-pub record MayRefold (g : Given) (p : Post) (from reached : ℕ) (b : Summary) (past : Past) : Type 0 where
+pub record MayRewind (g : Given) (p : Post) (from reached : ℕ) (b : Summary) (past : Past) : Type 0 where
   pub old : Given
   pub before : IsBeforeChange old g p from reached b past
 
 -- and the eve stands for it too, where there is one
-pub record MayRefoldOn (g : Given) (p : Post) (from reached : ℕ) (b : Summary) (past : Past) (eve : Option Eve) : Type 0 where
+pub record MayRewindOn (g : Given) (p : Post) (from reached : ℕ) (b : Summary) (past : Past) (eve : Option Eve) : Type 0 where
   pub old : Given
   pub before : IsBeforeChange old g p from reached b past
   pub stood : IfSome eve (IsEve old reached past)
 
 -- the same, with the number of the last closing before the change
 pub record MayGoBack (g : Given) (p : Post) (from cycle reached : ℕ) (b : Summary) (past : Past) : Type 0 where
-  pub change : MayRefold g p from reached b past
+  pub change : MayRewind g p from reached b past
   pub number : cycle ≡ cycle_before g from
 
 pub record MayGoBackOn (g : Given) (p : Post) (from cycle reached : ℕ) (b : Summary) (past : Past) (eve : Option Eve) : Type 0 where
-  pub change : MayRefoldOn g p from reached b past eve
+  pub change : MayRewindOn g p from reached b past eve
   pub number : cycle ≡ cycle_before g from
 
 -- the change sets no rate, it comes after the eve, and the cycle with this number, where there is one, was closed by then
@@ -85,13 +85,13 @@ pub record MayBegin (past : Past) (p : Post) (from cycle : ℕ) (e : Eve) : Type
 
 -- What the account is taken back to: it stands for the account with the post, at the end of a day that isn't after the one reached,
 -- nor before the last closing before the change
-pub record IsAgain (g : Given) (from reached : ℕ) (past : Past) (r : Refolded) : Type 0 where
+pub record IsAgain (g : Given) (from reached : ℕ) (past : Past) (r : TakenBack) : Type 0 where
   pub near : first_in_cycle (anchor_of g.history) from ≤ r.reached + 1
   pub earlier : r.reached ≤ reached
   pub folding : (new : Past) → IsRecorded r.recorded past new → IsFolding g (record { reached = r.reached; book = r.book; past = new; eve = None })
 
 -- The opening day, folded anew
-pub record IsAtOpening (g : Given) (r : Refolded) : Type 0 where
+pub record IsAtOpening (g : Given) (r : TakenBack) : Type 0 where
   pub day : r.reached ≡ opened_in g
   pub folding : (old new : Past) → IsRecorded r.recorded old new → IsFolding g (record { reached = r.reached; book = r.book; past = new; eve = None })
 
@@ -102,12 +102,12 @@ pub record HasRatesOf (g : Given) (earlier b : Summary) : Type 0 where
   pub stands : (old : Given) (day : ℕ) (t : Track) → HasNewPosts old g day earlier t → StandsFor g b t
 
 -- with such a Book it stands for the account with the post
-pub record IsAgainWithRates (g : Given) (from reached : ℕ) (past : Past) (r : Refolded) : Type 0 where
+pub record IsAgainWithRates (g : Given) (from reached : ℕ) (past : Past) (r : TakenBack) : Type 0 where
   pub awaits : AwaitsPosts g r.book
   pub again : (b : Summary) → HasRatesOf g r.book b → IsAgain g from reached past (record { book = b; reached = r.reached; recorded = r.recorded })
 
 -- The closing of a cycle: whichever post changes the account behind it, it stands with that post, or, where the post sets rates, with
 -- these rates
-pub record IsAtClosing (cycle : ℕ) (b : Summary) (past : Past) (r : Refolded) : Type 0 where
+pub record IsAtClosing (cycle : ℕ) (b : Summary) (past : Past) (r : TakenBack) : Type 0 where
   pub plain : (g : Given) (p : Post) (from reached : ℕ) → MayGoBack g p from cycle reached b past → sets_rates p ≡ false → IsAgain g from reached past r
   pub rates : (g : Given) (p : Post) (from reached : ℕ) → MayGoBack g p from cycle reached b past → IsAgainWithRates g from reached past r

@@ -1,6 +1,6 @@
 use Rattle.std.proofs.Common.{arith}
 use Rattle.card_replay.proofs.Again.{at-closing, ends-are}
-use Rattle.card_replay.proofs.refolding.at_closing.Goals as goal
+use Rattle.card_replay.proofs.rewinding.at_closing.Goals as goal
 
 pub index-since-requires : goal.index-since-requires
 index-since-requires c = omega (arith, c.requires.closed, c.requires.marked, c.requires.some, c.args.past.now.since.ok.0)

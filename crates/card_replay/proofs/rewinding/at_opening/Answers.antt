@@ -5,7 +5,7 @@ use Rattle.card_book.specs.Stands.{steps_over}
 use Rattle.card_replay.proofs.Reaching.{one-step}
 use Rattle.card_replay.specs.Replays.{IsFolding}
 use Rattle.card_replay.specs.declared.past.Past.{Past}
-use Rattle.card_replay.proofs.refolding.at_opening.Goals as goal
+use Rattle.card_replay.proofs.rewinding.at_opening.Goals as goal
 
 pub first_book-requires-clause-opened : goal.first_book-requires-clause-opened
 first_book-requires-clause-opened g c = let same = ap (λ (a : Anchor). a.opened) c.anchor-anchor.ensures.value in omega (arith, same)
