@@ -197,7 +197,7 @@ def read_requests(folder):
     lines = (folder / "lines").read_bytes().split(b"\n")
     replies = (folder / "replies").read_text(encoding="ascii").splitlines()
     for line, reply in zip(lines, replies):
-        word, *fields = line.decode("ascii").rstrip("\r").split(" ")
+        word, *fields = line.decode("latin-1").rstrip("\r").split(" ")
         if reply == "ok":
             read_shared(papers, word, fields)
         elif reply.startswith("ok ") and word in POSTS:
@@ -258,7 +258,7 @@ def check_late_fees(account, papers, count):
             raise Broken(f"late-fees: {account.name}: the statement due on {due} wasn't issued 21 days before")
         paid = paid_towards(account, payments, number)
         if paid >= account.cycles[number].minimum:
-            raise Broken(f"late-fees: {account.name}: {paid} cents were paid by {due}, which is the minimum payment")
+            raise Broken(f"late-fees: {account.name}: {paid} cents were paid by {due}, which reach the minimum payment")
 
 
 # ---- the amounts of penalty fees (12 CFR 1026.52(b)(1)(ii))
@@ -499,10 +499,13 @@ def print_papers(program, folder):
     lines, rows = sys.stdin.buffer.read(), str(folder / "rows")
     (folder / "lines").write_bytes(lines)
 
-    def told(*words):
-        return subprocess.run([program, rows, *words], input=lines if words[0] == "apply" else b"", stdout=subprocess.PIPE, check=False).stdout
+    def told(*words, data=b"", statuses=(0,)):
+        done = subprocess.run([program, rows, *words], input=data, stdout=subprocess.PIPE, check=False)
+        if done.returncode not in statuses:
+            sys.exit(f"laws: {' '.join(words)} ends with status {done.returncode}")
+        return done.stdout
 
-    (folder / "replies").write_bytes(told("apply"))
+    (folder / "replies").write_bytes(told("apply", data=lines, statuses=(0, 1)))
     papers = read_requests(folder)
     for name, account in papers.accounts.items():
         (folder / f"{name}.csv").write_bytes(told("export", name))
