@@ -1,13 +1,16 @@
 -- What a sheet is made of stands for the book of the cycle's closing.
-use Rattle.std.proofs.Common.{◌≡◌, ℕ, zero, suc, ◌+◌, ◌-◌, ◌<◌, ◌≤◌, ◌^◌, ◌⊎◌, inl, inr, Bool, true, false, cond, ◌&&◌, not, eqb, List, [], ◌∷◌, length, take, refl, sym, ap, ◌∙◌, subst, arith, Option, Some, None, ℤ}
-use Rattle.std.specs.Prelude.{nat_abs, nat_le}
+use Rattle.std.proofs.Common.{◌≡◌, ℕ, zero, suc, ◌+◌, ◌-◌, ◌<◌, ◌≤◌, ◌^◌, ◌⊎◌, inl, inr, Bool, true, false, cond, ◌&&◌, not, eqb, List, [], ◌∷◌, length, take, refl, sym, ap, ◌∙◌, subst, arith, Option, Some, None, ℤ, pos, negsuc, ◌*◌}
+use Rattle.std.specs.Prelude.{nat_abs, nat_le, ◌≤ℤ◌}
 use Rattle.std.specs.List.{All, Contains, filter}
 use Rattle.std.specs.Option.{option_map_or}
 use Rattle.std.proofs.lemmas.Bool.{cases_lt}
+use Rattle.std.proofs.lemmas.Int.{ints}
 use Rattle.std.proofs.lemmas.List.Elements.{All-nil, All-weaker}
 use Rattle.std.proofs.lemmas.List.Sums.{sum_by-cons}
+use Rattle.card_bounds.proofs.CountDays.{segments-few}
 use Rattle.card_bounds.proofs.CycleAmounts.{amounts_small}
 use Rattle.card_bounds.proofs.OnDays.{entries_have_days}
+use Rattle.card_bounds.proofs.Whole.{balances_small}
 use Rattle.card_bounds.proofs.OnSegments.{entries_have_segments}
 use Rattle.card_bounds.specs.Bounds.{IsLimited, moved, moves, most_interest, most_moved}
 use Rattle.card_closing.specs.Interest.{statement_of}
@@ -16,16 +19,17 @@ use Rattle.card_events.specs.Billing.{closing}
 use Rattle.card_events.specs.Range.{last_request_day}
 use Rattle.card_effects.proofs.DayLaws.{books_of_a_day}
 use Rattle.card_effects.specs.Standing.{is_added}
-use Rattle.card_events.specs.History.{anchor_of}
+use Rattle.card_events.specs.History.{anchor_of, terms_of}
 use Rattle.card_events.specs.Limits.{post_limit}
 use Rattle.card_fees.proofs.Days.{opened-before}
 use Rattle.card_model.proofs.Calendar.{cycles_are_of_the_calendar, is-anchor}
 use Rattle.card_model.proofs.Cuts.{closings_are_cuts}
 use Rattle.card_model.proofs.Settled.{book-settled}
-use Rattle.card_model.specs.Books.{Book}
+use Rattle.card_model.specs.Books.{Book, all_segments}
 use Rattle.card_model.specs.Caps.{row_for}
-use Rattle.card_model.specs.Cycles.{Cycle, IssuedRow, Sheet, amounts_sum}
-use Rattle.card_model.specs.Entries.{is_kind}
+use Rattle.card_model.specs.Closing.{by_segment}
+use Rattle.card_model.specs.Cycles.{Amounts, Cycle, IssuedRow, Sheet, amounts_sum}
+use Rattle.card_model.specs.Entries.{at_least_zero, balance, is_kind, owing}
 use Rattle.card_model.specs.Fees.{fee_cents, fees_in, fees_sum}
 use Rattle.card_model.specs.Folds.{book, book_after, cycle_at}
 use Rattle.card_model.specs.Laws.{size_of, total}
@@ -38,7 +42,10 @@ use Rattle.card_model.specs.declared.segment.Sort.TheVariants as sort
 use Rattle.card_rates.proofs.DayLaws.{rates_of_a_day}
 use Rattle.card_rates.specs.RateBooks.{Rates, rate_of, rates_of}
 use Rattle.card_statement.proofs.AtClosing.{cycles_stand_at_closing}
+use Rattle.card_model.specs.Limits.{balance_limit}
 use Rattle.card_statement.proofs.Chains.{cycle-take}
+use Rattle.card_statement.proofs.Repayable.{amounts-few, amounts-small}
+use Rattle.card_statement.specs.Repayable.{IsRepayable, most_amounts, most_owed}
 use Rattle.card_statement.specs.Gathering.{sizes}
 use Rattle.card_statement.specs.Laws.{StandsAtClosing}
 use Rattle.card_statement.specs.Lines.{AreKeptOf}
@@ -242,3 +249,33 @@ pub record AreAlike (s t : Sheet) : Type 0 where
 pub alike-same : (s t : Sheet) → AreAlike s t → s ≡ t
 alike-same s t h =
     rw (h.due_payment, h.previous, h.corrections, h.moves, h.fees_year, h.interest_year, h.rates, h.deferred, h.late_up_to, h.penalty, h.closing, h.floor, h.pct) refl
+
+-- ---- what can be repaid
+owing-small : (z : ℤ) → z ≤ℤ pos 999999999999999 → at_least_zero z ≤ balance_limit
+owing-small (pos m) l = omega (arith, ints, l)
+owing-small (negsuc m) l = omega arith
+
+-- at most 62 balances of at most 10^15 cents each, and the terms within their ranges
+pub repayable : (g : Given) (day : ℕ) → IsSound g → day ≤ last_request_day → (closing : Amounts) (floor : ℤ) (pct : ℕ)
+    → closing ≡ by_segment (λ t. owing t.id (book_on g day).entries) (all_segments (account_in g) (seen_in g day)) → floor ≡ pos (terms_of g.history).floor → pct ≡ (terms_of g.history).pct
+    → IsRepayable closing floor pct
+repayable g day s l closing floor pct c f p =
+    let gs = all_segments (account_in g) (seen_in g day) in
+    let amount : SegmentTerms → ℕ = λ t. owing t.id (book_on g day).entries in
+    let few = segments-few (account_in g) (anchor_of g.history) g.shared g.history g.issued day s.segments in
+    let count = amounts-few amount gs in
+    let small = balances_small post_limit g.history g.issued g.shared day (limits g day s l) (omega arith) in
+    let sum = amounts-small amount gs (λ t. owing-small (balance t.id (book_on g day).entries) (small t.id).1) in
+    let terms = s.accepted.terms in
+    let floor_range = terms.floor in
+    let pct_range = terms.pct in
+    record {
+      few = subst (λ (x : Amounts). length x ≤ most_amounts) (sym c) (omega (arith, few, count));
+      small = subst (λ (x : Amounts). amounts_sum x ≤ most_owed) (sym c) (most (length gs) (amounts_sum (by_segment amount gs)) few sum);
+      floor_low = rw f (omega (arith, ints));
+      floor_high = rw f (omega (arith, ints, floor_range));
+      part = rw p pct_range;
+    }
+  where
+    most : (n x : ℕ) → n ≤ 62 → x ≤ n * balance_limit → x ≤ most_owed
+    most n x a b = omega (arith, a, b)

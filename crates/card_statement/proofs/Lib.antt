@@ -4,6 +4,7 @@ pub mod Chains
 pub mod Gathering
 pub mod LineSteps
 pub mod MoveSums
+pub mod Repayable
 pub mod SeenLines
 pub mod Steps
 pub mod YearSteps

@@ -1,12 +1,17 @@
 -- Laws of statements, for all lists of posts.
 use Rattle.std.specs.Prelude.{ℕ, ◌≡◌, ◌-◌, ◌≤◌, ◌^◌, List, Some, pos, ◌+ℤ◌}
+use Rattle.std.specs.List.{All, Contains}
 use Rattle.card_bounds.specs.Bounds.{IsLimited}
+use Rattle.card_events.specs.History.{anchor_of}
+use Rattle.card_events.specs.Range.{last_calendar_day}
 use Rattle.card_events.specs.SharedRows.{SharedRows}
 use Rattle.card_events.specs.declared.kept.Kept.{Kept}
 use Rattle.card_model.specs.Accepted.{HasFewSegments}
 use Rattle.card_model.specs.Closing.{previous_of}
+use Rattle.card_model.specs.CycleDays.{IsOpening}
 use Rattle.card_model.specs.Cycles.{Cycle, IssuedRow, Sheet, amounts_sum}
 use Rattle.card_model.specs.Folds.{book, cycle_at}
+use Rattle.card_model.specs.declared.lines.RateLine.{RateLine}
 use Rattle.card_statement.specs.Gathering.{sizes}
 use Rattle.card_model.specs.Sheets.{cycle_entries, moves_sum, sheet_of}
 
@@ -20,6 +25,20 @@ abbrev pub StatementsAddUp : Type 0
 StatementsAddUp =
     (history : List Kept) (issued : List IssuedRow) (shared : SharedRows) (day k issue : ℕ) (c : Cycle)
     → cycle_at k (book history issued shared day).cycles ≡ Some c → AddsUp c (sheet_of history issued shared issue c)
+
+-- ---- rates of what is owed
+-- an amount has the line of the rate of its segment
+pub record HasRate (lines : List RateLine) (amount : ℕ × ℕ) : Type 0 where
+  pub line : RateLine
+  pub there : Contains lines line
+  pub its_own : line.segment ≡ amount.0
+
+-- On the sheet of every closed cycle in the book of every day of the calendar, each amount that is owed at the closing has one
+abbrev pub ClosingsHaveRates : Type 0
+ClosingsHaveRates =
+    (history : List Kept) (issued : List IssuedRow) (shared : SharedRows) (day k issue : ℕ) (c : Cycle) → IsOpening (anchor_of history) → day ≤ last_calendar_day
+    → cycle_at k (book history issued shared day).cycles ≡ Some c
+    → All (HasRate (sheet_of history issued shared issue c).rates) (sheet_of history issued shared issue c).closing
 
 -- ---- a cycle at its closing
 -- The book of the closing has the cycle, at its number; the cycle goes on from what was owed at the closing before; and what

@@ -1,4 +1,5 @@
 pub mod Gathering
 pub mod Laws
 pub mod Lines
+pub mod Repayable
 pub mod Standing

@@ -1,11 +1,16 @@
 //! Laws of statements, for all lists of posts.
-ghost use Rattle.card_statement.specs.Laws.{CyclesStandAtClosing, StatementsAddUp};
+ghost use Rattle.card_statement.specs.Laws.{ClosingsHaveRates, CyclesStandAtClosing, StatementsAddUp};
 ghost use Rattle.card_statement.specs.Lines.{LinesAreOfTheBook};
 
 /// On every statement, as it is issued and as it is now, the previous balance, its corrections, the transactions and the
 /// interest add up to the new balance, to the cent (12 CFR 1026.7(b)).
 pub fn statements_add_up()
     ensures { StatementsAddUp }
+{}
+
+/// On every statement each amount that is owed at the closing has the line of the rate of its segment (12 CFR 1026.7(b)(4)).
+pub fn closings_have_rates()
+    ensures { ClosingsHaveRates }
 {}
 
 /// Where segments, rates, balances and accruals stand for a book, the lines of rates and of deferred interest, and the amounts

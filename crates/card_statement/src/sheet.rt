@@ -9,7 +9,8 @@ use std::marker::Model;
 /// calendar year to date (12 CFR 1026.7(b)(6)(iii), (ii)). `due_payment` is whether it was issued at least 21 days before its due
 /// date (12 CFR 1026.5(b)(2)(ii)); `late_up_to` is the greatest late fee, and `penalty` the rate after late payments (12 CFR
 /// 1026.7(b)(11)(i)(B)). `closing` has what is owed at the closing on each segment but Credit and Held; `floor` and `pct`
-/// are those of the minimum payment; these three aren't printed.
+/// are those of the minimum payment; these three aren't printed, and stay within what can be repaid (12 CFR 1026.7(b)(12)):
+/// at most 62 amounts of together at most 62 * 10^15 cents, a floor of 0 to 1,000,000 cents, a part of at most 10,000 basis points.
 #[derive(Drop)]
 pub struct Sheet {
     pub due_payment: bool,
@@ -30,10 +31,13 @@ pub struct Sheet {
 impl Model for Sheet {
     ghost use Rattle.std.specs.Prelude.{pos};
     ghost use Rattle.card_model.specs.Cycles.{Sheet};
+    ghost use Rattle.card_statement.specs.Repayable.{IsRepayable};
 
     ghost Value = { Sheet };
 
     ghost view = { λ s. record { due_payment = s.due_payment; previous = s.previous; corrections = s.corrections; moves = s.moves.items; fees_year = pos s.fees_year; interest_year = pos s.interest_year; rates = s.rates.items; deferred = s.deferred.items; late_up_to = s.late_up_to; penalty = s.penalty; closing = s.closing; floor = s.floor; pct = s.pct } };
+
+    ghost invariant = { λ s. IsRepayable s.closing s.floor s.pct };
 }
 
 impl Sheet {
