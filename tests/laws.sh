@@ -80,7 +80,8 @@ bites credited 's/^2025-05-21,cash:3,payment/2025-05-22,cash:3,payment/'
 echo "laws: four exports with one entry changed, each found by the check that it is for"
 
 for input in "$top"/examples/*.txt; do
-    print "example-$(basename "$input" .txt)" <"$input"
+    name=$(basename "$input" .txt)
+    print "example-$name" <"$input"
 done
 hold 10 "$room"/example-*
 echo "laws: the examples: $(cat "$room/said")"
