@@ -12,7 +12,7 @@ use Rattle.card_statement.proofs.SeenLines.{lines_are_of_the_book}
 use Rattle.card_statement.specs.Gathering.{sizes}
 use Rattle.card_statement.specs.Lines.{kept_rate_lines}
 use Rattle.card_model.specs.Sheets.{cycle_entries, entries_by, moves_of, sheet_in, sheet_of, year_sum}
-use Rattle.card_book.proofs.Sheets.{alike-same, earlier-days, entries-small, fees-small, interest-small, kept-of}
+use Rattle.card_book.proofs.Sheets.{alike-same, earlier-days, entries-small, fees-small, interest-small, kept-of, repayable}
 use Rattle.card_book.proofs.sheet.sheet_in.Goals as goal
 
 pub years_of-years-requires : goal.years_of-years-requires
@@ -73,3 +73,14 @@ returns c =
       floor = floor ∙ c.stated_of-stated.ensures.floor;
       pct = c.stated_of-stated.ensures.pct;
     })
+
+pub invariant_of-result : goal.invariant_of-result
+invariant_of-result c =
+    let g = c.args.inputs.now in
+    let day = c.args.cycle.now.closing in
+    let f = c.args.folded.now in
+    let s = c.anchor-anchor.ensures.sound in
+    let is = lines_are_of_the_book (is_added day) (account_in g) (seen_in g day) (book_on g day) f.rates f.balances f.accruals (kept-of g day f s c.requires.dated c.requires.folded) in
+    let stated = c.stated_of-stated.result in
+    let floor : to_z w64 (of_z w64 stated.floor) ≡ stated.floor = search rules in
+    repayable g day s c.requires.dated.last _ _ _ (c.in_ok-listed.ensures.closing ∙ is.closing) (floor ∙ c.stated_of-stated.ensures.floor) c.stated_of-stated.ensures.pct
