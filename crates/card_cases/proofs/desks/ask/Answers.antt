@@ -1,0 +1,1 @@
+use Rattle.card_cases.proofs.desks.ask.Goals as goal
