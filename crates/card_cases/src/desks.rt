@@ -58,7 +58,13 @@ fn roll<L: Ledger>(
     ensures fits { OnOk result (Fits (Some keeper.new) desk.new.state) }
     ensures reached { OnOk result (desk.new.reached ≡ desk.old.reached) }
 {
-    carry(alloc, desk, keeper, &Request::Shared(Shared::Roll(day)), steps)
+    carry(
+        alloc,
+        desk,
+        keeper,
+        &Request::Shared(Shared::Roll(day)),
+        steps,
+    )
 }
 
 // A post on the account, under a key.
