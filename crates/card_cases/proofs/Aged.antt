@@ -267,7 +267,7 @@ pub stays-there : {T E : Type 0} (result : Result T E) (d new : OpenDesk) (r : S
 unfolding MovesToApply
 stays-there result d new r h = h
 
-pub moves-alike : {T E U F : Type 0} (x : T) (y : U) (d new : OpenDesk) (r : Request) → MovesToApply {T = T} {E = E} r (Ok x) d new → MovesToApply {T = U} {E = F} r (Ok y) d new
+pub moves-alike : {T U : Type 0} (E F : Type 0) (x : T) (y : U) (d new : OpenDesk) (r : Request) → MovesToApply {T = T} {E = E} r (Ok x) d new → MovesToApply {T = U} {E = F} r (Ok y) d new
 unfolding MovesToApply
-moves-alike x y d new (request.Shared r) h = h
-moves-alike x y d new (request.Post name key p) h = record { done = h.done; failed = tt }
+moves-alike E F x y d new (request.Shared r) h = h
+moves-alike E F x y d new (request.Post name key p) h = record { done = h.done; failed = tt }

@@ -1,1 +1,0 @@
-use Rattle.card_cases.proofs.desks.ask.Goals as goal
