@@ -39,6 +39,7 @@ impl Account {
     ghost use Rattle.card_events.specs.Range.{last_request_day};
     ghost use Rattle.card_account.specs.Accounts.{HasTold, IsAccount, IsFoldedToday, IsIssueOf, IsTold, issued_statement, owing_in, replay_of, restated_statement, steps_of};
     ghost use Rattle.card_account.specs.Entries.{entries_today};
+    ghost use Rattle.card_account.specs.Reached.{StaysNear};
     ghost use Rattle.card_account.specs.Verdicts.{verdict_of};
     ghost use Rattle.card_account.specs.Works.{tasks_of};
     ghost use Rattle.card_daily.specs.Given.{IsSound};
@@ -71,6 +72,7 @@ impl Account {
         requires sound { IsSound (given_of (opened_lists key.now today post.now) shared.now) }
         ensures named { IfOk result (λ a. a.named ≡ record { name = name; lists = opened_lists key.now today post.now }) }
         ensures account { IfOk result (IsAccount today shared.now) }
+        ensures today { IfOk result (λ a. a.folding.reached ≡ today) }
         ensures most { steps.new ≤ steps.old + steps_over (given_of (opened_lists key.now today post.now) shared.now) today (opening_in post.now) }
     {
         Ok(Account {
@@ -239,13 +241,15 @@ impl Account {
     }
 
     /// Takes a post that was prepared for this account, with the statement that it issues, and answers its number. What it changes is
-    /// folded when the account is next asked. It takes no memory and can't fail.
+    /// folded when the account is next asked. The day that it has reached isn't after today, nor before the last closing before the
+    /// first day that the post changes, or before the day that it had reached. It takes no memory and can't fail.
     #[tactic(auto, unfolding(card_model::specs::Machine::accepted))]
     pub fn commit(&mut self, change: Change, shared: &SharedRows) -> u32
         requires prepared { IsPrepared shared.now change (replay_of self.old) }
         ensures name { self.new.named.name ≡ self.old.named.name }
         ensures lists { self.new.named.lists ≡ accepted (present_of change.today shared.now self.old.named.lists) change.key change.post }
         ensures account { IsAccount change.today shared.now self.new }
+        ensures reached { StaysNear change.today shared.now self.old.named.lists self.new.named.lists self.old.folding.reached self.new.folding.reached }
         ensures number { result ≡ length self.old.named.lists.posts + 1 }
     {
         self.replay.commit(change, shared)

@@ -89,6 +89,7 @@ pub fn work_today<L: Ledger>(
     requires accounts { All (IsAccount today shared.now) accounts.old }
     ensures tasks { IfOk result (λ tasks. tasks ≡ work_of today shared.now accounts.old) }
     ensures told { AreTold today shared.now accounts.old accounts.new }
+    ensures today { OnOk result (All (λ a. a.folding.reached ≡ today) accounts.new) }
     ensures most { steps.new ≤ steps.old + sum_by (steps_of today shared.now) accounts.old }
 {
     let mut tasks = tasks_of(alloc, accounts, today, shared, steps)?;

@@ -71,7 +71,7 @@ same_either today old new a b first one two =
     || is_break (account_of new.posts) (corrected (anchor_of new.posts) b.holidays new.posts) new.issued x.penalties day) first (today + 1 - first)) two.books))
 
 -- the first day that differs is one under both
-same_first : (today : ℕ) (old new : Lists) (a b : SharedRows) (from : ℕ) → AreAlike today old a b → AreAlike today new a b → IsFirstBetween b old new from → IsFirstBetween a old new from
+pub same_first : (today : ℕ) (old new : Lists) (a b : SharedRows) (from : ℕ) → AreAlike today old a b → AreAlike today new a b → IsFirstBetween b old new from → IsFirstBetween a old new from
 same_first today old new a b from one two is =
     subst (λ (posts : List CorrectedPost). IsFirstChange from posts (corrected (anchor_of new.posts) a.holidays new.posts)) (sym one.posts)
     (subst (λ (posts : List CorrectedPost). IsFirstChange from (corrected (anchor_of old.posts) b.holidays old.posts) posts) (sym two.posts) is)

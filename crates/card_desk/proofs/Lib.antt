@@ -18,3 +18,4 @@ pub mod SoundLemmas
 pub mod StepLemmas
 pub mod WorkLemmas
 pub mod MapLemmas
+pub mod Moves

@@ -4,6 +4,7 @@ pub mod Desks
 pub mod Kept
 pub mod Loads
 pub mod Places
+pub mod Reached
 pub mod Shares
 pub mod Steps
 pub mod Views

@@ -64,6 +64,7 @@ impl Desk {
     ghost use Rattle.card_desk.specs.Applied as applied;
     ghost use Rattle.card_desk.specs.Kept.{Fits, accepted_count};
     ghost use Rattle.card_desk.specs.Places.{IsPlace, place_from};
+    ghost use Rattle.card_desk.specs.Reached.{AllMove, MovesNamed, MovesOn, MovesToApply, MovesToSee, MovesToTell, NoneMoves, OneStays};
     ghost use Rattle.card_desk.specs.Views.{issued, listed, restated, seen, shown};
 
     /// 2011-01-01 for today, and nothing else.
@@ -115,7 +116,8 @@ impl Desk {
         requires request { request.now ≡ Request.Shared shared.now }
         requires asked { IsAsked (K.rows keeper.old) self.old.state request.now }
         requires no_reason { shared_reason self.old.state.today (has_accounts self.old.state) shared.now ≡ None }
-        ensures { Carried (K.rows keeper.old) (K.rows keeper.new) (K.faults keeper.old) (K.faults keeper.new) self.old.state request.now self.new.state result }
+        ensures carried { Carried (K.rows keeper.old) (K.rows keeper.new) (K.faults keeper.old) (K.faults keeper.new) self.old.state request.now self.new.state result }
+        ensures reached { NoneMoves self.old self.new }
     {
         let row = self.next_row(alloc, request)?;
         self.shared.reserve(1)?;
@@ -138,7 +140,8 @@ impl Desk {
     ) -> Result<Reply, Fault>
         requires request { request.now ≡ Request.Shared shared.now }
         requires asked { IsAsked (K.rows keeper.old) self.old.state request.now }
-        ensures { Carried (K.rows keeper.old) (K.rows keeper.new) (K.faults keeper.old) (K.faults keeper.new) self.old.state request.now self.new.state result }
+        ensures carried { Carried (K.rows keeper.old) (K.rows keeper.new) (K.faults keeper.old) (K.faults keeper.new) self.old.state request.now self.new.state result }
+        ensures reached { NoneMoves self.old self.new }
     {
         match shared_reason(self.today, self.accounts.len(), shared) {
             Some(refusal) => Ok(Reply::Refused(refusal)),
@@ -165,6 +168,7 @@ impl Desk {
         requires room { length self.old.state.accounts < 1_000_000 }
         requires no_reason { reason_to_open self.old.state.today (length self.old.state.accounts) post.now ≡ None }
         ensures carried { Carried (K.rows keeper.old) (K.rows keeper.new) (K.faults keeper.old) (K.faults keeper.new) self.old.state request.now self.new.state result }
+        ensures reached { MovesOn None (outcome_in self.old.state account.now key.now post.now) result self.old self.new }
         ensures most { AreFewToOpen self.old.state post.now (outcome_in self.old.state account.now key.now post.now) steps.old steps.new }
     {
         let row = self.next_row(alloc, request)?;
@@ -202,6 +206,7 @@ impl Desk {
         requires asked { IsAsked (K.rows keeper.old) self.old.state request.now }
         requires absent { place_from account.now 0 self.old.state.accounts ≡ None }
         ensures carried { Carried (K.rows keeper.old) (K.rows keeper.new) (K.faults keeper.old) (K.faults keeper.new) self.old.state request.now self.new.state result }
+        ensures reached { MovesOn None (outcome_in self.old.state account.now key.now post.now) result self.old self.new }
         ensures most { AreFewToOpen self.old.state post.now (outcome_in self.old.state account.now key.now post.now) steps.old steps.new }
     {
         match post {
@@ -233,6 +238,7 @@ impl Desk {
         requires no_reason { (d : NamedAccount) → reason_against (now_at self.old.state at d) post.now ≡ None }
         requires accepted { (d : NamedAccount) → outcome_in self.old.state account.now key.now post.now ≡ Accepts (accepted (now_at self.old.state at d) key.now post.now) }
         ensures carried { Carried (K.rows keeper.old) (K.rows keeper.new) (K.faults keeper.old) (K.faults keeper.new) self.old.state request.now self.new.state result }
+        ensures reached { MovesOn (Some at) (outcome_in self.old.state account.now key.now post.now) result self.old self.new }
         ensures most { AreFewToKeep self.old.state (reached_at self.old (Some at)) (outcome_in self.old.state account.now key.now post.now) steps.old steps.new }
     {
         let row = self.next_row(alloc, request)?;
@@ -258,6 +264,7 @@ impl Desk {
         requires place { at < length self.old.state.accounts }
         ensures state { self.new.state ≡ self.old.state }
         ensures value { IfOk result (λ v. (d : NamedAccount) → v ≡ verdict_of (at_key (now_at self.old.state at d) key.now post.now (with_key key.now (now_at self.old.state at d).lists.posts))) }
+        ensures reached { OneStays (Some at) self.old self.new }
         ensures most { steps.new ≤ steps.old + steps_at self.old at }
         ensures spent { OnOk result (steps.new + steps_at self.new at ≤ steps.old + steps_at self.old at) }
     {
@@ -281,6 +288,7 @@ impl Desk {
         requires asked { IsAsked (K.rows keeper.old) self.old.state request.now }
         requires place { IsPlace account.now self.old.state.accounts at }
         ensures carried { Carried (K.rows keeper.old) (K.rows keeper.new) (K.faults keeper.old) (K.faults keeper.new) self.old.state request.now self.new.state result }
+        ensures reached { MovesOn (Some at) (outcome_in self.old.state account.now key.now post.now) result self.old self.new }
         ensures most { AreFewOn self.old.state post.now (reached_at self.old (Some at)) (outcome_in self.old.state account.now key.now post.now) steps.old steps.new }
     {
         match self.judge_at(alloc, at, key, post, steps) {
@@ -307,6 +315,7 @@ impl Desk {
         requires request { request.now ≡ Request.Post account.now key.now post.now }
         requires asked { IsAsked (K.rows keeper.old) self.old.state request.now }
         ensures carried { Carried (K.rows keeper.old) (K.rows keeper.new) (K.faults keeper.old) (K.faults keeper.new) self.old.state request.now self.new.state result }
+        ensures reached { MovesToApply request.now result self.old self.new }
         ensures most { AreFewToApply self.old request.now steps.old steps.new }
     {
         match self.index.find(account.bytes()) {
@@ -334,7 +343,7 @@ impl Desk {
     /// the opening day on. A shared request takes none.
     ///
     /// `Keeper`: the keeper failed, which alone raises its count. `Memory`: memory was wanted and isn't there.
-    #[tactic(auto, using(crate::proofs::Apart::apart_of_step), unfolding(crate::specs::Steps::AreFewToApply))]
+    #[tactic(auto, using(crate::proofs::Apart::apart_of_step), unfolding(crate::specs::Reached::MovesToApply, crate::specs::Steps::AreFewToApply))]
     pub fn apply<K: Keeper, L: Ledger>(
         &mut self,
         alloc: Global,
@@ -350,6 +359,7 @@ impl Desk {
         ensures rows_stay { OnErr result (KeepsRows (K.rows keeper.old) (K.rows keeper.new)) }
         ensures told { SameRowsTold (K.rows keeper.old) (K.rows keeper.new) }
         ensures counts { IsCounted Fault.Keeper Fault.Memory (K.faults keeper.old) (K.faults keeper.new) result }
+        ensures reached { MovesToApply request.now result self.old self.new }
         ensures most { AreFewToApply self.old request.now steps.old steps.new }
     {
         match request {
@@ -370,6 +380,7 @@ impl Desk {
         requires place { at < length self.old.state.accounts }
         ensures state { self.new.state ≡ self.old.state }
         ensures value { IfOk result (λ x. (d : NamedAccount) → x ≡ owing_in (book_today (now_at self.old.state at d))) }
+        ensures reached { MovesToTell (Some at) result self.old self.new }
         ensures most { steps.new ≤ steps.old + steps_at self.old at }
     {
         let account = &mut self.accounts[at];
@@ -387,6 +398,7 @@ impl Desk {
         requires place { at < length self.old.state.accounts }
         ensures state { self.new.state ≡ self.old.state }
         ensures value { IfOk result (λ x. (d : NamedAccount) → x ≡ restated_statement (now_at self.old.state at d) cycle) }
+        ensures reached { MovesToTell (Some at) result self.old self.new }
         ensures most { steps.new ≤ steps.old + steps_at self.old at }
     {
         let account = &mut self.accounts[at];
@@ -403,6 +415,7 @@ impl Desk {
         requires place { at < length self.old.state.accounts }
         ensures state { self.new.state ≡ self.old.state }
         ensures value { IfOk result (λ x. (d : NamedAccount) → x ≡ entries_today (now_at self.old.state at d)) }
+        ensures reached { MovesToTell (Some at) result self.old self.new }
         ensures most { steps.new ≤ steps.old + steps_at self.old at }
     {
         let account = &mut self.accounts[at];
@@ -418,6 +431,7 @@ impl Desk {
     ) -> Result<View, NoMemory>
         ensures state { self.new.state ≡ self.old.state }
         ensures view { IfOk result (λ view. view ≡ shown self.old.state (lists_of account.now self.old.state.accounts)) }
+        ensures reached { MovesNamed account.now result self.old self.new }
         ensures most { AreFewToTell self.old.state (reached_of account.now self.old) steps.old steps.new }
     {
         let today = self.today();
@@ -454,6 +468,7 @@ impl Desk {
     ) -> Result<View, NoMemory>
         ensures state { self.new.state ≡ self.old.state }
         ensures view { IfOk result (λ view. view ≡ restated self.old.state cycle (lists_of account.now self.old.state.accounts)) }
+        ensures reached { MovesNamed account.now result self.old self.new }
         ensures most { AreFewToTell self.old.state (reached_of account.now self.old) steps.old steps.new }
     {
         match self.index.find(account.bytes()) {
@@ -474,6 +489,7 @@ impl Desk {
     ) -> Result<View, NoMemory>
         ensures state { self.new.state ≡ self.old.state }
         ensures view { IfOk result (λ view. view ≡ listed self.old.state (lists_of account.now self.old.state.accounts)) }
+        ensures reached { MovesNamed account.now result self.old self.new }
         ensures most { AreFewToTell self.old.state (reached_of account.now self.old) steps.old steps.new }
     {
         match self.index.find(account.bytes()) {
@@ -493,6 +509,7 @@ impl Desk {
     ) -> Result<Tasks, NoMemory>
         ensures state { self.new.state ≡ self.old.state }
         ensures tasks { IfOk result (λ tasks. tasks ≡ work self.old.state) }
+        ensures reached { AllMove result self.old self.new }
         ensures most { steps.new ≤ steps.old + most_for_all self.old }
     {
         work_today(alloc, &mut self.accounts, self.today, &self.common, steps)
@@ -502,6 +519,7 @@ impl Desk {
     fn work<L: Ledger>(&mut self, alloc: Global, steps: &mut Steps<L>) -> Result<View, NoMemory>
         ensures state { self.new.state ≡ self.old.state }
         ensures view { IfOk result (λ view. view ≡ View.Work (work self.old.state)) }
+        ensures reached { AllMove result self.old self.new }
         ensures most { steps.new ≤ steps.old + most_for_all self.old }
     {
         let tasks = self.all_tasks(alloc, steps)?;
@@ -511,7 +529,7 @@ impl Desk {
     /// The answer to what is asked, or want of memory. The state stays; the accounts that the answer is of reach today, and after want
     /// of memory some may have. It takes at most one step more than there are break days from the day last reached to today, none
     /// where the account isn't there or for what was issued, and for `Work` at most the sum of these over all accounts.
-    #[tactic(auto, unfolding(crate::specs::Views::seen, crate::specs::Steps::AreFewToSee))]
+    #[tactic(auto, unfolding(crate::specs::Reached::MovesToSee, crate::specs::Views::seen, crate::specs::Steps::AreFewToSee))]
     pub fn see<L: Ledger>(
         &mut self,
         alloc: Global,
@@ -520,6 +538,7 @@ impl Desk {
     ) -> Result<View, NoMemory>
         ensures state { self.new.state ≡ self.old.state }
         ensures view { IfOk result (λ view. view ≡ seen self.old.state ask.now) }
+        ensures reached { MovesToSee ask.now result self.old self.new }
         ensures most { AreFewToSee self.old ask.now steps.old steps.new }
     {
         match ask {

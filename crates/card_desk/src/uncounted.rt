@@ -4,6 +4,7 @@ ghost use Rattle.card_desk.specs.Apart.{IsApart};
 ghost use Rattle.card_desk.specs.Applied.{IsCounted};
 ghost use Rattle.card_desk.specs.Applied as applied;
 ghost use Rattle.card_desk.specs.Kept.{AreDamagedAt, Fits, IsLoadedOf};
+ghost use Rattle.card_desk.specs.Reached.{MovesNamed, MovesToApply, MovesToSee};
 ghost use Rattle.card_desk.specs.Views.{seen, shown};
 ghost use Rattle.card_events.specs.Dated.{is_dated};
 ghost use Rattle.card_ports.specs.Rows.{KeepsRows, SameRowsTold};
@@ -33,6 +34,7 @@ fn apply_counted<K: Keeper, L: Ledger>(
     ensures rows_stay { OnErr result (KeepsRows (K.rows keeper.old) (K.rows keeper.new)) }
     ensures told { SameRowsTold (K.rows keeper.old) (K.rows keeper.new) }
     ensures counts { IsCounted Fault.Keeper Fault.Memory (K.faults keeper.old) (K.faults keeper.new) result }
+    ensures reached { MovesToApply request.now result desk.old desk.new }
 {
     let mut steps = Steps::<L>::new(blank);
     desk.apply(alloc, keeper, request, &mut steps)
@@ -57,6 +59,7 @@ pub fn apply<K: Keeper>(
     ensures rows_stay { OnErr result (KeepsRows (K.rows keeper.old) (K.rows keeper.new)) }
     ensures told { SameRowsTold (K.rows keeper.old) (K.rows keeper.new) }
     ensures counts { IsCounted Fault.Keeper Fault.Memory (K.faults keeper.old) (K.faults keeper.new) result }
+    ensures reached { MovesToApply request.now result desk.old desk.new }
 {
     apply_counted::<K, Brand>(alloc, desk, keeper, request, Blank::new(1))
 }
@@ -70,6 +73,7 @@ fn see_counted<L: Ledger>(
     requires own { IsBlankOf L.name L.parts blank.name blank.parts }
     ensures state { desk.new.state ≡ desk.old.state }
     ensures view { IfOk result (λ view. view ≡ seen desk.old.state ask.now) }
+    ensures reached { MovesToSee ask.now result desk.old desk.new }
 {
     let mut steps = Steps::<L>::new(blank);
     desk.see(alloc, ask, &mut steps)
@@ -79,6 +83,7 @@ fn see_counted<L: Ledger>(
 pub fn see(alloc: Global, desk: &mut Desk, ask: &Ask) -> Result<View, NoMemory>
     ensures state { desk.new.state ≡ desk.old.state }
     ensures view { IfOk result (λ view. view ≡ seen desk.old.state ask.now) }
+    ensures reached { MovesToSee ask.now result desk.old desk.new }
 {
     see_counted::<Brand>(alloc, desk, ask, Blank::new(1))
 }
@@ -92,6 +97,7 @@ fn show_counted<L: Ledger>(
     requires own { IsBlankOf L.name L.parts blank.name blank.parts }
     ensures state { desk.new.state ≡ desk.old.state }
     ensures view { IfOk result (λ view. view ≡ shown desk.old.state (lists_of account.now desk.old.state.accounts)) }
+    ensures reached { MovesNamed account.now result desk.old desk.new }
 {
     let mut steps = Steps::<L>::new(blank);
     desk.show(alloc, account, &mut steps)
@@ -102,6 +108,7 @@ fn show_counted<L: Ledger>(
 pub fn show(alloc: Global, desk: &mut Desk, account: &Name) -> Result<View, NoMemory>
     ensures state { desk.new.state ≡ desk.old.state }
     ensures view { IfOk result (λ view. view ≡ shown desk.old.state (lists_of account.now desk.old.state.accounts)) }
+    ensures reached { MovesNamed account.now result desk.old desk.new }
 {
     show_counted::<Brand>(alloc, desk, account, Blank::new(1))
 }

@@ -6,6 +6,7 @@ use Rattle.card_model.specs.Machine.{accepted, issues, kept_as}
 use Rattle.card_model.specs.Refusals.{Lists}
 use Rattle.card_replay.specs.Changes.{IsPrepared, issued_as, lists_with}
 use Rattle.card_replay.specs.Replays.{present_of}
+use Rattle.card_replay.specs.Steps.{IsNear}
 use Rattle.card_replay.specs.declared.change.Change.{Change}
 use Rattle.card_account.proofs.account.Account.commit.Goals as goal
 
@@ -27,6 +28,15 @@ returns-clause-lists c =
 
 pub returns-clause-account : goal.returns-clause-account
 returns-clause-account c = record { replay = c.commit.ensures.replay; reach = c.commit.ensures.reach }
+
+pub returns-clause-reached : goal.returns-clause-reached
+returns-clause-reached c =
+    let shared = c.args.shared.now in
+    let new = c.commit.new.self in
+    record {
+      near = subst (λ (a : OpenAccount). IsNear shared a.named.lists new.lists a.folding.reached new.folding.reached) c.self.view_is c.commit.ensures.near;
+      last = c.commit.ensures.reach.later;
+    }
 
 pub returns-clause-number : goal.returns-clause-number
 returns-clause-number c = c.commit.ensures.number ∙ ap (λ (a : OpenAccount). length a.named.lists.posts + 1) c.self.view_is

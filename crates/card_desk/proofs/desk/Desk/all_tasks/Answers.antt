@@ -10,6 +10,8 @@ use Rattle.card_desk.proofs.WorkLemmas.{work-is, worked_desk, worked_state}
 use Rattle.card_desk.specs.Desks.{IsDesk, state_of}
 use Rattle.card_model.specs.Work.{work}
 use Rattle.card_model.specs.declared.task.Task.{Task}
+use Rattle.card_desk.proofs.Moves.{all-move, desk_of}
+use Rattle.card_desk.specs.Reached.{AllMove}
 use Rattle.card_desk.proofs.desk.Desk.all_tasks.Goals as goal
 
 pub work_today-requires : goal.work_today-requires
@@ -47,3 +49,12 @@ returns-clause-tasks g c =
     subst (λ (l : List Task). IfOk c.work_today.result (λ tasks. tasks ≡ l))
     (ap (λ (xs : List OpenAccount). work_of d.today d.common xs) c.deref_mut.ensures.value
     ∙ (work-is d.index d.common d.count d.today d.shared.items d.accounts.items c.self.invariant ∙ ap work (state_by _ _ c.self.view_is))) c.work_today.ensures.tasks
+
+pub returns-clause-reached : goal.returns-clause-reached
+returns-clause-reached g c =
+    let d = c.self.inside in
+    let told = subst (λ (xs : List OpenAccount). AreTold d.today d.common xs c.work_today.new.accounts) c.deref_mut.ensures.value c.work_today.ensures.told in
+    let count = told.count in
+    let items = with_items_is d.accounts c.work_today.new.accounts (omega (arith, count, d.accounts.ok.0)) in
+    subst (λ (xs : List OpenAccount). AllMove c.work_today.result c.args.self.now (desk_of d.today d.shared.items xs)) (sym items)
+    (all-move c.work_today.result d.index d.common d.count d.today d.shared.items d.accounts.items c.work_today.new.accounts c.args.self.now c.self.invariant c.self.view_is told c.work_today.ensures.today)

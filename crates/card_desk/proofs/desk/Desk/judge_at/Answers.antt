@@ -11,6 +11,7 @@ use Rattle.card_desk.specs.Desks.{OpenDesk, now_at, reached_all, state_of}
 use Rattle.card_events.specs.Keys.{with_key}
 use Rattle.card_model.specs.Machine.{NamedAccount, at_key}
 use Rattle.card_replay.specs.Replays.{present_of}
+use Rattle.card_desk.proofs.Moves.{told-moves}
 use Rattle.card_desk.proofs.desk.Desk.judge_at.Goals as goal
 
 pub judge-requires-clause-account : goal.judge-requires-clause-account
@@ -89,3 +90,13 @@ returns-clause-spent g c =
     on_ok_weaker c.judge.result
     (λ (l : c.judge.new.steps + steps_of d.today d.common a ≤ c.args.steps.now + steps_of d.today d.common b).
     spent_there d.index d.common d.count d.today d.shared.items items c.args.at a b c.args.self.now new c.args.steps.now c.judge.new.steps c.self.invariant after c.self.view_is refl low is l) c.judge.ensures.spent
+
+pub returns-clause-reached : goal.returns-clause-reached
+returns-clause-reached g c =
+    let d = c.self.inside in
+    let items = d.accounts.items in
+    let b = c.index_mut-account.result.now in
+    let s = c.args.self.now.state in
+    let state = state_by _ _ c.self.view_is in
+    let is = c.index_mut-account.ensures.value in
+    told-moves d.index d.common d.count d.today d.shared.items items c.args.at c.judge.new.self b c.args.self.now c.self.invariant c.self.view_is (low_in d.shared.items d.today items s c.args.at state c.requires.place) is c.judge.ensures.told

@@ -21,6 +21,8 @@ use Rattle.card_replay.specs.Replays.{opened_lists}
 use Rattle.card_desk.proofs.PlaceLemmas.{no_place}
 use Rattle.card_desk.proofs.StepLemmas.{goes_on, kept, post_accepted, wanted_memory}
 use Rattle.card_rows.specs.Held.{is_request}
+use Rattle.card_desk.proofs.Moves.{done-moves, failed-moves, opened-moves}
+use Rattle.card_desk.specs.Desks.{OpenDesk, reached_all}
 use Rattle.card_desk.proofs.desk.Desk.keep_open.Goals as goal
 
 pub keep_row-requires : goal.keep_row-requires
@@ -172,3 +174,36 @@ returns-in-Err-clause-most g c =
     let state = state_by _ _ c.self.view_is in
     let taken : is_request (request.Post c.args.account.now c.args.key.now c.args.post.now) ≡ true = ap is_request (sym c.requires.request) ∙ c.in_ok-row.ensures.held in
     few_opened d.index d.common d.count d.today d.shared.items d.accounts.items s c.args.account.now c.args.key.now c.args.post.now c.args.steps.now c.open.new.steps c.self.invariant state taken c.requires.absent c.requires.open c.requires.no_reason c.open.ensures.most
+
+-- ---- the days that accounts have reached
+pub returns-in_err-row-clause-reached : goal.returns-in_err-row-clause-reached
+returns-in_err-row-clause-reached g c = failed-moves _ None _ _ _ c.from_residual-in_err-row.ensures.0 refl
+
+pub returns-in_err-name-clause-reached : goal.returns-in_err-name-clause-reached
+returns-in_err-name-clause-reached g c = failed-moves _ None _ _ _ c.from_residual-in_err-name.ensures.0 refl
+
+pub returns-in_err-made-clause-reached : goal.returns-in_err-made-clause-reached
+returns-in_err-made-clause-reached g c = failed-moves _ None _ _ _ c.from_residual-in_err-made.ensures.0 refl
+
+pub returns-in_err-reserve-clause-reached : goal.returns-in_err-reserve-clause-reached
+returns-in_err-reserve-clause-reached g c =
+    failed-moves _ None _ _ _ c.from_residual-in_err-reserve.ensures.0 (ap reached_all c.reserve.ensures.items ∙ ap (λ (x : OpenDesk). x.reached) c.self.view_is)
+
+pub returns-in_err-insert-clause-reached : goal.returns-in_err-insert-clause-reached
+returns-in_err-insert-clause-reached g c =
+    failed-moves _ None _ _ _ c.from_residual-in_err-insert.ensures.0 (ap reached_all c.reserve.ensures.items ∙ ap (λ (x : OpenDesk). x.reached) c.self.view_is)
+
+pub returns-in-Err-clause-reached : goal.returns-in-Err-clause-reached
+returns-in-Err-clause-reached g c = record { done = tt; failed = ap reached_all c.reserve.ensures.items ∙ ap (λ (x : OpenDesk). x.reached) c.self.view_is }
+
+pub returns-in-Ok-clause-reached : goal.returns-in-Ok-clause-reached
+returns-in-Ok-clause-reached g c =
+    let s = c.args.self.now.state in
+    let d = c.self.inside in
+    let key = c.args.key.now in
+    let p = c.args.post.now in
+    let l : Lists = record { posts = kept_as 1 key s.today p ∷ []; issued = [] } in
+    let items : c.push_account.new.list.items ≡ d.accounts.items ++ c.in_ok-made.made ∷ [] = c.push_account.ensures ∙ ap (λ l. l ++ c.in_ok-made.made ∷ []) c.in_ok-reserve.ensures.items in
+    let outcome = open_accepted s c.args.account.now key p (no_place c.args.account.now 0 s.accounts c.requires.absent).0 c.requires.open c.requires.no_reason in
+    done-moves _ None _ _ _
+    (opened-moves d.shared.items d.today d.accounts.items c.push_account.new.list.items c.in_ok-made.made c.args.self.now (outcome_in s c.args.account.now key p) l c.self.view_is items c.in_ok-made.ensures.today outcome)

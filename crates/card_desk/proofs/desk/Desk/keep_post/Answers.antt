@@ -28,6 +28,9 @@ use Rattle.card_desk.proofs.Running.{few_posted, opened_sound, posted_in, posted
 use Rattle.card_desk.proofs.StepLemmas.{goes_on, kept, not_kept, post_accepted}
 use Rattle.card_replay.specs.Steps.{AreFewToPrepare}
 use Rattle.card_rows.specs.Held.{is_request}
+use Rattle.card_account.specs.Reached.{StaysNear}
+use Rattle.card_account.specs.Runs.{AreRunning}
+use Rattle.card_desk.proofs.Moves.{done-moves, failed-moves, none-moves, posted-moves, told-moves}
 use Rattle.card_desk.proofs.desk.Desk.keep_post.Goals as goal
 
 pub keep_row-requires : goal.keep_row-requires
@@ -341,3 +344,68 @@ returns-clause-most g c =
     let one = posted_in d.index d.common d.count d.today d.shared.items items at b name key p c.self.invariant taken place outcome in
     let least = subst (λ (k : List ℕ). AreFewToPrepare d.today d.common b.named.lists b.folding.reached k p c.args.steps.now c.prepare.new.steps) c.in_ok-key.ensures c.prepare.ensures.most in
     few_posted d.index d.common d.count d.today d.shared.items items at b c.args.self.now name key p c.args.steps.now c.prepare.new.steps c.self.invariant c.self.view_is low is outcome one least
+
+-- ---- the day that it has reached
+pub returns-in_err-row-clause-reached : goal.returns-in_err-row-clause-reached
+returns-in_err-row-clause-reached g c = failed-moves _ (Some c.args.at) _ _ _ c.from_residual-in_err-row.ensures.0 (none-moves c.args.self.now c.args.at)
+
+pub returns-in_err-key-clause-reached : goal.returns-in_err-key-clause-reached
+returns-in_err-key-clause-reached g c = failed-moves _ (Some c.args.at) _ _ _ c.from_residual-in_err-key.ensures.0 (none-moves c.args.self.now c.args.at)
+
+pub returns-in_err-change-clause-reached : goal.returns-in_err-change-clause-reached
+returns-in_err-change-clause-reached g c =
+    let d = c.self.inside in
+    let items = d.accounts.items in
+    let at = c.args.at in
+    let s = c.args.self.now.state in
+    let state = state_by _ _ c.self.view_is in
+    let b = c.index_mut-account.result.now in
+    let is = c.index_mut-account.ensures.value in
+    let low = low_in d.shared.items d.today items s at state c.requires.place.bound in
+    failed-moves _ (Some at) _ _ _ c.from_residual-in_err-change.ensures.0
+    (told-moves d.index d.common d.count d.today d.shared.items items at c.prepare.new.self b c.args.self.now c.self.invariant c.self.view_is low is c.prepare.ensures.told)
+
+pub returns-in_err-keep_row-clause-reached : goal.returns-in_err-keep_row-clause-reached
+returns-in_err-keep_row-clause-reached g c =
+    let d = c.self.inside in
+    let items = d.accounts.items in
+    let at = c.args.at in
+    let s = c.args.self.now.state in
+    let state = state_by _ _ c.self.view_is in
+    let b = c.index_mut-account.result.now in
+    let is = c.index_mut-account.ensures.value in
+    let low = low_in d.shared.items d.today items s at state c.requires.place.bound in
+    failed-moves _ (Some at) _ _ _ c.from_residual-in_err-keep_row.ensures.0
+    (told-moves d.index d.common d.count d.today d.shared.items items at c.prepare.new.self b c.args.self.now c.self.invariant c.self.view_is low is c.prepare.ensures.told)
+
+pub returns-clause-reached : goal.returns-clause-reached
+returns-clause-reached g c =
+    let d = c.self.inside in
+    let items = d.accounts.items in
+    let at = c.args.at in
+    let s = c.args.self.now.state in
+    let state = state_by _ _ c.self.view_is in
+    let b = c.index_mut-account.result.now in
+    let is = c.index_mut-account.ensures.value in
+    let low = low_in d.shared.items d.today items s at state c.requires.place.bound in
+    let name = c.args.account.now in
+    let key = c.args.key.now in
+    let p = c.args.post.now in
+    let taken : is_request (request.Post name key p) ≡ true = ap is_request (sym c.requires.request) ∙ c.in_ok-row.ensures.held in
+    let place = subst (λ (x : State). IsPlace name x.accounts at) (sym state) c.requires.place in
+    let allowed = subst (λ (x : State). (e : NamedAccount) → outcome_in x name key p ≡ Accepts (accepted (now_of x (get_or x.accounts at e).lists) key p)) (sym state) c.requires.accepted in
+    let outcome = posted_outcome d.index d.common d.count d.today d.shared.items items at b name key p c.self.invariant low is allowed in
+    let one = posted_in d.index d.common d.count d.today d.shared.items items at b name key p c.self.invariant taken place outcome in
+    let x = c.prepare.new.self in
+    let a = c.commit-number.new.self in
+    let change = c.in_ok-change.change in
+    let says = c.in_ok-change.ensures.post in
+    let lists : a.named.lists ≡ accepted (present_of d.today d.common b.named.lists) key p =
+    c.commit-number.ensures.lists
+    ∙ (ap (λ (n : ℕ). accepted (present_of n d.common x.named.lists) change.key change.post) says.today
+    ∙ (ap (λ (k : List ℕ). accepted (present_of d.today d.common x.named.lists) k change.post) (says.key ∙ c.in_ok-key.ensures)
+    ∙ (ap (λ (q : Post). accepted (present_of d.today d.common x.named.lists) key q) says.post ∙ ap (λ (y : NamedAccount). accepted (present_of d.today d.common y.lists) key p) c.prepare.ensures.told.named))) in
+    let near = subst (λ (n : ℕ). StaysNear n d.common x.named.lists a.named.lists x.folding.reached a.folding.reached) says.today c.commit-number.ensures.reached in
+    done-moves _ (Some at) _ _ _
+    (posted-moves d.index d.common d.count d.today d.shared.items items at a x b c.args.self.now name key p c.self.invariant c.self.view_is low is (outcome ∙ ap (λ (l : Lists). Accepts l) (sym lists))
+    (subst (AreRunning (state_of d.today d.shared.items items)) (sym lists) one) c.prepare.ensures.told near)

@@ -35,8 +35,8 @@ invariant_of-self-2 g c =
     (subst (λ (l : List Shared). IsDesk d.index (loaded r d.common) (d.count + 1) (rolled d.today r) l d.accounts.items) (sym lists)
     (loaded_desk d.index d.common d.count d.today d.shared.items d.accounts.items r c.self.invariant held none)))
 
-pub returns : goal.returns
-returns g c =
+pub returns-clause-carried : goal.returns-clause-carried
+returns-clause-carried g c =
     let s = c.args.self.now.state in
     let d = c.self.inside in
     let r = c.args.shared.now in

@@ -1,4 +1,4 @@
-use Rattle.std.proofs.Common.{ap, subst, sym, ◌∙◌}
+use Rattle.std.proofs.Common.{None, Some, ap, subst, sym, ◌∙◌}
 use Rattle.card_model.specs.Machine.{State}
 use Rattle.card_desk.specs.Desks.{named_all}
 use Rattle.card_desk.specs.Places.{IsPlace, place_from}
@@ -6,6 +6,8 @@ use Rattle.card_desk.proofs.DeskLemmas.{found_at, found_none, placed_at, state_b
 use Rattle.card_desk.proofs.Left.{few_on_absent, few_on_there}
 use Rattle.card_desk.specs.Steps.{AreFewToApply}
 use Rattle.card_events.specs.declared.request.Request.{Request}
+use Rattle.card_desk.proofs.Moves.{named-applied}
+use Rattle.card_desk.specs.Reached.{MovesToApply}
 use Rattle.card_desk.proofs.desk.Desk.post.Goals as goal
 
 pub post_known-requires-clause-place : goal.post_known-requires-clause-place
@@ -31,3 +33,17 @@ returns-in-None-clause-most g c =
     ∙ found_none c.self.inside.index (named_all c.self.inside.accounts.items) c.args.account.now c.bytes.result.now c.self.invariant.index c.bytes.ensures.value c.in-None.ensures in
     subst (λ (r : Request). AreFewToApply c.args.self.now r c.args.steps.now c.post_unknown.new.steps) (sym c.requires.request)
     (few_on_absent c.args.self.now c.args.account.now c.args.key.now c.args.post.now c.args.steps.now c.post_unknown.new.steps absent c.post_unknown.ensures.most)
+
+pub returns-in-Some-clause-reached : goal.returns-in-Some-clause-reached
+returns-in-Some-clause-reached g c =
+    let there = ap (λ (s : State). place_from c.args.account.now 0 s.accounts) (sym (state_by _ _ c.self.view_is))
+    ∙ placed_at c.self.inside.index (named_all c.self.inside.accounts.items) c.args.account.now c.bytes.result.now c.in-Some.at c.self.invariant.index c.bytes.ensures.value c.in-Some.ensures in
+    subst (λ (r : Request). MovesToApply r c.post_known.result c.args.self.now c.post_known.new.self) (sym c.requires.request)
+    (named-applied c.post_known.result c.args.self.now c.post_known.new.self c.args.account.now c.args.key.now c.args.post.now (Some c.in-Some.at) there c.post_known.ensures.reached)
+
+pub returns-in-None-clause-reached : goal.returns-in-None-clause-reached
+returns-in-None-clause-reached g c =
+    let absent = ap (λ (s : State). place_from c.args.account.now 0 s.accounts) (sym (state_by _ _ c.self.view_is))
+    ∙ found_none c.self.inside.index (named_all c.self.inside.accounts.items) c.args.account.now c.bytes.result.now c.self.invariant.index c.bytes.ensures.value c.in-None.ensures in
+    subst (λ (r : Request). MovesToApply r c.post_unknown.result c.args.self.now c.post_unknown.new.self) (sym c.requires.request)
+    (named-applied c.post_unknown.result c.args.self.now c.post_unknown.new.self c.args.account.now c.args.key.now c.args.post.now None absent c.post_unknown.ensures.reached)

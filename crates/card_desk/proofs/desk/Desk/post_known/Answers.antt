@@ -1,4 +1,4 @@
-use Rattle.std.proofs.Common.{◌≡◌, [], true, Ok, None, get_or, sym, ap, subst, ◌∙◌}
+use Rattle.std.proofs.Common.{Some, ◌≡◌, [], true, Ok, None, get_or, sym, ap, subst, ◌∙◌}
 use Rattle.card_account.specs.Verdicts.{verdict_of}
 use Rattle.card_account.specs.declared.verdict.Verdict.TheVariants as verdict
 use Rattle.card_events.specs.Dated.{is_dated}
@@ -15,6 +15,7 @@ use Rattle.card_desk.proofs.DeskLemmas.{outcome_at}
 use Rattle.card_desk.proofs.Left.{few_judged, few_left}
 use Rattle.card_desk.proofs.OutcomeLemmas.{new_at_key, none_against}
 use Rattle.card_desk.proofs.StepLemmas.{answered, out_of_memory, post_refused, post_repeated, refused_by, repeated_by}
+use Rattle.card_desk.proofs.Moves.{done-moves, judged-moves, refused-moves, repeated-moves}
 use Rattle.card_desk.proofs.desk.Desk.post_known.Goals as goal
 
 -- what stands for no account
@@ -114,3 +115,39 @@ returns-in-Err-clause-carried g c = out_of_memory (g.K.Keeper.rows c.args.keeper
 pub returns-in-Err-clause-most : goal.returns-in-Err-clause-most
 returns-in-Err-clause-most g c =
     few_left c.args.self.now.state (reached_there c.args.self.now c.args.at) (outcome_in c.args.self.now.state c.args.account.now c.args.key.now c.args.post.now) c.args.steps.now c.judge_at.new.steps c.judge_at.ensures.most
+
+-- ---- the day that it has reached
+pub returns-in-Ok-Refused-clause-reached : goal.returns-in-Ok-Refused-clause-reached
+returns-in-Ok-Refused-clause-reached g c =
+    let d = c.args.self.now in
+    let name = c.args.account.now in
+    let key = c.args.key.now in
+    let p = c.args.post.now in
+    let both = outcome_at d.state name key p c.args.at no_account (verdict.Refused c.in-Ok-Refused.refusal) c.requires.place (sym c.in-Ok-Refused.field-0-is ∙ c.in-Ok-Refused.ensures.value no_account) in
+    done-moves _ (Some c.args.at) _ _ _
+    (refused-moves d c.judge_at.new.self c.args.at (outcome_in d.state name key p) c.in-Ok-Refused.refusal (refused_by (outcome_in d.state name key p) c.in-Ok-Refused.refusal both.0) c.judge_at.ensures.reached)
+
+pub returns-in-Ok-Repeat-clause-reached : goal.returns-in-Ok-Repeat-clause-reached
+returns-in-Ok-Repeat-clause-reached g c =
+    let d = c.args.self.now in
+    let name = c.args.account.now in
+    let key = c.args.key.now in
+    let p = c.args.post.now in
+    let both = outcome_at d.state name key p c.args.at no_account (verdict.Repeat c.in-Ok-Repeat.number) c.requires.place (sym c.in-Ok-Repeat.field-0-is ∙ c.in-Ok-Repeat.ensures.value no_account) in
+    done-moves _ (Some c.args.at) _ _ _
+    (repeated-moves d c.judge_at.new.self c.args.at (outcome_in d.state name key p) c.in-Ok-Repeat.number (repeated_by (outcome_in d.state name key p) c.in-Ok-Repeat.number both.0) c.judge_at.ensures.reached)
+
+pub returns-in-Ok-New-clause-reached : goal.returns-in-Ok-New-clause-reached
+returns-in-Ok-New-clause-reached g c =
+    let d = c.args.self.now in
+    let s = d.state in
+    let name = c.args.account.now in
+    let key = c.args.key.now in
+    let p = c.args.post.now in
+    let both = outcome_at s name key p c.args.at no_account verdict.New c.requires.place (sym c.in-Ok-New.field-0-is ∙ c.in-Ok-New.ensures.value no_account) in
+    let a = get_or s.accounts c.args.at no_account in
+    let accepts = both.1 ∙ new_at_key (now_of s a.lists) key p (with_key key a.lists.posts) (both.0 ∙ ap verdict_of both.1) in
+    judged-moves c.keep_post.result d c.judge_at.new.self c.keep_post.new.self name key p c.args.at (accepted (now_of s a.lists) key p) c.judge_at.ensures.state accepts c.judge_at.ensures.reached c.keep_post.ensures.reached
+
+pub returns-in-Err-clause-reached : goal.returns-in-Err-clause-reached
+returns-in-Err-clause-reached g c = record { done = tt; failed = c.judge_at.ensures.reached }

@@ -1,4 +1,4 @@
-use Rattle.std.proofs.Common.{◌≡◌, ℕ, length, sym, ap, subst, ◌∙◌, arith}
+use Rattle.std.proofs.Common.{None, ◌≡◌, ℕ, length, sym, ap, subst, ◌∙◌, arith}
 use Rattle.std.proofs.lemmas.List.{length-map}
 use Rattle.card_account.specs.Accounts.{OpenAccount}
 use Rattle.card_events.specs.declared.reply.Refusal.TheVariants as refusal
@@ -14,6 +14,7 @@ use Rattle.card_desk.proofs.OutcomeLemmas.{open_refused, unknown_refused}
 use Rattle.card_desk.proofs.PlaceLemmas.{no_place}
 use Rattle.card_desk.proofs.StepLemmas.{answered, post_refused}
 use Rattle.card_desk.proofs.DeskLemmas.{state_by}
+use Rattle.card_desk.proofs.Moves.{away-moves, done-moves}
 use Rattle.card_desk.proofs.desk.Desk.post_unknown.Goals as goal
 
 pub keep_open-requires-clause-room : goal.keep_open-requires-clause-room
@@ -61,3 +62,25 @@ returns-in-Some-clause-most g c = none_to_open c.args.self.now.state c.args.post
 
 pub returns-in_default-clause-most : goal.returns-in_default-clause-most
 returns-in_default-clause-most g c = none_to_open c.args.self.now.state c.args.post.now (outcome_in c.args.self.now.state c.args.account.now c.args.key.now c.args.post.now) c.args.steps.now
+
+-- ---- the days that accounts have reached
+pub returns-in-Some-clause-reached : goal.returns-in-Some-clause-reached
+returns-in-Some-clause-reached g c =
+    let s = c.args.self.now.state in
+    let name = c.args.account.now in
+    let key = c.args.key.now in
+    let absent = (no_place name 0 s.accounts c.requires.absent).0 in
+    let p = post.Open c.in-Open.day c.in-Open.terms in
+    let many : length s.accounts ≡ c.len.result = ap (λ (x : State). length x.accounts) (sym (state_by _ _ c.self.view_is)) ∙ length-map c.self.inside.accounts.items (λ (x : OpenAccount). x.named) ∙ sym (c.len.ensures ∙ c.self.inside.accounts.ok.0) in
+    let reason = ap (λ (n : ℕ). reason_to_open s.today n p) many ∙ ap (λ (x : State). reason_to_open x.today c.len.result p) (sym (state_by _ _ c.self.view_is)) ∙ sym c.open_reason.ensures.value ∙ c.in-Some.is in
+    let outcome = ap (outcome_in s name key) c.in-Open.is ∙ open_refused s name key c.in-Open.day c.in-Open.terms c.in-Some.refusal absent reason in
+    done-moves _ None _ _ _ (away-moves c.args.self.now (outcome_in s name key c.args.post.now) c.in-Some.refusal outcome)
+
+pub returns-in_default-clause-reached : goal.returns-in_default-clause-reached
+returns-in_default-clause-reached g c =
+    let s = c.args.self.now.state in
+    let name = c.args.account.now in
+    let key = c.args.key.now in
+    let p = c.args.post.now in
+    let absent = (no_place name 0 s.accounts c.requires.absent).0 in
+    done-moves _ None _ _ _ (away-moves c.args.self.now (outcome_in s name key p) refusal.UnknownAccount (unknown_refused s name key p absent c.in_default.not-Open))

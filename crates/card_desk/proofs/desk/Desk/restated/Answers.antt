@@ -1,4 +1,4 @@
-use Rattle.std.proofs.Common.{◌<◌, [], Option, length, ap, sym, subst, ◌∙◌}
+use Rattle.std.proofs.Common.{refl, ◌<◌, [], Option, length, ap, sym, subst, ◌∙◌}
 use Rattle.card_daily.specs.declared.track.Statement.{Statement}
 use Rattle.card_desk.specs.Views.{restated, stated}
 use Rattle.card_desk.proofs.DeskLemmas.{found_at, found_none, placed_at, state_by}
@@ -8,6 +8,7 @@ use Rattle.card_desk.specs.Desks.{named_all, state_of}
 use Rattle.card_desk.specs.Places.{IsPlace, place_from}
 use Rattle.card_model.specs.Machine.{NamedAccount, State, lists_of}
 use Rattle.card_model.specs.Refusals.{Lists}
+use Rattle.card_desk.proofs.Moves.{absent-moves, answered-moves, named-moves, wanting-moves}
 use Rattle.card_desk.proofs.desk.Desk.restated.Goals as goal
 
 pub restated_at-requires : goal.restated_at-requires
@@ -45,3 +46,20 @@ returns-in_ok-statement-in-Some-clause-view g c =
     let none : NamedAccount = record { name = []; lists = record { posts = []; issued = [] } } in
     let place : IsPlace name s.accounts c.in-Some.at = subst (λ (x : State). IsPlace name x.accounts c.in-Some.at) (state_by _ _ c.self.view_is) (found_at c.self.inside.index (named_all c.self.inside.accounts.items) c.args.account.now c.bytes.result.now c.in-Some.at c.self.invariant.index c.bytes.ensures.value c.in-Some.ensures) in
     c.stated.ensures ∙ (ap (λ (o : Option Statement). stated o) (c.in_ok-statement-in-Some.ensures.value none) ∙ ap (λ (l : Option Lists). restated s c.args.cycle l) (sym (place.there none)))
+
+-- ---- the day that it has reached
+pub returns-in-None-clause-reached : goal.returns-in-None-clause-reached
+returns-in-None-clause-reached g c =
+    let d = c.self.inside in
+    let absent = found_none d.index (named_all d.accounts.items) c.args.account.now c.bytes.result.now c.self.invariant.index c.bytes.ensures.value c.in-None.ensures in
+    absent-moves _ _ _ c.args.account.now (ap (λ (s : State). place_from c.args.account.now 0 s.accounts) (sym (state_by _ _ c.self.view_is)) ∙ absent) refl
+
+pub returns-in_err-statement-in-Some-clause-reached : goal.returns-in_err-statement-in-Some-clause-reached
+returns-in_err-statement-in-Some-clause-reached g c =
+    let place = ap (λ (s : State). place_from c.args.account.now 0 s.accounts) (sym (state_by _ _ c.self.view_is)) ∙ placed_at c.self.inside.index (named_all c.self.inside.accounts.items) c.args.account.now c.bytes.result.now c.in-Some.at c.self.invariant.index c.bytes.ensures.value c.in-Some.ensures in
+    named-moves _ _ _ c.args.account.now c.in-Some.at place (wanting-moves _ _ _ _ c.from_residual-in-Some.ensures.0 c.in_err-statement-in-Some.ensures.reached.wanting)
+
+pub returns-in_ok-statement-in-Some-clause-reached : goal.returns-in_ok-statement-in-Some-clause-reached
+returns-in_ok-statement-in-Some-clause-reached g c =
+    let place = ap (λ (s : State). place_from c.args.account.now 0 s.accounts) (sym (state_by _ _ c.self.view_is)) ∙ placed_at c.self.inside.index (named_all c.self.inside.accounts.items) c.args.account.now c.bytes.result.now c.in-Some.at c.self.invariant.index c.bytes.ensures.value c.in-Some.ensures in
+    named-moves _ _ _ c.args.account.now c.in-Some.at place (answered-moves _ _ _ _ c.in_ok-statement-in-Some.ensures.reached.answered)

@@ -10,6 +10,7 @@ use Rattle.card_desk.proofs.Reading.{restated_read, low_in, told_desk, told_stat
 use Rattle.card_model.specs.Machine.{NamedAccount}
 use Rattle.card_replay.specs.Replays.{present_of}
 use Rattle.card_desk.specs.Desks.{now_at}
+use Rattle.card_desk.proofs.Moves.{tells-moves}
 use Rattle.card_desk.proofs.desk.Desk.restated_at.Goals as goal
 
 pub restated-requires : goal.restated-requires
@@ -69,3 +70,14 @@ returns-clause-most g c =
     let is = c.index_mut-account.ensures.value in
     let left = steps_there d.index d.common d.count d.today d.shared.items items c.args.at b c.args.self.now c.self.invariant c.self.view_is (low_in d.shared.items d.today items s c.args.at state c.requires.place) is in
     subst (λ n. c.restated.new.steps ≤ c.args.steps.now + n) left c.restated.ensures.most
+
+pub returns-clause-reached : goal.returns-clause-reached
+returns-clause-reached g c =
+    let d = c.self.inside in
+    let items = d.accounts.items in
+    let b = c.index_mut-account.result.now in
+    let s = c.args.self.now.state in
+    let state = state_by _ _ c.self.view_is in
+    let is = c.index_mut-account.ensures.value in
+    tells-moves c.restated.result d.index d.common d.count d.today d.shared.items items c.args.at c.restated.new.self b c.args.self.now c.self.invariant c.self.view_is (low_in d.shared.items d.today items s c.args.at state c.requires.place) is
+    c.restated.ensures.told c.restated.ensures.today

@@ -11,8 +11,8 @@ use Rattle.card_desk.proofs.StepLemmas.{answered, shared_refused}
 use Rattle.card_desk.proofs.DeskLemmas.{state_by}
 use Rattle.card_desk.proofs.desk.Desk.share.Goals as goal
 
-pub returns-in-Some : goal.returns-in-Some
-returns-in-Some g c =
+pub returns-in-Some-clause-carried : goal.returns-in-Some-clause-carried
+returns-in-Some-clause-carried g c =
     let s = c.args.self.now.state in
     let r = c.args.shared.now in
     let inside : State = state_of c.self.inside.today c.self.inside.shared.items c.self.inside.accounts.items in

@@ -1,4 +1,4 @@
-use Rattle.std.proofs.Common.{◌<◌, ℕ, [], Option, length, ap, sym, subst, ◌∙◌}
+use Rattle.std.proofs.Common.{refl, ◌<◌, ℕ, [], Option, length, ap, sym, subst, ◌∙◌}
 use Rattle.card_account.specs.declared.owing.Owing.{Owing}
 use Rattle.card_desk.specs.Views.{shown}
 use Rattle.card_desk.specs.declared.view.View.TheVariants as view
@@ -9,6 +9,7 @@ use Rattle.card_desk.specs.Desks.{named_all, state_of}
 use Rattle.card_desk.specs.Places.{IsPlace, place_from}
 use Rattle.card_model.specs.Machine.{NamedAccount, State, lists_of}
 use Rattle.card_model.specs.Refusals.{Lists}
+use Rattle.card_desk.proofs.Moves.{absent-moves, answered-moves, named-moves, wanting-moves}
 use Rattle.card_desk.proofs.desk.Desk.show.Goals as goal
 
 pub owing_at-requires : goal.owing_at-requires
@@ -48,3 +49,20 @@ returns-in_ok-owing-in-Some-clause-view g c =
     let o = c.in_ok-owing-in-Some.owing in
     c.shown.ensures ∙ (ap (λ (n : ℕ). view.Show n o.owed o.credit o.held) c.today-today.ensures
     ∙ (ap (λ (x : Owing). view.Show s.today x.owed x.credit x.held) (c.in_ok-owing-in-Some.ensures.value none) ∙ ap (λ (l : Option Lists). shown s l) (sym (place.there none))))
+
+-- ---- the day that it has reached
+pub returns-in-None-clause-reached : goal.returns-in-None-clause-reached
+returns-in-None-clause-reached g c =
+    let d = c.self.inside in
+    let absent = found_none d.index (named_all d.accounts.items) c.args.account.now c.bytes.result.now c.self.invariant.index c.bytes.ensures.value c.in-None.ensures in
+    absent-moves _ _ _ c.args.account.now (ap (λ (s : State). place_from c.args.account.now 0 s.accounts) (sym (state_by _ _ c.self.view_is)) ∙ absent) refl
+
+pub returns-in_err-owing-in-Some-clause-reached : goal.returns-in_err-owing-in-Some-clause-reached
+returns-in_err-owing-in-Some-clause-reached g c =
+    let place = ap (λ (s : State). place_from c.args.account.now 0 s.accounts) (sym (state_by _ _ c.self.view_is)) ∙ placed_at c.self.inside.index (named_all c.self.inside.accounts.items) c.args.account.now c.bytes.result.now c.in-Some.at c.self.invariant.index c.bytes.ensures.value c.in-Some.ensures in
+    named-moves _ _ _ c.args.account.now c.in-Some.at place (wanting-moves _ _ _ _ c.from_residual-in-Some.ensures.0 c.in_err-owing-in-Some.ensures.reached.wanting)
+
+pub returns-in_ok-owing-in-Some-clause-reached : goal.returns-in_ok-owing-in-Some-clause-reached
+returns-in_ok-owing-in-Some-clause-reached g c =
+    let place = ap (λ (s : State). place_from c.args.account.now 0 s.accounts) (sym (state_by _ _ c.self.view_is)) ∙ placed_at c.self.inside.index (named_all c.self.inside.accounts.items) c.args.account.now c.bytes.result.now c.in-Some.at c.self.invariant.index c.bytes.ensures.value c.in-Some.ensures in
+    named-moves _ _ _ c.args.account.now c.in-Some.at place (answered-moves _ _ _ _ c.in_ok-owing-in-Some.ensures.reached.answered)
