@@ -1,3 +1,2 @@
-mod Aged
 mod Alone
 mod Reached

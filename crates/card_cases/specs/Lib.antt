@@ -1,3 +1,2 @@
 pub mod Account
-pub mod Aged
 pub mod Alone
