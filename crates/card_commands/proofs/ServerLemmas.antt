@@ -350,6 +350,18 @@ listened_not port count s a b fits sides visits rose = record {
   cause = rose;
 }
 
+-- memory was wanted before it listened
+pub unmade : (port count : ℕ) (s : State) (a : Parties) → Fits a.sides.keeper.rows s → Serves (HaveCome port a.door.visits a.door.visits) count s a a ended.Memory
+unmade port count s a fits = record {
+  ends = record {
+    connections = [];
+    came = inr (refl, refl);
+    attended = attended_none a.sides.keeper s fits;
+    stands = (omega arith, record { bytes = []; taken = Appends-nil a.sides.sink.taken; whole = ([], refl); front = ([], refl) });
+  };
+  cause = record { sink = refl; door = refl };
+}
+
 -- ---- a server from the ledger that the kept rows gave
 
 served_from : (Came : List Exchange → Type 0) (count : ℕ) (s : State) (a b c : KeeperSide) (x y : SinkSide) (d f : DoorSide) (e : Ended) → KeepsRows a.rows b.rows → b.faults ≡ a.faults

@@ -6,8 +6,10 @@ ghost use Rattle.card_commands.specs.Attended as spec;
 
 use crate::ended::{Ended, ended_by_sink};
 use card_desk::Desk;
+use card_events::NoMemory;
 use card_http::{Served, Status, serve_one};
 use card_ports::{Door, Failed, Keeper, Sink, write_all};
+use card_wire::Routes;
 use std::alloc::Global;
 
 fn status_line(status: Status) -> &'static str
@@ -43,6 +45,7 @@ fn line_of(served: Served) -> &'static str
 fn attend<O: Sink, K: Keeper, D: Door>(
     desk: &mut Desk,
     alloc: Global,
+    routes: &Routes,
     output: &mut O,
     keeper: &mut K,
     door: &mut D,
@@ -57,7 +60,7 @@ fn attend<O: Sink, K: Keeper, D: Door>(
         Ok(link) => link,
         Err(Failed) => return Err(Ended::Door),
     };
-    let served = serve_one(alloc, desk, keeper, &mut link);
+    let served = serve_one(alloc, routes, desk, keeper, &mut link);
     let line = line_of(served).as_bytes();
     door.close(link);
     match write_all(output, line) {
@@ -70,6 +73,7 @@ fn attend<O: Sink, K: Keeper, D: Door>(
 fn attend_all<O: Sink, K: Keeper, D: Door>(
     desk: &mut Desk,
     alloc: Global,
+    routes: &Routes,
     count: u32,
     output: &mut O,
     keeper: &mut K,
@@ -81,7 +85,7 @@ fn attend_all<O: Sink, K: Keeper, D: Door>(
 {
     let mut served = 0;
     while served < count {
-        match attend(desk, alloc, output, keeper, door) {
+        match attend(desk, alloc, routes, output, keeper, door) {
             Ok(()) => {}
             Err(ended) => return ended,
         }
@@ -93,8 +97,8 @@ fn attend_all<O: Sink, K: Keeper, D: Door>(
 /// Listens on the port, and attends to so many connections, one after the other. Each is accepted, served and closed before
 /// its line is written. A connection that fails, a keeper that fails and want of memory for an answer end that connection alone.
 ///
-/// `Door`: the door failed to listen or to accept. `Sink`: the sink failed; `Memory`: it wanted memory. Of the last line a
-/// front was written.
+/// `Door`: the door failed to listen or to accept. `Sink`: the sink failed; `Memory`: it wanted memory, or the routes did before
+/// the door listened. Of the last line a front was written.
 pub fn serve<O: Sink, K: Keeper, D: Door>(
     desk: &mut Desk,
     alloc: Global,
@@ -108,8 +112,12 @@ pub fn serve<O: Sink, K: Keeper, D: Door>(
     ensures { let at = parties O.taken O.faults K.rows K.faults D.visits D.faults in
         Serves (HaveCome port (D.visits door.old) (D.visits door.new)) count desk.old.state (at output.old keeper.old door.old) (at output.new keeper.new door.new) result }
 {
+    let routes = match Routes::new(alloc) {
+        Ok(routes) => routes,
+        Err(NoMemory) => return Ended::Memory,
+    };
     match door.listen(port) {
-        Ok(()) => attend_all(desk, alloc, count, output, keeper, door),
+        Ok(()) => attend_all(desk, alloc, &routes, count, output, keeper, door),
         Err(Failed) => Ended::Door,
     }
 }

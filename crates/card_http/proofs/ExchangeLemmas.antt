@@ -16,7 +16,6 @@ use Rattle.card_wire.proofs.HeadLemmas.{parts_are}
 use Rattle.card_wire.proofs.LinkLemmas.{read_none}
 use Rattle.card_wire.specs.Heads.{Before, HeadParts, IsHeadAt, Pending, field_limit, head_limit, parts_at}
 use Rattle.card_wire.specs.Links.{Read, Stopped}
-use Rattle.card_wire.specs.Routes.{path_of}
 use Rattle.card_wire.specs.Wants.{length_wanted, wanted}
 use Rattle.card_wire.specs.declared.stop.Stop.{Stop}
 use Rattle.card_wire.specs.declared.stop.Stop.TheVariants as stop
@@ -222,7 +221,7 @@ answered_early parts l w v x json e judged same fits sent =
 
 -- a request that was read whole came to an outcome, which was answered
 pub answered_whole : (parts : HeadParts) (old new : Moment) (u : Wire) (body : List ℕ) (x : Wanted) (json : Bool) (o : Outcome) (e : Served) → wanted parts ≡ Ok x → json ≡ is_json_head parts → Read old.link u body → length body ≡ x.length
-    → Comes (λ a. IsRouted old.desk.state x.route (path_of parts.target) body a ⊎ IsFaultOf x.route a) old.desk new.desk o
+    → Comes (λ a. IsRouted old.desk.state x.route body a ⊎ IsFaultOf x.route a) old.desk new.desk o
     → Sends u new.link (answer_text (outcome_status o) json (outcome_body o)) (outcome_status o) e → ServesBy (MakesBehind parts) (EndsBehind parts) old new e
 answered_whole parts old new u body x json o e judged same read long comes sent =
     let a = comes.answer in

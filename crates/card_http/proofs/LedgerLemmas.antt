@@ -53,54 +53,53 @@ count_same n s told = record { count = omega arith; told = told }
 
 -- ---- a lookup
 
--- what is asked by a path is looked up
-looked : (s : State) (r : Route) (path body : List ℕ) (l : Ledger) (o : Outcome) → IsRouted s r path body (looked_up (told_asked s (asked r path))) → Fits l.rows l.state → IsLookedUp (told_asked s (asked r path)) o
-    → Comes (λ a. IsRouted s r path body a ⊎ IsFaultOf r a) l l o
+-- what a route asks is looked up
+looked : (s : State) (r : Route) (body : List ℕ) (l : Ledger) (o : Outcome) → IsRouted s r body (looked_up (told_asked s (asked r))) → Fits l.rows l.state → IsLookedUp (told_asked s (asked r)) o
+    → Comes (λ a. IsRouted s r body a ⊎ IsFaultOf r a) l l o
 unfolding outcome_status outcome_body
-looked s r path body l (outcome.Told text) here fits is = record {
-  answer = looked_up (told_asked s (asked r path));
+looked s r body l (outcome.Told text) here fits is = record {
+  answer = looked_up (told_asked s (asked r));
   stands = inl here;
   status_is = ap (λ (t : Option (List ℕ)). (looked_up t).status) (sym is);
   body_is = ap (λ (t : Option (List ℕ)). (looked_up t).body) (sym is);
   did = subst (λ (t : Option (List ℕ)). Acted l l (looked_up t).acted) (sym is) (acted_none l fits);
   counts = subst (λ (t : Option (List ℕ)). KeeperCount l.faults l.faults (looked_up t).status) (sym is) (count_same l.faults status.Done refl);
 }
-looked s r path body l outcome.Missing here fits is = record {
-  answer = looked_up (told_asked s (asked r path));
+looked s r body l outcome.Missing here fits is = record {
+  answer = looked_up (told_asked s (asked r));
   stands = inl here;
   status_is = ap (λ (t : Option (List ℕ)). (looked_up t).status) (sym is);
   body_is = ap (λ (t : Option (List ℕ)). (looked_up t).body) (sym is);
   did = subst (λ (t : Option (List ℕ)). Acted l l (looked_up t).acted) (sym is) (acted_none l fits);
   counts = subst (λ (t : Option (List ℕ)). KeeperCount l.faults l.faults (looked_up t).status) (sym is) (count_same l.faults status.NotFound refl);
 }
-looked s r path body l outcome.MemoryWanted here fits is =
+looked s r body l outcome.MemoryWanted here fits is =
     record { answer = memory_wanted; stands = inr (inl refl); status_is = refl; body_is = refl; did = acted_none l fits; counts = count_same l.faults status.NoStorage refl }
-looked s r path body l (outcome.Replied a) here fits is = absurd is
-looked s r path body l outcome.NoJson here fits is = absurd is
-looked s r path body l (outcome.NoRequest name) here fits is = absurd is
-looked s r path body l outcome.KeeperFailed here fits is = absurd is
+looked s r body l (outcome.Replied a) here fits is = absurd is
+looked s r body l outcome.NoJson here fits is = absurd is
+looked s r body l (outcome.NoRequest name) here fits is = absurd is
+looked s r body l outcome.KeeperFailed here fits is = absurd is
 
 -- the same of a route that is this one
-looked_at : (s : State) (r q : Route) (path body : List ℕ) (l : Ledger) (o : Outcome) → r ≡ q → IsRouted s q path body (looked_up (told_asked s (asked q path))) → Fits l.rows l.state → IsLookedUp (told_asked s (asked r path)) o
-    → Comes (λ a. IsRouted s r path body a ⊎ IsFaultOf r a) l l o
-looked_at s r q path body l o same here fits is =
-    looked s r path body l o (subst (λ (x : Route). IsRouted s x path body (looked_up (told_asked s (asked x path)))) (sym same) here) fits is
+looked_at : (s : State) (r q : Route) (body : List ℕ) (l : Ledger) (o : Outcome) → r ≡ q → IsRouted s q body (looked_up (told_asked s (asked q))) → Fits l.rows l.state → IsLookedUp (told_asked s (asked r)) o
+    → Comes (λ a. IsRouted s r body a ⊎ IsFaultOf r a) l l o
+looked_at s r q body l o same here fits is =
+    looked s r body l o (subst (λ (x : Route). IsRouted s x body (looked_up (told_asked s (asked x)))) (sym same) here) fits is
 
 -- and where the ledger stays
-pub looked_after : (s : State) (r q : Route) (path body : List ℕ) (l m : Ledger) (o : Outcome) → r ≡ q → IsRouted s q path body (looked_up (told_asked s (asked q path))) → Fits l.rows l.state → m ≡ l → IsLookedUp (told_asked s (asked r path)) o
-    → Comes (λ a. IsRouted s r path body a ⊎ IsFaultOf r a) l m o
-looked_after s r q path body l m o same here fits stays is =
-    subst (λ (x : Ledger). Comes (λ a. IsRouted s r path body a ⊎ IsFaultOf r a) l x o) (sym stays) (looked_at s r q path body l o same here fits is)
+pub looked_after : (s : State) (r q : Route) (body : List ℕ) (l m : Ledger) (o : Outcome) → r ≡ q → IsRouted s q body (looked_up (told_asked s (asked q))) → Fits l.rows l.state → m ≡ l → IsLookedUp (told_asked s (asked r)) o
+    → Comes (λ a. IsRouted s r body a ⊎ IsFaultOf r a) l m o
+looked_after s r q body l m o same here fits stays is =
+    subst (λ (x : Ledger). Comes (λ a. IsRouted s r body a ⊎ IsFaultOf r a) l x o) (sym stays) (looked_at s r q body l o same here fits is)
 
 -- the same route
-pub at_route : (s : State) (r q : Route) (path body : List ℕ) (old new : Ledger) (o : Outcome) → r ≡ q → Comes (λ a. IsRouted s q path body a ⊎ IsFaultOf q a) old new o → Comes (λ a. IsRouted s r path body a ⊎ IsFaultOf r a) old new o
-at_route s r q path body old new o same comes = subst (λ (x : Route). Comes (λ a. IsRouted s x path body a ⊎ IsFaultOf x a) old new o) (sym same) comes
+pub at_route : (s : State) (r q : Route) (body : List ℕ) (old new : Ledger) (o : Outcome) → r ≡ q → Comes (λ a. IsRouted s q body a ⊎ IsFaultOf q a) old new o → Comes (λ a. IsRouted s r body a ⊎ IsFaultOf r a) old new o
+at_route s r q body old new o same comes = subst (λ (x : Route). Comes (λ a. IsRouted s x body a ⊎ IsFaultOf x a) old new o) (sym same) comes
 
--- the same path, and the same body
-pub with_path : (s : State) (r : Route) (path other body given : List ℕ) (old new : Ledger) (o : Outcome) → path ≡ other → given ≡ body
-    → Comes (λ a. IsRouted s r path given a ⊎ IsFaultOf r a) old new o → Comes (λ a. IsRouted s r other body a ⊎ IsFaultOf r a) old new o
-with_path s r path other body given old new o paths bodies comes =
-    subst (λ (b : List ℕ). Comes (λ a. IsRouted s r other b a ⊎ IsFaultOf r a) old new o) bodies (subst (λ (p : List ℕ). Comes (λ a. IsRouted s r p given a ⊎ IsFaultOf r a) old new o) paths comes)
+-- the same body
+pub with_body : (s : State) (r : Route) (body given : List ℕ) (old new : Ledger) (o : Outcome) → given ≡ body
+    → Comes (λ a. IsRouted s r given a ⊎ IsFaultOf r a) old new o → Comes (λ a. IsRouted s r body a ⊎ IsFaultOf r a) old new o
+with_body s r body given old new o bodies comes = subst (λ (b : List ℕ). Comes (λ a. IsRouted s r b a ⊎ IsFaultOf r a) old new o) bodies comes
 
 -- ---- a request
 

@@ -1,5 +1,5 @@
 -- The answers to requests, over the machine of accounts.
-use Rattle.std.specs.Prelude.{◌≡◌, ◌⊎◌, ℕ, ◌≤◌, List, [], Option, None, Some, codes, Result, Ok, Err, option_map, option_and_then, string_bytes, ⊤}
+use Rattle.std.specs.Prelude.{◌≡◌, ◌⊎◌, ℕ, ◌≤◌, List, [], Option, None, Some, codes, Result, Ok, Err, option_and_then, string_bytes, ⊤}
 use Rattle.card_desk.specs.Kept.{Fits, new_rows}
 use Rattle.card_desk.specs.declared.view.Ask.{Ask}
 use Rattle.card_desk.specs.declared.view.Ask.TheVariants as ask
@@ -10,12 +10,10 @@ use Rattle.card_wire.specs.declared.json_body.BodyFault.{BodyFault}
 use Rattle.card_wire.specs.declared.json_body.BodyFault.TheVariants as body_fault
 use Rattle.card_ports.specs.Rows.{AddsRows}
 use Rattle.card_ports.specs.declared.row.Row.{Row}
-use Rattle.card_lines.specs.Forms.{name_of, number_of}
 use Rattle.card_model.specs.Machine.{State, step}
 use Rattle.card_ports.specs.Counts.{Rose}
 use Rattle.card_http.specs.Told.{told}
 use Rattle.card_wire.specs.Heads.{HeadParts}
-use Rattle.card_wire.specs.Routes.{part, path_of}
 use Rattle.card_wire.specs.Wants.{wanted}
 use Rattle.card_wire.specs.declared.route.Route.{Route}
 use Rattle.card_wire.specs.declared.route.Route.TheVariants as route
@@ -62,20 +60,14 @@ IsPosted s body a = (IsNoJson body × (a ≡ bad_request)) ⊎ ((said : Said) ×
 
 -- ---- what a GET asks
 
--- something about a cycle of an account
-abbrev pub of_cycle : (List ℕ → ℕ → Ask) → Option ℕ → Option (List ℕ) → Option Ask
-of_cycle f None account = None
-of_cycle f (Some cycle) None = None
-of_cycle f (Some cycle) (Some account) = Some (f account cycle)
-
--- what a path of this route asks: its account is the third part, its cycle the fifth
-unfoldable pub asked : Route → List ℕ → Option Ask
-asked route.Posts path = None
-asked route.Account path = option_map ask.Show (name_of (part 2 path))
-asked route.Statement path = of_cycle ask.Issued (number_of (part 4 path)) (name_of (part 2 path))
-asked route.Cycle path = of_cycle ask.Restated (number_of (part 4 path)) (name_of (part 2 path))
-asked route.Entries path = option_map ask.Entries (name_of (part 2 path))
-asked route.Work path = Some ask.Work
+-- what a route asks
+unfoldable pub asked : Route → Option Ask
+asked route.Posts = None
+asked (route.Account account) = Some (ask.Show account)
+asked (route.Statement account cycle) = Some (ask.Issued account cycle)
+asked (route.Cycle account cycle) = Some (ask.Restated account cycle)
+asked (route.Entries account) = Some (ask.Entries account)
+asked route.Work = Some ask.Work
 
 -- the text of what is asked of a ledger, where it is there
 abbrev pub told_asked : State → Option Ask → Option (List ℕ)
@@ -89,14 +81,14 @@ looked_up (Some text) = idle status.Done text
 -- ---- by route, and by what was heard
 
 -- the answer to a request of this route that was read whole
-abbrev pub IsRouted : State → Route → List ℕ → List ℕ → Answer → Type 0
-IsRouted s route.Posts path body a = IsPosted s body a
-IsRouted s r path body a = a ≡ looked_up (told_asked s (asked r path))
+abbrev pub IsRouted : State → Route → List ℕ → Answer → Type 0
+IsRouted s route.Posts body a = IsPosted s body a
+IsRouted s r body a = a ≡ looked_up (told_asked s (asked r))
 
 -- the answer to a head, and to the body that it wants
 abbrev pub IsJudged : State → HeadParts → List ℕ → Result Wanted Early → Answer → Type 0
 IsJudged s parts body (Err e) a = a ≡ idle (early_status e) (early_text e)
-IsJudged s parts body (Ok w) a = IsRouted s w.route (path_of parts.target) body a
+IsJudged s parts body (Ok w) a = IsRouted s w.route body a
 
 -- the answer to what was heard
 abbrev pub IsAnswer : State → Heard → Answer → Type 0

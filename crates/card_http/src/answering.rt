@@ -20,21 +20,20 @@ pub fn answer_route<K: Keeper>(
     alloc: Global,
     desk: &mut Desk,
     keeper: &mut K,
-    route: Route,
-    path: &[u8],
+    route: &Route,
     body: &[u8],
 ) -> Outcome
     requires fits { Fits (K.rows keeper.old) desk.old.state }
     ensures { let at = ledger K.rows K.faults in
-        Comes (λ a. IsRouted desk.old.state route path.now body.now a ⊎ IsFaultOf route a) (at desk.old.state keeper.old) (at desk.new.state keeper.new) result }
+        Comes (λ a. IsRouted desk.old.state route.now body.now a ⊎ IsFaultOf route.now a) (at desk.old.state keeper.old) (at desk.new.state keeper.new) result }
 {
     match route {
         Route::Posts => post(alloc, desk, keeper, body),
-        Route::Account => look_up(alloc, desk, route, path),
-        Route::Statement => look_up(alloc, desk, route, path),
-        Route::Cycle => look_up(alloc, desk, route, path),
-        Route::Entries => look_up(alloc, desk, route, path),
-        Route::Work => look_up(alloc, desk, route, path),
+        Route::Account(_) => look_up(alloc, desk, route),
+        Route::Statement(_, _) => look_up(alloc, desk, route),
+        Route::Cycle(_, _) => look_up(alloc, desk, route),
+        Route::Entries(_) => look_up(alloc, desk, route),
+        Route::Work => look_up(alloc, desk, route),
     }
 }
 
@@ -64,12 +63,12 @@ fn carry_out<K: Keeper>(alloc: Global, desk: &mut Desk, keeper: &mut K, wanted: 
     }
 }
 
-// What is asked by a path, as text. The state stays.
-fn look_up(alloc: Global, desk: &mut Desk, route: Route, path: &[u8]) -> Outcome
+// What a route asks, as text. The state stays.
+fn look_up(alloc: Global, desk: &mut Desk, route: &Route) -> Outcome
     ensures state { desk.new.state ≡ desk.old.state }
-    ensures told { IsLookedUp (told_asked desk.old.state (asked route path.now)) result }
+    ensures told { IsLookedUp (told_asked desk.old.state (asked route.now)) result }
 {
-    match read_ask(alloc, route, path) {
+    match read_ask(alloc, route) {
         Ok(Some(ask)) => match told_text(alloc, desk, &ask) {
             Ok(Some(text)) => Outcome::Told(text),
             Ok(None) => Outcome::Missing,

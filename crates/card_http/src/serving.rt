@@ -14,7 +14,7 @@ use arrayvec::ArrayVec;
 use card_desk::Desk;
 use card_ports::{Keeper, Link};
 use card_wire::{
-    BODY_LIMIT, Early, FIELD_LIMIT, HEAD_LIMIT, Head, HeadEnd, Wanted, judge, path_of, read_body,
+    BODY_LIMIT, Early, FIELD_LIMIT, HEAD_LIMIT, Head, HeadEnd, Routes, Wanted, judge, path_of, read_body,
     read_head,
 };
 use httparse::spans::EMPTY_HEADER_SPAN;
@@ -33,6 +33,7 @@ const LONG_HEAD: &str = "head too large\n";
 #[tactic(auto, unfolding(crate::specs::Outcomes::long_text))]
 pub fn serve_one<K: Keeper, C: Link>(
     alloc: Global,
+    routes: &Routes,
     desk: &mut Desk,
     keeper: &mut K,
     link: &mut C,
@@ -50,7 +51,7 @@ pub fn serve_one<K: Keeper, C: Link>(
     match end {
         HeadEnd::Whole(spans) => {
             let head = Head::of(got.as_slice(), &fields, spans);
-            serve_head(alloc, desk, keeper, link, &head)
+            serve_head(alloc, routes, desk, keeper, link, &head)
         }
         HeadEnd::Bad => {
             let text = early_text(Early::BadRequest);
@@ -63,6 +64,7 @@ pub fn serve_one<K: Keeper, C: Link>(
 // The answer behind a head: at once where it shows that there is none to wait for, and else when its body was read.
 fn serve_head<K: Keeper, C: Link>(
     alloc: Global,
+    routes: &Routes,
     desk: &mut Desk,
     keeper: &mut K,
     link: &mut C,
@@ -72,7 +74,7 @@ fn serve_head<K: Keeper, C: Link>(
     ensures { let at = moment C.Source.left C.Sink.taken C.Source.faults K.rows K.faults in
         ServesHead head.now (at link.old desk.old.state keeper.old) (at link.new desk.new.state keeper.new) result }
 {
-    match judge(head) {
+    match judge(routes, head) {
         Ok(wanted) => serve_body(alloc, desk, keeper, link, head, wanted),
         Err(early) => {
             let text = early_text(early);
@@ -88,7 +90,7 @@ fn serve_body<K: Keeper, C: Link>(
     keeper: &mut K,
     link: &mut C,
     head: &Head,
-    wanted: Wanted,
+    wanted: Wanted<'_>,
 ) -> Served
     requires wanted { wants.wanted head.now ≡ Ok wanted }
     requires few { wanted.length ≤ wants.body_limit }
@@ -101,8 +103,7 @@ fn serve_body<K: Keeper, C: Link>(
         Ok(()) => {}
         Err(_) => return Served::Cut,
     }
-    let path = path_of(head.target());
-    let outcome = answer_route(alloc, desk, keeper, wanted.route, path, body.as_slice());
+    let outcome = answer_route(alloc, desk, keeper, &wanted.route, body.as_slice());
     send_outcome(alloc, link, is_json(head), &outcome)
 }
 
@@ -111,5 +112,5 @@ fn serve_body<K: Keeper, C: Link>(
 fn is_json(head: &Head) -> bool
     ensures { result ≡ is_json_head head.now }
 {
-    head.method() == b"POST".as_slice() && path_of(head.target()) == b"/posts".as_slice()
+    head.method() == b"POST".as_slice() && path_of(head.target()) == "/posts"
 }

@@ -1,5 +1,7 @@
 pub mod HeadLemmas
 pub mod LinkLemmas
 mod NamedLemmas
-pub mod PathLemmas
+mod RowLemmas
+mod RouteLemmas
+mod TakenLemmas
 pub mod SpellLemmas

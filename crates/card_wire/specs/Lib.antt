@@ -2,6 +2,7 @@ pub mod Links
 pub mod Heads
 pub mod Framing
 pub mod Routes
+pub mod Taken
 pub mod Wants
 pub mod Fields
 pub mod Bodies

@@ -1,7 +1,6 @@
 -- What a path names.
-use Rattle.std.specs.Prelude.{ℕ, ◌==◌, if◌then◌else◌, List, [], ◌∷◌, length, take, slice_get, Option, Some, None, codes}
+use Rattle.std.specs.Prelude.{ℕ, ◌==◌, if◌then◌else◌, List, [], ◌∷◌, length, take, Option, Some, None, codes, option_and_then, option_map}
 use Rattle.std.specs.List.{position_or_len, slice_split}
-use Rattle.std.specs.Option.{is_some, unwrap_or}
 use Rattle.std.specs.Str.{bytes_eq}
 use Rattle.card_events.specs.Names.{is_name}
 use Rattle.card_lines.specs.Forms.{number_of}
@@ -16,33 +15,28 @@ path_of target = take (position_or_len (λ b. b == 63) target) target
 abbrev pub parts : List ℕ → List (List ℕ)
 parts path = slice_split (λ b. b == 47) path
 
--- those behind a part
-abbrev pub parts_behind : Option (List ℕ) → List (List ℕ)
-parts_behind None = []
-parts_behind (Some rest) = parts rest
+-- the name that a text is
+abbrev pub account_of : List ℕ → Option (List ℕ)
+account_of text = if is_name text then Some text else None
 
--- a part by its place, from 0 on
-abbrev pub part : ℕ → List ℕ → List ℕ
-part n path = unwrap_or (slice_get (parts path) n) []
-
--- `statements` or `cycles`
-unfoldable pub numbered : List ℕ → Option Route
-numbered what =
-    if bytes_eq what (codes "statements") then Some route.Statement
-    else if bytes_eq what (codes "cycles") then Some route.Cycle
+-- the statement or the cycle of an account, by its number
+unfoldable pub numbered : List ℕ → List ℕ → ℕ → Option Route
+numbered what account cycle =
+    if bytes_eq what (codes "statements") then Some (route.Statement account cycle)
+    else if bytes_eq what (codes "cycles") then Some (route.Cycle account cycle)
     else None
 
 -- behind an account: nothing, `entries`, or `statements` or `cycles` with a number
-unfoldable pub below_account : List (List ℕ) → Option Route
-below_account [] = Some route.Account
-below_account (what ∷ []) = if bytes_eq what (codes "entries") then Some route.Entries else None
-below_account (what ∷ cycle ∷ []) = if is_some (number_of cycle) then numbered what else None
-below_account (what ∷ cycle ∷ other ∷ others) = None
+unfoldable pub below_account : List (List ℕ) → List ℕ → Option Route
+below_account [] account = Some (route.Account account)
+below_account (what ∷ []) account = if bytes_eq what (codes "entries") then Some (route.Entries account) else None
+below_account (what ∷ cycle ∷ []) account = option_and_then (numbered what account) (number_of cycle)
+below_account (what ∷ cycle ∷ other ∷ others) account = None
 
 -- behind `accounts`: a name
 unfoldable pub of_account : List (List ℕ) → Option Route
 of_account [] = None
-of_account (account ∷ others) = if is_name account then below_account others else None
+of_account (account ∷ others) = option_and_then (below_account others) (account_of account)
 
 -- a path of one part
 unfoldable pub alone : List ℕ → Option Route

@@ -5,6 +5,7 @@ ghost use Rattle.std.specs.Str.{bytes_eq};
 
 use httparse::spans::{HeaderSpan, RequestSpans};
 use std::marker::Model;
+use std::str::from_utf8;
 
 /// A whole head, in the bytes that were read of it. Clauses see its method, its target, and its header lines by name and
 /// value.
@@ -17,24 +18,26 @@ pub struct Head<'a> {
 
 impl<'a> Model for Head<'a> {
     ghost use Rattle.card_wire.specs.Heads.{HeadParts, parts_at};
-    ghost use Rattle.httparse.specs.Spans.{IsRequestWithin};
+    ghost use Rattle.httparse.specs.Spans.{IsRequestWithin, span_bytes};
+    ghost use Rattle.std.specs.Prelude.{IsUtf8};
 
     ghost Value = { HeadParts };
 
     ghost view = { λ h. parts_at h.bytes.now h.fields.now h.spans };
 
-    ghost invariant = { λ h. IsRequestWithin h.bytes.now h.fields.now h.spans };
+    ghost invariant = { λ h. IsRequestWithin h.bytes.now h.fields.now h.spans × IsUtf8 (span_bytes h.bytes.now h.spans.path) };
 }
 
 impl<'a> Head<'a> {
-    ghost use Rattle.std.specs.Prelude.{◌≡◌, length, map, slice_get, option_map};
+    ghost use Rattle.std.specs.Prelude.{◌≡◌, length, map, slice_get, option_map, IsUtf8};
     ghost use Rattle.card_wire.specs.Framing.{values_named};
     ghost use Rattle.card_wire.specs.Heads.{parts_at};
-    ghost use Rattle.httparse.specs.Spans.{IsRequestWithin};
+    ghost use Rattle.httparse.specs.Spans.{IsRequestWithin, span_bytes};
 
     /// The head whose parts lie where the spans say.
     pub fn of(bytes: &'a [u8], fields: &'a [HeaderSpan], spans: RequestSpans) -> Head<'a>
         requires within { IsRequestWithin bytes.now fields.now spans }
+        requires text { IsUtf8 (span_bytes bytes.now spans.path) }
         ensures { result ≡ parts_at bytes.now fields.now spans }
     {
         Head {
@@ -52,10 +55,13 @@ impl<'a> Head<'a> {
     }
 
     /// The target.
-    pub fn target(&self) -> &[u8]
+    pub fn target(&self) -> &str
         ensures { result.now ≡ self.now.target }
     {
-        self.spans.path.of(self.bytes)
+        match from_utf8(self.spans.path.of(self.bytes)) {
+            Ok(target) => target,
+            Err(_) => unreachable!(),
+        }
     }
 
     /// How many header lines have this name. Case doesn't matter.

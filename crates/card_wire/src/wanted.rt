@@ -6,12 +6,13 @@ use crate::body::BODY_LIMIT;
 use crate::framing::body_length;
 use crate::head::Head;
 use crate::path::path_of;
-use crate::route::{Route, read_route};
+use crate::route::Route;
+use crate::routes::Routes;
 
 /// What a request asks for, and how many bytes its body has.
-#[derive(Clone, Copy)]
-pub struct Wanted {
-    pub route: Route,
+#[derive(Drop)]
+pub struct Wanted<'a> {
+    pub route: Route<'a>,
     pub length: u64,
 }
 
@@ -30,14 +31,14 @@ pub enum Early {
 
 /// What the head asks for.
 #[tactic(auto, unfolding(crate::specs::Wants::with_length, crate::specs::Wants::with_route))]
-pub fn judge(head: &Head) -> Result<Wanted, Early>
+pub fn judge<'a>(routes: &Routes, head: &'a Head) -> Result<Wanted<'a>, Early>
     ensures value { result ≡ spec.wanted head.now }
     ensures few { IfOk result (λ w. w.length ≤ spec.body_limit) }
 {
     let Some(length) = body_length(head) else {
         return Err(Early::BadRequest);
     };
-    let Some(route) = read_route(path_of(head.target())) else {
+    let Some(route) = routes.find(path_of(head.target())) else {
         return Err(Early::NotFound);
     };
     if head.method() != route.method() {

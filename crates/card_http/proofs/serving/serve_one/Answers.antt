@@ -1,4 +1,6 @@
-use Rattle.std.proofs.Common.{◌≡◌, ℕ, List, inl, refl, ap, ◌∙◌, subst}
+use Rattle.std.proofs.Common.{◌≡◌, ℕ, List, inl, refl, ap, sym, ◌∙◌, subst}
+use Rattle.std.specs.Prelude.{IsUtf8}
+use Rattle.httparse.specs.Spans.{IsRequestWithin, span_bytes}
 use Rattle.card_ports.specs.Visits.{wire}
 use Rattle.card_wire.specs.Heads.{EndsHead, HeadParts, parts_at}
 use Rattle.card_http.specs.Exchanges.{Makes, ServesHead, moment}
@@ -44,3 +46,13 @@ returns-in-Long g c =
     let ended = subst (EndsHead c.read_head.new.got.items c.read_head.new.fields) c.in-Long.is c.in-Ok.ensures.ok in
     let at = wire g.C.Source.left g.C.Sink.taken g.C.Source.faults in
     long_head l (at c.args.link.now) (at c.read_head.new.link) (at c.send_answer-in-Long.new.link) c.read_head.new.got.items _ c.in-Ok.ensures.read c.read_head.ensures.before ended.0 ended.1 c.requires.fits c.send_answer-in-Long.ensures
+
+-- the target is text
+pub of-head-requires : goal.of-head-requires
+of-head-requires g c =
+    let got = c.read_head.new.got.items in
+    let ended = subst (EndsHead got c.read_head.new.fields) c.in-Whole.is c.in-Ok.ensures.ok in
+    let bytes = c.as_slice.ensures.value in record {
+      within = subst (λ (b : List ℕ). IsRequestWithin b c.read_head.new.fields c.in-Whole.spans) (sym bytes) ended.1.within;
+      text = subst (λ (b : List ℕ). IsUtf8 (span_bytes b c.in-Whole.spans.path)) (sym bytes) (subst IsUtf8 (sym ended.1.at.path) ended.1.at.reads.0.target_text);
+    }

@@ -1,4 +1,0 @@
-use Rattle.card_wire.proofs.path.+part.Given as goal
-
-abbrev pub decreases-part : goal.decreases-part
-decreases-part l = l.place
