@@ -177,7 +177,7 @@ returns-in-Err-clause-most g c =
 
 -- ---- the days that accounts have reached
 pub returns-in_err-row-clause-reached : goal.returns-in_err-row-clause-reached
-returns-in_err-row-clause-reached g c = failed-moves _ None _ _ _ c.from_residual-in_err-row.ensures.0 refl
+returns-in_err-row-clause-reached g c = failed-moves _ None _ _ _ c.from_residual.ensures.0 refl
 
 pub returns-in_err-name-clause-reached : goal.returns-in_err-name-clause-reached
 returns-in_err-name-clause-reached g c = failed-moves _ None _ _ _ c.from_residual-in_err-name.ensures.0 refl

@@ -347,7 +347,7 @@ returns-clause-most g c =
 
 -- ---- the day that it has reached
 pub returns-in_err-row-clause-reached : goal.returns-in_err-row-clause-reached
-returns-in_err-row-clause-reached g c = failed-moves _ (Some c.args.at) _ _ _ c.from_residual-in_err-row.ensures.0 (none-moves c.args.self.now c.args.at)
+returns-in_err-row-clause-reached g c = failed-moves _ (Some c.args.at) _ _ _ c.from_residual.ensures.0 (none-moves c.args.self.now c.args.at)
 
 pub returns-in_err-key-clause-reached : goal.returns-in_err-key-clause-reached
 returns-in_err-key-clause-reached g c = failed-moves _ (Some c.args.at) _ _ _ c.from_residual-in_err-key.ensures.0 (none-moves c.args.self.now c.args.at)

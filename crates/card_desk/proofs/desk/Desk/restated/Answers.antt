@@ -57,7 +57,7 @@ returns-in-None-clause-reached g c =
 pub returns-in_err-statement-in-Some-clause-reached : goal.returns-in_err-statement-in-Some-clause-reached
 returns-in_err-statement-in-Some-clause-reached g c =
     let place = ap (λ (s : State). place_from c.args.account.now 0 s.accounts) (sym (state_by _ _ c.self.view_is)) ∙ placed_at c.self.inside.index (named_all c.self.inside.accounts.items) c.args.account.now c.bytes.result.now c.in-Some.at c.self.invariant.index c.bytes.ensures.value c.in-Some.ensures in
-    named-moves _ _ _ c.args.account.now c.in-Some.at place (wanting-moves _ _ _ _ c.from_residual-in-Some.ensures.0 c.in_err-statement-in-Some.ensures.reached.wanting)
+    named-moves _ _ _ c.args.account.now c.in-Some.at place (wanting-moves _ _ _ _ c.from_residual.ensures.0 c.in_err-statement-in-Some.ensures.reached.wanting)
 
 pub returns-in_ok-statement-in-Some-clause-reached : goal.returns-in_ok-statement-in-Some-clause-reached
 returns-in_ok-statement-in-Some-clause-reached g c =
