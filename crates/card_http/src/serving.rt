@@ -14,8 +14,8 @@ use arrayvec::ArrayVec;
 use card_desk::Desk;
 use card_ports::{Keeper, Link};
 use card_wire::{
-    BODY_LIMIT, Early, FIELD_LIMIT, HEAD_LIMIT, Head, HeadEnd, Routes, Wanted, judge, path_of, read_body,
-    read_head,
+    BODY_LIMIT, Early, FIELD_LIMIT, HEAD_LIMIT, Head, HeadEnd, Routes, Wanted, judge, path_of,
+    read_body, read_head,
 };
 use httparse::spans::EMPTY_HEADER_SPAN;
 use std::alloc::Global;

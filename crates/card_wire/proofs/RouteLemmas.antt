@@ -133,6 +133,7 @@ below_last more none = subst (λ (o : Option ℕ). IsBelow o more) (sym found) (
   where
     found : first rows_below more ≡ or_else None (or_else (cond (bytes_eq more (codes "entries")) (Some 4) None) None)
     found = account_first more ∙ rw (word_none (codes "cycles") (param_row 3) more (literal (codes "cycles/") refl) none, word_whole (codes "entries") 4 more (literal (codes "entries") refl), word_none (codes "statements") (param_row 2) more (literal (codes "statements/") refl) none) refl
+
     by : (v : Bool) → bytes_eq more (codes "entries") ≡ v → IsBelow (or_else None (or_else (cond v (Some 4) None) None)) more
     by true e = same_bytes more (codes "entries") e
     by false e = λ account. ap (λ (ps : List (List ℕ)). below_account ps account) (parts_last more none) ∙ rw e refl
@@ -260,6 +261,7 @@ root_last p none = subst (λ (o : Option ℕ). IsAt o (47 ∷ p)) (sym found) (b
   where
     found : first six (47 ∷ p) ≡ or_else None (or_else (cond (bytes_eq p (codes "posts")) (Some 0) None) (cond (bytes_eq p (codes "work")) (Some 5) None))
     found = root_first p ∙ rw (word_none (codes "accounts") (behind_part rows_below 1) p (literal (codes "accounts/") refl) none, word_whole (codes "posts") 0 p (literal (codes "posts") refl), word_whole (codes "work") 5 p (literal (codes "work") refl)) refl
+
     by : (u : Bool) → bytes_eq p (codes "posts") ≡ u → (v : Bool) → bytes_eq p (codes "work") ≡ v → IsAt (or_else None (or_else (cond u (Some 0) None) (cond v (Some 5) None))) (47 ∷ p)
     by true e v f = ap (λ (l : List ℕ). 47 ∷ l) (same_bytes p (codes "posts") e)
     by false e true f = ap (λ (l : List ℕ). 47 ∷ l) (same_bytes p (codes "work") f)
@@ -271,9 +273,11 @@ root_cut what rest text none = subst (λ (o : Option ℕ). IsAt o (47 ∷ what +
   where
     found : first six (47 ∷ what ++ 47 ∷ rest) ≡ or_else (cond (bytes_eq what (codes "accounts")) (first (behind_part rows_below 1) rest) None) (or_else None None)
     found = root_first (what ++ 47 ∷ rest) ∙ rw (word_slash (codes "accounts") (behind_part rows_below 1) what rest (literal (codes "accounts/") refl) refl none, word_beyond (codes "posts") 0 what rest (literal (codes "posts") refl) refl, word_beyond (codes "work") 5 what rest (literal (codes "work") refl) refl) refl
+
     or_none : (o : Option ℕ) → o ≡ or_else o None
     or_none None = refl
     or_none (Some k) = refl
+
     by : (u : Bool) → bytes_eq what (codes "accounts") ≡ u → IsAt (or_else (cond u (first (behind_part rows_below 1) rest) None) None) (47 ∷ what ++ 47 ∷ rest)
     by true e =
         subst (λ (w : List ℕ). IsAt (or_else (first (behind_part rows_below 1) rest) None) (47 ∷ w ++ 47 ∷ rest)) (sym (same_bytes what (codes "accounts") e))

@@ -203,7 +203,7 @@ gives_statement a c part number text =
     let both = below_text a (codes "statements") c text in record {
       text = subst AllText (sym (statement_pairs a c part)) (account_name, both.0, (cycle_name, both.1, tt));
       route = ap (placed_route place.Statement) (statement_pairs a c part) ∙ by (account_of a) (number_of c)
-      ∙ sym (route_behind a (codes "statements" ∷ c ∷ []) (codes "/accounts/" ++ (a ++ (codes "/statements/" ++ c))) (ap (λ (ps : List (List ℕ)). [] ∷ codes "accounts" ∷ ps) (parts_cut a (codes "statements/" ++ c) part.none ∙ ap (λ (ps : List (List ℕ)). a ∷ codes "statements" ∷ ps) (parts_last c number.none))));
+          ∙ sym (route_behind a (codes "statements" ∷ c ∷ []) (codes "/accounts/" ++ (a ++ (codes "/statements/" ++ c))) (ap (λ (ps : List (List ℕ)). [] ∷ codes "accounts" ∷ ps) (parts_cut a (codes "statements/" ++ c) part.none ∙ ap (λ (ps : List (List ℕ)). a ∷ codes "statements" ∷ ps) (parts_last c number.none))));
     }
   where
     by : (o : Option (List ℕ)) (n : Option ℕ) → option_and_then (λ account. option_map (route.Statement account) n) o ≡ option_and_then (λ account. option_and_then (numbered (codes "statements") account) n) o
@@ -217,7 +217,7 @@ gives_cycle a c part number text =
     let both = below_text a (codes "cycles") c text in record {
       text = subst AllText (sym (cycle_pairs a c part)) (account_name, both.0, (cycle_name, both.1, tt));
       route = ap (placed_route place.Cycle) (cycle_pairs a c part) ∙ by (account_of a) (number_of c)
-      ∙ sym (route_behind a (codes "cycles" ∷ c ∷ []) (codes "/accounts/" ++ (a ++ (codes "/cycles/" ++ c))) (ap (λ (ps : List (List ℕ)). [] ∷ codes "accounts" ∷ ps) (parts_cut a (codes "cycles/" ++ c) part.none ∙ ap (λ (ps : List (List ℕ)). a ∷ codes "cycles" ∷ ps) (parts_last c number.none))));
+          ∙ sym (route_behind a (codes "cycles" ∷ c ∷ []) (codes "/accounts/" ++ (a ++ (codes "/cycles/" ++ c))) (ap (λ (ps : List (List ℕ)). [] ∷ codes "accounts" ∷ ps) (parts_cut a (codes "cycles/" ++ c) part.none ∙ ap (λ (ps : List (List ℕ)). a ∷ codes "cycles" ∷ ps) (parts_last c number.none))));
     }
   where
     by : (o : Option (List ℕ)) (n : Option ℕ) → option_and_then (λ account. option_map (route.Cycle account) n) o ≡ option_and_then (λ account. option_and_then (numbered (codes "cycles") account) n) o

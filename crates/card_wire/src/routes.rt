@@ -60,11 +60,7 @@ impl Routes {
             "/accounts/{account}/cycles/{cycle}",
             Place::Cycle,
         )?;
-        put(
-            &mut router,
-            "/accounts/{account}/entries",
-            Place::Entries,
-        )?;
+        put(&mut router, "/accounts/{account}/entries", Place::Entries)?;
         put(&mut router, "/work", Place::Work)?;
         Ok(Routes { router })
     }
