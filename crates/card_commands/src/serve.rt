@@ -94,6 +94,27 @@ fn attend_all<O: Sink, K: Keeper, D: Door>(
     Ended::Done
 }
 
+// Listens on the port, and attends to so many connections, with the routes made.
+fn listen_and_attend<O: Sink, K: Keeper, D: Door>(
+    desk: &mut Desk,
+    alloc: Global,
+    routes: &Routes,
+    port: u16,
+    count: u32,
+    output: &mut O,
+    keeper: &mut K,
+    door: &mut D,
+) -> Ended
+    requires fits { Fits (K.rows keeper.old) desk.old.state }
+    ensures { let at = parties O.taken O.faults K.rows K.faults D.visits D.faults in
+        Serves (HaveCome port (D.visits door.old) (D.visits door.new)) count desk.old.state (at output.old keeper.old door.old) (at output.new keeper.new door.new) result }
+{
+    match door.listen(port) {
+        Ok(()) => attend_all(desk, alloc, routes, count, output, keeper, door),
+        Err(Failed) => Ended::Door,
+    }
+}
+
 /// Listens on the port, and attends to so many connections, one after the other. Each is accepted, served and closed before
 /// its line is written. A connection that fails, a keeper that fails and want of memory for an answer end that connection alone.
 ///
@@ -112,12 +133,8 @@ pub fn serve<O: Sink, K: Keeper, D: Door>(
     ensures { let at = parties O.taken O.faults K.rows K.faults D.visits D.faults in
         Serves (HaveCome port (D.visits door.old) (D.visits door.new)) count desk.old.state (at output.old keeper.old door.old) (at output.new keeper.new door.new) result }
 {
-    let routes = match Routes::new(alloc) {
-        Ok(routes) => routes,
-        Err(NoMemory) => return Ended::Memory,
-    };
-    match door.listen(port) {
-        Ok(()) => attend_all(desk, alloc, &routes, count, output, keeper, door),
-        Err(Failed) => Ended::Door,
+    match Routes::new(alloc) {
+        Ok(routes) => { listen_and_attend(desk, alloc, &routes, port, count, output, keeper, door) }
+        Err(NoMemory) => Ended::Memory,
     }
 }
