@@ -40,6 +40,7 @@ pub record AreHeld (today : ℕ) (l : Lists) : Type 0 where
 -- ---- kinds
 no_opening : (p : Post) → is_open p ≡ false → (opening_in p ≡ 0) × (opens p ≡ false)
 no_opening (post.Open d t) other = absurd (cc)
+no_opening (post.OpenVariable d t) other = absurd (cc)
 no_opening (post.Charge d p c) other = (refl, refl)
 no_opening (post.Credit d p c) other = (refl, refl)
 no_opening (post.Payment d m by c) other = (refl, refl)
@@ -67,6 +68,15 @@ first-held key today accounts (post.Open day t) taken is none =
     record {
       some = omega arith;
       posts = All-cons (IsHeld today day) (kept_as 1 key today (post.Open day t)) [] (record { accepted = omega arith; received = tt; opening = by; first = taken }) (All-nil (IsHeld today day));
+      returns = (tt, tt);
+    }
+first-held key today accounts (post.OpenVariable day t) taken is none =
+    let rest = none_tail (bad_terms (post.OpenVariable day t)) (day_ahead today (post.OpenVariable day t) ∷ where_true (nat_le 1000000 accounts) refusal.LedgerFull ∷ []) none in
+    let ahead = none_head (day_ahead today (post.OpenVariable day t)) (where_true (nat_le 1000000 accounts) refusal.LedgerFull ∷ []) rest in
+    let by : day ≤ today = ltb-false today day (where_none (nat_lt today day) refusal.DayAhead ahead) in
+    record {
+      some = omega arith;
+      posts = All-cons (IsHeld today day) (kept_as 1 key today (post.OpenVariable day t)) [] (record { accepted = omega arith; received = tt; opening = by; first = taken }) (All-nil (IsHeld today day));
       returns = (tt, tt);
     }
 first-held key today accounts (post.Charge d p c) taken is none = absurd (cc)

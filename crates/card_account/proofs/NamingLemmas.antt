@@ -28,3 +28,4 @@ names now (post.Resolve d t c) none = tt
 names now (post.AskRefund d) none = tt
 names now (post.Refund c) none = tt
 names now (post.Open d t) none = tt
+names now (post.OpenVariable d t) none = tt

@@ -115,6 +115,7 @@ last-held today opened (k ∷ ks) all = let one = All-head (IsHeld today opened)
 -- a post with a closing day opens an account
 opens-is : (p : Post) → 1 ≤ (terms_in p).close → opens p ≡ true
 opens-is (post.Open d t) low = refl
+opens-is (post.OpenVariable d t) low = refl
 opens-is (post.Charge d p c) low = absurd (omega (arith, low))
 opens-is (post.Credit d p c) low = absurd (omega (arith, low))
 opens-is (post.Payment d m by c) low = absurd (omega (arith, low))

@@ -204,6 +204,7 @@ effect-there p q issued a seen s (post.Refund n) b t h =
     All-append q b.entries _ h (of-debit q (note_of seen kind.Refund s.number) (newest_purchase a seen) s.cents (credit_balance b.entries) (λ z. t.other kind.Refund s.number 0 z refl t.credit) (λ z. t.other kind.Refund s.number (newest_purchase a seen) z refl (newest-there p q a seen t)))
 effect-there p q issued a seen s post.Penalty b t h = h
 effect-there p q issued a seen s (post.Open d u) b t h = h
+effect-there p q issued a seen s (post.OpenVariable d u) b t h = h
 effect-there p q issued a seen s (post.Plan d k r e f) b t h = h
 effect-there p q issued a seen s (post.Notice d y r e) b t h = h
 effect-there p q issued a seen s (post.Lower d y r) b t h = h

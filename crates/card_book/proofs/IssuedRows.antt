@@ -157,6 +157,7 @@ issued_rows_stay name s rows further e =
 no-rows : (now : Present) (p : Post) → is_bill p ≡ false → issues now p ≡ []
 no-rows now (post.Bill c) e = cc
 no-rows now (post.Open d t) e = refl
+no-rows now (post.OpenVariable d t) e = refl
 no-rows now (post.Charge d q c) e = refl
 no-rows now (post.Credit d q c) e = refl
 no-rows now (post.Payment d m y c) e = refl

@@ -185,6 +185,7 @@ effect-bounded issued a seen s (post.Resolve d target c) b h = bounded-piece b.e
 effect-bounded issued a seen s (post.Refund n) b h = bounded-piece b.entries _ s.cents h (piece-debit seen.day s.number _ s.cents _ kind.Refund refl)
 effect-bounded issued a seen s post.Penalty b h = h
 effect-bounded issued a seen s (post.Open d t) b h = h
+effect-bounded issued a seen s (post.OpenVariable d t) b h = h
 effect-bounded issued a seen s (post.Plan d k r e f) b h = h
 effect-bounded issued a seen s (post.Notice d c r e) b h = h
 effect-bounded issued a seen s (post.Lower d c r) b h = h

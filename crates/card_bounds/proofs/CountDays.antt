@@ -135,6 +135,7 @@ length-added : (id n : ℕ) (p : Post) (gs : List SegmentTerms) → length (cons
 length-added id n (post.Plan d k r e f) gs = omega arith
 length-added id n (post.Notice d y r e) gs = omega arith
 length-added id n (post.Open d u) gs = omega arith
+length-added id n (post.OpenVariable d u) gs = omega arith
 length-added id n (post.Charge d at x) gs = omega arith
 length-added id n (post.Credit d at x) gs = omega arith
 length-added id n (post.Payment d m y x) gs = omega arith
@@ -339,6 +340,7 @@ promise-most d (post.Plan x k r e f) = by (leb d e)
     by false = omega arith
 promise-most d (post.Notice x y r e) = omega arith
 promise-most d (post.Open x u) = omega arith
+promise-most d (post.OpenVariable x u) = omega arith
 promise-most d (post.Charge x at c) = omega arith
 promise-most d (post.Credit x at c) = omega arith
 promise-most d (post.Payment x m y c) = omega arith

@@ -376,6 +376,7 @@ effect-step issued a seen s (post.Plan d k r e f) b l m = plain-step s (post.Pla
     by false = omega arith
 effect-step issued a seen s post.Penalty b l m = plain-step s post.Penalty seen.day b.entries b.entries (omega arith) (parts-same b.entries)
 effect-step issued a seen s (post.Open d u) b l m = plain-step s (post.Open d u) seen.day b.entries b.entries (omega arith) (parts-same b.entries)
+effect-step issued a seen s (post.OpenVariable d u) b l m = plain-step s (post.OpenVariable d u) seen.day b.entries b.entries (omega arith) (parts-same b.entries)
 effect-step issued a seen s (post.Notice d y r e) b l m = plain-step s (post.Notice d y r e) seen.day b.entries b.entries (omega arith) (parts-same b.entries)
 effect-step issued a seen s (post.Lower d y r) b l m = plain-step s (post.Lower d y r) seen.day b.entries b.entries (omega arith) (parts-same b.entries)
 effect-step issued a seen s (post.Review d f) b l m = plain-step s (post.Review d f) seen.day b.entries b.entries (omega arith) (parts-same b.entries)
@@ -582,6 +583,7 @@ unfolding ending-one
 one-promise seen id n (post.Plan d k r e f) = ends-once seen.day e (leb d seen.day) (is_sort sort.Deferred (sort_of_plan k))
 one-promise seen id n (post.Notice d y r e) = rw (not-deferred y) (omega arith)
 one-promise seen id n (post.Open d u) = omega arith
+one-promise seen id n (post.OpenVariable d u) = omega arith
 one-promise seen id n (post.Charge d at x) = omega arith
 one-promise seen id n (post.Credit d at x) = omega arith
 one-promise seen id n (post.Payment d m y x) = omega arith

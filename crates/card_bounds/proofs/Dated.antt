@@ -83,6 +83,7 @@ effect-added issued a seen s (post.Resolve d target n) b = added-list (IsPlain s
 effect-added issued a seen s (post.Refund n) b = added-list (IsPlain seen.day) b.entries _ (all-debit (IsPlain seen.day) seen.day s.number (newest sort.Purchase seen.day (all_segments a seen)) s.cents (credit_balance b.entries) kind.Refund (λ s z. (refl, refl)))
 effect-added issued a seen s post.Penalty b = added-none (IsPlain seen.day) b.entries
 effect-added issued a seen s (post.Open d t) b = added-none (IsPlain seen.day) b.entries
+effect-added issued a seen s (post.OpenVariable d t) b = added-none (IsPlain seen.day) b.entries
 effect-added issued a seen s (post.Plan d k r e f) b = added-none (IsPlain seen.day) b.entries
 effect-added issued a seen s (post.Notice d y r e) b = added-none (IsPlain seen.day) b.entries
 effect-added issued a seen s (post.Lower d y r) b = added-none (IsPlain seen.day) b.entries
@@ -348,6 +349,5 @@ pub sums_small : SumsSmall
 sums_small = record {
   any = any-small;
   cycle = λ posts f rate first n h few days. let s = times _ n 31 posts 200000 (any-small posts f rate first n h) days few in omega arith;
-  accrual = λ posts f rate first n h few days. let s = times _ n 40000 posts 10000 (any-small posts f rate first n h) days few in omega arith;
-  long_accrual = λ posts f rate first n h few days. let s = times _ n 40000 posts 200000 (any-small posts f rate first n h) days few in omega arith;
+  accrual = λ posts f rate first n h few days. let s = times _ n 40000 posts 200000 (any-small posts f rate first n h) days few in omega arith;
 }

@@ -244,6 +244,7 @@ effect-claimed n ps issued a seen s (post.Refund x) b e l among clean r c =
     off-claimed n ps b.entries _ (debit-off seen.day s.number (newest_purchase a seen) s.cents (credit_balance b.entries) kind.Refund (newest-high a seen r)) c
 effect-claimed n ps issued a seen s post.Penalty b e l among clean r c = c
 effect-claimed n ps issued a seen s (post.Open d t) b e l among clean r c = c
+effect-claimed n ps issued a seen s (post.OpenVariable d t) b e l among clean r c = c
 effect-claimed n ps issued a seen s (post.Plan d k g f h) b e l among clean r c = c
 effect-claimed n ps issued a seen s (post.Notice d y g f) b e l among clean r c = c
 effect-claimed n ps issued a seen s (post.Lower d y g) b e l among clean r c = c

@@ -70,6 +70,7 @@ resolves-target : (n : ℕ) (p : Post) → resolves n p ≡ is_target n (resolve
 unfolding is_target
 resolves-target n (post.Resolve d t c) = refl
 resolves-target n (post.Open d t) = refl
+resolves-target n (post.OpenVariable d t) = refl
 resolves-target n (post.Charge d p c) = refl
 resolves-target n (post.Credit d p c) = refl
 resolves-target n (post.Payment d m y c) = refl

@@ -197,6 +197,7 @@ effect-there p issued a seen s (post.Refund n) b t h =
     All-append (On p) b.entries _ h (on-debit p (note_of seen kind.Refund s.number) (newest_purchase a seen) s.cents (credit_balance b.entries) t.credit (newest-there p a seen t))
 effect-there p issued a seen s post.Penalty b t h = h
 effect-there p issued a seen s (post.Open d u) b t h = h
+effect-there p issued a seen s (post.OpenVariable d u) b t h = h
 effect-there p issued a seen s (post.Plan d k r e f) b t h = h
 effect-there p issued a seen s (post.Notice d y r e) b t h = h
 effect-there p issued a seen s (post.Lower d y r) b t h = h

@@ -1,5 +1,5 @@
 -- No rate is above 9,999 basis points where no post's is.
-use Rattle.std.proofs.Common.{ℕ, suc, ◌≤◌, Bool, true, false, cond, not, ◌&&◌, List, [], ◌∷◌, ◌++◌, arith, Option, Some, None, leb, ltb}
+use Rattle.std.proofs.Common.{ℕ, suc, ◌+◌, ◌≤◌, Bool, true, false, cond, not, ◌&&◌, List, [], ◌∷◌, ◌++◌, arith, Option, Some, None, leb, ltb}
 use Rattle.std.specs.List.{All, filter_map, fold, cons_option}
 use Rattle.std.proofs.lemmas.List.Elements.{All-nil, All-cons, All-head, All-tail, All-weaker, All-filter, All-contains}
 use Rattle.std.specs.Prelude.{min}
@@ -16,7 +16,7 @@ use Rattle.card_model.specs.Accepted.{HasFewRates, posted_rate}
 use Rattle.card_model.specs.Books.{account_of, all_segments}
 use Rattle.card_model.specs.Cycles.{IssuedRow, seen_on}
 use Rattle.card_model.specs.Machine.{opened}
-use Rattle.card_model.specs.Rates.{Begun, Lowering, after_end, bears_as, bears_in, begun_of, capped, lowered_by, own, rate_on, with_penalty}
+use Rattle.card_model.specs.Rates.{Begun, Lowering, after_end, bears_as, bears_in, begun_of, capped, is_opening, lowered_by, own, rate_on, rate_with, with_penalty}
 use Rattle.card_model.specs.Segments.{SegmentTerms, is_over, is_plan, is_sort, last_that, opening_vintage, opening_vintages, segment_of, segments}
 use Rattle.card_model.specs.declared.segment.Sort.{Sort}
 use Rattle.card_events.specs.declared.post.Post.TheVariants as post
@@ -63,6 +63,7 @@ segment-small : (id n : ℕ) (p : Post) → posted_rate p ≤ rate_limit → IsS
 segment-small id n (post.Plan d k r e f) h = (omega arith, omega arith)
 segment-small id n (post.Notice d c r e) h = (h, omega arith)
 segment-small id n (post.Open d t) h = tt
+segment-small id n (post.OpenVariable d t) h = tt
 segment-small id n (post.Charge d p c) h = tt
 segment-small id n (post.Credit d p c) h = tt
 segment-small id n (post.Payment d m y c) h = tt
@@ -98,6 +99,7 @@ no_terms-small = record { purchase = omega arith; cash = omega arith; transfer =
 
 terms_in-small : (p : Post) → posted_rate p ≤ rate_limit → AreSmallTerms (terms_in p)
 terms_in-small (post.Open d t) h = record { purchase = omega arith; cash = omega arith; transfer = omega arith; penalty = omega arith }
+terms_in-small (post.OpenVariable d t) h = record { purchase = omega arith; cash = omega arith; transfer = omega arith; penalty = omega arith }
 terms_in-small (post.Charge d p c) h = no_terms-small
 terms_in-small (post.Credit d p c) h = no_terms-small
 terms_in-small (post.Payment d m y c) h = no_terms-small
@@ -141,26 +143,35 @@ segments-small history issued shared on h =
     opening-small a.opened (terms_of history) _ t (added-small (seen_on a shared history issued on).posts posts)
 
 -- ---- the rate
-last-small : (p : SegmentTerms → Bool) (gs : List SegmentTerms) → All IsSmall gs → (begun_of (last_that p gs)).rate ≤ rate_limit
-last-small p [] h = omega arith
-last-small p (g ∷ gs) h = by (last_that p gs) (p g) (All-head IsSmall g gs h) (last-small p gs (All-tail IsSmall g gs h))
+-- a margin and the index are together at most 9,999
+with-small : (index : Option ℕ) (g : SegmentTerms) → IsSmall g → rate_with index g ≤ rate_limit
+with-small None g s = s.0
+with-small (Some i) g s = by (is_opening g)
   where
-    by : (o : Option SegmentTerms) (t : Bool) → IsSmall g → (begun_of o).rate ≤ rate_limit → (begun_of (option_or o (cond t (Some g) None))).rate ≤ rate_limit
+    by : (t : Bool) → cond t (min rate_limit (g.rate + i)) g.rate ≤ rate_limit
+    by true = omega arith
+    by false = s.0
+
+last-small : (index : Option ℕ) (p : SegmentTerms → Bool) (gs : List SegmentTerms) → All IsSmall gs → (begun_of index (last_that p gs)).rate ≤ rate_limit
+last-small index p [] h = omega arith
+last-small index p (g ∷ gs) h = by (last_that p gs) (p g) (All-head IsSmall g gs h) (last-small index p gs (All-tail IsSmall g gs h))
+  where
+    by : (o : Option SegmentTerms) (t : Bool) → IsSmall g → (begun_of index o).rate ≤ rate_limit → (begun_of index (option_or o (cond t (Some g) None))).rate ≤ rate_limit
     by (Some x) t s i = i
-    by None true s i = s.0
+    by None true s i = with-small index g s
     by None false s i = i
 
-own-small : (gs : List SegmentTerms) (day : ℕ) (g : SegmentTerms) → All IsSmall gs → IsSmall g → (own gs day g).rate ≤ rate_limit
-own-small gs day g h s = by (is_plan g) (last-small (bears_in day g.sort g.id) gs h)
+own-small : (index : Option ℕ) (gs : List SegmentTerms) (day : ℕ) (g : SegmentTerms) → All IsSmall gs → IsSmall g → (own index gs day g).rate ≤ rate_limit
+own-small index gs day g h s = by (is_plan g) (last-small index (bears_in day g.sort g.id) gs h)
   where
-    by : (t : Bool) → (begun_of (last_that (bears_in day g.sort g.id) gs)).rate ≤ rate_limit → (cond t (record { rate = g.after; from = after_end g.ends }) (begun_of (last_that (bears_in day g.sort g.id) gs))).rate ≤ rate_limit
+    by : (t : Bool) → (begun_of index (last_that (bears_in day g.sort g.id) gs)).rate ≤ rate_limit → (cond t (record { rate = g.after; from = after_end g.ends }) (begun_of index (last_that (bears_in day g.sort g.id) gs))).rate ≤ rate_limit
     by true i = s.1
     by false i = i
 
-rate-small : (ls : List Lowering) (penalty : ℕ) (began : List ℕ) (gs : List SegmentTerms) (day : ℕ) (g : SegmentTerms) → penalty ≤ rate_limit → All IsSmall gs → IsSmall g → rate_on ls penalty began gs day g ≤ rate_limit
+rate-small : (index : Option ℕ) (ls : List Lowering) (penalty : ℕ) (began : List ℕ) (gs : List SegmentTerms) (day : ℕ) (g : SegmentTerms) → penalty ≤ rate_limit → All IsSmall gs → IsSmall g → rate_on index ls penalty began gs day g ≤ rate_limit
 unfolding rate_on
-rate-small ls penalty began gs day g p h s =
-    let lasting = penalties-small ls penalty (bears_as g) day began (capped ls (bears_as g) day (own gs day g)) p (chain _ _ _ (capped-less ls (bears_as g) day (own gs day g)) (own-small gs day g h s)) in
+rate-small index ls penalty began gs day g p h s =
+    let lasting = penalties-small ls penalty (bears_as g) day began (capped ls (bears_as g) day (own index gs day g)) p (chain _ _ _ (capped-less ls (bears_as g) day (own index gs day g)) (own-small index gs day g h s)) in
     by (is_plan g && ltb day g.begins) (is_plan g && not (is_over g.ends day)) (is_sort sort.Promo g.sort) _ lasting
   where
     chain : (x y z : ℕ) → x ≤ y → y ≤ z → x ≤ z
@@ -177,6 +188,6 @@ rates_small = record {
   days = λ history issued shared on day b g h c.
       let all = segments-small history issued shared on h in
       let t = terms-small history h in
-      rate-small _ (terms_of history).penalty _ _ day g t.penalty all (All-contains IsSmall _ g all c);
+      rate-small _ _ (terms_of history).penalty _ _ day g t.penalty all (All-contains IsSmall _ g all c);
   plans = λ history issued shared on h. All-weaker IsSmall (λ (g : SegmentTerms). g.rate ≤ rate_limit) (λ g s. s.0) _ (segments-small history issued shared on h);
 }

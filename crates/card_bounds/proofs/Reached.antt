@@ -242,6 +242,7 @@ effect-reaches posts issued a seen s (post.Refund n) b r one e clean h =
     debited posts b.entries seen.day s.number (newest sort.Purchase seen.day (all_segments a seen)) s.cents (credit_balance b.entries) kind.Refund (λ s z. record { no_payment = refl; no_credit = refl }) h
 effect-reaches posts issued a seen s post.Penalty b r one e clean h = h
 effect-reaches posts issued a seen s (post.Open d t) b r one e clean h = h
+effect-reaches posts issued a seen s (post.OpenVariable d t) b r one e clean h = h
 effect-reaches posts issued a seen s (post.Plan d k g f x) b r one e clean h = h
 effect-reaches posts issued a seen s (post.Notice d y g f) b r one e clean h = h
 effect-reaches posts issued a seen s (post.Lower d y g) b r one e clean h = h

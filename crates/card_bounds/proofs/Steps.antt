@@ -228,6 +228,7 @@ effect-step issued a seen s (post.Resolve d target n) b l c o =
     back h l = omega arith
 effect-step issued a seen s post.Penalty b l c o = stepped-same s.number 2000100000 b.entries
 effect-step issued a seen s (post.Open d t) b l c o = stepped-same s.number 2000100000 b.entries
+effect-step issued a seen s (post.OpenVariable d t) b l c o = stepped-same s.number 2000100000 b.entries
 effect-step issued a seen s (post.Plan d k r e f) b l c o = stepped-same s.number 2000100000 b.entries
 effect-step issued a seen s (post.Notice d y r e) b l c o = stepped-same s.number 2000100000 b.entries
 effect-step issued a seen s (post.Lower d y r) b l c o = stepped-same s.number 2000100000 b.entries

@@ -133,8 +133,7 @@ pub record IsRateSum (posts : ℕ) (amount rate : ℕ → ℕ) (first n : ℕ) :
 pub record SumsSmall : Type 0 where
   pub any : (posts : ℕ) (amount rate : ℕ → ℕ) (first n : ℕ) → IsRateSum posts amount rate first n → rate_sum amount rate first n ≤ n * (most_owing posts * 2739452)
   pub cycle : (posts : ℕ) (amount rate : ℕ → ℕ) (first n : ℕ) → IsRateSum posts amount rate first n → posts ≤ 200000 → n ≤ 31 → rate_sum amount rate first n ≤ 35000000000000000000000
-  pub accrual : (posts : ℕ) (amount rate : ℕ → ℕ) (first n : ℕ) → IsRateSum posts amount rate first n → posts ≤ 10000 → n ≤ 40000 → rate_sum amount rate first n < 10000000000000000000000000
-  pub long_accrual : (posts : ℕ) (amount rate : ℕ → ℕ) (first n : ℕ) → IsRateSum posts amount rate first n → posts ≤ 200000 → n ≤ 40000 → rate_sum amount rate first n < 100000000000000000000000000
+  pub accrual : (posts : ℕ) (amount rate : ℕ → ℕ) (first n : ℕ) → IsRateSum posts amount rate first n → posts ≤ 200000 → n ≤ 40000 → rate_sum amount rate first n < 100000000000000000000000000
 
 -- ---- Held
 -- what a machine's run gives: cents and fees within their ranges, and no Dispute resolved twice

@@ -29,8 +29,8 @@ pub fn rows_small()
     ensures { RowsSmall }
 {}
 
-/// A sum of balance times daily rate over 31 days is at most 3.5 * 10^22; over 40,000 days it is below 10^25 with
-/// 10,000 posts, and below 10^26 with 200,000.
+/// A sum of balance times daily rate over 31 days is at most 3.5 * 10^22, and over 40,000 days below 10^26, with at most
+/// 200,000 posts.
 pub fn sums_small()
     ensures { SumsSmall }
 {}

@@ -70,6 +70,7 @@ effect-lowers issued a seen s (post.Resolve d target n) b h =
 effect-lowers issued a seen s (post.Refund n) b h = debited b.entries seen.day s.number (newest sort.Purchase seen.day (all_segments a seen)) s.cents (credit_balance b.entries) kind.Refund (λ s z e. cc) h
 effect-lowers issued a seen s post.Penalty b h = h
 effect-lowers issued a seen s (post.Open d t) b h = h
+effect-lowers issued a seen s (post.OpenVariable d t) b h = h
 effect-lowers issued a seen s (post.Plan d k r e f) b h = h
 effect-lowers issued a seen s (post.Notice d y r e) b h = h
 effect-lowers issued a seen s (post.Lower d y r) b h = h

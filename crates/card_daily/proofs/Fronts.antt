@@ -168,6 +168,7 @@ not-both (post.Dispute d t c) e f = cc
 not-both (post.Resolve d t c) e f = cc
 not-both (post.Refund c) e f = cc
 not-both (post.Open d t) e f = cc
+not-both (post.OpenVariable d t) e f = cc
 not-both (post.Review d f') e f = cc
 not-both (post.Ack d t) e f = cc
 not-both (post.AskRefund d) e f = cc

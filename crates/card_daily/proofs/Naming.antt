@@ -22,6 +22,7 @@ still-names h k n (post.Dispute d t c) names = tt
 still-names h k n (post.Resolve d t c) names = tt
 still-names h k n (post.Refund c) names = tt
 still-names h k n (post.Open d t) names = tt
+still-names h k n (post.OpenVariable d t) names = tt
 still-names h k n (post.Review d f) names = tt
 still-names h k n (post.Ack d t) names = tt
 still-names h k n (post.AskRefund d) names = tt

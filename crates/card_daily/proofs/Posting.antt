@@ -238,6 +238,7 @@ effect-adds issued a seen s (post.Dispute d target claim) b e = record { more = 
 effect-adds issued a seen s (post.Resolve d target c) b e = record { more = _; entries = refl; cycles = refl; penalties = refl; charged = []; fees = sym (append-nil b.fees) }
 effect-adds issued a seen s post.Penalty b e = no-way e
 effect-adds issued a seen s (post.Open d t) b e = none-added b
+effect-adds issued a seen s (post.OpenVariable d t) b e = none-added b
 effect-adds issued a seen s (post.Plan d k r x f) b e = none-added b
 effect-adds issued a seen s (post.Notice d c r x) b e = none-added b
 effect-adds issued a seen s (post.Lower d c r) b e = none-added b
@@ -316,6 +317,7 @@ nothing-done issued a seen s (post.Dispute d target claim) b e no1 no2 no3 no4 n
 nothing-done issued a seen s (post.Resolve d target c) b e no1 no2 no3 no4 no5 no6 no7 = absurd (no7 d target c refl)
 nothing-done issued a seen s post.Penalty b e no1 no2 no3 no4 no5 no6 no7 = no-way e
 nothing-done issued a seen s (post.Open d t) b e no1 no2 no3 no4 no5 no6 no7 = refl
+nothing-done issued a seen s (post.OpenVariable d t) b e no1 no2 no3 no4 no5 no6 no7 = refl
 nothing-done issued a seen s (post.Plan d k r x f) b e no1 no2 no3 no4 no5 no6 no7 = refl
 nothing-done issued a seen s (post.Notice d c r x) b e no1 no2 no3 no4 no5 no6 no7 = refl
 nothing-done issued a seen s (post.Lower d c r) b e no1 no2 no3 no4 no5 no6 no7 = refl
@@ -336,6 +338,7 @@ returns-none n (post.Dispute d t c) other = refl
 returns-none n (post.Resolve d t c) other = refl
 returns-none n (post.Refund c) other = refl
 returns-none n (post.Open d t) other = refl
+returns-none n (post.OpenVariable d t) other = refl
 returns-none n (post.Plan d k r x f) other = refl
 returns-none n (post.Notice d c r x) other = refl
 returns-none n (post.Lower d c r) other = refl

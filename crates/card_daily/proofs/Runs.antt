@@ -84,6 +84,7 @@ plan-ends now n today key (post.Plan d k r e f) h first end is =
     let on = eqb-true (closing_on now e) e (where-not (eqb (closing_on now e) e) (refusal.PlanEndNotClosing (closing_on now e)) h) in
     subst (λ x. (a.opened ≤ x) × (day_of_month x ≡ a.close_day)) (pair-end (d, e) (first, end) is) (next-at a.close_day a.opened e on)
 plan-ends now n today key (post.Open d t) h first end is = cc
+plan-ends now n today key (post.OpenVariable d t) h first end is = cc
 plan-ends now n today key (post.Charge d p c) h first end is = cc
 plan-ends now n today key (post.Credit d p c) h first end is = cc
 plan-ends now n today key (post.Payment d m y c) h first end is = cc
@@ -119,6 +120,7 @@ accepted-planned now key p e h =
 
 opens-none : (p : Post) (first end : ℕ) → is_open p ≡ true → plan_days p ≡ Some (first, end) → ⊥
 opens-none (post.Open d t) first end e h = cc
+opens-none (post.OpenVariable d t) first end e h = cc
 opens-none (post.Charge d p c) first end e h = cc
 opens-none (post.Credit d p c) first end e h = cc
 opens-none (post.Payment d m y c) first end e h = cc

@@ -72,6 +72,7 @@ issues-more : (now : Present) (p : Post) → not_closed now p ≡ None → RowsB
 issues-more now (post.Bill cycle) n h =
     row-more (anchor_of now.lists.posts) now.today cycle (next_number now) (issued_sheet_of now) now.lists.issued (cycle_at cycle (book_today now).cycles) (bill-closed now cycle n) h
 issues-more now (post.Open d t) n h = no-more (anchor_of now.lists.posts) now.today now.lists.issued h
+issues-more now (post.OpenVariable d t) n h = no-more (anchor_of now.lists.posts) now.today now.lists.issued h
 issues-more now (post.Charge d p c) n h = no-more (anchor_of now.lists.posts) now.today now.lists.issued h
 issues-more now (post.Credit d p c) n h = no-more (anchor_of now.lists.posts) now.today now.lists.issued h
 issues-more now (post.Payment d m y c) n h = no-more (anchor_of now.lists.posts) now.today now.lists.issued h
@@ -105,6 +106,7 @@ post-more a today posts k e l h = record {
 billed : (now : Present) (n : ℕ) (key : List ℕ) (p : Post) → not_closed now p ≡ None → IsBilledLater (anchor_of now.lists.posts) (kept_as n key now.today p)
 billed now n key (post.Bill c) h cycle is = subst (λ x. closing (anchor_of now.lists.posts) x < now.today) (eqb-true c cycle is) (bill-closed now c h)
 billed now n key (post.Open d t) h cycle is = cc
+billed now n key (post.OpenVariable d t) h cycle is = cc
 billed now n key (post.Charge d p c) h cycle is = cc
 billed now n key (post.Credit d p c) h cycle is = cc
 billed now n key (post.Payment d m y c) h cycle is = cc
@@ -124,6 +126,7 @@ billed now n key (post.Amend t d c) h cycle is = cc
 opens-none : (p : Post) (cycle : ℕ) → is_open p ≡ true → bills cycle p ≡ true → ⊥
 opens-none (post.Bill c) cycle e h = cc
 opens-none (post.Open d t) cycle e h = cc
+opens-none (post.OpenVariable d t) cycle e h = cc
 opens-none (post.Charge d p c) cycle e h = cc
 opens-none (post.Credit d p c) cycle e h = cc
 opens-none (post.Payment d m y c) cycle e h = cc

@@ -45,6 +45,7 @@ of-post a i n (post.Plan d k rate end after) t h e =
     subst (Ends a) (some-same _ t e) (λ sorted. let ends = h d end refl in record { end = end; is = refl; from = ends.0; on = ends.1 })
 of-post a i n (post.Notice d c rate effective) t h e = subst (Ends a) (some-same _ t e) (λ sorted. absurd (no-deferred c sorted))
 of-post a i n (post.Open _ _) t h e = cc
+of-post a i n (post.OpenVariable _ _) t h e = cc
 of-post a i n (post.Charge _ _ _) t h e = cc
 of-post a i n (post.Credit _ _ _) t h e = cc
 of-post a i n (post.Payment _ _ _ _) t h e = cc

@@ -79,6 +79,7 @@ amend-dated n own (post.Resolve d t c) e l = l
 amend-dated n own (post.AskRefund d) e l = l
 amend-dated n own (post.Refund c) e l = l
 amend-dated n own (post.Open d t) e l = l
+amend-dated n own (post.OpenVariable d t) e l = l
 amend-dated n own (post.Return d t) e l = l
 
 last-dated : (n own : ℕ) (ks : List Kept) → ArePostsDated ks → own ≤ last_request_day → amended_day (last_amend n ks) own ≤ last_request_day
@@ -106,6 +107,7 @@ own-dated (post.Resolve d t c) day e s = cc
 own-dated (post.AskRefund d) day e s = cc
 own-dated (post.Refund c) day e s = cc
 own-dated (post.Open d t) day e s = cc
+own-dated (post.OpenVariable d t) day e s = cc
 own-dated (post.Return d t) day e s = cc
 
 post-dated : (ks : List Kept) (i : ℕ) (k : Kept) → ArePostsDated ks → slice_get ks i ≡ Some k → is_dated_post k.post ≡ true
@@ -131,6 +133,7 @@ charge-dated n day ks h e = by (at_number n ks) refl e
 first-dated : (p : Post) → is_dated_post p ≡ true → opening_in p ≤ last_request_day
 unfolding is_dated_post
 first-dated (post.Open d t) e = grind (arith, nat_tests, e)
+first-dated (post.OpenVariable d t) e = grind (arith, nat_tests, e)
 first-dated (post.Charge d p c) e = omega arith
 first-dated (post.Amend t d c) e = omega arith
 first-dated (post.Credit d p c) e = omega arith
@@ -210,6 +213,7 @@ this a holidays history n segment k (post.Resolve d t c) e rest none = rw none t
 this a holidays history n segment k (post.AskRefund d) e rest none = rw none tt
 this a holidays history n segment k (post.Refund c) e rest none = rw none tt
 this a holidays history n segment k (post.Open d t) e rest none = rw none tt
+this a holidays history n segment k (post.OpenVariable d t) e rest none = rw none tt
 this a holidays history n segment k (post.Return d t) e rest none = rw none tt
 
 charge-from : (a : Anchor) (holidays : List ℕ) (history : List Kept) (i m segment : ℕ) (ks : List Kept)

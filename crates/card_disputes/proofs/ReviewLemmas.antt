@@ -87,6 +87,7 @@ review-dated (post.Resolve d t c) day e l = l
 review-dated (post.AskRefund d) day e l = l
 review-dated (post.Refund c) day e l = l
 review-dated (post.Open d t) day e l = l
+review-dated (post.OpenVariable d t) day e l = l
 review-dated (post.Return d t) day e l = l
 
 pub last-dated : (ks : List Kept) (day : ℕ) → ArePostsDated ks → day ≤ last_request_day → fold max day (filter_map (λ k. review_of k.post) ks) ≤ last_request_day

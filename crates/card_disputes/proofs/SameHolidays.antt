@@ -45,6 +45,7 @@ due-same these those h credit posts n (post.Ack d t) = refl
 due-same these those h credit posts n (post.Resolve d t c) = refl
 due-same these those h credit posts n (post.Refund c) = refl
 due-same these those h credit posts n (post.Open d t) = refl
+due-same these those h credit posts n (post.OpenVariable d t) = refl
 due-same these those h credit posts n (post.Return d t) = refl
 
 all-due-same : (these those : List ℕ) → AreSame these those → (credit : ℕ) (posts : List CorrectedPost) → refund_due these credit posts ≡ refund_due those credit posts

@@ -62,6 +62,7 @@ resolve-lowers row a seen p (post.Ack d t) n b r e = absurd (cc)
 resolve-lowers row a seen p (post.AskRefund d) n b r e = absurd (cc)
 resolve-lowers row a seen p (post.Refund c) n b r e = absurd (cc)
 resolve-lowers row a seen p (post.Open d t) n b r e = absurd (cc)
+resolve-lowers row a seen p (post.OpenVariable d t) n b r e = absurd (cc)
 resolve-lowers row a seen p (post.Amend t d c) n b r e = absurd (cc)
 resolve-lowers row a seen p (post.Bill c) n b r e = absurd (cc)
 

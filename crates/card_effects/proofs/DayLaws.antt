@@ -58,6 +58,7 @@ from-post day i n on (post.Notice d c rate effective) g e o =
     let same = some-same _ g e in
     (refl, ap (λ (x : ℕ). leb x day) (sym o) ∙ (notice-from day d i n rate effective c ∙ ap (is_added day) same))
 from-post day i n on (post.Open _ _) g e o = cc
+from-post day i n on (post.OpenVariable _ _) g e o = cc
 from-post day i n on (post.Charge _ _ _) g e o = cc
 from-post day i n on (post.Credit _ _ _) g e o = cc
 from-post day i n on (post.Payment _ _ _ _) g e o = cc

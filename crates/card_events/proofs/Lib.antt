@@ -15,4 +15,5 @@ pub mod DueLaws
 pub mod MailLaws
 pub mod Agree
 pub mod OneMore
-pub mod IndexLemmas
+pub mod Keys
+pub mod IndexRows

@@ -15,6 +15,7 @@ is_request_day day = nat_le day last_request_day
 -- every day in the post is a day of requests
 unfoldable pub is_dated_post : Post → Bool
 is_dated_post (post.Open day _) = is_request_day day
+is_dated_post (post.OpenVariable day _) = is_request_day day
 is_dated_post (post.Charge day _ _) = is_request_day day
 is_dated_post (post.Credit day _ _) = is_request_day day
 is_dated_post (post.Payment day _ _ _) = is_request_day day
@@ -37,6 +38,7 @@ unfoldable pub is_dated_shared : Shared → Bool
 is_dated_shared (shared.Roll day) = is_request_day day
 is_dated_shared (shared.Holiday day) = is_request_day day
 is_dated_shared (shared.FeeRow day _ _) = is_request_day day
+is_dated_shared (shared.Index day _) = is_request_day day
 
 -- every day in the request is a day of requests
 unfoldable pub is_dated : Request → Bool

@@ -41,6 +41,11 @@ abbrev pub disputes : ℕ → Post → Bool
 disputes n (post.Dispute _ target _) = target == n
 disputes n _ = false
 
+-- the charge that a Dispute names, and 0 for what is none
+abbrev pub charge_disputed : Post → ℕ
+charge_disputed (post.Dispute _ target _) = target
+charge_disputed _ = 0
+
 -- the post there is a Dispute of charge n
 abbrev pub dispute_names : ℕ → Option Kept → Bool
 dispute_names n None = false
@@ -129,6 +134,7 @@ dispute_day history (Some k) = at k.post
 -- the effective day of post n
 unfoldable pub effective_day : Anchor → List ℕ → List Kept → ℕ → ℕ → Post → ℕ
 effective_day a holidays history n accepted (post.Open day _) = day
+effective_day a holidays history n accepted (post.OpenVariable day _) = day
 effective_day a holidays history n accepted (post.Charge day _ _) = amended_day (last_amend n history) day
 effective_day a holidays history n accepted (post.Credit day _ _) = amended_day (last_amend n history) day
 effective_day a holidays history n accepted (post.Payment day minute by _) =
@@ -187,6 +193,7 @@ slot_of p = record { day = p.day; number = p.number; cents = pos p.cents }
 -- a post that the fold of its day reads. The others change what stands in the list, or are read by tasks and statements
 abbrev pub is_folded : Post → Bool
 is_folded (post.Open _ _) = false
+is_folded (post.OpenVariable _ _) = false
 is_folded (post.Review _ _) = false
 is_folded (post.Ack _ _) = false
 is_folded (post.AskRefund _) = false
@@ -199,18 +206,20 @@ abbrev pub folded : Anchor → List ℕ → List Kept → List CorrectedPost
 folded a holidays history = filter (λ p. is_folded p.post) (corrected a holidays history)
 
 -- ---- the opening, which is the first post
--- the terms of a list that no Open begins
+-- the terms of a list that no opening begins
 abbrev pub no_terms : Terms
 no_terms = record { close = 0; purchase = 0; cash = 0; transfer = 0; penalty = 0; floor = 0; pct = 0 }
 
 -- the terms that a post opens with
 abbrev pub terms_in : Post → Terms
 terms_in (post.Open _ terms) = terms
+terms_in (post.OpenVariable _ terms) = terms
 terms_in _ = no_terms
 
 -- the day on which a post opens the account
 abbrev pub opening_in : Post → ℕ
 opening_in (post.Open day _) = day
+opening_in (post.OpenVariable day _) = day
 opening_in _ = 0
 
 -- the terms of an account
@@ -222,3 +231,13 @@ terms_of (k ∷ ks) = terms_in k.post
 abbrev pub anchor_of : List Kept → Anchor
 anchor_of [] = record { opened = 0; close_day = 0 }
 anchor_of (k ∷ ks) = record { opened = opening_in k.post; close_day = (terms_in k.post).close }
+
+-- the post opens an account whose opening rates follow the index
+abbrev pub opens_variable : Post → Bool
+opens_variable (post.OpenVariable _ _) = true
+opens_variable _ = false
+
+-- the opening rates of the account follow the index
+abbrev pub is_variable : List Kept → Bool
+is_variable [] = false
+is_variable (k ∷ ks) = opens_variable k.post

@@ -15,4 +15,3 @@ pub mod Refusals
 pub mod Same
 pub mod SharedRows
 pub mod Blanks
-pub mod Index

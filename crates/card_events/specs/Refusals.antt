@@ -1,9 +1,9 @@
--- The order of the refusals.
+-- The numbers of the refusals.
 use Rattle.std.specs.Prelude.{ℕ}
 use Rattle.card_events.specs.declared.reply.Refusal.{Refusal}
 use Rattle.card_events.specs.declared.reply.Refusal.TheVariants as refusal
 
--- the number of a refusal, in the order in which they are tested
+-- the number of a refusal
 abbrev pub refusal_number : Refusal → ℕ
 refusal_number refusal.UnknownAccount = 1
 refusal_number refusal.AccountExists = 2
@@ -34,3 +34,4 @@ refusal_number refusal.LedgerFull = 26
 refusal_number (refusal.RollBack day) = 27
 refusal_number refusal.RollTooFar = 28
 refusal_number (refusal.PastRow day) = 29
+refusal_number refusal.NoIndex = 30

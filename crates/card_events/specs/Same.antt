@@ -56,6 +56,7 @@ are_same_terms t u =
 -- two posts of one kind whose fields are equal
 unfoldable pub is_same_post : Post → Post → Bool
 is_same_post (post.Open d t) (post.Open e u) = (d == e) && are_same_terms t u
+is_same_post (post.OpenVariable d t) (post.OpenVariable e u) = (d == e) && are_same_terms t u
 is_same_post (post.Charge d p c) (post.Charge e q b) = (d == e) && is_same_place p q && (c == b)
 is_same_post (post.Credit d p c) (post.Credit e q b) = (d == e) && is_same_place p q && (c == b)
 is_same_post (post.Payment d m h c) (post.Payment e n i b) = (d == e) && (m == n) && is_same_channel h i && (c == b)

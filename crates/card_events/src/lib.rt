@@ -8,7 +8,6 @@ mod calendar;
 mod credit;
 mod dated;
 mod day;
-pub mod index;
 mod kept;
 mod later;
 pub mod laws;

@@ -1,5 +1,5 @@
-/// The most posts of an account, its Open among them.
-pub const POST_LIMIT: u32 = 10_000;
+/// The most posts of an account, its opening among them.
+pub const POST_LIMIT: u32 = 200_000;
 
 /// The greatest yearly rate, in basis points.
 pub const RATE_LIMIT: u16 = 9_999;

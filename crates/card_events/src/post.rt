@@ -6,7 +6,7 @@ use crate::{Channel, Day, Num};
 pub struct Terms {
     /// The day of the month on which cycles close, 1 to 28.
     pub close: Num,
-    /// The annual rates of the opening balances, in basis points.
+    /// The annual rates of the opening balances, in basis points; where they follow the index, the margins on it.
     pub purchase: Num,
     pub cash: Num,
     pub transfer: Num,
@@ -54,6 +54,11 @@ pub enum Finding {
 pub enum Post {
     /// The account begins.
     Open {
+        day: Day,
+        terms: Terms,
+    },
+    /// The account begins, and its opening rates follow the index: those of the terms are margins on it (12 CFR 1026.55(b)(2)).
+    OpenVariable {
         day: Day,
         terms: Terms,
     },
@@ -149,6 +154,7 @@ pub enum Post {
 impl Post {
     ghost use Rattle.std.specs.Prelude.{◌≡◌};
     ghost use Rattle.card_events.specs.Dated.{is_dated_post};
+    ghost use Rattle.card_events.specs.History.{charge_disputed, opens_variable};
     ghost use Rattle.card_events.specs.Same.{is_same_post};
 
     /// Whether the other post is of the same kind with the same content.
@@ -159,6 +165,23 @@ impl Post {
         *self == *other
     }
 
+    /// Whether it opens an account whose opening rates follow the index (12 CFR 1026.55(b)(2)).
+    pub fn opens_variable(&self) -> bool
+        ensures { result ≡ opens_variable self.now }
+    {
+        matches!(self, Post::OpenVariable { .. })
+    }
+
+    /// The number of the charge in which it asserts a billing error, 0 where it is no Dispute (12 CFR 1026.13).
+    pub fn charge_disputed(&self) -> u64
+        ensures { result ≡ charge_disputed self.now }
+    {
+        match self {
+            Post::Dispute { target, .. } => target.get(),
+            _ => 0,
+        }
+    }
+
     /// Whether every day in it is a day of requests, at most 2099-12-31.
     #[tactic(auto, unfolding(crate::specs::Dated::is_dated_post))]
     pub fn is_dated(&self) -> bool
@@ -166,6 +189,7 @@ impl Post {
     {
         match self {
             Post::Open { day, .. }
+            | Post::OpenVariable { day, .. }
             | Post::Charge { day, .. }
             | Post::Credit { day, .. }
             | Post::Payment { day, .. }

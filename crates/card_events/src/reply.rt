@@ -11,7 +11,7 @@ pub enum Reply {
     Refused(Refusal),
 }
 
-/// Why a request isn't accepted. The first that holds is given, in this order.
+/// Why a request isn't accepted. The first that holds is given, in this order; NoIndex comes behind DayAhead.
 #[derive(Clone, Copy)]
 pub enum Refusal {
     /// No account has the name.
@@ -62,7 +62,7 @@ pub enum Refusal {
     RefundTooLarge(Cents),
     /// No rate increase has taken effect.
     NothingToReview,
-    /// The account has 10,000 posts.
+    /// The account has 200,000 posts.
     AccountFull,
     /// There are 1,000,000 accounts.
     LedgerFull,
@@ -72,13 +72,15 @@ pub enum Refusal {
     RollTooFar,
     /// Today is this day, which isn't before the row's.
     PastRow(Day),
+    /// The index has no row on the opening day or before it (12 CFR 1026.55(b)(2)).
+    NoIndex,
 }
 
 impl Refusal {
     ghost use Rattle.std.specs.Prelude.{◌≡◌};
     ghost use Rattle.card_events.specs.Refusals.{refusal_number};
 
-    /// The number of the refusal, 1 to 29, in the order in which they are tested.
+    /// The number of the refusal, 1 to 30.
     pub fn number(&self) -> u8
         ensures { result ≡ refusal_number self.now }
     {
@@ -112,6 +114,7 @@ impl Refusal {
             Refusal::RollBack(_) => 27,
             Refusal::RollTooFar => 28,
             Refusal::PastRow(_) => 29,
+            Refusal::NoIndex => 30,
         }
     }
 }

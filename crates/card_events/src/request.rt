@@ -10,6 +10,8 @@ pub enum Shared {
     Holiday(Day),
     /// The penalty fees from this day on, in cents: the first, and a repeated one (12 CFR 1026.52(b)(1)(ii)).
     FeeRow { day: Day, first: Num, repeat: Num },
+    /// The index is this rate from this day on, in basis points (12 CFR 1026.55(b)(2)).
+    Index { day: Day, rate: Num },
 }
 
 /// A request of the machine.
@@ -34,9 +36,10 @@ impl Shared {
         ensures { result ≡ is_dated_shared self.now }
     {
         match self {
-            Shared::Roll(day) | Shared::Holiday(day) | Shared::FeeRow { day, .. } => {
-                is_request_day(*day)
-            }
+            Shared::Roll(day)
+            | Shared::Holiday(day)
+            | Shared::FeeRow { day, .. }
+            | Shared::Index { day, .. } => is_request_day(*day),
         }
     }
 }

@@ -13,3 +13,4 @@ pub mod Rates
 pub mod Refusals
 pub mod Sheets
 pub mod Statements
+pub mod Variable

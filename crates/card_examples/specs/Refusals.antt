@@ -192,9 +192,9 @@ pub record RefusalsAreWorked : Type 0 where
   pub refund_too_large : Refuses overpaid (to_a 4 (post.Refund 501)) (refusal.RefundTooLarge (pos 500))
   -- the notice takes effect later than the day of this review
   pub nothing_to_review : Refuses noticed (to_a 3 (post.Review (day_at 2025 3 16) Keep)) refusal.NothingToReview
-  -- 10,000 posts an account, and 1,000,000 accounts
-  pub account_full : reason_against (with_posts (map (kept a_charge) (range_with_len 2 9999))) a_charge ≡ Some refusal.AccountFull
-  pub ledger_full : reason_to_open (day_at 2024 1 10) 1000000 (post.Open (day_at 2024 1 6) (terms_with 2500)) ≡ Some refusal.LedgerFull
+  -- 200,000 posts an account, and 1,000,000 accounts
+  pub account_full : reason_against (with_posts (map (kept a_charge) (range_with_len 2 199999))) a_charge ≡ Some refusal.AccountFull
+  pub ledger_full : reason_to_open (day_at 2024 1 10) 1000000 (shared_rows []) (post.Open (day_at 2024 1 6) (terms_with 2500)) ≡ Some refusal.LedgerFull
   -- today goes forward, by at most 366 days where there is an account; rows are for days to come
   pub roll_back : Refuses opened (roll 2024 1 10) (refusal.RollBack (day_at 2024 1 10))
   pub roll_too_far : Refuses opened (roll 2025 1 11) refusal.RollTooFar

@@ -62,7 +62,7 @@ breaks_with s None b = []
 breaks_with s (Some l) b =
     let a = account_of l.posts in
     let posts = corrected a.anchor (shared_rows s.shared).holidays l.posts in
-    filter (is_break a posts l.issued b.penalties) (range_with_len a.anchor.opened (s.today + 1 - a.anchor.opened))
+    filter (is_break a posts l.issued (shared_rows s.shared).index b.penalties) (range_with_len a.anchor.opened (s.today + 1 - a.anchor.opened))
 
 -- the break days of the account up to today
 abbrev pub breaks_after : List Request → List ℕ
@@ -74,7 +74,7 @@ steps_with s None b = 0
 steps_with s (Some l) b =
     let a = account_of l.posts in
     let posts = corrected a.anchor (shared_rows s.shared).holidays l.posts in
-    steps_among (is_break a posts l.issued b.penalties) a.anchor.opened s.today
+    steps_among (is_break a posts l.issued (shared_rows s.shared).index b.penalties) a.anchor.opened s.today
 
 -- those of the account
 abbrev pub steps_after : List Request → ℕ

@@ -16,6 +16,7 @@ ghost use Rattle.card_examples.specs.Rates.{RatesAreWorked};
 ghost use Rattle.card_examples.specs.Refusals.{RefusalsAreWorked};
 ghost use Rattle.card_examples.specs.Sheets.{SheetsAreWorked};
 ghost use Rattle.card_examples.specs.Statements.{StatementsAreWorked};
+ghost use Rattle.card_examples.specs.Variable.{IndexRefusalsAreWorked, VariableRatesAreWorked};
 
 /// Daily rates and interest (12 CFR 1026.14(b)).
 pub fn interest()
@@ -85,4 +86,10 @@ pub fn statements()
 /// What statements show beside their cycles (12 CFR 1026.7(b)).
 pub fn sheets()
     ensures { SheetsAreWorked }
+{}
+
+/// Rates that follow the index, and what isn't accepted of it (12 CFR 1026.55(b)(2)).
+pub fn variable()
+    ensures rates { VariableRatesAreWorked }
+    ensures refusals { IndexRefusalsAreWorked }
 {}

@@ -141,6 +141,7 @@ credit-folded (post.Dispute _ _ _) e = refl
 credit-folded (post.Resolve _ _ _) e = refl
 credit-folded (post.Refund _) e = refl
 credit-folded (post.Open _ _) e = absurd (cc)
+credit-folded (post.OpenVariable _ _) e = absurd (cc)
 credit-folded (post.Review _ _) e = absurd (cc)
 credit-folded (post.Ack _ _) e = absurd (cc)
 credit-folded (post.AskRefund _) e = absurd (cc)

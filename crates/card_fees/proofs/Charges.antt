@@ -15,7 +15,7 @@ use Rattle.card_model.specs.declared.fee.FeeKind.{FeeKind}
 use Rattle.card_model.specs.declared.fee.FeeKind.TheVariants as fee
 use Rattle.card_fees.specs.Charged.{AreOneEach, amount_by, fee_by, fee_of}
 use Rattle.card_fees.specs.Laws.{SeesRows}
-use Rattle.card_fees.specs.Table.{row_on}
+use Rattle.card_shared.specs.Table.{row_on}
 use Rattle.card_fees.specs.declared.charge.Cause.{Cause}
 
 -- what is known of a fee that is charged

@@ -1,6 +1,5 @@
 pub mod Bounded
 pub mod Slots
-pub mod RowsFound
 pub mod Days
 pub mod Payments
 pub mod Fold

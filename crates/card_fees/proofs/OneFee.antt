@@ -71,6 +71,7 @@ effect-one issued a seen s (post.Resolve d target c) b h = h
 effect-one issued a seen s (post.Refund n) b h = h
 effect-one issued a seen s post.Penalty b h = h
 effect-one issued a seen s (post.Open d t) b h = h
+effect-one issued a seen s (post.OpenVariable d t) b h = h
 effect-one issued a seen s (post.Plan d k r e f) b h = h
 effect-one issued a seen s (post.Notice d c r e) b h = h
 effect-one issued a seen s (post.Lower d c r) b h = h

@@ -43,6 +43,7 @@ record IsReturn (n : ℕ) (p : Post) : Type 0 where
 return-shape : (n : ℕ) (p : Post) → returns n p ≡ true → IsReturn n p
 return-shape n (post.Return day target) e = record { on = day; is = ap (λ t. post.Return day t) (eqb-true target n e) }
 return-shape n (post.Open _ _) e = absurd (cc)
+return-shape n (post.OpenVariable _ _) e = absurd (cc)
 return-shape n (post.Charge _ _ _) e = absurd (cc)
 return-shape n (post.Credit _ _ _) e = absurd (cc)
 return-shape n (post.Payment _ _ _ _) e = absurd (cc)
@@ -65,6 +66,7 @@ unfolding effective_day
 payment-day a holidays history n k (post.Payment day minute by cents) e q = rw e refl
 payment-day a holidays history n k (post.Return _ _) e q = absurd (cc)
 payment-day a holidays history n k (post.Open _ _) e q = absurd (cc)
+payment-day a holidays history n k (post.OpenVariable _ _) e q = absurd (cc)
 payment-day a holidays history n k (post.Charge _ _ _) e q = absurd (cc)
 payment-day a holidays history n k (post.Credit _ _ _) e q = absurd (cc)
 payment-day a holidays history n k (post.Plan _ _ _ _ _) e q = absurd (cc)

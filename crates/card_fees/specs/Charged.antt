@@ -5,7 +5,7 @@ use Rattle.card_events.specs.SharedRows.{FeeRow}
 use Rattle.card_model.specs.Fees.{is_charged_for, is_repeat, tier_amount}
 use Rattle.card_model.specs.declared.fee.Fee.{Fee}
 use Rattle.card_fees.specs.declared.charge.Cause.{Cause}
-use Rattle.card_fees.specs.Table.{row_on}
+use Rattle.card_shared.specs.Table.{row_on}
 
 -- the least of the table's amount, the minimum payment of the due date, and that of the last due date before the day
 abbrev pub amount_by : List FeeRow → ℕ → Bool → ℕ → ℕ → ℕ

@@ -3,8 +3,6 @@ pub mod Counting
 pub mod Due
 pub mod Laws
 pub mod Limits
-pub mod Rows
-pub mod Table
 pub mod Asked
 pub mod DueFee
 pub mod DueLaws

@@ -5,6 +5,6 @@ use Rattle.std.specs.Prelude.{ℕ}
 abbrev pub statement_limit : ℕ
 statement_limit = 100_000_000_000_000_000
 
--- no sum over the posts of an account is above it, in cents: that of 10,000 posts of 999,999,999,999 cents
+-- no sum over the posts of an account is above it, in cents: that of 200,000 posts of 999,999,999,999 cents
 abbrev pub payments_limit : ℕ
-payments_limit = 9_999_999_999_990_000
+payments_limit = 199_999_999_999_800_000

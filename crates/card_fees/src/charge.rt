@@ -3,7 +3,7 @@ ghost use Rattle.std.specs.Prelude.{◌≡◌, ◌+◌, ◌<◌, ◌≤◌, ◌�
 ghost use Rattle.card_events.specs.Billing.{IsCloseDay, cycle_of, due};
 ghost use Rattle.card_events.specs.Range.{last_reckoned_day};
 ghost use Rattle.card_fees.specs.Charged as charged;
-ghost use Rattle.card_fees.specs.Table.{row_on};
+ghost use Rattle.card_shared.specs.Table.{row_on};
 ghost use Rattle.card_model.specs.Fees as words;
 ghost use Rattle.card_model.specs.declared.fee.FeeKind.TheVariants as kind;
 

@@ -1,5 +1,5 @@
-//! The fee table, the minimum payment, what a due date asks for and whether it was paid, penalty fees, and what all accounts
-//! share (12 CFR 1026.5(b)(2)(ii), .52(b), .54, .55(b)(4)).
+//! The minimum payment, what a due date asks for and whether it was paid, and penalty fees; it hands on `card_shared` (12 CFR
+//! 1026.5(b)(2)(ii), .52(b), .54, .55(b)(4)).
 #![tactic(auto)]
 
 mod charge;
@@ -12,11 +12,11 @@ mod grace;
 pub mod laws;
 mod left;
 mod required;
-mod shared_reason;
-mod shared_rows;
-mod table;
 
 pub use card_model::{Fee, FeeKind, GraceCase};
+pub use card_shared::{
+    FeeTable, SharedRows, fees_reason, holiday_reason, index_reason, roll_reason,
+};
 pub use charge::{late_fee, returned_fee};
 pub use counting::{counted, counted_before, credited};
 pub use due::{met, owes_sixty_days, past_due};
@@ -25,6 +25,3 @@ pub use due_fees::{capped_fee, due_fee};
 pub use grace::{paid, purchase_case};
 pub use left::minimum_left;
 pub use required::minimum;
-pub use shared_reason::{fees_reason, holiday_reason, roll_reason};
-pub use shared_rows::SharedRows;
-pub use table::FeeTable;

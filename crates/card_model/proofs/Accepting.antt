@@ -1,5 +1,5 @@
 -- What the refusals leave: the lists of every account that the machine has accepted.
-use Rattle.std.proofs.Common.{◌≡◌, ℕ, zero, suc, ◌+◌, ◌≤◌, ◌<◌, Bool, true, false, cond, ◌||◌, List, [], ◌∷◌, ◌++◌, length, refl, sym, ap, ◌∙◌, subst, arith, Option, Some, None, eqb, leb, ltb}
+use Rattle.std.proofs.Common.{◌≡◌, ℕ, zero, suc, ◌+◌, ◌≤◌, ◌<◌, Bool, true, false, cond, ◌||◌, List, [], ◌∷◌, ◌++◌, length, refl, sym, ap, ◌∙◌, subst, arith, Option, Some, None, eqb, leb, ltb, max}
 use Rattle.std.specs.Option.{option_or, option_map}
 use Rattle.std.specs.List.{All, count_by, filter_map, cons_option, list_any}
 use Rattle.std.proofs.lemmas.Bool.{eqb-true, eq-eqb}
@@ -11,7 +11,7 @@ use Rattle.std.specs.Str.{bytes_eq}
 use Rattle.card_events.specs.History.{at_number, terms_in, terms_of}
 use Rattle.card_events.specs.Keys.{with_key}
 use Rattle.card_events.specs.Limits.{post_limit}
-use Rattle.card_events.specs.SharedRows.{FeeRow, fee_row_of, shared_rows}
+use Rattle.card_events.specs.SharedRows.{FeeRow, SharedRows, fee_row_of, shared_rows}
 use Rattle.card_events.specs.declared.kept.Kept.{Kept}
 use Rattle.card_events.specs.declared.post.Post.{Post}
 use Rattle.card_events.specs.declared.post.Terms.{Terms}
@@ -24,13 +24,14 @@ use Rattle.card_model.specs.Cycles.{Cycle, IssuedRow, Sheet}
 use Rattle.card_model.specs.Deadlines.{resolves}
 use Rattle.card_model.specs.Folds.{cycle_at, row_of_cycle}
 use Rattle.card_model.specs.Machine.{Accepts, NamedAccount, Outcome, Refuses, Repeats, State, accepted, accounts_after, at_key, has_accounts, is_open, is_repeat_of, issues, judged, kept_as, lists_of, next_number, opened, outcome, outcome_in, run, run_from, shared_reason, start, step, with_lists, with_shared}
-use Rattle.card_model.specs.Refusals.{Lists, Present, account_full, bad_terms, bills, book_today, day_ahead, first_reason, is_no_amount, is_out_of_range, no_open_dispute, number_from, reason_against, reason_to_open, reasons, where_true, wrong_entry}
+use Rattle.card_model.specs.Refusals.{Lists, Present, account_full, bad_terms_of, bills, book_today, day_ahead, first_reason, is_no_amount, is_out_of_range, no_index, no_open_dispute, number_from, reason_against, reason_to_open, reasons, where_true, wrong_entry}
 use Rattle.card_events.specs.declared.reply.Refusal.TheVariants as refusal
 use Rattle.card_events.specs.declared.request.Request.TheVariants as request
 use Rattle.card_events.specs.declared.request.Shared.TheVariants as shared
 use Rattle.card_events.specs.declared.post.Post.TheVariants as post
 use Rattle.card_events.specs.Money.{rate_limit}
 use Rattle.card_model.specs.Sheets.{issued_sheet_of}
+use Rattle.card_model.proofs.Indexed.{runs-are-indexed}
 use Rattle.card_model.proofs.Issue.{row_for-append}
 
 -- ---- no reason stands
@@ -89,6 +90,7 @@ few-cents now (post.Dispute d t c) h = amount-few c h
 few-cents now (post.Amend t d c) h = not-above c 1000000000 h
 few-cents now (post.Resolve d t c) h = let parts = or-false (ltb 1000000000 c) _ h in not-above c 1000000000 parts.0
 few-cents now (post.Open d t) h = omega arith
+few-cents now (post.OpenVariable d t) h = omega arith
 few-cents now (post.Return d t) h = omega arith
 few-cents now (post.Plan d k r e f) h = omega arith
 few-cents now (post.Notice d c r e) h = omega arith
@@ -100,7 +102,7 @@ few-cents now (post.AskRefund d) h = omega arith
 few-cents now (post.Bill c) h = omega arith
 
 -- ---- rates and terms
--- a post that is no Open
+-- a post that is no opening
 few-rates : (now : Present) (p : Post) → is_open p ≡ false → is_out_of_range now p ≡ false → posted_rate p ≤ rate_limit
 unfolding is_out_of_range
 few-rates now (post.Plan d k r e f) o h =
@@ -111,6 +113,7 @@ few-rates now (post.Plan d k r e f) o h =
 few-rates now (post.Notice d c r e) o h = not-above r rate_limit h
 few-rates now (post.Lower d c r) o h = not-above r rate_limit h
 few-rates now (post.Open d t) o h = cc
+few-rates now (post.OpenVariable d t) o h = cc
 few-rates now (post.Charge d q c) o h = omega arith
 few-rates now (post.Credit d q c) o h = omega arith
 few-rates now (post.Payment d m y c) o h = omega arith
@@ -143,9 +146,13 @@ terms-reasons t =
     ∷ where_true (ltb 1000000 t.floor) (refusal.BadTerms 6)
     ∷ where_true (ltb 10000 t.pct) (refusal.BadTerms 7) ∷ []
 
-good-terms : (d : ℕ) (t : Terms) → bad_terms (post.Open d t) ≡ None → GoodOpening (post.Open d t)
+pub record GoodTerms (t : Terms) : Type 0 where
+  pub rate : max (max t.purchase t.cash) (max t.transfer t.penalty) ≤ rate_limit
+  pub terms : AreInRange t
+
+good-terms : (t : Terms) → bad_terms_of t ≡ None → GoodTerms t
 unfolding terms-reasons
-good-terms d t h =
+good-terms t h =
     let none = all-none (terms-reasons t) h in
     let close = or-false (eqb t.close 0) (ltb 28 t.close) (where-false _ _ none.0) in
     let purchase = not-above t.purchase rate_limit (where-false _ _ none.1.0) in
@@ -162,28 +169,33 @@ good-terms d t h =
       };
     }
 
--- against an Open there is no other first reason
-good-opening : (today accounts : ℕ) (p : Post) → is_open p ≡ true → reason_to_open today accounts p ≡ None → GoodOpening p
+-- against an opening there is no other first reason
+good-opening : (today accounts : ℕ) (shared : SharedRows) (p : Post) → is_open p ≡ true → reason_to_open today accounts shared p ≡ None → GoodOpening p
 unfolding reason_to_open
-good-opening today accounts (post.Open d t) o h =
-    let first = first-none (bad_terms (post.Open d t)) (day_ahead today (post.Open d t) ∷ where_true (leb 1000000 accounts) refusal.LedgerFull ∷ []) h in
-    good-terms d t first.0
-good-opening today accounts (post.Charge d p c) o h = cc
-good-opening today accounts (post.Credit d p c) o h = cc
-good-opening today accounts (post.Payment d m y c) o h = cc
-good-opening today accounts (post.Return d t) o h = cc
-good-opening today accounts (post.Plan d g r f a) o h = cc
-good-opening today accounts (post.Notice d c r f) o h = cc
-good-opening today accounts (post.Lower d c r) o h = cc
-good-opening today accounts post.Penalty o h = cc
-good-opening today accounts (post.Review d f) o h = cc
-good-opening today accounts (post.Dispute d t c) o h = cc
-good-opening today accounts (post.Ack d t) o h = cc
-good-opening today accounts (post.Resolve d t c) o h = cc
-good-opening today accounts (post.AskRefund d) o h = cc
-good-opening today accounts (post.Refund c) o h = cc
-good-opening today accounts (post.Amend t d c) o h = cc
-good-opening today accounts (post.Bill c) o h = cc
+good-opening today accounts shared (post.Open d t) o h =
+    let first = first-none (bad_terms_of t) (day_ahead today (post.Open d t) ∷ no_index shared.index (post.Open d t) ∷ where_true (leb 1000000 accounts) refusal.LedgerFull ∷ []) h in
+    let good = good-terms t first.0 in
+    record { rate = good.rate; terms = good.terms }
+good-opening today accounts shared (post.OpenVariable d t) o h =
+    let first = first-none (bad_terms_of t) (day_ahead today (post.OpenVariable d t) ∷ no_index shared.index (post.OpenVariable d t) ∷ where_true (leb 1000000 accounts) refusal.LedgerFull ∷ []) h in
+    let good = good-terms t first.0 in
+    record { rate = good.rate; terms = good.terms }
+good-opening today accounts shared (post.Charge d p c) o h = cc
+good-opening today accounts shared (post.Credit d p c) o h = cc
+good-opening today accounts shared (post.Payment d m y c) o h = cc
+good-opening today accounts shared (post.Return d t) o h = cc
+good-opening today accounts shared (post.Plan d g r f a) o h = cc
+good-opening today accounts shared (post.Notice d c r f) o h = cc
+good-opening today accounts shared (post.Lower d c r) o h = cc
+good-opening today accounts shared post.Penalty o h = cc
+good-opening today accounts shared (post.Review d f) o h = cc
+good-opening today accounts shared (post.Dispute d t c) o h = cc
+good-opening today accounts shared (post.Ack d t) o h = cc
+good-opening today accounts shared (post.Resolve d t c) o h = cc
+good-opening today accounts shared (post.AskRefund d) o h = cc
+good-opening today accounts shared (post.Refund c) o h = cc
+good-opening today accounts shared (post.Amend t d c) o h = cc
+good-opening today accounts shared (post.Bill c) o h = cc
 
 -- ---- Resolves
 abbrev resolvers : ℕ → List Kept → ℕ
@@ -213,6 +225,7 @@ still-once now k h once n = by (resolves n k.post) refl (once n)
         let same = eqb-true t n e in
         none-resolves n now.lists.posts (subst (λ m. list_any (λ k. resolves m k.post) now.lists.posts ≡ false) same (where-false _ _ h))
     none-before (post.Open d t) e h = cc
+    none-before (post.OpenVariable d t) e h = cc
     none-before (post.Charge d p c) e h = cc
     none-before (post.Credit d p c) e h = cc
     none-before (post.Payment d m y c) e h = cc
@@ -308,6 +321,7 @@ unfolding wrong_entry
 issues-rows now n key (post.Bill cycle) h s b =
     bill-rows now (kept_as n key now.today (post.Bill cycle)) cycle (issued_sheet_of now) (cycle_at cycle (book_today now).cycles) (next_number now) now.today refl (mapped-none _ _ h) s b
 issues-rows now n key (post.Open d t) h s b = no-rows _ _ _ s b
+issues-rows now n key (post.OpenVariable d t) h s b = no-rows _ _ _ s b
 issues-rows now n key (post.Charge d p c) h s b = no-rows _ _ _ s b
 issues-rows now n key (post.Credit d p c) h s b = no-rows _ _ _ s b
 issues-rows now n key (post.Payment d m y c) h s b = no-rows _ _ _ s b
@@ -370,6 +384,7 @@ opened-stands k e g = record {
 
     few : (p : Post) → is_open p ≡ true → posted_cents p ≤ 1000000000
     few (post.Open d t) e = omega arith
+    few (post.OpenVariable d t) e = omega arith
     few (post.Charge d p c) e = cc
     few (post.Credit d p c) e = cc
     few (post.Payment d m y c) e = cc
@@ -412,10 +427,10 @@ at_key-stands now key p None l = by (is_open p) refl
     by true o = tt
     by false o = judged-stands now key p (reason_against now p) o refl l
 
-to_open-stands : (key : List ℕ) (today accounts : ℕ) (p : Post) (r : Option Refusal) → is_open p ≡ true → reason_to_open today accounts p ≡ r → StandsIf (opened key today p r)
+to_open-stands : (key : List ℕ) (today accounts : ℕ) (shared : SharedRows) (p : Post) (r : Option Refusal) → is_open p ≡ true → reason_to_open today accounts shared p ≡ r → StandsIf (opened key today p r)
 unfolding StandsIf
-to_open-stands key today accounts p (Some r) e h = tt
-to_open-stands key today accounts p None e h = opened-stands (kept_as 1 key today p) e (good-opening today accounts p e h)
+to_open-stands key today accounts shared p (Some r) e h = tt
+to_open-stands key today accounts shared p None e h = opened-stands (kept_as 1 key today p) e (good-opening today accounts shared p e h)
 
 -- the lists of an account, where it is there
 StandsThere : Option Lists → Type 0
@@ -426,8 +441,8 @@ outcome-stands : (today : ℕ) (rows : List Shared) (accounts : ℕ) (key : List
 unfolding outcome StandsThere StandsIf
 outcome-stands today rows accounts key p None h = by (is_open p) refl
   where
-    by : (t : Bool) → is_open p ≡ t → StandsIf (cond t (opened key today p (reason_to_open today accounts p)) (Refuses refusal.UnknownAccount))
-    by true e = to_open-stands key today accounts p (reason_to_open today accounts p) e refl
+    by : (t : Bool) → is_open p ≡ t → StandsIf (cond t (opened key today p (reason_to_open today accounts (shared_rows rows) p)) (Refuses refusal.UnknownAccount))
+    by true e = to_open-stands key today accounts (shared_rows rows) p (reason_to_open today accounts (shared_rows rows) p) e refl
     by false e = tt
 outcome-stands today rows accounts key p (Some l) h = at_key-stands (record { today = today; shared = shared_rows rows; lists = l }) key p (with_key key l.posts) h
 
@@ -475,6 +490,7 @@ shared-few : (today : ℕ) (any : Bool) (r : Shared) → shared_reason today any
 unfolding shared_reason
 shared-few today any (shared.Roll d) h = All-nil HasFewFees
 shared-few today any (shared.Holiday d) h = All-nil HasFewFees
+shared-few today any (shared.Index d r) h = All-nil HasFewFees
 shared-few today any (shared.FeeRow d f r) h =
     let one = first-none (where_true (ltb 100000 f || ltb 100000 r || ltb r f) refusal.AmountRange) (where_true (leb d today) (refusal.PastRow today) ∷ []) h in
     let either = or-false (ltb 100000 f || ltb 100000 r) (ltb r f) (where-false _ _ one.0) in
@@ -508,4 +524,5 @@ runs_are_accepted requests =
     record {
       accounts = All-weaker (λ (x : NamedAccount). Stands x.lists) (λ (x : NamedAccount). AreAccepted x.lists) (λ x l. l.accepted) (run requests).accounts g.accounts;
       fees = g.fees;
+      indexed = runs-are-indexed requests;
     }

@@ -162,6 +162,7 @@ effect-off issued a seen s (post.Resolve d target c) b h = joined b.entries _ h 
 effect-off issued a seen s (post.Refund n) b h = joined b.entries _ h (debit-off seen.day s.number _ s.cents _ kind.Refund refl)
 effect-off issued a seen s post.Penalty b h = h
 effect-off issued a seen s (post.Open d t) b h = h
+effect-off issued a seen s (post.OpenVariable d t) b h = h
 effect-off issued a seen s (post.Plan d k r e f) b h = h
 effect-off issued a seen s (post.Notice d c r e) b h = h
 effect-off issued a seen s (post.Lower d c r) b h = h

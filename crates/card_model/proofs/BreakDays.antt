@@ -1,5 +1,5 @@
 -- Whether a day is a break day is told by the penalties of the day before it.
-use Rattle.std.proofs.Common.{◌≡◌, ℕ, zero, suc, ◌+◌, ◌-◌, ◌<◌, ◌≤◌, Bool, true, false, cond, not, ◌&&◌, ◌||◌, nat_le, List, [], ◌∷◌, length, refl, sym, ap, ◌∙◌, arith, Option, Some, None, eqb, ◌⊎◌, inl, inr}
+use Rattle.std.proofs.Common.{◌≡◌, ℕ, zero, suc, ◌+◌, ◌-◌, ◌<◌, ◌≤◌, Bool, true, false, cond, not, ◌&&◌, ◌||◌, nat_le, nat_lt, List, [], ◌∷◌, length, refl, sym, ap, ◌∙◌, arith, Option, Some, None, eqb, ◌⊎◌, inl, inr}
 use Rattle.std.specs.Prelude.{is_some, map}
 use Rattle.std.specs.List.{list_all, list_any}
 use Rattle.std.proofs.lemmas.Bool.{cases_lt, ne_eqb}
@@ -8,8 +8,8 @@ use Rattle.std.proofs.lemmas.List.Folds.{list_any-append, list_any_none}
 use Rattle.card_events.specs.Business.{is_due}
 use Rattle.card_events.specs.Civil.{day_of_month}
 use Rattle.card_events.specs.Range.{last_calendar_day}
-use Rattle.card_events.specs.History.{CorrectedPost, anchor_of, corrected}
-use Rattle.card_events.specs.SharedRows.{SharedRows}
+use Rattle.card_events.specs.History.{CorrectedPost, anchor_of, corrected, is_variable}
+use Rattle.card_events.specs.SharedRows.{IndexRow, SharedRows}
 use Rattle.card_events.specs.declared.kept.Kept.{Kept}
 use Rattle.card_model.specs.Books.{Account, Book, account_of, present_cycle}
 use Rattle.card_model.specs.Breaks.{breaks_penalty, breaks_segment, is_break}
@@ -94,10 +94,10 @@ days-same history issued shared day m (suc more) open' q l high =
     ∙ days-same history issued shared day m more open' q l (omega arith))
 
 -- after a due date the day is one anyway
-anyway : (p c i s x y : Bool) → (p || c || true || i || s || x) ≡ (p || c || true || i || s || y)
-anyway true c i s x y = refl
-anyway false true i s x y = refl
-anyway false false i s x y = refl
+anyway : (p c i s x y r : Bool) → (p || c || true || i || s || x || r) ≡ (p || c || true || i || s || y || r)
+anyway true c i s x y r = refl
+anyway false true i s x y r = refl
+anyway false false i s x y r = refl
 
 pub break_days_stay : BreakDaysStay
 unfolding book is_break
@@ -118,18 +118,21 @@ break_days_stay history issued shared day later open' l high = by (is_due (ancho
     fifth : Bool
     fifth = list_any (breaks_segment day) (segments (anchor_of history) (account_of history).terms posts)
 
+    seventh : Bool
+    seventh = is_variable history && nat_lt (anchor_of history).opened day && list_any (λ (r : IndexRow). eqb r.day day) shared.index
+
     then : ℕ → Bool
     then on = list_any (breaks_penalty day) (book_after issued (account_of history) (seen_on (anchor_of history) shared history issued) (on + 1 - (anchor_of history).opened)).penalties
 
-    by : (t : Bool) → is_due (anchor_of history) (day - 1) ≡ t → (first || second || t || fourth || fifth || then later) ≡ (first || second || t || fourth || fifth || then (day - 1))
-    by true e = anyway first second fourth fifth (then later) (then (day - 1))
+    by : (t : Bool) → is_due (anchor_of history) (day - 1) ≡ t → (first || second || t || fourth || fifth || then later || seventh) ≡ (first || second || t || fourth || fifth || then (day - 1) || seventh)
+    by true e = anyway first second fourth fifth (then later) (then (day - 1)) seventh
     by false e =
         let o = (anchor_of history).opened in
         let m = day - 1 + 1 - o in
         let more = later + 1 - o - m in
         let sum : more + m ≡ later + 1 - o = omega arith in
         let same = days-same history issued shared day m more open' e (omega arith) (top open'.last) in
-        ap (λ b. first || second || false || fourth || fifth || b)
+        ap (λ b. first || second || false || fourth || fifth || b || seventh)
         (ap (λ n. list_any (breaks_penalty day) (book_after issued (account_of history) (seen_on (anchor_of history) shared history issued) n).penalties) (sym sum) ∙ same)
       where
         top : (anchor_of history).opened ≤ last_calendar_day → (anchor_of history).opened + (later + 1 - (anchor_of history).opened - (day - 1 + 1 - (anchor_of history).opened) + (day - 1 + 1 - (anchor_of history).opened)) ≤ 48577

@@ -74,6 +74,7 @@ effect-grows issued a seen s (post.Resolve d target c) b = grows_with _ b
 effect-grows issued a seen s (post.Refund n) b = grows_with _ b
 effect-grows issued a seen s post.Penalty b = record { entries = same b.entries; cycles = same b.cycles; fees = same b.fees }
 effect-grows issued a seen s (post.Open d t) b = grows_same b
+effect-grows issued a seen s (post.OpenVariable d t) b = grows_same b
 effect-grows issued a seen s (post.Plan d k r e f) b = grows_same b
 effect-grows issued a seen s (post.Notice d c r e) b = grows_same b
 effect-grows issued a seen s (post.Lower d c r) b = grows_same b

@@ -11,7 +11,7 @@ use Rattle.std.specs.Option.{option_or}
 use Rattle.std.specs.Prelude.{slice_get}
 use Rattle.card_events.specs.Business.{credit_day, is_mail}
 use Rattle.card_events.specs.declared.anchor.Anchor.{Anchor}
-use Rattle.card_events.specs.History.{CorrectedPost, amend_of, amended, amended_cents, amended_day, anchor_of, at_number, cents_of, charge_day, confirmed, confirms, corrected_from, corrected_post, dispute_day, dispute_names, effective_day, folded, is_folded, last_amend, next_segment, own_at, own_of, payment_day, standing, terms_of}
+use Rattle.card_events.specs.History.{CorrectedPost, amend_of, amended, amended_cents, amended_day, anchor_of, at_number, cents_of, charge_day, confirmed, confirms, corrected_from, corrected_post, dispute_day, dispute_names, effective_day, folded, is_folded, is_variable, last_amend, next_segment, own_at, own_of, payment_day, standing, terms_of}
 use Rattle.card_events.specs.SharedRows.{SharedRows}
 use Rattle.card_events.specs.declared.kept.Kept.{Kept}
 use Rattle.card_events.specs.declared.post.Post.{Post}
@@ -71,6 +71,7 @@ charge-of history new r n (Some k) e = by k.post (λ own h. r.amends n own (ap o
         → charge_day (history ++ new) n (Some (record { number = k.number; key = k.key; accepted = k.accepted; post = p })) ≡ charge_day history n (Some (record { number = k.number; key = k.key; accepted = k.accepted; post = p }))
     by (post.Charge d p c) h = same_day (last_amend n (history ++ new)) (last_amend n history) d c (h (d, c) refl)
     by (post.Open d t) h = refl
+    by (post.OpenVariable d t) h = refl
     by (post.Credit d p c) h = refl
     by (post.Payment d m y c) h = refl
     by (post.Return d t) h = refl
@@ -98,6 +99,7 @@ payment-of a holidays history new r n (Some k) e = by k.post (λ own h. r.amends
         → payment_day a holidays (history ++ new) n (Some (record { number = k.number; key = k.key; accepted = k.accepted; post = p })) ≡ payment_day a holidays history n (Some (record { number = k.number; key = k.key; accepted = k.accepted; post = p }))
     by (post.Payment d m y c) h = ap (λ x. credit_day a holidays x m (is_mail y)) (same_day (last_amend n (history ++ new)) (last_amend n history) d c (h (d, c) refl))
     by (post.Open d t) h = refl
+    by (post.OpenVariable d t) h = refl
     by (post.Charge d p c) h = refl
     by (post.Credit d p c) h = refl
     by (post.Return d t) h = refl
@@ -125,6 +127,7 @@ dispute-of history new r (Some k) = by k.post
     by : (p : Post) → dispute_day (history ++ new) (Some (record { number = k.number; key = k.key; accepted = k.accepted; post = p })) ≡ dispute_day history (Some (record { number = k.number; key = k.key; accepted = k.accepted; post = p }))
     by (post.Dispute d t c) = ap (λ x. max d x) (charge-same history new r t)
     by (post.Open d t) = refl
+    by (post.OpenVariable d t) = refl
     by (post.Charge d p c) = refl
     by (post.Credit d p c) = refl
     by (post.Payment d m y c) = refl
@@ -154,6 +157,7 @@ cents-same history new r n (post.Charge d p c) h = let amounts = same_cents (las
 cents-same history new r n (post.Credit d p c) h = same_cents (last_amend n (history ++ new)) (last_amend n history) d c (h (d, c) refl)
 cents-same history new r n (post.Payment d m y c) h = same_cents (last_amend n (history ++ new)) (last_amend n history) d c (h (d, c) refl)
 cents-same history new r n (post.Open d t) h = refl
+cents-same history new r n (post.OpenVariable d t) h = refl
 cents-same history new r n (post.Return d t) h = refl
 cents-same history new r n (post.Plan d k g e f) h = refl
 cents-same history new r n (post.Notice d c g e) h = refl
@@ -177,6 +181,7 @@ day-same a holidays history new r n accepted (post.Return d t) h = ap (λ x. max
 day-same a holidays history new r n accepted (post.Dispute d t c) h = ap (λ x. max d x) (charge-same history new r t)
 day-same a holidays history new r n accepted (post.Resolve d t c) h = ap (λ x. max d x) (dispute-same history new r t)
 day-same a holidays history new r n accepted (post.Open d t) h = refl
+day-same a holidays history new r n accepted (post.OpenVariable d t) h = refl
 day-same a holidays history new r n accepted (post.Plan d k g e f) h = refl
 day-same a holidays history new r n accepted (post.Notice d c g e) h = refl
 day-same a holidays history new r n accepted (post.Lower d c g) h = refl
@@ -240,6 +245,7 @@ sum_agree f g h (k ∷ ks) = sum_by-cons f k ks ∙ (rw (h k, sum_agree f g h ks
 confirms-same : (n : ℕ) (history new : List Kept) → Blind (dispute_names n) new → (p : Post) → confirms n (history ++ new) p ≡ confirms n history p
 confirms-same n history new h (post.Resolve d t c) = ap (λ b. cond b c 0) (number-blind (dispute_names n) history new t h)
 confirms-same n history new h (post.Open d t) = refl
+confirms-same n history new h (post.OpenVariable d t) = refl
 confirms-same n history new h (post.Charge d p c) = refl
 confirms-same n history new h (post.Credit d p c) = refl
 confirms-same n history new h (post.Payment d m y c) = refl
@@ -315,11 +321,11 @@ leaves-back history i j key other accepted later target to before stood = record
 
 -- ---- the laws
 pub agree : (day : ℕ) (shared : SharedRows) (history new : List Kept) → Leaves history new → AreNotFolded new → anchor_of (history ++ new) ≡ anchor_of history → terms_of (history ++ new) ≡ terms_of history
-    → HistoriesAgree day shared shared history (history ++ new)
-agree day shared history new r h anchor terms =
+    → is_variable (history ++ new) ≡ is_variable history → HistoriesAgree day shared shared history (history ++ new)
+agree day shared history new r h anchor terms variable =
     let same : folded (anchor_of (history ++ new)) shared.holidays (history ++ new) ≡ folded (anchor_of history) shared.holidays history =
     ap (λ a. folded a shared.holidays (history ++ new)) anchor ∙ folded-same (anchor_of history) shared.holidays history new r h in
-    record { anchor = anchor; terms = terms; posts = ap (filter (λ (s : CorrectedPost). leb s.day day)) same; fees = refl }
+    record { anchor = anchor; terms = terms; variable = variable; posts = ap (filter (λ (s : CorrectedPost). leb s.day day)) same; fees = refl; index = refl }
 
 stood_nowhere : (amend : Option (ℕ × ℕ)) (o : Option Kept) (before : ℕ × ℕ) → o ≡ None → amended amend (own_at o) ≡ Some before → ⊥
 stood_nowhere amend None before e h = cc
@@ -330,12 +336,12 @@ correction_back [] issued shared i j key other accepted later zero to before sto
 correction_back [] issued shared i j key other accepted later (suc target) to before stood day = absurd (stood_nowhere (last_amend (suc target) []) (slice_get [] target) before refl stood)
 correction_back (first ∷ history) issued shared i j key other accepted later target to before stood day =
     past_is_enough day shared shared (first ∷ history) (first ∷ history ++ amend_by i key accepted target to ∷ amend_by j other later target before ∷ []) issued
-    (agree day shared (first ∷ history) _ (leaves-back (first ∷ history) i j key other accepted later target to before stood) (refl, (refl, tt)) refl refl) day (omega arith)
+    (agree day shared (first ∷ history) _ (leaves-back (first ∷ history) i j key other accepted later target to before stood) (refl, (refl, tt)) refl refl refl) day (omega arith)
 
 -- a Bill changes the book of no day, for the same issued rows
 pub bill-same : (history : List Kept) (issued : List IssuedRow) (shared : SharedRows) (m : ℕ) (key : List ℕ) (today cycle day : ℕ) → book (history ++ bill_of m key today cycle ∷ []) issued shared day ≡ book history issued shared day
 bill-same [] issued shared m key today cycle day =
-    past_is_enough day shared shared [] (bill_of m key today cycle ∷ []) issued (agree day shared [] _ (leaves-bill [] m key today cycle) (refl, tt) refl refl) day (omega arith)
+    past_is_enough day shared shared [] (bill_of m key today cycle ∷ []) issued (agree day shared [] _ (leaves-bill [] m key today cycle) (refl, tt) refl refl refl) day (omega arith)
 bill-same (first ∷ history) issued shared m key today cycle day =
     past_is_enough day shared shared (first ∷ history) (first ∷ history ++ bill_of m key today cycle ∷ []) issued
-    (agree day shared (first ∷ history) _ (leaves-bill (first ∷ history) m key today cycle) (refl, tt) refl refl) day (omega arith)
+    (agree day shared (first ∷ history) _ (leaves-bill (first ∷ history) m key today cycle) (refl, tt) refl refl refl) day (omega arith)

@@ -4,6 +4,7 @@ use Rattle.std.specs.Prelude.{◌≢◌}
 use Rattle.std.specs.Str.{bytes_eq}
 use Rattle.std.proofs.lemmas.Bool.{eqb-true}
 use Rattle.std.specs.List.{filter}
+use Rattle.card_events.specs.SharedRows.{shared_rows}
 use Rattle.card_events.specs.declared.post.Post.{Post}
 use Rattle.card_events.specs.declared.reply.Refusal.{Refusal}
 use Rattle.card_events.specs.declared.reply.Reply.{Reply}
@@ -12,7 +13,7 @@ use Rattle.card_events.specs.declared.request.Shared.{Shared}
 use Rattle.card_events.specs.declared.reply.Reply.TheVariants as reply
 use Rattle.card_model.specs.Isolated.{Isolation, NeverFull, Own, concerns, is_shared, own_of, replies_where, is_on}
 use Rattle.card_model.specs.Machine.{Accepts, NamedAccount, Outcome, Refuses, Repeats, State, has_accounts, is_open, lists_of, opened, outcome, outcome_in, reply_to, rolled, run_from, shared_reason, step, with_lists, with_outcome, with_shared}
-use Rattle.card_model.specs.Refusals.{Lists, bad_terms, day_ahead, first_reason, reason_to_open, where_true}
+use Rattle.card_model.specs.Refusals.{Lists, bad_terms, day_ahead, first_reason, no_index, reason_to_open, where_true}
 use Rattle.card_events.specs.declared.reply.Refusal.TheVariants as refusal
 use Rattle.card_events.specs.declared.request.Request.TheVariants as request
 
@@ -55,12 +56,13 @@ lists_of-with_other name other l (x ∷ xs) n = by (bytes_eq x.name other) refl 
 abbrev IsNotFull : Reply → Type 0
 IsNotFull e = e ≢ reply.Refused refusal.LedgerFull
 
-opening-free : (key : List ℕ) (today : ℕ) (p : Post) (bad ahead : Option Refusal) (full : Bool) → IsNotFull (reply_to (opened key today p (first_reason (bad ∷ ahead ∷ where_true full refusal.LedgerFull ∷ []))))
-    → opened key today p (first_reason (bad ∷ ahead ∷ where_true full refusal.LedgerFull ∷ [])) ≡ opened key today p (first_reason (bad ∷ ahead ∷ None ∷ []))
-opening-free key today p (Some r) ahead full h = refl
-opening-free key today p None (Some r) full h = refl
-opening-free key today p None None false h = refl
-opening-free key today p None None true h = absurd (h refl)
+opening-free : (key : List ℕ) (today : ℕ) (p : Post) (bad ahead index : Option Refusal) (full : Bool) → IsNotFull (reply_to (opened key today p (first_reason (bad ∷ ahead ∷ index ∷ where_true full refusal.LedgerFull ∷ []))))
+    → opened key today p (first_reason (bad ∷ ahead ∷ index ∷ where_true full refusal.LedgerFull ∷ [])) ≡ opened key today p (first_reason (bad ∷ ahead ∷ index ∷ None ∷ []))
+opening-free key today p (Some r) ahead index full h = refl
+opening-free key today p None (Some r) index full h = refl
+opening-free key today p None None (Some r) full h = refl
+opening-free key today p None None None false h = refl
+opening-free key today p None None None true h = absurd (h refl)
 
 choice-free : (t : Bool) (u v w : Outcome) → (IsNotFull (reply_to u) → u ≡ v) → IsNotFull (reply_to (cond t u w)) → cond t u w ≡ cond t v w
 choice-free true u v w h f = h f
@@ -69,7 +71,7 @@ choice-free false u v w h f = refl
 count-free : (today : ℕ) (rows : List Shared) (n : ℕ) (key : List ℕ) (p : Post) (l : Option Lists) → IsNotFull (reply_to (outcome today rows n key p l)) → outcome today rows n key p l ≡ outcome today rows 0 key p l
 unfolding outcome reason_to_open
 count-free today rows n key p (Some l) h = refl
-count-free today rows n key p None h = choice-free (is_open p) _ _ _ (opening-free key today p (bad_terms p) (day_ahead today p) (leb 1000000 n)) h
+count-free today rows n key p None h = choice-free (is_open p) _ _ _ (opening-free key today p (bad_terms p) (day_ahead today p) (no_index (shared_rows rows).index p) (leb 1000000 n)) h
 
 -- ---- an account's own run: its requests and the shared ones, with the replies to these
 shared_own : Own → Shared → Reply → Own

@@ -89,6 +89,7 @@ effect-free r a seen s (post.Resolve d target c) b e h = refl
 effect-free r a seen s (post.Refund n) b e h = refl
 effect-free r a seen s post.Penalty b e h = refl
 effect-free r a seen s (post.Open d t) b e h = refl
+effect-free r a seen s (post.OpenVariable d t) b e h = refl
 effect-free r a seen s (post.Plan d k g f i) b e h = refl
 effect-free r a seen s (post.Notice d c g i) b e h = refl
 effect-free r a seen s (post.Lower d c g) b e h = refl

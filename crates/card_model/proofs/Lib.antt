@@ -6,6 +6,8 @@ pub mod Caps
 pub mod Cuts
 pub mod EntryFacts
 pub mod Grows
+pub mod IndexDays
+pub mod Indexed
 pub mod Inert
 pub mod Isolation
 pub mod Issue

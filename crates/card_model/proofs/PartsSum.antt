@@ -141,6 +141,7 @@ added-ascend low (s ∷ ss) h = by s.post (λ e. let r = h.0 e in (r.0, added-as
     by (post.Plan d k r e f) t u = t refl
     by (post.Notice d c r e) t u = t refl
     by (post.Open d t') t u = u refl
+    by (post.OpenVariable d t') t u = u refl
     by (post.Charge d p c) t u = u refl
     by (post.Credit d p c) t u = u refl
     by (post.Payment d m y c) t u = u refl

@@ -4,7 +4,7 @@ use Rattle.std.specs.List.{filter}
 use Rattle.std.proofs.lemmas.Bool.Decides.{nat_tests}
 use Rattle.card_events.specs.declared.anchor.Anchor.{Anchor}
 use Rattle.card_events.specs.History.{CorrectedPost, anchor_of, folded}
-use Rattle.card_events.specs.SharedRows.{FeeRow, SharedRows}
+use Rattle.card_events.specs.SharedRows.{FeeRow, IndexRow, SharedRows}
 use Rattle.card_events.specs.declared.kept.Kept.{Kept}
 use Rattle.card_model.specs.Books.{Account, account_of}
 use Rattle.card_model.specs.Cycles.{IssuedRow, Seen, seen_on}
@@ -45,6 +45,10 @@ same_views day shared other history later issued h x l =
     sym (filter_implied (λ (r : FeeRow). nat_le r.day x) (λ r. nat_le r.day day) (λ r. within_later r.day x day l) _)
     ∙ (ap (filter (λ (r : FeeRow). nat_le r.day x)) h.fees
     ∙ filter_implied (λ (r : FeeRow). nat_le r.day x) (λ r. nat_le r.day day) (λ r. within_later r.day x day l) _) in
+    let index : filter (λ r. nat_le r.day x) other.index ≡ filter (λ r. nat_le r.day x) shared.index =
+    sym (filter_implied (λ (r : IndexRow). nat_le r.day x) (λ r. nat_le r.day day) (λ r. within_later r.day x day l) _)
+    ∙ (ap (filter (λ (r : IndexRow). nat_le r.day x)) h.index
+    ∙ filter_implied (λ (r : IndexRow). nat_le r.day x) (λ r. nat_le r.day day) (λ r. within_later r.day x day l) _) in
     cc
 
 pub same_books : (rows : List IssuedRow) (a b : Account) (s t : ℕ → Seen) (m n : ℕ) → a ≡ b → m ≡ n → ((k : ℕ) → k < n → s (b.anchor.opened + k) ≡ t (b.anchor.opened + k)) → book_after rows a s m ≡ book_after rows b t n

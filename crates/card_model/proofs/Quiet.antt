@@ -1,5 +1,5 @@
 -- A day that is no break leaves the book as it was.
-use Rattle.std.proofs.Common.{◌≡◌, ℕ, suc, ◌+◌, ◌-◌, ◌≤◌, ◌<◌, Bool, true, false, cond, ◌&&◌, ◌||◌, List, [], ◌∷◌, refl, sym, ◌∙◌, subst, arith, Option, Some, None, eqb, leb, ◌⊎◌, inl, inr}
+use Rattle.std.proofs.Common.{◌≡◌, ℕ, suc, ◌+◌, ◌-◌, ◌≤◌, ◌<◌, Bool, true, false, cond, ◌&&◌, ◌||◌, List, [], ◌∷◌, refl, sym, ◌∙◌, subst, arith, Option, Some, None, eqb, leb, ltb, ◌⊎◌, inl, inr}
 use Rattle.std.specs.List.{filter, last_or, list_any}
 use Rattle.std.proofs.lemmas.Bool.{eqb-true, cases_lt}
 use Rattle.std.proofs.lemmas.Bool.Decides.{nat_tests}
@@ -9,7 +9,7 @@ use Rattle.card_events.specs.Civil.{day_of_month}
 use Rattle.card_events.specs.Range.{last_calendar_day}
 use Rattle.card_events.specs.declared.anchor.Anchor.{Anchor}
 use Rattle.card_events.specs.History.{CorrectedPost, anchor_of, corrected, folded, is_folded}
-use Rattle.card_events.specs.SharedRows.{SharedRows}
+use Rattle.card_events.specs.SharedRows.{IndexRow, SharedRows}
 use Rattle.card_events.specs.declared.kept.Kept.{Kept}
 use Rattle.card_model.specs.Books.{Account, Book, account_of, present_cycle}
 use Rattle.card_model.specs.Breaks.{breaks_penalty, breaks_segment, is_break}
@@ -92,10 +92,11 @@ record Parts (acc : Account) (all : List CorrectedPost) (day : ℕ) : Type 0 whe
   pub closing : (leb acc.anchor.opened (day + 1) && eqb (day_of_month (day + 1)) acc.anchor.close_day) ≡ false
   pub due : is_due acc.anchor (day + 1 - 1) ≡ false
 
-parts : (acc : Account) (posts : List CorrectedPost) (issued : List IssuedRow) (penalties : List Interval) (day : ℕ) → is_break acc posts issued penalties (day + 1) ≡ false → Parts acc posts day
+parts : (acc : Account) (posts : List CorrectedPost) (issued : List IssuedRow) (index : List IndexRow) (penalties : List Interval) (day : ℕ) → is_break acc posts issued index penalties (day + 1) ≡ false → Parts acc posts day
 unfolding is_break
-parts acc posts issued penalties day h =
-    let a = or-false _ (list_any (breaks_penalty (day + 1)) penalties) h in
+parts acc posts issued index penalties day h =
+    let z = or-false _ (acc.variable && ltb acc.anchor.opened (day + 1) && list_any (λ r. eqb r.day (day + 1)) index) h in
+    let a = or-false _ (list_any (breaks_penalty (day + 1)) penalties) z.0 in
     let b = or-false _ (list_any (breaks_segment (day + 1)) (segments acc.anchor acc.terms posts)) a.0 in
     let c = or-false _ (list_any (λ r. eqb r.day (day + 1)) issued) b.0 in
     let d = or-false _ (is_due acc.anchor (day + 1 - 1)) c.0 in
@@ -133,4 +134,4 @@ quiet_days_change_nothing history issued shared penalties day open' l h = by (ca
     by (inr late) =
         let n = day + 1 - (anchor_of history).opened in
         let next : day + 1 + 1 - (anchor_of history).opened ≡ suc n = omega arith in
-        rw next (later-day history issued shared day n open' l (omega arith) (parts (account_of history) _ issued penalties day h))
+        rw next (later-day history issued shared day n open' l (omega arith) (parts (account_of history) _ issued shared.index penalties day h))

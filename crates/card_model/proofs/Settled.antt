@@ -92,6 +92,7 @@ effect-adds issued a seen p (post.Resolve d target c) b = adds_none _ b.fees
 effect-adds issued a seen p (post.Refund n) b = adds_none _ b.fees
 effect-adds issued a seen p post.Penalty b = adds_none _ b.fees
 effect-adds issued a seen p (post.Open d t) b = adds_none _ b.fees
+effect-adds issued a seen p (post.OpenVariable d t) b = adds_none _ b.fees
 effect-adds issued a seen p (post.Plan d k r e f) b = adds_none _ b.fees
 effect-adds issued a seen p (post.Notice d c r e) b = adds_none _ b.fees
 effect-adds issued a seen p (post.Lower d c r) b = adds_none _ b.fees

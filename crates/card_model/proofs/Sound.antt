@@ -295,6 +295,7 @@ sound-effect issued a seen s (post.Resolve d target n) b r h =
 sound-effect issued a seen s (post.Refund n) b r h = sound-debit seen.day s.number (newest sort.Purchase seen.day (all_segments a seen)) s.cents kind.Refund b.entries (λ i z m e. absurd (no-part (eqb s.number m) e)) (newest-high a seen r) h
 sound-effect issued a seen s post.Penalty b r h = h
 sound-effect issued a seen s (post.Open d t) b r h = h
+sound-effect issued a seen s (post.OpenVariable d t) b r h = h
 sound-effect issued a seen s (post.Plan d k g e f) b r h = h
 sound-effect issued a seen s (post.Notice d y g e) b r h = h
 sound-effect issued a seen s (post.Lower d y g) b r h = h

@@ -87,17 +87,17 @@ spans_are_steps = record { one = one-step; none = steps-none }
 
 -- ---- books
 quiet-back : (history : List Kept) (issued : List IssuedRow) (shared : SharedRows) (penalties : List Interval) (day : ℕ) → IsOpening (anchor_of history) → day ≤ last_calendar_day
-    → is_break (account_of history) (corrected (anchor_of history) shared.holidays history) issued penalties day ≡ false → book history issued shared day ≡ book history issued shared (day - 1)
+    → is_break (account_of history) (corrected (anchor_of history) shared.holidays history) issued shared.index penalties day ≡ false → book history issued shared day ≡ book history issued shared (day - 1)
 quiet-back history issued shared penalties zero open' l q = refl
 quiet-back history issued shared penalties (suc day) open' l q =
     let e : suc day ≡ day + 1 = omega arith in
     let back : day ≡ suc day - 1 = omega arith in
     ap (book history issued shared) e
-    ∙ (quiet_days_change_nothing history issued shared penalties day open' (omega arith) (subst (λ d. is_break (account_of history) (corrected (anchor_of history) shared.holidays history) issued penalties d ≡ false) e q)
+    ∙ (quiet_days_change_nothing history issued shared penalties day open' (omega arith) (subst (λ d. is_break (account_of history) (corrected (anchor_of history) shared.holidays history) issued shared.index penalties d ≡ false) e q)
     ∙ ap (book history issued shared) back)
 
 pub quiet-books : (history : List Kept) (issued : List IssuedRow) (shared : SharedRows) (penalties : List Interval) (first days : ℕ) → IsOpening (anchor_of history) → first + days ≤ 48577
-    → ((i : ℕ) → i < days → is_break (account_of history) (corrected (anchor_of history) shared.holidays history) issued penalties (first + i) ≡ false)
+    → ((i : ℕ) → i < days → is_break (account_of history) (corrected (anchor_of history) shared.holidays history) issued shared.index penalties (first + i) ≡ false)
     → book history issued shared (first + days - 1) ≡ book history issued shared (first - 1)
 quiet-books history issued shared penalties first zero open' l q = let e : first + 0 - 1 ≡ first - 1 = omega arith in ap (book history issued shared) e
 quiet-books history issued shared penalties first (suc days) open' l q =
@@ -108,5 +108,5 @@ quiet-books history issued shared penalties first (suc days) open' l q =
 pub spans_are_told : SpansAreTold
 spans_are_told history issued shared first days later open' l high q =
     break_days_stay history issued shared (first + days) later open' l high
-    ∙ ap (λ (b : Book). is_break (account_of history) (corrected (anchor_of history) shared.holidays history) issued b.penalties (first + days))
+    ∙ ap (λ (b : Book). is_break (account_of history) (corrected (anchor_of history) shared.holidays history) issued shared.index b.penalties (first + days))
     (quiet-books history issued shared (book history issued shared (first - 1)).penalties first days open' (omega arith) q)

@@ -1,9 +1,9 @@
 -- What holds of the lists of every account that the machine has accepted.
-use Rattle.std.specs.Prelude.{ℕ, ◌+◌, ◌≡◌, ◌≤◌, length, max, List, Some}
+use Rattle.std.specs.Prelude.{ℕ, ◌+◌, ◌≡◌, ◌≤◌, length, max, is_some, true, List, Some}
 use Rattle.std.specs.List.{All, count_by}
-use Rattle.card_events.specs.History.{adds_segment, terms_of}
+use Rattle.card_events.specs.History.{adds_segment, anchor_of, is_variable, terms_of}
 use Rattle.card_events.specs.Limits.{post_limit}
-use Rattle.card_events.specs.SharedRows.{FeeRow, shared_rows}
+use Rattle.card_events.specs.SharedRows.{FeeRow, IndexRow, shared_rows}
 use Rattle.card_events.specs.declared.kept.Kept.{Kept}
 use Rattle.card_events.specs.declared.post.Post.{Post}
 use Rattle.card_events.specs.declared.post.Post.TheVariants as post
@@ -14,6 +14,7 @@ use Rattle.card_model.specs.Caps.{row_for}
 use Rattle.card_model.specs.Cycles.{IssuedRow}
 use Rattle.card_model.specs.Deadlines.{resolves}
 use Rattle.card_model.specs.Machine.{NamedAccount, State, run}
+use Rattle.card_model.specs.Rates.{index_on}
 use Rattle.card_model.specs.Refusals.{Lists}
 
 -- the cents of a post, 0 for kinds without cents
@@ -30,6 +31,7 @@ posted_cents _ = 0
 -- the greatest rate in a post, in basis points, 0 for kinds without rates
 abbrev pub posted_rate : Post → ℕ
 posted_rate (post.Open _ terms) = max (max terms.purchase terms.cash) (max terms.transfer terms.penalty)
+posted_rate (post.OpenVariable _ terms) = max (max terms.purchase terms.cash) (max terms.transfer terms.penalty)
 posted_rate (post.Plan _ _ rate _ after) = max rate after
 posted_rate (post.Notice _ _ rate _) = rate
 posted_rate (post.Lower _ _ rate) = rate
@@ -75,10 +77,15 @@ HasFewSegments history = 5 + count_by (λ k. adds_segment k.post) history ≤ 64
 abbrev pub HasFewFees : FeeRow → Type 0
 HasFewFees r = (r.first ≤ 100000) × (r.repeat ≤ 100000)
 
+-- the index has a row on the opening day of a variable account, or before it
+abbrev pub HasAnIndex : List IndexRow → Lists → Type 0
+HasAnIndex rows l = is_variable l.posts ≡ true → is_some (index_on rows (anchor_of l.posts).opened) ≡ true
+
 -- after every list of requests, in every account
 pub record IsAccepted (s : State) : Type 0 where
   pub accounts : All (λ (x : NamedAccount). AreAccepted x.lists) s.accounts
   pub fees : All HasFewFees (shared_rows s.shared).fees
+  pub indexed : All (λ (x : NamedAccount). HasAnIndex (shared_rows s.shared).index x.lists) s.accounts
 
 -- every run leaves such a state
 abbrev pub RunsAreAccepted : Type 0

@@ -1,14 +1,14 @@
 -- The book of an account: what its fold gives up to a day. Penalty fees by 12 CFR 1026.52(b); the rest is the ledger's own.
-use Rattle.std.specs.Prelude.{ℕ, ◌+◌, ◌++◌, length, List, [], ◌∷◌, Option, Some, None}
+use Rattle.std.specs.Prelude.{ℕ, ◌+◌, ◌++◌, Bool, length, List, [], ◌∷◌, Option, Some, None}
 use Rattle.card_events.specs.declared.anchor.Anchor.{Anchor}
-use Rattle.card_events.specs.History.{anchor_of, terms_of}
+use Rattle.card_events.specs.History.{anchor_of, is_variable, terms_of}
 use Rattle.card_events.specs.declared.kept.Kept.{Kept}
 use Rattle.card_events.specs.declared.post.Terms.{Terms}
 use Rattle.card_model.specs.Caps.{charged_fee}
 use Rattle.card_model.specs.Cycles.{Cycle, IssuedRow, Seen}
 use Rattle.card_model.specs.Entries.{debit, credit_balance}
 use Rattle.card_model.specs.Fees.{fee_cents, fee_for}
-use Rattle.card_model.specs.Rates.{rate_on, lowerings, starts}
+use Rattle.card_model.specs.Rates.{index_for, rate_on, lowerings, starts}
 use Rattle.card_model.specs.Segments.{SegmentTerms, segments, newest}
 use Rattle.card_model.specs.declared.entry.Entry.{Entry}
 use Rattle.card_model.specs.declared.entry.EntryKind.{EntryKind}
@@ -30,14 +30,15 @@ pub record Book : Type 0 where
 abbrev pub empty_book : Book
 empty_book = record { entries = []; cycles = []; fees = []; penalties = [] }
 
--- what stays the same from day to day
+-- what stays the same from day to day; `variable` where the opening rates follow the index
 pub record Account : Type 0 where
   pub anchor : Anchor
   pub terms : Terms
+  pub variable : Bool
 
 -- the account that a history opens
 abbrev pub account_of : List Kept → Account
-account_of history = record { anchor = anchor_of history; terms = terms_of history }
+account_of history = record { anchor = anchor_of history; terms = terms_of history; variable = is_variable history }
 
 -- the cycle that the day being folded lies in
 abbrev pub present_cycle : Book → ℕ
@@ -67,7 +68,8 @@ all_segments a seen = segments a.anchor a.terms seen.posts
 
 -- the rate of a segment on a day, with the penalties that the book has
 abbrev pub rate_in : Account → Seen → Book → ℕ → SegmentTerms → ℕ
-rate_in a seen b day g = rate_on (lowerings seen.posts) a.terms.penalty (starts day b.penalties) (all_segments a seen) day g
+rate_in a seen b day g =
+    rate_on (index_for a.variable seen.index day) (lowerings seen.posts) a.terms.penalty (starts day b.penalties) (all_segments a seen) day g
 
 -- the newest Purchase vintage that has begun
 abbrev pub newest_purchase : Account → Seen → ℕ

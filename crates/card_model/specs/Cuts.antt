@@ -45,7 +45,7 @@ ClosingsAreCuts =
 -- a break day, by the penalties in the book of some day
 abbrev pub is_break_by : List Kept → List IssuedRow → SharedRows → ℕ → ℕ → Bool
 is_break_by history issued shared on day =
-    is_break (account_of history) (corrected (anchor_of history) shared.holidays history) issued (book history issued shared on).penalties day
+    is_break (account_of history) (corrected (anchor_of history) shared.holidays history) issued shared.index (book history issued shared on).penalties day
 
 -- Every later book tells of a day what the book of the day before tells of it
 abbrev pub BreakDaysStay : Type 0

@@ -4,7 +4,7 @@ use Rattle.std.specs.List.{filter, find, last_or, sum_by}
 use Rattle.std.specs.Prelude.{None, if◌then◌else◌}
 use Rattle.card_events.specs.declared.anchor.Anchor.{Anchor}
 use Rattle.card_events.specs.History.{CorrectedPost, folded}
-use Rattle.card_events.specs.SharedRows.{FeeRow, SharedRows}
+use Rattle.card_events.specs.SharedRows.{FeeRow, IndexRow, SharedRows}
 use Rattle.card_events.specs.declared.kept.Kept.{Kept}
 use Rattle.card_model.specs.declared.fee.Fee.{Fee}
 use Rattle.card_model.specs.declared.lines.DeferredLine.{DeferredLine}
@@ -89,21 +89,23 @@ pub record IssuedRow : Type 0 where
   pub statement : Cycle
   pub sheet : Sheet
 
--- What the fold of a day may look at beside the book: the corrected posts and the fee rows up to that day, and the
--- statements issued before it
+-- What the fold of a day may look at beside the book: the corrected posts, the fee rows and the index rows up to that day, and
+-- the statements issued before it
 pub record Seen : Type 0 where
   pub day : ℕ
   pub posts : List CorrectedPost
   pub fees : List FeeRow
+  pub index : List IndexRow
   pub issued : List IssuedRow
 
--- what the fold of a day may look at, of a history, the fee rows and the issued rows
+-- what the fold of a day may look at, of a history, the shared rows and the issued rows
 abbrev pub seen_on : Anchor → SharedRows → List Kept → List IssuedRow → ℕ → Seen
 seen_on a shared history issued day =
     record {
       day = day;
       posts = filter (λ p. nat_le p.day day) (folded a shared.holidays history);
       fees = filter (λ r. nat_le r.day day) shared.fees;
+      index = filter (λ r. nat_le r.day day) shared.index;
       issued = filter (λ r. nat_lt r.day day) issued;
     }
 

@@ -2,7 +2,7 @@
 use Rattle.std.specs.Prelude.{ℕ, ◌+◌, Bool, true, false, ◌&&◌, ◌==◌, nat_le, nat_lt, if◌then◌else◌, min, unwrap_or, map, List, [], ◌∷◌, ◌++◌, Option, Some, None, ℤ, neg_ℤ}
 use Rattle.std.specs.List.{filter, find}
 use Rattle.card_events.specs.Billing.{next_on}
-use Rattle.card_events.specs.History.{CorrectedPost}
+use Rattle.card_events.specs.History.{CorrectedPost, charge_disputed}
 use Rattle.card_events.specs.declared.post.Place.{Place}
 use Rattle.card_events.specs.declared.post.Post.{Post}
 use Rattle.card_events.specs.declared.post.Post.TheVariants as post
@@ -149,11 +149,6 @@ is_held_by n e = (e.post == n) && (e.segment == 1) && is_kind kind.Hold e.kind
 -- what a Dispute moved to Held, as its entries tell it
 abbrev pub moved_by : ℕ → List Entry → ℕ
 moved_by n entries = at_least_zero (sum_of (is_held_by n) entries)
-
--- the charge that a Dispute names, 0 for other posts
-abbrev pub charge_disputed : Post → ℕ
-charge_disputed (post.Dispute _ target _) = target
-charge_disputed _ = 0
 
 -- the charge that a Dispute names
 abbrev pub disputed_charge : Option CorrectedPost → ℕ

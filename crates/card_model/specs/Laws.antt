@@ -1,8 +1,8 @@
 -- Laws of the fold, for all lists of posts.
 use Rattle.std.specs.Prelude.{ℕ, ◌+◌, ◌≡◌, ◌≤◌, nat_le, List, [], ◌∷◌, ◌++◌, cond, Some, pos, ◌+ℤ◌, ◌≤ℤ◌, nat_abs}
 use Rattle.std.specs.List.{filter, All, sum_by}
-use Rattle.card_events.specs.History.{CorrectedPost, anchor_of, folded, standing, terms_of}
-use Rattle.card_events.specs.SharedRows.{FeeRow, SharedRows}
+use Rattle.card_events.specs.History.{CorrectedPost, anchor_of, folded, is_variable, standing, terms_of}
+use Rattle.card_events.specs.SharedRows.{FeeRow, IndexRow, SharedRows}
 use Rattle.card_events.specs.declared.kept.Kept.{Kept}
 use Rattle.card_events.specs.declared.post.Post.TheVariants as post
 use Rattle.card_model.specs.Books.{Book}
@@ -25,14 +25,20 @@ posts_up_to day shared history = filter (λ p. nat_le p.day day) (folded (anchor
 abbrev pub fees_up_to : ℕ → SharedRows → List FeeRow
 fees_up_to day shared = filter (λ r. nat_le r.day day) shared.fees
 
+-- the index rows up to a day
+abbrev pub index_up_to : ℕ → SharedRows → List IndexRow
+index_up_to day shared = filter (λ r. nat_le r.day day) shared.index
+
 -- two histories of one account, each under its own shared rows, agree on all days up to one
 pub record HistoriesAgree (day : ℕ) (shared other : SharedRows) (history later : List Kept) : Type 0 where
   pub anchor : anchor_of later ≡ anchor_of history
   pub terms : terms_of later ≡ terms_of history
+  pub variable : is_variable later ≡ is_variable history
   pub posts : posts_up_to day other later ≡ posts_up_to day shared history
   pub fees : fees_up_to day other ≡ fees_up_to day shared
+  pub index : index_up_to day other ≡ index_up_to day shared
 
--- the book of a day depends on the corrected posts and the fee rows up to that day alone
+-- the book of a day depends on the corrected posts, the fee rows and the index rows up to that day alone
 abbrev pub PastIsEnough : Type 0
 PastIsEnough =
     (day : ℕ) (shared other : SharedRows) (history later : List Kept) (issued : List IssuedRow) → HistoriesAgree day shared other history later

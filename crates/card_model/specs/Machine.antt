@@ -2,6 +2,7 @@
 use Rattle.std.specs.Prelude.{ℕ, ◌+◌, Bool, true, false, ◌&&◌, ◌||◌, not, nat_le, nat_lt, if◌then◌else◌, is_some, List, [], ◌∷◌, ◌++◌, length, Option, Some, None}
 use Rattle.std.specs.Str.{bytes_eq}
 use Rattle.card_events.specs.Range.{first_calendar_day}
+use Rattle.card_events.specs.Money.{rate_limit}
 use Rattle.card_events.specs.History.{at_number}
 use Rattle.card_events.specs.Keys.{with_key}
 use Rattle.card_events.specs.Same.{is_same_post}
@@ -82,9 +83,10 @@ abbrev pub judged : Present → List ℕ → Post → Option Refusal → Outcome
 judged now key p (Some r) = Refuses r
 judged now key p None = Accepts (accepted now key p)
 
--- an Open
+-- an Open or an OpenVariable
 abbrev pub is_open : Post → Bool
 is_open (post.Open _ _) = true
+is_open (post.OpenVariable _ _) = true
 is_open _ = false
 
 -- a post with the content of the one that is there
@@ -99,16 +101,16 @@ at_key now key p None =
     let new = judged now key p (reason_against now p) in
     if is_open p then Refuses refusal.AccountExists else new
 
--- an Open begins an account where nothing is against it
+-- an opening begins an account where nothing is against it
 abbrev pub opened : List ℕ → ℕ → Post → Option Refusal → Outcome
 opened key today p (Some r) = Refuses r
 opened key today p None = Accepts (record { posts = kept_as 1 key today p ∷ []; issued = [] })
 
--- What a post comes to depends on today, the shared requests, the account's own lists and, of an Open, the number of
+-- What a post comes to depends on today, the shared requests, the account's own lists and, of an opening, the number of
 -- accounts
 unfoldable pub outcome : ℕ → List Shared → ℕ → List ℕ → Post → Option Lists → Outcome
 outcome today rows accounts key p None =
-    if is_open p then opened key today p (reason_to_open today accounts p) else Refuses refusal.UnknownAccount
+    if is_open p then opened key today p (reason_to_open today accounts (shared_rows rows) p) else Refuses refusal.UnknownAccount
 outcome today rows accounts key p (Some lists) =
     at_key (record { today = today; shared = shared_rows rows; lists = lists }) key p (with_key key lists.posts)
 
@@ -133,6 +135,8 @@ shared_reason today any (shared.FeeRow day first repeat) =
     first_reason (
     where_true (nat_lt 100000 first || nat_lt 100000 repeat || nat_lt repeat first) refusal.AmountRange
     ∷ where_true (nat_le day today) (refusal.PastRow today) ∷ [])
+shared_reason today any (shared.Index day rate) =
+    first_reason (where_true (nat_lt rate_limit rate) refusal.AmountRange ∷ where_true (nat_le day today) (refusal.PastRow today) ∷ [])
 
 -- today after a shared request
 abbrev pub rolled : ℕ → Shared → ℕ

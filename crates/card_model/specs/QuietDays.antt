@@ -15,5 +15,5 @@ use Rattle.card_model.specs.declared.segment.Interval.{Interval}
 abbrev pub QuietDaysChangeNothing : Type 0
 QuietDaysChangeNothing =
     (history : List Kept) (issued : List IssuedRow) (shared : SharedRows) (penalties : List Interval) (day : ℕ) → IsOpening (anchor_of history) → day + 1 ≤ last_calendar_day
-    → is_break (account_of history) (corrected (anchor_of history) shared.holidays history) issued penalties (day + 1) ≡ false
+    → is_break (account_of history) (corrected (anchor_of history) shared.holidays history) issued shared.index penalties (day + 1) ≡ false
     → book history issued shared (day + 1) ≡ book history issued shared day

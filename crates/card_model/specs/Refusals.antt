@@ -1,6 +1,6 @@
 -- Why a post isn't accepted: the first reason in order, with its value. Those from 12 CFR 1026.9, .13 and .55 name their
 -- sections; the rest are the ledger's own.
-use Rattle.std.specs.Prelude.{ℕ, suc, ◌≡◌, ◌<◌, ◌+◌, Bool, true, false, ◌&&◌, ◌||◌, not, ◌==◌, nat_le, nat_lt, if◌then◌else◌, max, List, [], ◌∷◌, length, Option, Some, None, pos}
+use Rattle.std.specs.Prelude.{ℕ, suc, ◌≡◌, ◌<◌, ◌+◌, Bool, true, false, ◌&&◌, ◌||◌, not, ◌==◌, nat_le, nat_lt, if◌then◌else◌, max, is_some, List, [], ◌∷◌, length, Option, Some, None, pos}
 use Rattle.std.specs.List.{count_by, filter, filter_map, list_any, reduce}
 use Rattle.std.specs.Option.{option_map, option_map_or, option_or}
 use Rattle.card_events.specs.Billing.{closing, next_on}
@@ -10,13 +10,14 @@ use Rattle.card_events.specs.declared.anchor.Anchor.{Anchor}
 use Rattle.card_events.specs.History.{CorrectedPost, adds_segment, anchor_of, at_number, corrected, disputes}
 use Rattle.card_events.specs.Limits.{post_limit}
 use Rattle.card_events.specs.Same.{is_same_category}
-use Rattle.card_events.specs.SharedRows.{SharedRows}
+use Rattle.card_events.specs.SharedRows.{IndexRow, SharedRows}
 use Rattle.card_events.specs.declared.kept.Kept.{Kept}
 use Rattle.card_events.specs.declared.post.Category.{Category}
 use Rattle.card_events.specs.declared.post.Place.{Place}
 use Rattle.card_events.specs.declared.post.Place.TheVariants as place
 use Rattle.card_events.specs.declared.post.Post.{Post}
 use Rattle.card_events.specs.declared.post.Post.TheVariants as post
+use Rattle.card_events.specs.declared.post.Terms.{Terms}
 use Rattle.card_events.specs.declared.reply.Refusal.{Refusal}
 use Rattle.card_events.specs.declared.reply.Refusal.TheVariants as refusal
 use Rattle.card_events.specs.Money.{rate_limit}
@@ -28,6 +29,7 @@ use Rattle.card_model.specs.Effects.{place_charged}
 use Rattle.card_model.specs.Entries.{credit_balance}
 use Rattle.card_model.specs.Folds.{book}
 use Rattle.card_model.specs.Payments.{returns, sixty_days_late}
+use Rattle.card_model.specs.Rates.{index_on}
 
 -- an account: its accepted posts and its issued rows
 pub record Lists : Type 0 where
@@ -84,9 +86,9 @@ abbrev pub number_that : (Post → Bool) → Present → Option ℕ
 number_that p now = number_from p 1 now.lists.posts
 
 -- ---- BadTerms: the first term that is out of its range
--- the terms of an Open in their order, from the closing day on
-abbrev pub bad_terms : Post → Option Refusal
-bad_terms (post.Open _ t) =
+-- the terms of an opening in their order, from the closing day on
+abbrev pub bad_terms_of : Terms → Option Refusal
+bad_terms_of t =
     first_reason (
     where_true ((t.close == 0) || nat_lt 28 t.close) (refusal.BadTerms 1)
     ∷ where_true (nat_lt rate_limit t.purchase) (refusal.BadTerms 2)
@@ -95,6 +97,11 @@ bad_terms (post.Open _ t) =
     ∷ where_true (nat_lt rate_limit t.penalty) (refusal.BadTerms 5)
     ∷ where_true (nat_lt 1000000 t.floor) (refusal.BadTerms 6)
     ∷ where_true (nat_lt 10000 t.pct) (refusal.BadTerms 7) ∷ [])
+
+-- those of an opening
+abbrev pub bad_terms : Post → Option Refusal
+bad_terms (post.Open _ t) = bad_terms_of t
+bad_terms (post.OpenVariable _ t) = bad_terms_of t
 bad_terms _ = None
 
 -- ---- AmountRange
@@ -133,6 +140,7 @@ amount_range now p = where_true (is_out_of_range now p) refusal.AmountRange
 -- the post's own day: an Amend's is the day that it gives
 abbrev pub own_day : Post → Option ℕ
 own_day (post.Open day _) = Some day
+own_day (post.OpenVariable day _) = Some day
 own_day (post.Charge day _ _) = Some day
 own_day (post.Credit day _ _) = Some day
 own_day (post.Payment day _ _ _) = Some day
@@ -350,9 +358,15 @@ unfoldable pub nothing_to_review : Present → Post → Option Refusal
 nothing_to_review now (post.Review day _) = where_true (is_empty (increases (corrected_now now) day)) refusal.NothingToReview
 nothing_to_review now _ = None
 
--- the account has 10,000 posts
+-- the account has 200,000 posts
 abbrev pub account_full : Present → Option Refusal
 account_full now = where_true (nat_le post_limit (length now.lists.posts)) refusal.AccountFull
+
+-- ---- NoIndex (12 CFR 1026.55(b)(2))
+-- an OpenVariable of a day without an index
+unfoldable pub no_index : List IndexRow → Post → Option Refusal
+no_index rows (post.OpenVariable day _) = where_true (not (is_some (index_on rows day))) refusal.NoIndex
+no_index rows _ = None
 
 -- ---- the first reason
 -- the reasons against a post of an account that is there, under a new key, in order
@@ -368,7 +382,7 @@ reasons now p =
 unfoldable pub reason_against : Present → Post → Option Refusal
 reason_against now p = first_reason (reasons now p)
 
--- against an Open of a new account, where so many accounts exist
-unfoldable pub reason_to_open : ℕ → ℕ → Post → Option Refusal
-reason_to_open today accounts p =
-    first_reason (bad_terms p ∷ day_ahead today p ∷ where_true (nat_le 1000000 accounts) refusal.LedgerFull ∷ [])
+-- against the opening of a new account, where so many accounts exist
+unfoldable pub reason_to_open : ℕ → ℕ → SharedRows → Post → Option Refusal
+reason_to_open today accounts shared p =
+    first_reason (bad_terms p ∷ day_ahead today p ∷ no_index shared.index p ∷ where_true (nat_le 1000000 accounts) refusal.LedgerFull ∷ [])

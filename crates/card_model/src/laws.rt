@@ -2,13 +2,14 @@
 ghost use Rattle.card_model.specs.Accepted.{RunsAreAccepted};
 ghost use Rattle.card_model.specs.Cuts.{BreakDaysStay, ClosingsAreCuts};
 ghost use Rattle.card_model.specs.CycleDays.{CyclesAreOfTheCalendar};
+ghost use Rattle.card_model.specs.Indexed.{IndexIsTheLatest};
 ghost use Rattle.card_model.specs.Isolated.{Isolation};
 ghost use Rattle.card_model.specs.Laws.{BalanceIdentity, CorrectionBack, IssuedCaps, IssuingChangesNoPastDay, PastIsEnough, Signs};
 ghost use Rattle.card_model.specs.QuietDays.{QuietDaysChangeNothing};
 ghost use Rattle.card_model.specs.Spans.{SpansAreSteps, SpansAreTold};
 ghost use Rattle.card_model.specs.Unread.{UnfoldedPostsAgree};
 
-/// The book of a day depends on the corrected posts and the fee rows up to that day alone.
+/// The book of a day depends on the corrected posts, the fee rows and the index rows up to that day alone.
 pub fn past_is_enough()
     ensures { PastIsEnough }
 {}
@@ -39,8 +40,9 @@ pub fn signs()
     ensures { Signs }
 {}
 
-/// After every list of requests, in every account: at most 10,000 posts, whose terms, rates and cents are within their
-/// ranges; no Dispute is resolved twice, and no cycle has two issued rows. Fees in the table are within their range.
+/// After every list of requests, in every account: at most 200,000 posts, whose terms, rates and cents are within their
+/// ranges; no Dispute is resolved twice, and no cycle has two issued rows. Fees in the table are within their range. Each
+/// account whose opening rates follow the index has one on its opening day (12 CFR 1026.55(b)(2)).
 pub fn runs_are_accepted()
     ensures { RunsAreAccepted }
 {}
@@ -88,4 +90,10 @@ pub fn spans_are_steps()
 /// later book do.
 pub fn spans_are_told()
     ensures { SpansAreTold }
+{}
+
+/// The index of a day is that of the accepted row with the greatest day up to it, and of two for one day that of the one
+/// accepted later (12 CFR 1026.55(b)(2)).
+pub fn the_index_is_the_latest()
+    ensures { IndexIsTheLatest }
 {}

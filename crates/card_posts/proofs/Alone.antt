@@ -67,6 +67,7 @@ get_or-default (suc i) (q ∷ h) d e l = get_or-default i h d e (omega (arith, l
 
 awaits-none : (p q : Post) → waits p ≡ false → awaits p q ≡ false
 awaits-none (post.Open d' t') q w = refl
+awaits-none (post.OpenVariable d' t') q w = refl
 awaits-none (post.Charge d' p' c') q w = refl
 awaits-none (post.Credit d' p' c') q w = refl
 awaits-none (post.Payment d' i' y' c') q w = refl
@@ -90,6 +91,7 @@ no-awaited a holidays h p (Some k) w = rw (awaits-none p k.post w) refl
 
 no-dispute : (n : ℕ) (p : Post) → waits p ≡ false → disputes n p ≡ false
 no-dispute n (post.Open d' t') w = refl
+no-dispute n (post.OpenVariable d' t') w = refl
 no-dispute n (post.Charge d' p' c') w = refl
 no-dispute n (post.Credit d' p' c') w = refl
 no-dispute n (post.Payment d' i' y' c') w = refl
@@ -193,6 +195,7 @@ one-alone a holidays h k w t known e l named = by k.post refl l named
 
     by : (p : Post) → k.post ≡ p → target_of p ≤ length h → changed_alone w p ≡ Some t → IsAlone t (effects a holidays h) (effects_from a holidays (more h k) 1 h)
     by (post.Open d' t') is m n = none (rw is refl) n
+    by (post.OpenVariable d' t') is m n = none (rw is refl) n
     by (post.Charge d' p' c') is m n = none (rw is refl) n
     by (post.Credit d' p' c') is m n = none (rw is refl) n
     by (post.Payment d' i' y' c') is m n = none (rw is refl) n

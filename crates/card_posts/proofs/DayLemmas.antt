@@ -22,6 +22,7 @@ payment a holidays h t d (Some k) = by k.post
   where
     by : (q : Post) → payment_day a holidays h t (Some (record { number = k.number; key = k.key; accepted = k.accepted; post = q })) ≡ awaited_day a holidays h (post.Return d t) (Some (record { number = k.number; key = k.key; accepted = k.accepted; post = q }))
     by (post.Open d t) = refl
+    by (post.OpenVariable d t) = refl
     by (post.Charge d p c) = refl
     by (post.Credit d p c) = refl
     by (post.Payment d i y c) = refl
@@ -46,6 +47,7 @@ charge a holidays h t d c (Some k) = by k.post
   where
     by : (q : Post) → charge_day h t (Some (record { number = k.number; key = k.key; accepted = k.accepted; post = q })) ≡ awaited_day a holidays h (post.Dispute d t c) (Some (record { number = k.number; key = k.key; accepted = k.accepted; post = q }))
     by (post.Open d t) = refl
+    by (post.OpenVariable d t) = refl
     by (post.Charge d p c) = refl
     by (post.Credit d p c) = refl
     by (post.Payment d i y c) = refl
@@ -70,6 +72,7 @@ dispute a holidays h t d c (Some k) = by k.post
   where
     by : (q : Post) → dispute_day h (Some (record { number = k.number; key = k.key; accepted = k.accepted; post = q })) ≡ awaited_day a holidays h (post.Resolve d t c) (Some (record { number = k.number; key = k.key; accepted = k.accepted; post = q }))
     by (post.Open d t) = refl
+    by (post.OpenVariable d t) = refl
     by (post.Charge d p c) = refl
     by (post.Credit d p c) = refl
     by (post.Payment d i y c) = refl
@@ -96,6 +99,7 @@ pub day-by-later : (a : Anchor) (holidays : List ℕ) (h : List Kept) (n accepte
     → effective_day a holidays h n accepted q ≡ max (day_alone a holidays (last_amend n h) accepted q) (awaited_day a holidays h q (at_number (target_of q) h))
 unfolding effective_day
 day-by-later a holidays h n accepted (post.Open d t) = top d
+day-by-later a holidays h n accepted (post.OpenVariable d t) = top d
 day-by-later a holidays h n accepted (post.Charge d p c) = top (amended_day (last_amend n h) d)
 day-by-later a holidays h n accepted (post.Credit d p c) = top (amended_day (last_amend n h) d)
 day-by-later a holidays h n accepted (post.Payment d i y c) = top (credit_day a holidays (amended_day (last_amend n h) d) i (is_mail y))
@@ -127,6 +131,7 @@ amend-one opened n k h = by k.post k.accepted h.dated h.received
 
     by : (q : Post) (accepted : ℕ) → accepted ≤ last_request_day → IsReceived opened accepted q → IsAmendDated opened (amend_of n q)
     by (post.Open d t) accepted l g = tt
+    by (post.OpenVariable d t) accepted l g = tt
     by (post.Charge d p c) accepted l g = tt
     by (post.Credit d p c) accepted l g = tt
     by (post.Payment d i y c) accepted l g = tt

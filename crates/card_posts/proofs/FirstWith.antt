@@ -60,6 +60,7 @@ others-agree h k e l alone other = by k.post refl l alone
 
     by : (p : Post) → k.post ≡ p → target_of p ≤ length h → (corrects p && some_waits h) ≡ false → Agree (more h k) h (length h)
     by (post.Open d' t') is m f = plain (rw is refl)
+    by (post.OpenVariable d' t') is m f = plain (rw is refl)
     by (post.Charge d' p' c') is m f = plain (rw is refl)
     by (post.Credit d' p' c') is m f = plain (rw is refl)
     by (post.Payment d' i' y' c') is m f = plain (rw is refl)

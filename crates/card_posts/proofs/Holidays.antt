@@ -29,6 +29,7 @@ AreBy last (k ∷ ks) = IsPaidBy last k.post × ((n : ℕ) → IsAmendBy last (a
 
 one-paid : (opened accepted last : ℕ) (p : Post) → IsReceived opened accepted p → accepted ≤ last → IsPaidBy last p
 one-paid opened accepted last (post.Open d t) g l = tt
+one-paid opened accepted last (post.OpenVariable d t) g l = tt
 one-paid opened accepted last (post.Charge d p c) g l = tt
 one-paid opened accepted last (post.Credit d p c) g l = tt
 one-paid opened accepted last (post.Payment d i y c) g l = omega (arith, g.0.1, l)
@@ -52,6 +53,7 @@ if_named last d c false l = tt
 
 one-amend : (opened accepted last n : ℕ) (p : Post) → IsReceived opened accepted p → accepted ≤ last → IsAmendBy last (amend_of n p)
 one-amend opened accepted last n (post.Open d t) g l = tt
+one-amend opened accepted last n (post.OpenVariable d t) g l = tt
 one-amend opened accepted last n (post.Charge d p c) g l = tt
 one-amend opened accepted last n (post.Credit d p c) g l = tt
 one-amend opened accepted last n (post.Payment d i y c) g l = tt
@@ -114,6 +116,7 @@ payment-same a xs ys last h agree all t (Some k) e = by k.post (number-by last t
   where
     by : (q : Post) → IsPaidBy last q → payment_day a xs h t (Some (record { number = k.number; key = k.key; accepted = k.accepted; post = q })) ≡ payment_day a ys h t (Some (record { number = k.number; key = k.key; accepted = k.accepted; post = q }))
     by (post.Open d t) b = refl
+    by (post.OpenVariable d t) b = refl
     by (post.Charge d p c) b = refl
     by (post.Credit d p c) b = refl
     by (post.Payment d i y c) b = credited a xs ys last (amended_day (last_amend t h) d) i (is_mail y) agree (receipt-by last d (last_amend t h) b (amend-by last t h all))
@@ -134,6 +137,7 @@ payment-same a xs ys last h agree all t (Some k) e = by k.post (number-by last t
 day-same : (a : Anchor) (xs ys : List ℕ) (last : ℕ) (h : List Kept) → AgreeUpTo last xs ys → AreBy last h → (n accepted : ℕ) (p : Post) → IsPaidBy last p → effective_day a xs h n accepted p ≡ effective_day a ys h n accepted p
 unfolding effective_day
 day-same a xs ys last h agree all n accepted (post.Open d t) b = refl
+day-same a xs ys last h agree all n accepted (post.OpenVariable d t) b = refl
 day-same a xs ys last h agree all n accepted (post.Charge d p c) b = refl
 day-same a xs ys last h agree all n accepted (post.Credit d p c) b = refl
 day-same a xs ys last h agree all n accepted (post.Payment d i y c) b = credited a xs ys last (amended_day (last_amend n h) d) i (is_mail y) agree (receipt-by last d (last_amend n h) b (amend-by last n h all))

@@ -15,5 +15,4 @@ pub mod Opening
 pub mod Holidays
 pub mod Numbered
 pub mod Fronts
-pub mod IndexFronts
 pub mod Withdrawn

@@ -3,11 +3,11 @@ use Rattle.std.proofs.Common.{◌≡◌, ℕ, zero, suc, ◌+◌, ◌-◌, ◌<�
 use Rattle.std.specs.List.{sum_by}
 use Rattle.std.proofs.lemmas.Bool.Decides.{nat_tests}
 use Rattle.std.proofs.lemmas.List.Sums.{sum_by-cons}
-use Rattle.card_events.specs.History.{amend_of, at_number, confirmed, confirms, dispute_names, disputes, last_amend}
+use Rattle.card_events.specs.History.{amend_of, at_number, charge_disputed, confirmed, confirms, dispute_names, disputes, last_amend}
 use Rattle.card_events.specs.declared.kept.Kept.{Kept}
 use Rattle.card_events.specs.declared.post.Post.{Post}
 use Rattle.card_events.specs.declared.post.Post.TheVariants as post
-use Rattle.card_posts.specs.Corrections.{charge_in, charge_named, correction_of, corrections_from, corrects}
+use Rattle.card_posts.specs.Corrections.{charge_named, correction_of, corrections_from, corrects}
 use Rattle.card_posts.specs.Posted.{target_of}
 use Rattle.card_posts.specs.Stored.{NameEarlier}
 use Rattle.card_posts.specs.declared.correction.Correction.{Correction}
@@ -95,8 +95,9 @@ pub amend-none : (h : List Kept) (k : Kept) (d c : ℕ) → k.post ≡ post.Amen
 amend-none h k d c is e = all-same h (more h k) 0 (λ m n. of-parts h (more h k) m (amend-other h k 0 d c m is n) (amend-confirmed h k 0 d c m is e (omega arith))) 1 h (omega arith)
 
 -- a Resolve adds to what was confirmed
-yes : (m : ℕ) (p : Post) → 0 < charge_in p → disputes m p ≡ (charge_in p == m)
+yes : (m : ℕ) (p : Post) → 0 < charge_disputed p → disputes m p ≡ (charge_disputed p == m)
 yes m (post.Open d t) z = absurd (omega (arith, z))
+yes m (post.OpenVariable d t) z = absurd (omega (arith, z))
 yes m (post.Charge d p c) z = absurd (omega (arith, z))
 yes m (post.Credit d p c) z = absurd (omega (arith, z))
 yes m (post.Payment d i y c) z = absurd (omega (arith, z))
@@ -118,8 +119,9 @@ named-yes : (m : ℕ) (o : Option Kept) → 0 < charge_named o → dispute_names
 named-yes m None z = absurd (omega (arith, z))
 named-yes m (Some k) z = yes m k.post z
 
-no : (m : ℕ) (p : Post) → charge_in p ≡ 0 → (0 ≡ m → ⊥) → disputes m p ≡ false
+no : (m : ℕ) (p : Post) → charge_disputed p ≡ 0 → (0 ≡ m → ⊥) → disputes m p ≡ false
 no m (post.Open d t) z n = refl
+no m (post.OpenVariable d t) z n = refl
 no m (post.Charge d p c) z n = refl
 no m (post.Credit d p c) z n = refl
 no m (post.Payment d i y c) z n = refl
@@ -160,8 +162,9 @@ resolve-this h k a t x m is e l f = resolve-by h k a t x m true is e l f
 pub resolve-none : (h : List Kept) (k : Kept) (a t x : ℕ) → k.post ≡ post.Resolve a t x → NameEarlier 1 h → t ≤ length h → charge_named (at_number t h) ≡ 0 → corrections_from (more h k) 1 h ≡ corrections_from h 1 h
 resolve-none h k a t x is e l f = all-same h (more h k) 0 (λ m n. of-parts h (more h k) m (resolve-amend h k a t x m is) (resolve-other h k a t x m is e l (named-no m (at_number t h) f n))) 1 h (omega arith)
 
-in-below : (t : ℕ) (p : Post) → target_of p < t → 0 < charge_in p → charge_in p < t
+in-below : (t : ℕ) (p : Post) → target_of p < t → 0 < charge_disputed p → charge_disputed p < t
 in-below u (post.Open d t) b z = absurd (omega (arith, z))
+in-below u (post.OpenVariable d t) b z = absurd (omega (arith, z))
 in-below u (post.Charge d p c) b z = absurd (omega (arith, z))
 in-below u (post.Credit d p c) b z = absurd (omega (arith, z))
 in-below u (post.Payment d i y c) b z = absurd (omega (arith, z))
@@ -204,6 +207,7 @@ resolve-kept h k a t x g o post_is e l is z =
 -- nothing is said of a new post
 target-last : (p : Post) (m n : ℕ) → target_of p < m → m ≤ n → amend_of n p ≡ None
 target-last (post.Open d t) m n b l = refl
+target-last (post.OpenVariable d t) m n b l = refl
 target-last (post.Charge d p c) m n b l = refl
 target-last (post.Credit d p c) m n b l = refl
 target-last (post.Payment d i y c) m n b l = refl
@@ -231,6 +235,7 @@ unnamed n m (k ∷ ks) e l =
 
 disputes-other : (p : Post) (m n : ℕ) → target_of p < m → m ≤ n → disputes n p ≡ false
 disputes-other (post.Open d t) m n b l = refl
+disputes-other (post.OpenVariable d t) m n b l = refl
 disputes-other (post.Charge d p c) m n b l = refl
 disputes-other (post.Credit d p c) m n b l = refl
 disputes-other (post.Payment d i y c) m n b l = refl
@@ -254,6 +259,7 @@ names-other h t n (Some k) e f l = disputes-other k.post t n (target-below t h k
 
 confirms-other : (h : List Kept) (n m : ℕ) (p : Post) → NameEarlier 1 h → target_of p < m → m ≤ n → confirms n h p ≡ 0
 confirms-other h n m (post.Open d t) e b l = refl
+confirms-other h n m (post.OpenVariable d t) e b l = refl
 confirms-other h n m (post.Charge d p c) e b l = refl
 confirms-other h n m (post.Credit d p c) e b l = refl
 confirms-other h n m (post.Payment d i y c) e b l = refl

@@ -31,6 +31,7 @@ last_amend-more n (q ∷ h) k = ap (λ o. option_or o (amend_of n q.post)) (last
 
 confirms-more : (n : ℕ) (h : List Kept) (k : Kept) (p : Post) → target_of p ≤ length h → confirms n (more h k) p ≡ confirms n h p
 confirms-more n h k (post.Open d t) l = refl
+confirms-more n h k (post.OpenVariable d t) l = refl
 confirms-more n h k (post.Charge d p c) l = refl
 confirms-more n h k (post.Credit d p c) l = refl
 confirms-more n h k (post.Payment d i y c) l = refl
@@ -72,6 +73,7 @@ plain-amend n h k e = last_amend-more n h k ∙ at k.post e
   where
     at : (p : Post) → corrects p ≡ false → option_or (amend_of n p) (last_amend n h) ≡ last_amend n h
     at (post.Open d t) e = refl
+    at (post.OpenVariable d t) e = refl
     at (post.Charge d p c) e = refl
     at (post.Credit d p c) e = refl
     at (post.Payment d i y c) e = refl
@@ -94,6 +96,7 @@ plain-confirmed n h k e l f = let m = confirmed-more n h k e l in let z : confir
   where
     at : (p : Post) → corrects p ≡ false → confirms n h p ≡ 0
     at (post.Open d t) e = refl
+    at (post.OpenVariable d t) e = refl
     at (post.Charge d p c) e = refl
     at (post.Credit d p c) e = refl
     at (post.Payment d i y c) e = refl
@@ -123,6 +126,7 @@ charge-agree h g n a (Some k) = by k.post
   where
     by : (p : Post) → charge_day h n (Some (record { number = k.number; key = k.key; accepted = k.accepted; post = p })) ≡ charge_day g n (Some (record { number = k.number; key = k.key; accepted = k.accepted; post = p }))
     by (post.Open d t) = refl
+    by (post.OpenVariable d t) = refl
     by (post.Charge d p c) = ap (λ o. amended_day o d) a
     by (post.Credit d p c) = refl
     by (post.Payment d i y c) = refl
@@ -146,6 +150,7 @@ payment-agree a holidays h g n e (Some k) = by k.post
   where
     by : (p : Post) → payment_day a holidays h n (Some (record { number = k.number; key = k.key; accepted = k.accepted; post = p })) ≡ payment_day a holidays g n (Some (record { number = k.number; key = k.key; accepted = k.accepted; post = p }))
     by (post.Open d t) = refl
+    by (post.OpenVariable d t) = refl
     by (post.Charge d p c) = refl
     by (post.Credit d p c) = refl
     by (post.Payment d i y c) = ap (λ o. credit_day a holidays (amended_day o d) i (is_mail y)) e
@@ -183,6 +188,7 @@ dispute-agree h g top t a e l (Some k) f = by k.post (target-below t g k e f)
   where
     by : (p : Post) → target_of p < t → dispute_day h (Some (record { number = k.number; key = k.key; accepted = k.accepted; post = p })) ≡ dispute_day g (Some (record { number = k.number; key = k.key; accepted = k.accepted; post = p }))
     by (post.Open d t) b = refl
+    by (post.OpenVariable d t) b = refl
     by (post.Charge d p c) b = refl
     by (post.Credit d p c) b = refl
     by (post.Payment d i y c) b = refl
@@ -203,6 +209,7 @@ dispute-agree h g top t a e l (Some k) f = by k.post (target-below t g k e f)
 pub day-agree : (a : Anchor) (holidays : List ℕ) (h g : List Kept) (top : ℕ) → Agree h g top → NameEarlier 1 g → (n accepted : ℕ) (p : Post) → target_of p ≤ top → effective_day a holidays h n accepted p ≡ effective_day a holidays g n accepted p
 unfolding effective_day
 day-agree a holidays h g top s e n accepted (post.Open d t) l = refl
+day-agree a holidays h g top s e n accepted (post.OpenVariable d t) l = refl
 day-agree a holidays h g top s e n accepted (post.Charge d p c) l = ap (λ o. amended_day o d) (s.amends n)
 day-agree a holidays h g top s e n accepted (post.Credit d p c) l = ap (λ o. amended_day o d) (s.amends n)
 day-agree a holidays h g top s e n accepted (post.Payment d i y c) l = ap (λ o. credit_day a holidays (amended_day o d) i (is_mail y)) (s.amends n)
@@ -223,6 +230,7 @@ day-agree a holidays h g top s e n accepted (post.Bill c) l = refl
 pub cents-agree : (h g : List Kept) (n : ℕ) (p : Post) → last_amend n h ≡ last_amend n g → confirmed n h ≡ confirmed n g → cents_of h n p ≡ cents_of g n p
 unfolding cents_of
 cents-agree h g n (post.Open d t) f e = refl
+cents-agree h g n (post.OpenVariable d t) f e = refl
 cents-agree h g n (post.Charge d p c) f e = rw (f, e) refl
 cents-agree h g n (post.Credit d p c) f e = ap (λ o. amended_cents o c) f
 cents-agree h g n (post.Payment d i y c) f e = ap (λ o. amended_cents o c) f

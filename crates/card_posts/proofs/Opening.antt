@@ -11,18 +11,16 @@ use Rattle.card_events.specs.declared.post.Post.{Post}
 use Rattle.card_events.specs.declared.post.Post.TheVariants as post
 use Rattle.card_posts.specs.Corrections.{corrections_from, some_waits, waits}
 use Rattle.card_posts.specs.Effect.{corrected_with, slot_by, slots_from}
-use Rattle.card_events.specs.Index.{IsIndex, hash_of}
 use Rattle.card_posts.specs.Order.{in_order, placed}
 use Rattle.card_posts.specs.Posted.{AreNumbered, IsReceived, opens, target_of}
 use Rattle.card_posts.specs.Stored.{AreBeside, AreTimely, IsKept, NameEarlier}
 use Rattle.card_posts.specs.declared.correction.Correction.{Correction}
 use Rattle.card_posts.specs.declared.effect.Effect.{Effect}
-use Rattle.card_events.specs.declared.index.HashedKey.{HashedKey}
-use Rattle.card_events.proofs.IndexLemmas.{index-one}
 use Rattle.card_posts.proofs.Noted.{by_parts}
 
 no-target : (p : Post) → opens p ≡ true → target_of p < 1
 no-target (post.Open d t) o = omega arith
+no-target (post.OpenVariable d t) o = omega arith
 no-target (post.Charge d p c) o = absurd (cc)
 no-target (post.Credit d p c) o = absurd (cc)
 no-target (post.Payment d i y c) o = absurd (cc)
@@ -42,6 +40,7 @@ no-target (post.Bill c) o = absurd (cc)
 
 received : (opened accepted : ℕ) (p : Post) → opens p ≡ true → IsReceived opened accepted p
 received opened accepted (post.Open d t) o = tt
+received opened accepted (post.OpenVariable d t) o = tt
 received opened accepted (post.Charge d p c) o = absurd (cc)
 received opened accepted (post.Credit d p c) o = absurd (cc)
 received opened accepted (post.Payment d i y c) o = absurd (cc)
@@ -61,6 +60,7 @@ received opened accepted (post.Bill c) o = absurd (cc)
 
 no-amend : (p : Post) → opens p ≡ true → amend_of 1 p ≡ None
 no-amend (post.Open d t) o = refl
+no-amend (post.OpenVariable d t) o = refl
 no-amend (post.Charge d p c) o = absurd (cc)
 no-amend (post.Credit d p c) o = absurd (cc)
 no-amend (post.Payment d i y c) o = absurd (cc)
@@ -80,6 +80,7 @@ no-amend (post.Bill c) o = absurd (cc)
 
 no-confirm : (h : List Kept) (p : Post) → opens p ≡ true → confirms 1 h p ≡ 0
 no-confirm h (post.Open d t) o = refl
+no-confirm h (post.OpenVariable d t) o = refl
 no-confirm h (post.Charge d p c) o = absurd (cc)
 no-confirm h (post.Credit d p c) o = absurd (cc)
 no-confirm h (post.Payment d i y c) o = absurd (cc)
@@ -120,21 +121,21 @@ beside-one : (k : Kept) (e : Effect) → opens k.post ≡ true → e.cents ≤ 9
 unfolding in_order placed slots_from
 beside-one k e o small = record { corrections = corrections-one k o; effects = refl; small = All-cons (λ (x : Effect). x.cents ≤ 999_999_999_999) e [] small (All-nil (λ (x : Effect). x.cents ≤ 999_999_999_999)); order = refl }
 
-pub record AreFirst (a : Anchor) (h : List Kept) (ns : List HashedKey) (cs : List Correction) (es : List Effect) (slots : List Slot) : Type 0 where
+pub record AreFirst (a : Anchor) (h : List Kept) (cs : List Correction) (es : List Effect) (slots : List Slot) : Type 0 where
   pub kept : IsKept a h
-  pub index : IsIndex h ns
   pub beside : AreBeside h cs es slots
 
-pub first-lists : (a : Anchor) (k : Kept) (e : Effect) (x : HashedKey) (h : List Kept) (ns : List HashedKey) (cs : List Correction) (es : List Effect) (slots : List Slot)
-    → h ≡ k ∷ [] → ns ≡ x ∷ [] → x.hash ≡ hash_of k.key → x.number ≡ 1 → cs ≡ by_parts None 0 ∷ [] → es ≡ e ∷ [] → slots ≡ slot_by 1 e ∷ []
-    → opens k.post ≡ true → IsCloseDay (terms_in k.post).close → k.number ≡ 1 → k.accepted ≤ last_request_day → a ≡ anchor_of (k ∷ []) → e.cents ≤ 999_999_999_999 → AreFirst a h ns cs es slots
-first-lists a k e x h ns cs es slots h_is ns_is own first cs_is es_is slots_is o close number dated is small =
-    rw (h_is, ns_is, cs_is, es_is, slots_is) (record { kept = kept-one a k o close number dated is; index = index-one k x own first; beside = beside-one k e o small })
+pub first-lists : (a : Anchor) (k : Kept) (e : Effect) (h : List Kept) (cs : List Correction) (es : List Effect) (slots : List Slot)
+    → h ≡ k ∷ [] → cs ≡ by_parts None 0 ∷ [] → es ≡ e ∷ [] → slots ≡ slot_by 1 e ∷ []
+    → opens k.post ≡ true → IsCloseDay (terms_in k.post).close → k.number ≡ 1 → k.accepted ≤ last_request_day → a ≡ anchor_of (k ∷ []) → e.cents ≤ 999_999_999_999 → AreFirst a h cs es slots
+first-lists a k e h cs es slots h_is cs_is es_is slots_is o close number dated is small =
+    rw (h_is, cs_is, es_is, slots_is) (record { kept = kept-one a k o close number dated is; beside = beside-one k e o small })
 
 -- the corrected list of an opening
 day-one : (a : Anchor) (holidays : List ℕ) (h : List Kept) (accepted : ℕ) (p : Post) → opens p ≡ true → opening_in p ≡ effective_day a holidays h 1 accepted p
 unfolding effective_day
 day-one a holidays h accepted (post.Open d t) o = refl
+day-one a holidays h accepted (post.OpenVariable d t) o = refl
 day-one a holidays h accepted (post.Charge d p c) o = absurd (cc)
 day-one a holidays h accepted (post.Credit d p c) o = absurd (cc)
 day-one a holidays h accepted (post.Payment d i y c) o = absurd (cc)
@@ -155,6 +156,7 @@ day-one a holidays h accepted (post.Bill c) o = absurd (cc)
 cents-one : (h : List Kept) (p : Post) → opens p ≡ true → 0 ≡ cents_of h 1 p
 unfolding cents_of
 cents-one h (post.Open d t) o = refl
+cents-one h (post.OpenVariable d t) o = refl
 cents-one h (post.Charge d p c) o = absurd (cc)
 cents-one h (post.Credit d p c) o = absurd (cc)
 cents-one h (post.Payment d i y c) o = absurd (cc)
@@ -182,6 +184,7 @@ stands-one k e h es h_is es_is o day cents holidays =
 -- an opening waits for no other post
 no-wait : (p : Post) → opens p ≡ true → false ≡ waits p
 no-wait (post.Open d t) o = refl
+no-wait (post.OpenVariable d t) o = refl
 no-wait (post.Charge d p c) o = absurd (cc)
 no-wait (post.Credit d p c) o = absurd (cc)
 no-wait (post.Payment d i y c) o = absurd (cc)

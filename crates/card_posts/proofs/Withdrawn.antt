@@ -9,17 +9,14 @@ use Rattle.card_posts.specs.Change.{IsFirstChange}
 use Rattle.card_posts.specs.Corrections.{some_waits}
 use Rattle.card_posts.specs.Draft.{IsCopyIfAny, IsDraft, IsRoomyIfAny, StoodIfAny, corrections_before, effects_before, slots_before}
 use Rattle.card_posts.specs.Effect.{corrected_with}
-use Rattle.card_events.specs.Index.{IsIndex}
 use Rattle.card_posts.specs.Posted.{Posted, StandsFor, target_of}
 use Rattle.card_posts.specs.Stored.{AreBeside, IsKept, NameEarlier}
 use Rattle.card_posts.specs.declared.correction.Correction.{Correction}
 use Rattle.card_posts.specs.declared.draft.Beside.{Beside}
 use Rattle.card_posts.specs.declared.draft.Draft.{Draft}
 use Rattle.card_posts.specs.declared.effect.Effect.{Effect}
-use Rattle.card_events.specs.declared.index.HashedKey.{HashedKey}
 use Rattle.card_posts.proofs.Following.{same-anchor}
 use Rattle.card_posts.proofs.Fronts.{beside-front, kept-front, plain-corrected, pop-front, with-front}
-use Rattle.card_posts.proofs.IndexFronts.{index-front, index-less, numbers_to}
 use Rattle.card_events.proofs.OneMore.{more}
 
 -- what clauses see of posts that are stored
@@ -106,28 +103,22 @@ posted-back k old new d g h es fs room n draft view long count h_is fs_is =
     parts h x c y r z p q s = rw (p, q, s) refl
 
 -- what is stored once the last post is taken back
-pub record AreBack (a : Anchor) (h : List Kept) (ns ms : List HashedKey) (cs : List Correction) (es : List Effect) (slots : List Slot) (waits : Bool) : Type 0 where
+pub record AreBack (a : Anchor) (h : List Kept) (cs : List Correction) (es : List Effect) (slots : List Slot) (waits : Bool) : Type 0 where
   pub kept : IsKept a h
-  pub index : IsIndex h ms
-  pub less : length ms < length ns
   pub beside : AreBeside h cs es slots
   pub waiting : waits ≡ some_waits h
 
-pub lists-back : (a : Anchor) (k : Kept) (old new : Posted) (d : Draft) (g h : List Kept) (ns ms : List HashedKey) (cs ds : List Correction) (es fs : List Effect) (slots rows : List Slot) (n : ℕ)
-    → IsDraft k old new d → g ≡ new.history → IsKept a g → IsIndex g ns → AreBeside g cs es slots → n ≡ length g → h ≡ take (n - 1) g → ms ≡ numbers_to (length h) ns
-    → ds ≡ corrections_before d.before cs → fs ≡ effects_before d.before es → rows ≡ slots_before d.before es → AreBack a h ns ms ds fs rows d.waits
-lists-back a k old new d g h ns ms cs ds es fs slots rows n draft same kept index b count h_is ms_is ds_is fs_is rows_is =
+pub lists-back : (a : Anchor) (k : Kept) (old new : Posted) (d : Draft) (g h : List Kept) (cs ds : List Correction) (es fs : List Effect) (slots rows : List Slot) (n : ℕ)
+    → IsDraft k old new d → g ≡ new.history → IsKept a g → AreBeside g cs es slots → n ≡ length g → h ≡ take (n - 1) g
+    → ds ≡ corrections_before d.before cs → fs ≡ effects_before d.before es → rows ≡ slots_before d.before es → AreBack a h ds fs rows d.waits
+lists-back a k old new d g h cs ds es fs slots rows n draft same kept b count h_is ds_is fs_is rows_is =
     let added : g ≡ more old.history k = same ∙ draft.history in
     let front : h ≡ old.history = history-back g h old.history k n added count h_is in
-    let numbers : ms ≡ numbers_to (length old.history) ns = ms_is ∙ ap (λ (u : List Kept). numbers_to (length u) ns) front in
     let all_kept : IsKept a (more old.history k) = subst (λ u. IsKept a u) added kept in
-    let all_index : IsIndex (more old.history k) ns = subst (λ u. IsIndex u ns) added index in
     let all_beside : AreBeside (more old.history k) cs es slots = subst (λ u. AreBeside u cs es slots) added b in
-    rw (front, numbers, ds_is, fs_is, rows_is)
+    rw (front, ds_is, fs_is, rows_is)
     (record {
       kept = kept-front a old.history k draft.some all_kept;
-      index = index-front old.history k ns draft.fresh all_index;
-      less = index-less old.history k ns draft.fresh all_index;
       beside = beside-back k old new cs es slots d.before all_kept.names all_beside draft.stood;
       waiting = draft.waits;
     })

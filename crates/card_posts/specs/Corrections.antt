@@ -1,6 +1,6 @@
 -- What is kept of later posts for each post, by number: the last Amend, and the sum that was confirmed as an error.
 use Rattle.std.specs.Prelude.{ℕ, suc, ◌+◌, ◌-◌, ◌^◌, min, Bool, true, false, ◌&&◌, ◌||◌, if◌then◌else◌, List, [], ◌∷◌, slice_index_or, slice_set, Option, Some, None}
-use Rattle.card_events.specs.History.{confirmed, last_amend}
+use Rattle.card_events.specs.History.{charge_disputed, confirmed, last_amend}
 use Rattle.card_events.specs.declared.kept.Kept.{Kept}
 use Rattle.card_events.specs.declared.post.Post.{Post}
 use Rattle.card_events.specs.declared.post.Post.TheVariants as post
@@ -31,14 +31,9 @@ abbrev pub with_confirmed : ℕ → ℕ → Correction → List Correction → L
 with_confirmed n cents d cs =
     slice_set cs (n - 1) (record { amend = (slice_index_or cs (n - 1) d).amend; confirmed = saturated (slice_index_or cs (n - 1) d).confirmed cents })
 
--- the charge that a Dispute names, and 0 for what is none
-abbrev pub charge_in : Post → ℕ
-charge_in (post.Dispute _ target _) = target
-charge_in _ = 0
-
 abbrev pub charge_named : Option Kept → ℕ
 charge_named None = 0
-charge_named (Some k) = charge_in k.post
+charge_named (Some k) = charge_disputed k.post
 
 -- the post changes what counts for earlier ones
 abbrev pub corrects : Post → Bool

@@ -15,6 +15,7 @@ use Rattle.card_posts.specs.declared.effect.Effect.{Effect}
 -- a post's own day, and that of acceptance where it has none
 abbrev pub own_day : ℕ → Post → ℕ
 own_day accepted (post.Open day _) = day
+own_day accepted (post.OpenVariable day _) = day
 own_day accepted (post.Charge day _ _) = day
 own_day accepted (post.Credit day _ _) = day
 own_day accepted (post.Payment day _ _ _) = day

@@ -32,7 +32,7 @@ slot_with number posts = option_map slot_of (find (λ p. p.number == number) pos
 abbrev pub cents_limit : ℕ
 cents_limit = 999_999_999_999
 
--- there are at most 10,000 of them, each of 0 to 999,999,999,999 cents
+-- there are at most 200,000 of them, each of 0 to 999,999,999,999 cents
 pub record AreBounded (slots : List Slot) : Type 0 where
   pub count : length slots ≤ post_limit
   pub low : All (λ s. pos 0 ≤ℤ s.cents) slots
@@ -41,6 +41,7 @@ pub record AreBounded (slots : List Slot) : Type 0 where
 -- the post opens an account
 abbrev pub opens : Post → Bool
 opens (post.Open _ _) = true
+opens (post.OpenVariable _ _) = true
 opens _ = false
 
 -- each post bears its place as its number, where the first of the list has number n

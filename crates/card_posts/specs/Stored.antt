@@ -8,14 +8,13 @@ use Rattle.card_events.specs.History.{anchor_of}
 use Rattle.card_events.specs.Limits.{post_limit}
 use Rattle.card_events.specs.declared.kept.Kept.{Kept}
 use Rattle.card_events.specs.declared.kept.Slot.{Slot}
+use Rattle.card_keys.specs.Buckets.{HasRoom, Indexed, IsIndex}
 use Rattle.card_posts.specs.Corrections.{corrections, some_waits}
 use Rattle.card_posts.specs.Effect.{AreSmall, slots_from}
-use Rattle.card_events.specs.Index.{IsIndex}
 use Rattle.card_posts.specs.Order.{in_order}
 use Rattle.card_posts.specs.Posted.{AreNumbered, IsReceived, target_of}
 use Rattle.card_posts.specs.declared.correction.Correction.{Correction}
 use Rattle.card_posts.specs.declared.effect.Effect.{Effect}
-use Rattle.card_events.specs.declared.index.HashedKey.{HashedKey}
 
 -- each of these posts, the first of which is post n, is about an earlier one
 unfoldable pub NameEarlier : ℕ → List Kept → Type 0
@@ -54,15 +53,15 @@ pub record AreBeside (history : List Kept) (later : List Correction) (now : List
   pub order : slots ≡ in_order (slots_from 1 now)
 
 -- there is room for one more in each
-pub record HaveRoom (history : Vec Kept) (index : Vec HashedKey) (later : Vec Correction) (now : Vec Effect) (slots : Vec Slot) : Type 0 where
+pub record HaveRoom (history : Vec Kept) (index : Indexed) (later : Vec Correction) (now : Vec Effect) (slots : Vec Slot) : Type 0 where
   pub history_room : vec_len history < vec_capacity history
-  pub index_room : vec_len index < vec_capacity index
+  pub index_room : HasRoom 1 index
   pub correction_room : vec_len later < vec_capacity later
   pub effect_room : vec_len now < vec_capacity now
   pub slot_room : vec_len slots < vec_capacity slots
 
 -- what always holds of it: an account may have the history, the rest is kept beside it, where there is said to be room, there
 -- is, and it is known whether some post waits
-abbrev pub AreStored : Anchor → Vec Kept → Vec HashedKey → Vec Correction → Vec Effect → Vec Slot → Bool → Bool → Type 0
+abbrev pub AreStored : Anchor → Vec Kept → Indexed → Vec Correction → Vec Effect → Vec Slot → Bool → Bool → Type 0
 AreStored a history index later now slots waits has_room =
-    IsKept a history.items × IsIndex history.items index.items × AreBeside history.items later.items now.items slots.items × (has_room ≡ true → HaveRoom history index later now slots) × (waits ≡ some_waits history.items)
+    IsKept a history.items × IsIndex history.items index × AreBeside history.items later.items now.items slots.items × (has_room ≡ true → HaveRoom history index later now slots) × (waits ≡ some_waits history.items)

@@ -2,7 +2,7 @@
 ghost use Rattle.std.specs.Prelude.{◌≡◌, ◌<◌, ◌≤◌, ◌++◌, [], ◌∷◌, length};
 ghost use Rattle.card_events.specs.History.{at_number};
 ghost use Rattle.card_events.specs.declared.kept.Kept.{Kept};
-ghost use Rattle.card_posts.specs.Corrections.{charge_in, charge_named, corrections_from, with_amend, with_confirmed};
+ghost use Rattle.card_posts.specs.Corrections.{charge_named, corrections_from, with_amend, with_confirmed};
 ghost use Rattle.card_posts.specs.Posted.{target_of};
 ghost use Rattle.card_posts.specs.Stored.{NameEarlier};
 
@@ -15,22 +15,12 @@ pub struct Correction {
     pub confirmed: u64,
 }
 
-// the charge that a Dispute names, and 0 for what is none
-fn charge_in(post: &Post) -> u64
-    ensures { result ≡ charge_in post.now }
-{
-    match post {
-        Post::Dispute { target, .. } => target.get(),
-        _ => 0,
-    }
-}
-
 // the charge that the Dispute of this number names, and 0 for what is none
 fn disputed(history: &[Kept], number: u64) -> u64
     ensures { result ≡ charge_named (at_number number history.now) }
 {
     match numbered(history, number) {
-        Some(kept) => charge_in(&kept.post),
+        Some(kept) => kept.post.charge_disputed(),
         None => 0,
     }
 }

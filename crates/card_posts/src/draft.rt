@@ -1,6 +1,5 @@
 // A post that is entered for a while, and taken back.
-ghost use Rattle.std.specs.Prelude.{◌≡◌, ◌<◌, ◌≤◌, length, nat_le, vec_len, vec_capacity, false, IsOk, IfOk, None};
-ghost use Rattle.std.specs.List.{filter};
+ghost use Rattle.std.specs.Prelude.{◌≡◌, ◌<◌, ◌≤◌, length, vec_len, vec_capacity, false, IsOk, IfOk, None};
 ghost use Rattle.card_events.specs.Limits.{post_limit};
 ghost use Rattle.card_posts.specs.Corrections.{corrects};
 ghost use Rattle.card_posts.specs.Draft.{IsCopy, IsCopyIfAny, IsRoomyIfAny, corrections_before, effects_before, slots_before};
@@ -11,7 +10,6 @@ use crate::correction::Correction;
 use crate::effect::Effect;
 use crate::order::take_out;
 use crate::refresh::is_correction;
-use card_events::index::HashedKey;
 use card_events::{Day, NoMemory, Post, Slot};
 use std::alloc::Global;
 
@@ -132,12 +130,4 @@ pub fn put_back(
         }
         None => pop_last(corrections, effects, order),
     }
-}
-
-// Takes the keys of posts with numbers above a count out of an index.
-pub fn keep_first(index: &mut Vec<HashedKey>, count: u32)
-    ensures items { index.new.items ≡ filter (λ entry. nat_le entry.number count) index.old.items }
-    ensures capacity { vec_capacity index.new ≡ vec_capacity index.old }
-{
-    index.retain(|entry| entry.number <= count);
 }

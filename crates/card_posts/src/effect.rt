@@ -85,6 +85,7 @@ fn own_day(accepted: Day, post: &Post) -> Day
 {
     match *post {
         Post::Open { day, .. }
+        | Post::OpenVariable { day, .. }
         | Post::Charge { day, .. }
         | Post::Credit { day, .. }
         | Post::Payment { day, .. }

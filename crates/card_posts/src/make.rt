@@ -14,7 +14,7 @@ pub fn opening(post: &Post) -> Anchor
     ensures { result ≡ record { opened = opening_in post.now; close_day = (terms_in post.now).close } }
 {
     match post {
-        Post::Open { day, terms } => Anchor {
+        Post::Open { day, terms } | Post::OpenVariable { day, terms } => Anchor {
             opened: *day,
             close_day: terms.close.get() as u8,
         },

@@ -1,22 +1,25 @@
 use crate::correction::Correction;
-use crate::draft::{Draft, beside_if_corrected, keep_first, put_back};
+use crate::draft::{Draft, beside_if_corrected, put_back};
 use crate::effect::{Effect, no_cents};
 use crate::enter::enter;
 use crate::foretold::first_with;
 use crate::make::{copy_history, make_room_in, one, opening};
 use crate::order::{slot, slot_with};
 use crate::refresh::{is_correction, waits_with};
-use card_events::index::{HashedKey, enter_key, find, hashed_key};
 use card_events::{Anchor, Calendar, Day, Kept, Name, NoMemory, Post, Slot, numbered};
+use card_keys::{KeyTable, enter_key, find, leave_key, rebuilt};
 use std::alloc::Global;
 use std::marker::Model;
 
-/// The accepted posts of an account, in order of acceptance, at most 10,000, of which the first opened it; and the
+// How many buckets the keys of a new account lie in.
+const FIRST_BUCKETS: usize = 4;
+
+/// The accepted posts of an account, in order of acceptance, at most 200,000, of which the first opened it; and the
 /// corrected list, which says what counts of each post now.
 #[derive(Drop)]
 pub struct Posts {
     history: Vec<Kept>,
-    index: Vec<HashedKey>,
+    index: KeyTable,
     corrections: Vec<Correction>,
     effects: Vec<Effect>,
     order: Vec<Slot>,
@@ -83,12 +86,13 @@ impl Posts {
             amend: None,
             confirmed: 0,
         };
+        let history = one(alloc, kept)?;
         Ok(Posts {
-            index: one(alloc, hashed_key(key.bytes(), 1))?,
+            index: rebuilt(alloc, &history, FIRST_BUCKETS, 0)?,
             corrections: one(alloc, nothing)?,
             order: one(alloc, slot(1, &effect))?,
             effects: one(alloc, effect)?,
-            history: one(alloc, kept)?,
+            history,
             anchor,
             waits: false,
             has_room: false,
@@ -126,7 +130,7 @@ impl Posts {
         find(&self.history, &self.index, key)
     }
 
-    /// The corrected list as it is folded: by effective day, then by number. There are at most 10,000 slots. Each has 0 to
+    /// The corrected list as it is folded: by effective day, then by number. There are at most 200,000 slots. Each has 0 to
     /// 999,999,999,999 cents, and 0 for kinds without cents.
     pub fn in_order(&self) -> &[Slot]
         ensures order { result.now ≡ folding_order self.now.corrected }
@@ -144,7 +148,7 @@ impl Posts {
 
     /// Makes room for one more post. Where there is room already it can't fail. After want of memory the posts are as they
     /// were.
-    pub fn make_room(&mut self) -> Result<(), NoMemory>
+    pub fn make_room(&mut self, alloc: Global) -> Result<(), NoMemory>
         ensures ok { OnOk result (self.new ≡ record self.old { has_room = true }) }
         ensures roomy { self.old.has_room ≡ true → IsOk result }
         ensures err { OnErr result (self.new ≡ self.old) }
@@ -153,7 +157,7 @@ impl Posts {
             return Ok(());
         }
         make_room_in(&mut self.history)?;
-        make_room_in(&mut self.index)?;
+        card_keys::make_room(alloc, &self.history, &mut self.index)?;
         make_room_in(&mut self.corrections)?;
         make_room_in(&mut self.effects)?;
         make_room_in(&mut self.order)?;
@@ -274,8 +278,9 @@ impl Posts {
             &mut self.effects,
             &mut self.order,
         );
-        let _ = self.history.pop();
-        keep_first(&mut self.index, self.history.len() as u32);
+        if let Some(last) = self.history.pop() {
+            leave_key(&self.history, &mut self.index, &last);
+        }
         self.waits = draft.waits;
         self.has_room = true;
     }
@@ -284,6 +289,7 @@ impl Posts {
     /// as they were.
     pub fn push(
         &mut self,
+        alloc: Global,
         key: Name,
         accepted: Day,
         post: &Post,
@@ -302,7 +308,7 @@ impl Posts {
         ensures roomy { self.old.has_room ≡ true → IsOk result }
         ensures err { OnErr result (self.new ≡ self.old) }
     {
-        self.make_room()?;
+        self.make_room(alloc)?;
         Ok(self.add(key, accepted, post, calendar))
     }
 
@@ -312,7 +318,7 @@ impl Posts {
     {
         Ok(Posts {
             history: copy_history(alloc, &self.history)?,
-            index: Vec::from_slice(alloc, &self.index)?,
+            index: self.index.copy(alloc)?,
             corrections: Vec::from_slice(alloc, &self.corrections)?,
             effects: Vec::from_slice(alloc, &self.effects)?,
             order: Vec::from_slice(alloc, &self.order)?,

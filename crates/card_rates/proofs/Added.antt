@@ -6,7 +6,7 @@ use Rattle.std.proofs.lemmas.Option.{get_or_from_slice_get, slice_get_within}
 use Rattle.std.specs.Prelude.{slice_get}
 use Rattle.std.specs.List.{cons_option, count_by, filter_map}
 use Rattle.card_events.specs.declared.anchor.Anchor.{Anchor}
-use Rattle.card_events.specs.History.{adds_segment, anchor_of, at_number, corrected, corrected_from, corrected_post, next_segment, opening_in, terms_in, terms_of}
+use Rattle.card_events.specs.History.{adds_segment, anchor_of, at_number, corrected, corrected_from, corrected_post, is_variable, next_segment, opening_in, opens_variable, terms_in, terms_of}
 use Rattle.card_events.specs.declared.kept.Kept.{Kept}
 use Rattle.card_events.specs.declared.post.Post.{Post}
 use Rattle.card_events.specs.declared.post.Post.TheVariants as post
@@ -42,6 +42,7 @@ numbered-next s n (post.Notice d c r e) gs h = (refl, next h)
     next : AreByNumber (s + 1) gs → AreByNumber (suc s) gs
     next h = let e : s + 1 ≡ suc s = omega arith in rw (← e) h
 numbered-next s n (post.Open d t) gs h = h
+numbered-next s n (post.OpenVariable d t) gs h = h
 numbered-next s n (post.Charge d p c) gs h = h
 numbered-next s n (post.Credit d p c) gs h = h
 numbered-next s n (post.Payment d m y c) gs h = h
@@ -79,6 +80,7 @@ length-next : (s n m : ℕ) (p : Post) → m + length (cons_option (segment_of s
 length-next s n m (post.Plan d k r e f) = omega arith
 length-next s n m (post.Notice d c r e) = omega arith
 length-next s n m (post.Open d t) = omega arith
+length-next s n m (post.OpenVariable d t) = omega arith
 length-next s n m (post.Charge d p c) = omega arith
 length-next s n m (post.Credit d p c) = omega arith
 length-next s n m (post.Payment d x y c) = omega arith
@@ -182,9 +184,13 @@ pub first-opening : (ks : List Kept) (k : Kept) → at_number 1 ks ≡ Some k �
 first-opening [] k e = cc
 first-opening (x ∷ xs) k e = let same : k ≡ x = cc in ap (λ (y : Kept). opening_in y.post) same
 
-abbrev made : ℕ → List SegmentTerms → List Lowering → List Interval → Rates
-made penalty gs ls is = record { penalty = penalty; segments = gs; lowerings = ls; penalties = is }
+pub first-variable : (ks : List Kept) (k : Kept) → at_number 1 ks ≡ Some k → opens_variable k.post ≡ is_variable ks
+first-variable [] k e = cc
+first-variable (x ∷ xs) k e = let same : k ≡ x = cc in ap (λ (y : Kept). opens_variable y.post) same
 
-pub same-rates : {p q : ℕ} {gs hs : List SegmentTerms} {ls ms : List Lowering} {is js : List Interval} → p ≡ q → gs ≡ hs → ls ≡ ms → is ≡ js → made p gs ls is ≡ made q hs ms js
-same-rates {p} {q} {gs} {hs} {ls} {ms} {is} {js} a b c d =
-    ap (λ x. made x gs ls is) a ∙ (ap (λ x. made q x ls is) b ∙ (ap (λ x. made q hs x is) c ∙ ap (made q hs ms) d))
+abbrev made : Bool → ℕ → List SegmentTerms → List Lowering → List Interval → Rates
+made variable penalty gs ls is = record { variable = variable; penalty = penalty; segments = gs; lowerings = ls; penalties = is }
+
+pub same-rates : {u v : Bool} {p q : ℕ} {gs hs : List SegmentTerms} {ls ms : List Lowering} {is js : List Interval} → u ≡ v → p ≡ q → gs ≡ hs → ls ≡ ms → is ≡ js → made u p gs ls is ≡ made v q hs ms js
+same-rates {u} {v} {p} {q} {gs} {hs} {ls} {ms} {is} {js} e a b c d =
+    ap (λ x. made x p gs ls is) e ∙ (ap (λ x. made v x gs ls is) a ∙ (ap (λ x. made v q x ls is) b ∙ (ap (λ x. made v q hs x is) c ∙ ap (made v q hs ms) d)))

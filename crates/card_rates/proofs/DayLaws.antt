@@ -4,14 +4,16 @@ use Rattle.std.proofs.lemmas.Bool.Decides.{nat_tests}
 use Rattle.std.proofs.lemmas.List.Elements.{All-cons, All-contains, All-contains_itself, All-filter, All-head, All-tail, All-weaker}
 use Rattle.std.specs.List.{All, Contains, cons_option, filter, filter_map}
 use Rattle.card_events.specs.declared.anchor.Anchor.{Anchor}
-use Rattle.card_events.specs.History.{CorrectedPost, anchor_of, corrected, folded, is_folded, terms_of}
-use Rattle.card_events.specs.SharedRows.{SharedRows}
+use Rattle.card_events.specs.History.{CorrectedPost, anchor_of, corrected, folded, is_folded, is_variable, terms_of}
+use Rattle.std.specs.Prelude.{unwrap_or}
+use Rattle.card_model.proofs.IndexDays.{index-up_to}
+use Rattle.card_events.specs.SharedRows.{IndexRow, SharedRows}
 use Rattle.card_events.specs.declared.kept.Kept.{Kept}
 use Rattle.card_events.specs.declared.post.Post.{Post}
 use Rattle.card_events.specs.declared.post.Post.TheVariants as post
 use Rattle.card_events.specs.declared.post.Terms.{Terms}
 use Rattle.card_model.specs.Folds.{book}
-use Rattle.card_model.specs.Rates.{accrual_rate, lowering_of, lowerings, rate_on, starts}
+use Rattle.card_model.specs.Rates.{accrual_rate, index_for, lowering_of, lowerings, rate_on, starts}
 use Rattle.card_model.specs.Segments.{SegmentTerms, is_over, is_sort, newest, opening_vintage, segment_of, segments}
 use Rattle.card_model.specs.declared.segment.Sort.TheVariants as sort
 use Rattle.card_model.proofs.Past.{filter_implied}
@@ -35,6 +37,7 @@ no-segment : (s n : ℕ) (p : Post) → is_folded p ≡ false → segment_of s n
 no-segment s n (post.Plan d k r e f) h = cc
 no-segment s n (post.Notice d c r e) h = cc
 no-segment s n (post.Open d t) h = refl
+no-segment s n (post.OpenVariable d t) h = refl
 no-segment s n (post.Charge d p c) h = refl
 no-segment s n (post.Credit d p c) h = refl
 no-segment s n (post.Payment d m y c) h = refl
@@ -55,6 +58,7 @@ no-lowering (post.Lower d c r) h = cc
 no-lowering (post.Plan d k r e f) h = refl
 no-lowering (post.Notice d c r e) h = refl
 no-lowering (post.Open d t) h = refl
+no-lowering (post.OpenVariable d t) h = refl
 no-lowering (post.Charge d p c) h = refl
 no-lowering (post.Credit d p c) h = refl
 no-lowering (post.Payment d m y c) h = refl
@@ -98,6 +102,11 @@ seen-within : (history : List Kept) (shared : SharedRows) (x y : ℕ) → x ≤ 
 seen-within history shared x y l = filter_implied (λ (p : CorrectedPost). leb p.day x) (λ p. leb p.day y) (λ p. within-later p.day x y l) (folded (anchor_of history) shared.holidays history)
 
 -- ---- rates
+-- the index of a day is that of the rows which this or a later day sees
+pub index-seen : (variable : Bool) (rows : List IndexRow) (day later : ℕ) → day ≤ later → index_for variable (filter (λ r. leb r.day later) rows) day ≡ index_for variable rows day
+index-seen false rows day later l = refl
+index-seen true rows day later l = ap (λ o. Some (unwrap_or o 0)) (index-up_to day later rows l)
+
 pub rates_any : RatesOfAnyBook
 rates_any history issued shared b x y g l =
     let a = anchor_of history in
@@ -106,17 +115,20 @@ rates_any history issued shared b x y g l =
     let every = corrected a shared.holidays history in
     let all = folded a shared.holidays history in
     let late = filter (λ (p : CorrectedPost). leb p.day y) all in
-    ap (λ ls. rate_on ls terms.penalty began (segments a terms every) x g) (sym (folded-lowerings every))
-    ∙ (ap (λ gs. rate_on (lowerings all) terms.penalty began gs x g) (sym (folded-segments a terms every))
-    ∙ (sym (rate-stays a terms began x g all (folded-dated history shared))
-    ∙ (ap (λ ps. rate_on (lowerings ps) terms.penalty began (segments a terms ps) x g) (sym (seen-within history shared x y l))
-    ∙ rate-stays a terms began x g late (seen-dated history shared y))))
+    let index = index_for (is_variable history) shared.index x in
+    ap (λ ls. rate_on index ls terms.penalty began (segments a terms every) x g) (sym (folded-lowerings every))
+    ∙ (ap (λ gs. rate_on index (lowerings all) terms.penalty began gs x g) (sym (folded-segments a terms every))
+    ∙ (sym (rate-stays index a terms began x g all (folded-dated history shared))
+    ∙ (ap (λ ps. rate_on index (lowerings ps) terms.penalty began (segments a terms ps) x g) (sym (seen-within history shared x y l))
+    ∙ (rate-stays index a terms began x g late (seen-dated history shared y)
+    ∙ ap (λ i. rate_on i (lowerings late) terms.penalty began (segments a terms late) x g) (sym (index-seen (is_variable history) shared.index x y l))))))
 
 pub rates_later : RatesOfALaterBook
 rates_later history issued shared x y g l =
     let seen = seen_in history issued shared x in
+    let index = index_for (is_variable history) seen.index x in
     rates_any history issued shared (book history issued shared y) x x g (omega arith)
-    ∙ ap (λ (began : List ℕ). rate_on (lowerings seen.posts) (terms_of history).penalty began (segments_on history issued shared x) x g) (book-starts history issued shared x y l)
+    ∙ ap (λ (began : List ℕ). rate_on index (lowerings seen.posts) (terms_of history).penalty began (segments_on history issued shared x) x g) (book-starts history issued shared x y l)
 
 pub rates_of_a_day : RatesOfADay
 rates_of_a_day = record { any = rates_any; later = rates_later }

@@ -32,6 +32,7 @@ post-dated a holidays history n accepted (post.Lower day c lower) = refl
 post-dated a holidays history n accepted (post.Notice day c rate effective) = refl
 post-dated a holidays history n accepted (post.Plan day k rate end after) = refl
 post-dated a holidays history n accepted (post.Open _ _) = tt
+post-dated a holidays history n accepted (post.OpenVariable _ _) = tt
 post-dated a holidays history n accepted (post.Charge _ _ _) = tt
 post-dated a holidays history n accepted (post.Credit _ _ _) = tt
 post-dated a holidays history n accepted (post.Payment _ _ _ _) = tt
@@ -74,6 +75,7 @@ day_in (Some l) = l.day
 pub lowering-day : (p : Post) (l : Lowering) (on : ℕ) → lowering_of p ≡ Some l → own_day p on → l.day ≡ on
 lowering-day (post.Lower day c rate) l on e d = let b : day ≡ l.day = ap day_in e in sym b ∙ d
 lowering-day (post.Open _ _) l on e d = cc
+lowering-day (post.OpenVariable _ _) l on e d = cc
 lowering-day (post.Charge _ _ _) l on e d = cc
 lowering-day (post.Credit _ _ _) l on e d = cc
 lowering-day (post.Payment _ _ _ _) l on e d = cc
@@ -123,6 +125,7 @@ pub begins-later : (x : ℕ) (p : Post) (i n : ℕ) (v : SegmentTerms) (on : ℕ
 begins-later x (post.Notice day c rate effective) i n v on e d l = let b : day + 15 ≡ v.begins = ap begins_of e in omega (arith, d, b)
 begins-later x (post.Plan day k rate end after) i n v on e d l = let b : day ≡ v.begins = ap begins_of e in omega (arith, d, b)
 begins-later x (post.Open _ _) i n v on e d l = cc
+begins-later x (post.OpenVariable _ _) i n v on e d l = cc
 begins-later x (post.Charge _ _ _) i n v on e d l = cc
 begins-later x (post.Credit _ _ _) i n v on e d l = cc
 begins-later x (post.Payment _ _ _ _) i n v on e d l = cc
@@ -190,9 +193,9 @@ vintage-stays p a terms us vs e =
     let transfer = opening_vintage 4 sort.Transfer a.opened terms.transfer in
     more p (Some purchase) (cash ∷ transfer ∷ u) (cash ∷ transfer ∷ v) (more p (Some cash) (transfer ∷ u) (transfer ∷ v) (more p (Some transfer) u v e))
 
-own-stays : (a : Anchor) (terms : Terms) (x : ℕ) (g : SegmentTerms) (posts : List CorrectedPost) → AreDated posts → own (segments a terms (filter (λ t. leb t.day x) posts)) x g ≡ own (segments a terms posts) x g
-own-stays a terms x g posts h =
-    ap (λ q. cond (is_plan g) (record { rate = g.after; from = after_end g.ends }) (begun_of q)) (vintage-stays (bears_in x g.sort g.id) a terms (filter (λ t. leb t.day x) posts) posts (last-in (bears_in x g.sort g.id) x (bears-begins g.sort g.id x) posts h))
+own-stays : (index : Option ℕ) (a : Anchor) (terms : Terms) (x : ℕ) (g : SegmentTerms) (posts : List CorrectedPost) → AreDated posts → own index (segments a terms (filter (λ t. leb t.day x) posts)) x g ≡ own index (segments a terms posts) x g
+own-stays index a terms x g posts h =
+    ap (λ q. cond (is_plan g) (record { rate = g.after; from = after_end g.ends }) (begun_of index q)) (vintage-stays (bears_in x g.sort g.id) a terms (filter (λ t. leb t.day x) posts) posts (last-in (bears_in x g.sort g.id) x (bears-begins g.sort g.id x) posts h))
 
 -- ---- the rate
 pub fold-same : {A : Type 0} (f g : ℕ → A → ℕ) → ((r : ℕ) (i : A) → f r i ≡ g r i) → (r : ℕ) (is : List A) → fold f r is ≡ fold g r is
@@ -200,14 +203,14 @@ fold-same f g e r [] = refl
 fold-same f g e r (i ∷ is) = ap (λ q. fold f q is) (e r i) ∙ fold-same f g e (g r i) is
 
 -- the rate read from all posts is that read from the posts up to the day
-pub rate-stays : (a : Anchor) (terms : Terms) (penalties : List ℕ) (x : ℕ) (g : SegmentTerms) (posts : List CorrectedPost) → AreDated posts
-    → rate_on (lowerings (filter (λ t. leb t.day x) posts)) terms.penalty penalties (segments a terms (filter (λ t. leb t.day x) posts)) x g ≡ rate_on (lowerings posts) terms.penalty penalties (segments a terms posts) x g
+pub rate-stays : (index : Option ℕ) (a : Anchor) (terms : Terms) (penalties : List ℕ) (x : ℕ) (g : SegmentTerms) (posts : List CorrectedPost) → AreDated posts
+    → rate_on index (lowerings (filter (λ t. leb t.day x) posts)) terms.penalty penalties (segments a terms (filter (λ t. leb t.day x) posts)) x g ≡ rate_on index (lowerings posts) terms.penalty penalties (segments a terms posts) x g
 unfolding rate_on
-rate-stays a terms penalties x g posts h =
+rate-stays index a terms penalties x g posts h =
     let early = filter (λ (t : CorrectedPost). leb t.day x) posts in
-    let base : capped (lowerings early) (bears_as g) x (own (segments a terms early) x g) ≡ capped (lowerings posts) (bears_as g) x (own (segments a terms posts) x g) =
-    ap (λ b. capped (lowerings early) (bears_as g) x b) (own-stays a terms x g posts h) ∙ capped-stays (bears_as g) x (own (segments a terms posts) x g) posts h in
-    let all : fold (with_penalty (lowerings early) terms.penalty (bears_as g) x) (capped (lowerings early) (bears_as g) x (own (segments a terms early) x g)) penalties ≡ fold (with_penalty (lowerings posts) terms.penalty (bears_as g) x) (capped (lowerings posts) (bears_as g) x (own (segments a terms posts) x g)) penalties =
+    let base : capped (lowerings early) (bears_as g) x (own index (segments a terms early) x g) ≡ capped (lowerings posts) (bears_as g) x (own index (segments a terms posts) x g) =
+    ap (λ b. capped (lowerings early) (bears_as g) x b) (own-stays index a terms x g posts h) ∙ capped-stays (bears_as g) x (own index (segments a terms posts) x g) posts h in
+    let all : fold (with_penalty (lowerings early) terms.penalty (bears_as g) x) (capped (lowerings early) (bears_as g) x (own index (segments a terms early) x g)) penalties ≡ fold (with_penalty (lowerings posts) terms.penalty (bears_as g) x) (capped (lowerings posts) (bears_as g) x (own index (segments a terms posts) x g)) penalties =
     fold-same (with_penalty (lowerings early) terms.penalty (bears_as g) x) (with_penalty (lowerings posts) terms.penalty (bears_as g) x) (λ r i. ap (max r) (capped-stays (bears_as g) x (record { rate = terms.penalty; from = i }) posts h)) _ penalties
     ∙ ap (λ r. fold (with_penalty (lowerings posts) terms.penalty (bears_as g) x) r penalties) base in
     ap (λ q. cond (is_plan g && ltb x g.begins) 0 (cond (is_plan g && not (is_over g.ends x)) (period_rate g) q)) all

@@ -73,6 +73,7 @@ effect-starts x issued a seen s (post.Dispute d target claim) b l = refl
 effect-starts x issued a seen s (post.Resolve d target c) b l = refl
 effect-starts x issued a seen s (post.Refund n) b l = refl
 effect-starts x issued a seen s (post.Open d t) b l = refl
+effect-starts x issued a seen s (post.OpenVariable d t) b l = refl
 effect-starts x issued a seen s (post.Plan d k r e f) b l = refl
 effect-starts x issued a seen s (post.Notice d c r e) b l = refl
 effect-starts x issued a seen s (post.Lower d c r) b l = refl

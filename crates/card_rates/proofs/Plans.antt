@@ -73,6 +73,7 @@ no-segment : (s n : ℕ) (p : Post) → is_folded p ≡ false → segment_of s n
 no-segment s n (post.Plan d k r e f) h = cc
 no-segment s n (post.Notice d c r e) h = cc
 no-segment s n (post.Open d t) h = refl
+no-segment s n (post.OpenVariable d t) h = refl
 no-segment s n (post.Charge d p c) h = refl
 no-segment s n (post.Credit d p c) h = refl
 no-segment s n (post.Payment d m y c) h = refl
@@ -109,6 +110,7 @@ plan-day s n (post.Notice d c r e) g day is o h =
     let no : true ≡ false = sym h ∙ none in
     absurd (cc)
 plan-day s n (post.Open d t) g day is o h = cc
+plan-day s n (post.OpenVariable d t) g day is o h = cc
 plan-day s n (post.Charge d p c) g day is o h = cc
 plan-day s n (post.Credit d p c) g day is o h = cc
 plan-day s n (post.Payment d m y c) g day is o h = cc

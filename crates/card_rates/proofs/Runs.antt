@@ -71,6 +71,7 @@ accepted-few now key p h l = by (adds_segment p) refl (not-full now p h)
 
 opens-none : (p : Post) → is_open p ≡ true → adds_segment p ≡ false
 opens-none (post.Open d t) e = refl
+opens-none (post.OpenVariable d t) e = refl
 opens-none (post.Charge d p c) e = cc
 opens-none (post.Credit d p c) e = cc
 opens-none (post.Payment d m y c) e = cc

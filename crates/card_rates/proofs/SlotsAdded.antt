@@ -23,6 +23,7 @@ same-kept : (s n : ℕ) (p : Post) → option_map kept_segment (segment_of s n p
 same-kept s n (post.Plan d k r e f) = refl
 same-kept s n (post.Notice d c r e) = refl
 same-kept s n (post.Open d t) = refl
+same-kept s n (post.OpenVariable d t) = refl
 same-kept s n (post.Charge d p c) = refl
 same-kept s n (post.Credit d p c) = refl
 same-kept s n (post.Payment d x y c) = refl
@@ -61,6 +62,7 @@ count-one : (n : ℕ) (p : Post) → length (cons_option (kept_of n p) []) ≡ c
 count-one n (post.Plan d k r e f) = refl
 count-one n (post.Notice d c r e) = refl
 count-one n (post.Open d t) = refl
+count-one n (post.OpenVariable d t) = refl
 count-one n (post.Charge d p c) = refl
 count-one n (post.Credit d p c) = refl
 count-one n (post.Payment d x y c) = refl

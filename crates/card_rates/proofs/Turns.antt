@@ -37,6 +37,7 @@ in_turn = record {
 idle-post : (issued : Option IssuedRow) (a : Account) (seen : Seen) (p : CorrectedPost) (q : Post) (b : Book) → is_folded q ≡ false → effect issued a seen p q b ≡ b
 unfolding effect
 idle-post issued a seen p (post.Open _ _) b h = refl
+idle-post issued a seen p (post.OpenVariable _ _) b h = refl
 idle-post issued a seen p (post.Review _ _) b h = refl
 idle-post issued a seen p (post.Ack _ _) b h = refl
 idle-post issued a seen p (post.AskRefund _) b h = refl

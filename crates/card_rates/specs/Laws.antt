@@ -83,13 +83,13 @@ pub record PenaltiesStay : Type 0 where
 abbrev pub RatesOfAnyBook : Type 0
 RatesOfAnyBook =
     (history : List Kept) (issued : List IssuedRow) (shared : SharedRows) (b : Book) (day later : ℕ) (g : SegmentTerms) → day ≤ later
-    → rate_of (rates_of shared.holidays history b.penalties) day g ≡ rate_in (account_of history) (seen_in history issued shared later) b day g
+    → rate_of shared.index (rates_of shared.holidays history b.penalties) day g ≡ rate_in (account_of history) (seen_in history issued shared later) b day g
 
 -- with the penalties of a later book too, it is the rate that the day itself had
 abbrev pub RatesOfALaterBook : Type 0
 RatesOfALaterBook =
     (history : List Kept) (issued : List IssuedRow) (shared : SharedRows) (day later : ℕ) (g : SegmentTerms) → day ≤ later
-    → rate_of (rates_of shared.holidays history (book history issued shared later).penalties) day g
+    → rate_of shared.index (rates_of shared.holidays history (book history issued shared later).penalties) day g
     ≡ rate_in (account_of history) (seen_in history issued shared day) (book history issued shared day) day g
 
 pub record RatesOfADay : Type 0 where
@@ -100,15 +100,16 @@ pub record RatesOfADay : Type 0 where
 -- none of so many days from the first on is a break day
 abbrev pub AreQuiet : List Kept → List IssuedRow → SharedRows → List Interval → ℕ → ℕ → Type 0
 AreQuiet history issued shared penalties first days =
-    (i : ℕ) → i < days → is_break (account_of history) (corrected (anchor_of history) shared.holidays history) issued penalties (first + i) ≡ false
+    (i : ℕ) → i < days → is_break (account_of history) (corrected (anchor_of history) shared.holidays history) issued shared.index penalties (first + i) ≡ false
 
--- Over days without a break day all is as on the first of them. The day before it may differ: a plan's end is a break day, and
--- its rate changes on the day after
+-- Over days without a break day all is as on the first of them, which for rates isn't before the opening: until then an index
+-- row is no break day. The day before it may differ: a plan's end is a break day, and its rate changes on the day after
 pub record SpansKeepRates : Type 0 where
   pub rates :
       (history : List Kept) (issued : List IssuedRow) (shared : SharedRows) (penalties : List Interval) (first days i : ℕ) (g : SegmentTerms)
-      → AreQuiet history issued shared penalties first days → i < days → Contains (rates_of shared.holidays history penalties).segments g
-      → rate_of (rates_of shared.holidays history penalties) (first + i) g ≡ rate_of (rates_of shared.holidays history penalties) first g
+      → (anchor_of history).opened ≤ first → AreQuiet history issued shared penalties first days → i < days
+      → Contains (rates_of shared.holidays history penalties).segments g
+      → rate_of shared.index (rates_of shared.holidays history penalties) (first + i) g ≡ rate_of shared.index (rates_of shared.holidays history penalties) first g
   pub accruals :
       (history : List Kept) (issued : List IssuedRow) (shared : SharedRows) (penalties : List Interval) (first days i : ℕ) (g : SegmentTerms)
       → AreQuiet history issued shared penalties first days → i < days → Contains (rates_of shared.holidays history penalties).segments g

@@ -1,4 +1,4 @@
-use crate::change::{penalties_change, segments_change};
+use crate::change::{next_row, penalties_change, segments_change};
 use crate::make::{add_all, first_segments, penalty_rate_in, post_of};
 use crate::past::penalties_at;
 use crate::rate::{
@@ -9,13 +9,15 @@ use crate::segment::{RateCap, RatedSegment, accrues, after_end, is_plan_sort, so
 use card_events::{Bp, Category, Day, NoMemory};
 use card_model::Interval;
 use card_posts::Posts;
+use card_shared::IndexTable;
 use std::alloc::Global;
 use std::marker::Model;
 
-/// The rates of an account: the segments that its posts add, with the rates that they give them, the lowered rates, and the
-/// penalties that began (12 CFR 1026.55(b)). Segments are numbered from 0 on; 0 is Credit and 1 is Held.
+/// The rates of an account: the segments that its posts add, with the rates that they give them, the lowered rates, the
+/// penalties that began, and whether the opening rates follow the index (12 CFR 1026.55(b)), which is no part of it. Segments are numbered from 0 on; 0 is Credit and 1 is Held.
 #[derive(Drop)]
 pub struct RateBook {
+    variable: bool,
     penalty_rate: Bp,
     segments: Vec<RatedSegment>,
     caps: Vec<RateCap>,
@@ -27,7 +29,7 @@ impl Model for RateBook {
 
     ghost Value = { Rates };
 
-    ghost view = { λ r. record { penalty = r.penalty_rate; segments = r.segments.items; lowerings = r.caps.items; penalties = r.penalties.items } };
+    ghost view = { λ r. record { variable = r.variable; penalty = r.penalty_rate; segments = r.segments.items; lowerings = r.caps.items; penalties = r.penalties.items } };
 
     ghost invariant = { λ r. AreByNumber 2 r.segments.items };
 }
@@ -36,12 +38,13 @@ impl RateBook {
     ghost use Rattle.std.specs.Prelude.{◌≡◌, ℕ, true, ◌+◌, ◌<◌, ◌≤◌, ◌++◌, List, [], ◌∷◌, Some, None, length, slice_index_or, slice_set, option_copied, IfOk, OnOk, OnErr};
     ghost use Rattle.std.specs.List.{All, Contains, fold};
     ghost use Rattle.card_events.specs.History.{terms_of};
+    ghost use Rattle.card_events.specs.SharedRows.{IndexRow};
     ghost use Rattle.card_model.specs.Accepted.{AreInRange, HasFewRates, HasFewSegments};
     ghost use Rattle.card_model.specs.Cuts.{penalties_at};
-    ghost use Rattle.card_model.specs.Rates.{accrual_rate, bears_as, capped, own, starts, with_penalty};
+    ghost use Rattle.card_model.specs.Rates.{accrual_rate, bears_as, capped, index_for, own, starts, with_penalty};
     ghost use Rattle.card_model.specs.Segments.{SegmentTerms, newest, sort_of_category};
     ghost use Rattle.card_model.specs.declared.segment.Interval.{Interval};
-    ghost use Rattle.card_rates.specs.Next.{IsNext, changes};
+    ghost use Rattle.card_rates.specs.Next.{IsNext, changes, index_changes};
     ghost use Rattle.card_rates.specs.RateBooks.{lasting_rate, rate_of, rates_of, with_penalties};
 
     /// The rates of an account's posts, where no penalty has begun. The terms are in their ranges, no rate of a post is above
@@ -57,6 +60,7 @@ impl RateBook {
         let mut caps = Vec::new(alloc);
         add_all(&mut segments, &mut caps, posts)?;
         Ok(RateBook {
+            variable: opening.opens_variable(),
             penalty_rate: penalty_rate_in(opening),
             segments,
             caps,
@@ -89,6 +93,13 @@ impl RateBook {
         &self.segments
     }
 
+    /// Whether the opening rates follow the index (12 CFR 1026.55(b)(2)). It takes no memory.
+    pub fn is_variable(&self) -> bool
+        ensures { result ≡ self.now.variable }
+    {
+        self.variable
+    }
+
     /// The rate of penalties by the account's terms, in basis points (12 CFR 1026.55(b)(4)). It takes no memory.
     pub fn penalty_rate(&self) -> Bp
         ensures { result ≡ self.now.penalty }
@@ -108,6 +119,7 @@ impl RateBook {
         ensures { IfOk result (λ book. book ≡ self.now) }
     {
         Ok(RateBook {
+            variable: self.variable,
             penalty_rate: self.penalty_rate,
             segments: Vec::from_slice(alloc, &self.segments)?,
             caps: Vec::from_slice(alloc, &self.caps)?,
@@ -121,6 +133,7 @@ impl RateBook {
         ensures { IfOk result (λ book. book ≡ with_penalties (penalties_at day self.now.penalties) self.now) }
     {
         Ok(RateBook {
+            variable: self.variable,
             penalty_rate: self.penalty_rate,
             segments: Vec::from_slice(alloc, &self.segments)?,
             caps: Vec::from_slice(alloc, &self.caps)?,
@@ -140,15 +153,15 @@ impl RateBook {
         Ok(book)
     }
 
-    /// The rate of a segment on a day, in basis points (12 CFR 1026.55(b)(1), (b)(3), (b)(4)). It takes no memory. Credit and
-    /// Held bear 0. The segment is there.
-    pub fn rate_on(&self, segment: u8, day: Day) -> Bp
+    /// The rate of a segment on a day under this index, in basis points (12 CFR 1026.55(b)(1) to (b)(4)). It takes no memory.
+    /// Credit and Held bear 0. The segment is there.
+    pub fn rate_on(&self, index: &IndexTable, segment: u8, day: Day) -> Bp
         requires there { segment < length self.now.segments + 2 }
-        ensures rate { (g : SegmentTerms) → Contains self.now.segments g → g.id ≡ segment → result ≡ rate_of self.now day g }
+        ensures rate { (g : SegmentTerms) → Contains self.now.segments g → g.id ≡ segment → result ≡ rate_of index.now self.now day g }
         ensures unbilled { segment < 2 → result ≡ 0 }
     {
         match self.segment_with(segment) {
-            Some(g) => self.rate_of_its(g, day),
+            Some(g) => self.rate_of_its(index, g, day),
             None => no_rate(),
         }
     }
@@ -184,6 +197,18 @@ impl RateBook {
         penalties_change(&self.penalties, first, next)
     }
 
+    /// The first day from one on, before an end and after the opening day, that has an index row, where the opening rates follow
+    /// the index; the end where there is none (12 CFR 1026.55(b)(2)). It takes no memory.
+    pub fn next_index(&self, index: &IndexTable, opened: Day, first: Day, end: Day) -> Day
+        requires { first ≤ end }
+        ensures { IsNext (index_changes opened index.now self.now) first end result }
+    {
+        if !self.variable {
+            return end;
+        }
+        next_row(index, opened, first, end)
+    }
+
     // the segment with a number, other than Credit and Held
     fn segment_with(&self, number: u8) -> Option<&RatedSegment>
         requires there { number < length self.now.segments + 2 }
@@ -197,9 +222,22 @@ impl RateBook {
         Some(&segments[number as usize - 2])
     }
 
+    // the index that the opening rates follow on a day, if they do; a day before its first row has 0
+    fn index_of(&self, index: &IndexTable, day: Day) -> Option<Bp>
+        ensures { result ≡ index_for self.now.variable index.now day }
+    {
+        if !self.variable {
+            return None;
+        }
+        match index.on(day) {
+            Some(rate) => Some(rate),
+            None => Some(no_rate()),
+        }
+    }
+
     // the own rate of a vintage, or of a plan past its end
-    fn own_of(&self, g: &RatedSegment, day: Day) -> BegunRate
-        ensures { result ≡ own self.now.segments day g.now }
+    fn own_of(&self, index: &IndexTable, g: &RatedSegment, day: Day) -> BegunRate
+        ensures { result ≡ own (index_for self.now.variable index.now day) self.now.segments day g.now }
     {
         if is_plan_sort(g.sort) {
             BegunRate {
@@ -207,16 +245,17 @@ impl RateBook {
                 from: after_end(&g.ends),
             }
         } else {
-            vintage_rate(&self.segments, g.sort, g.id, day)
+            let index = self.index_of(index, day);
+            vintage_rate(&self.segments, g.sort, g.id, day, index)
         }
     }
 
     // the rate of a segment that is no plan in its period
-    fn lasting(&self, g: &RatedSegment, day: Day) -> Bp
-        ensures { result ≡ lasting_rate self.now day g.now }
+    fn lasting(&self, index: &IndexTable, g: &RatedSegment, day: Day) -> Bp
+        ensures { result ≡ lasting_rate index.now self.now day g.now }
     {
         let sort = capped_as(g.sort);
-        let base = least_of(&self.caps, sort, day, self.own_of(g, day));
+        let base = least_of(&self.caps, sort, day, self.own_of(index, g, day));
         raised(
             &self.penalties,
             &self.caps,
@@ -227,10 +266,13 @@ impl RateBook {
         )
     }
 
-    // whether a vintage bears its own rate, with no Lower and no penalty to change it
+    // whether a vintage bears its own rate, with no index, no Lower and no penalty to change it
     fn bears_unchanged(&self, g: &RatedSegment, day: Day) -> bool
-        ensures { result ≡ true → Contains self.now.segments g.now → rate_of self.now day g.now ≡ g.now.rate }
+        ensures { (rows : List IndexRow) → result ≡ true → Contains self.now.segments g.now → rate_of rows self.now day g.now ≡ g.now.rate }
     {
+        if self.variable {
+            return false;
+        }
         if !self.caps.is_empty() || !self.penalties.is_empty() {
             return false;
         }
@@ -238,27 +280,28 @@ impl RateBook {
     }
 
     // the rate of one of its segments, which most often is its own
-    fn rate_of_its(&self, g: &RatedSegment, day: Day) -> Bp
-        ensures { Contains self.now.segments g.now → result ≡ rate_of self.now day g.now }
+    fn rate_of_its(&self, index: &IndexTable, g: &RatedSegment, day: Day) -> Bp
+        ensures { Contains self.now.segments g.now → result ≡ rate_of index.now self.now day g.now }
     {
         if self.bears_unchanged(g, day) {
             g.rate
         } else {
-            self.rate_for(g, day)
+            self.rate_for(index, g, day)
         }
     }
 
-    /// The rate of one of its segments on a day, in basis points (12 CFR 1026.55(b)(1), (b)(3), (b)(4)). It takes no memory.
+    /// The rate of one of its segments on a day under this index, in basis points (12 CFR 1026.55(b)(1) to (b)(4)). It takes no
+    /// memory.
     #[tactic(auto, unfolding(card_model::specs::Rates::rate_on))]
-    pub fn rate_for(&self, g: &RatedSegment, day: Day) -> Bp
-        ensures { result ≡ rate_of self.now day g.now }
+    pub fn rate_for(&self, index: &IndexTable, g: &RatedSegment, day: Day) -> Bp
+        ensures { result ≡ rate_of index.now self.now day g.now }
     {
         if is_to_come(g, day) {
             no_rate()
         } else if is_running(g, day) {
             rate_in_period(g)
         } else {
-            self.lasting(g, day)
+            self.lasting(index, g, day)
         }
     }
 }

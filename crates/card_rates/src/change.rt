@@ -1,5 +1,5 @@
 // The next day on which a rate changes, read from the lists of an account.
-ghost use Rattle.std.specs.Prelude.{◌≡◌, ◌≤◌, ◌==◌};
+ghost use Rattle.std.specs.Prelude.{◌≡◌, ◌≤◌, ◌==◌, ◌&&◌, nat_lt};
 ghost use Rattle.std.specs.List.{list_any};
 ghost use Rattle.card_model.specs.Breaks.{breaks_penalty, breaks_segment, is_day_after, is_on};
 ghost use Rattle.card_rates.specs.Next.{IsNext};
@@ -7,6 +7,7 @@ ghost use Rattle.card_rates.specs.Next.{IsNext};
 use crate::segment::{RatedSegment, number_of};
 use card_events::Day;
 use card_model::Interval;
+use card_shared::IndexTable;
 
 // The day with a number, where it comes before the end.
 fn next_at(first: Day, end: Day, number: u32) -> Day
@@ -84,4 +85,30 @@ pub fn penalties_change(penalties: &[Interval], first: Day, end: Day) -> Day
         next = penalty_change(penalty, first, next);
     }
     next
+}
+
+// The day of the first index row from a day on, where it comes before the end.
+fn next_from(index: &IndexTable, first: Day, end: Day) -> Day
+    requires { first ≤ end }
+    ensures { IsNext (λ day. list_any (λ row. row.day == day) index.now) first end result }
+{
+    match index.from(first) {
+        Some(day) if day < end => day,
+        _ => end,
+    }
+}
+
+// The next day after the opening one that has an index row.
+pub fn next_row(index: &IndexTable, opened: Day, first: Day, end: Day) -> Day
+    requires { first ≤ end }
+    ensures { IsNext (λ day. nat_lt opened day && list_any (λ row. row.day == day) index.now) first end result }
+{
+    if opened < first {
+        return next_from(index, first, end);
+    }
+    if end <= opened {
+        return end;
+    }
+    let after = opened.next();
+    if end < after { end } else { next_from(index, after, end) }
 }

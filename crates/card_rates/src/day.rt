@@ -17,13 +17,14 @@ pub struct DayPost {
     pub post: Post,
 }
 
-/// Whether the fold of its effective day reads a post. An Open, a Review, an Ack, an AskRefund, an Amend and a Bill change
+/// Whether the fold of its effective day reads a post. An opening, a Review, an Ack, an AskRefund, an Amend and a Bill change
 /// no balance on a day of their own.
 pub fn is_folded(post: &Post) -> bool
     ensures { result ≡ history.is_folded post.now }
 {
     match post {
         Post::Open { .. } => false,
+        Post::OpenVariable { .. } => false,
         Post::Review { .. } => false,
         Post::Ack { .. } => false,
         Post::AskRefund { .. } => false,

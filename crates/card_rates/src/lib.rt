@@ -14,6 +14,7 @@ mod segments;
 pub mod slot_laws;
 
 pub use book::RateBook;
+pub use card_shared::IndexTable;
 pub use day::{DayPost, first_place, folded_at, is_folded};
 pub use plan::{plan_segment, segment_at};
 pub use segment::{RatedSegment, is_deferred_on, plan_sort, sort_of};

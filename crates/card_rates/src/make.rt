@@ -105,7 +105,7 @@ pub fn first_segments(alloc: Global, opening: &Post) -> Result<Vec<RatedSegment>
     ensures { IfOk result (λ segments. segments.items ≡ opening_vintages (opening_in opening.now) (terms_in opening.now)) }
 {
     match opening {
-        Post::Open { day, terms } => {
+        Post::Open { day, terms } | Post::OpenVariable { day, terms } => {
             let mut segments = Vec::new(alloc);
             segments.push(vintage(2, Sort::Purchase, *day, rate_of(terms.purchase)))?;
             segments.push(vintage(3, Sort::Cash, *day, rate_of(terms.cash)))?;
@@ -123,7 +123,7 @@ pub fn penalty_rate_in(opening: &Post) -> Bp
     ensures { result ≡ (terms_in opening.now).penalty }
 {
     match opening {
-        Post::Open { terms, .. } => rate_of(terms.penalty),
+        Post::Open { terms, .. } | Post::OpenVariable { terms, .. } => rate_of(terms.penalty),
         _ => unreachable!(),
     }
 }

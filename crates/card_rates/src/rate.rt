@@ -1,14 +1,18 @@
 // The rate of a segment on a day, read from the lists of an account.
-ghost use Rattle.std.specs.Prelude.{◌≡◌, ◌<◌, ◌∷◌, [], ◌&&◌, ◌||◌, not, nat_le, nat_lt, if◌then◌else◌, min, max, Some, None};
+ghost use Rattle.std.specs.Prelude.{◌≡◌, ◌+◌, ◌<◌, ◌∷◌, [], ◌&&◌, ◌||◌, not, nat_le, nat_lt, if◌then◌else◌, min, max, Some, None};
 ghost use Rattle.std.specs.List.{fold};
-ghost use Rattle.card_model.specs.Rates.{bears_as, bears_in, begun_of, capped, in_force, lowered_by, period_rate, starts, with_penalty};
+ghost use Rattle.card_model.specs.Rates.{bears_as, bears_in, begun_of, capped, in_force, lowered_by, period_rate, rate_with, starts, with_penalty};
+ghost use Rattle.card_events.specs.Money.{rate_limit};
 ghost use Rattle.card_model.specs.Segments.{is_over, is_plan, is_sort, last_that, newest};
 ghost use Rattle.card_model.specs.declared.segment.Sort.TheVariants.{Promo, Deferred, Purchase};
 
 use crate::segment::{RateCap, RatedSegment, is_over, is_plan_sort, number_of};
-use card_events::{Bp, Day};
+use card_events::{Bp, Day, RATE_LIMIT};
 use card_model::{Interval, Sort};
 use std::marker::Model;
+
+// Segments with smaller numbers stand from the opening on.
+const FIRST_ADDED: u8 = 5;
 
 // A rate, and the number of the day on which it began.
 #[derive(Clone, Copy)]
@@ -70,9 +74,34 @@ pub fn bears_its_own(g: &RatedSegment, day: Day) -> bool
     !is_plan_sort(g.sort) && g.effective <= day && g.begins <= number_of(day)
 }
 
-// The rate of the newest vintage of a sort that isn't newer than this number and bears its own rate.
-pub fn vintage_rate(segments: &[RatedSegment], sort: Sort, id: u8, day: Day) -> BegunRate
-    ensures { result ≡ begun_of (last_that (bears_in day sort id) segments.now) }
+// The rate of a vintage, where the opening rates follow this index, if any.
+fn rate_with(g: &RatedSegment, index: Option<Bp>) -> Bp
+    ensures { result ≡ rate_with index g.now }
+{
+    match index {
+        Some(index) if g.id < FIRST_ADDED => with_margin(g.rate, index),
+        _ => g.rate,
+    }
+}
+
+// A margin and the index, at most 9,999 basis points.
+fn with_margin(margin: Bp, index: Bp) -> Bp
+    ensures { result ≡ min rate_limit (margin + index) }
+{
+    let sum = margin.get() as u64 + index.get() as u64;
+    Bp::new(sum.min(RATE_LIMIT as u64)).unwrap()
+}
+
+// The rate of the newest vintage of a sort that isn't newer than this number and bears its own rate, where the opening rates
+// follow this index, if any.
+pub fn vintage_rate(
+    segments: &[RatedSegment],
+    sort: Sort,
+    id: u8,
+    day: Day,
+    index: Option<Bp>,
+) -> BegunRate
+    ensures { result ≡ begun_of index (last_that (bears_in day sort id) segments.now) }
 {
     let mut begun = BegunRate {
         rate: no_rate(),
@@ -81,7 +110,7 @@ pub fn vintage_rate(segments: &[RatedSegment], sort: Sort, id: u8, day: Day) -> 
     for g in segments {
         if bears(g, sort, id, day) {
             begun = BegunRate {
-                rate: g.rate,
+                rate: rate_with(g, index),
                 from: number_of(g.effective),
             };
         }

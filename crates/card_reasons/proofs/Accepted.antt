@@ -56,6 +56,7 @@ amended now target day cents none =
 
 pub received : (now : Present) (p : Post) → reason_against now p ≡ None → IsReceived (anchor_now now).opened now.today p
 received now (post.Open d t) none = tt
+received now (post.OpenVariable d t) none = tt
 received now (post.Charge d p c) none = tt
 received now (post.Credit d p c) none = tt
 received now (post.Payment d m by c) none = paid now d m c by none
@@ -146,6 +147,7 @@ resolves-there now day target cents none = within (λ k. fits_target (post.Resol
 -- they name no later post
 pub target_there : (now : Present) (p : Post) → reason_against now p ≡ None → target_of p ≤ length now.lists.posts
 target_there now (post.Open d t) none = omega arith
+target_there now (post.OpenVariable d t) none = omega arith
 target_there now (post.Charge d p c) none = omega arith
 target_there now (post.Credit d p c) none = omega arith
 target_there now (post.Payment d m by c) none = omega arith

@@ -30,6 +30,7 @@ fits-payment day target (post.Resolve d t c) = refl
 fits-payment day target (post.AskRefund d) = refl
 fits-payment day target (post.Refund c) = refl
 fits-payment day target (post.Open d t) = refl
+fits-payment day target (post.OpenVariable d t) = refl
 fits-payment day target (post.Return d t) = refl
 
 pub fits-named : (day target : ℕ) (o : Option Kept) → holds_of (λ k. fits_target (post.Return day target) k.post) o ≡ is_payment_at o

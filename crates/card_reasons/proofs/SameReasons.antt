@@ -79,6 +79,7 @@ refund_same today l a b c alike =
 pub same_reason : (today : ℕ) (l : Lists) (a b : SharedRows) (p : Post) → AreAlike today l a b → reason_against (present today a l) p ≡ reason_against (present today b l) p
 unfolding reason_against Refusals.is_out_of_range Refusals.unknown_plan Refusals.outside_plan Refusals.plan_end_not_closing Refusals.plan_too_short Refusals.wrong_entry Refusals.already_returned Refusals.first_year Refusals.notice_pending Refusals.not_delinquent Refusals.dispute_late Refusals.dispute_known Refusals.no_open_dispute Refusals.not_closed Refusals.refund_too_large Refusals.nothing_to_review
 same_reason today l a b (post.Open d t) alike = refl
+same_reason today l a b (post.OpenVariable d t) alike = refl
 same_reason today l a b (post.Charge d p c) alike = refl
 same_reason today l a b (post.Credit d p c) alike = refl
 same_reason today l a b (post.Payment d m by c) alike = refl

@@ -116,6 +116,7 @@ late-plain now old g (post.Review d f) from none late h = refl
 late-plain now old g (post.Ack d t) from none late h = refl
 late-plain now old g (post.AskRefund d) from none late h = refl
 late-plain now old g (post.Open d t) from none late h = refl
+late-plain now old g (post.OpenVariable d t) from none late h = refl
 late-plain now old g (post.Charge d q c) from none late h = refl
 late-plain now old g (post.Credit d q c) from none late h = refl
 late-plain now old g (post.Payment d m y c) from none late h = refl

@@ -114,6 +114,7 @@ with-eve g today b p e stood h = record { day = h.day; whole = h.whole; stands =
 -- its post asks for no day by which it came
 comes-anyway : (opened today : ℕ) (p : Post) → opens p ≡ true → IsReceived opened today p
 comes-anyway opened today (post.Open d t) o = tt
+comes-anyway opened today (post.OpenVariable d t) o = tt
 comes-anyway opened today (post.Payment d m y c) o = let no : false ≡ true = o in absurd (cc)
 comes-anyway opened today (post.Amend t d c) o = let no : false ≡ true = o in absurd (cc)
 comes-anyway opened today (post.Charge d q c) o = tt

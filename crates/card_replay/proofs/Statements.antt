@@ -45,6 +45,7 @@ pub issues-are : (today : ℕ) (shared : SharedRows) (lists : Lists) (cycles : L
     → issued_from (given_of lists shared) cycles (length lists.posts + 1) today p ≡ issues (present_of today shared lists) p
 issues-are today shared lists cycles (post.Bill cycle) e = ap (λ cs. row_of_cycle cycle (length lists.posts + 1) today (sheet_on (given_of lists shared) today) (cycle_at cycle cs)) (e refl)
 issues-are today shared lists cycles (post.Open d t) e = refl
+issues-are today shared lists cycles (post.OpenVariable d t) e = refl
 issues-are today shared lists cycles (post.Charge d q c) e = refl
 issues-are today shared lists cycles (post.Credit d q c) e = refl
 issues-are today shared lists cycles (post.Payment d m y c) e = refl

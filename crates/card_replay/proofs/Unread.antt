@@ -46,6 +46,7 @@ continues-unread today shared lists key (post.Review d f) x u l = continues-plai
 continues-unread today shared lists key (post.Ack d t) x u l = continues-plain today shared lists key (post.Ack d t) x refl refl
 continues-unread today shared lists key (post.AskRefund d) x u l = continues-plain today shared lists key (post.AskRefund d) x refl refl
 continues-unread today shared lists key (post.Open d t) x u l = let no : false ≡ true = u in absurd (cc)
+continues-unread today shared lists key (post.OpenVariable d t) x u l = let no : false ≡ true = u in absurd (cc)
 continues-unread today shared lists key (post.Charge d q c) x u l = let no : false ≡ true = u in absurd (cc)
 continues-unread today shared lists key (post.Credit d q c) x u l = let no : false ≡ true = u in absurd (cc)
 continues-unread today shared lists key (post.Payment d m y c) x u l = let no : false ≡ true = u in absurd (cc)
@@ -65,6 +66,7 @@ unread-plain (post.Review d f) u = refl
 unread-plain (post.Ack d t) u = refl
 unread-plain (post.AskRefund d) u = refl
 unread-plain (post.Open d t) u = refl
+unread-plain (post.OpenVariable d t) u = refl
 unread-plain (post.Charge d q c) u = refl
 unread-plain (post.Credit d q c) u = refl
 unread-plain (post.Payment d m y c) u = refl
@@ -85,6 +87,7 @@ issues-nothing today shared lists (post.Review d f) u = refl
 issues-nothing today shared lists (post.Ack d t) u = refl
 issues-nothing today shared lists (post.AskRefund d) u = refl
 issues-nothing today shared lists (post.Open d t) u = refl
+issues-nothing today shared lists (post.OpenVariable d t) u = refl
 issues-nothing today shared lists (post.Charge d q c) u = refl
 issues-nothing today shared lists (post.Credit d q c) u = refl
 issues-nothing today shared lists (post.Payment d m y c) u = refl

@@ -1,6 +1,6 @@
 -- Reading a kept row from left to right. What is read of a spelling is its request, and what is read is spelled so.
-use Rattle.std.specs.Prelude.{◌≡◌, ℕ, Bool, ◌&&◌, nat_lt, ◌==◌, if◌then◌else◌, List, [], ◌∷◌, length, take, drop, Option, Some, None, Result, Ok, Err}
-use Rattle.std.specs.Int.{w32, w64, from_be_bytes}
+use Rattle.std.specs.Prelude.{◌≡◌, ℕ, ◌+◌, ◌*◌, Bool, ◌&&◌, nat_lt, ◌==◌, ◌||◌, if◌then◌else◌, List, [], ◌∷◌, length, take, drop, fold, Option, Some, None, Result, Ok, Err}
+use Rattle.std.specs.Int.{w16, w32, w64, from_be_bytes}
 use Rattle.std.specs.Str.{bytes_eq}
 use Rattle.card_events.specs.declared.anchor.Channel.{Channel}
 use Rattle.card_events.specs.declared.anchor.Channel.TheVariants as channel
@@ -21,7 +21,10 @@ use Rattle.card_events.specs.declared.request.Request.TheVariants as request
 use Rattle.card_events.specs.declared.request.Shared.{Shared}
 use Rattle.card_events.specs.declared.request.Shared.TheVariants as shared
 use Rattle.card_rows.specs.Held.{is_day, is_number}
-use Rattle.card_rows.specs.Spelling.{day_bytes, number_bytes}
+use Rattle.card_events.specs.Range.{first_calendar_day}
+use Rattle.card_rows.specs.Spelling.{is_code, day_bytes, number_bytes}
+use Rattle.card_rows.specs.declared.format.Format.{Format}
+use Rattle.card_rows.specs.declared.format.Format.TheVariants as format
 use Rattle.card_rows.specs.declared.fault.RowFault.{RowFault}
 use Rattle.card_rows.specs.declared.fault.RowFault.TheVariants as fault
 
@@ -54,32 +57,58 @@ abbrev pub request_number : ℕ → Option ℕ
 request_number n = if is_number n then Some n else None
 
 -- the bytes spell this day, which requests may have
-abbrev pub is_day_piece : ℕ → List ℕ → Bool
-is_day_piece day piece = is_day day && bytes_eq (day_bytes day) piece
+abbrev pub is_day_piece : Format → ℕ → List ℕ → Bool
+is_day_piece f day piece = is_day day && bytes_eq (day_bytes f day) piece
 
--- the day that four bytes spell
-unfoldable pub day_in : List ℕ → Option ℕ
-day_in piece = if is_day_piece (from_be_bytes w32 piece) piece then Some (from_be_bytes w32 piece) else None
+-- the day's number, by its bytes
+abbrev pub day_number : Format → List ℕ → ℕ
+day_number format.First piece = from_be_bytes w32 piece
+day_number format.Second piece = from_be_bytes w16 piece + first_calendar_day
 
--- a day, in four bytes
-unfoldable pub read_day : List ℕ → Option (ℕ × List ℕ)
-read_day bs = do
-  piece ← read_piece 4 bs
-  before piece.1 (day_in piece.0)
+-- how many bytes a day has
+abbrev pub day_size : Format → ℕ
+day_size format.First = 4
+day_size format.Second = 2
+
+-- the day that these bytes spell
+unfoldable pub day_in : Format → List ℕ → Option ℕ
+day_in f piece = if is_day_piece f (day_number f piece) piece then Some (day_number f piece) else None
+
+-- a day, in four bytes or in two
+unfoldable pub read_day : Format → List ℕ → Option (ℕ × List ℕ)
+read_day f bs = do
+  piece ← read_piece (day_size f) bs
+  before piece.1 (day_in f piece.0)
 
 -- the bytes spell this number, which requests may have
-abbrev pub is_number_piece : ℕ → List ℕ → Bool
-is_number_piece n piece = is_number n && bytes_eq (number_bytes n) piece
+abbrev pub is_number_piece : Format → ℕ → List ℕ → Bool
+is_number_piece f n piece = is_number n && bytes_eq (number_bytes f n) piece
 
 -- the number that eight bytes spell
 unfoldable pub number_in : List ℕ → Option ℕ
-number_in piece = if is_number_piece (from_be_bytes w64 piece) piece then Some (from_be_bytes w64 piece) else None
+number_in piece = if is_number_piece format.First (from_be_bytes w64 piece) piece then Some (from_be_bytes w64 piece) else None
 
--- a number, in eight bytes
-unfoldable pub read_number : List ℕ → Option (ℕ × List ℕ)
-read_number bs = do
+-- the value of bytes behind those of a higher worth
+abbrev pub value_from : ℕ → List ℕ → ℕ
+value_from high bytes = fold (λ h byte. h * 256 + byte) high bytes
+
+-- the value of bytes, the most significant first
+abbrev pub value_of : List ℕ → ℕ
+value_of bytes = value_from 0 bytes
+
+-- the number that a count and so many bytes spell
+unfoldable pub short_number_in : ℕ → List ℕ → Option ℕ
+short_number_in count piece = if is_number_piece format.Second (value_of piece) (count ∷ piece) then Some (value_of piece) else None
+
+-- a number, in eight bytes or behind their count in one
+unfoldable pub read_number : Format → List ℕ → Option (ℕ × List ℕ)
+read_number format.First bs = do
   piece ← read_piece 8 bs
   before piece.1 (number_in piece.0)
+read_number format.Second bs = do
+  count ← read_byte bs
+  piece ← read_piece count.0 count.1
+  before piece.1 (short_number_in count.0 piece.0)
 
 -- the name with these bytes
 unfoldable pub name_in : List ℕ → Option (List ℕ)
@@ -115,16 +144,16 @@ place_in b =
     else None
 
 -- the number of a plan, as a place
-unfoldable pub read_plan_place : List ℕ → Option (Place × List ℕ)
-read_plan_place bs = do
-  number ← read_number bs
+unfoldable pub read_plan_place : Format → List ℕ → Option (Place × List ℕ)
+read_plan_place f bs = do
+  number ← read_number f bs
   Some (place.Plan number.0, number.1)
 
 -- a place, in one byte, and 3 before the number of a plan
-unfoldable pub read_place : List ℕ → Option (Place × List ℕ)
-read_place bs = do
+unfoldable pub read_place : Format → List ℕ → Option (Place × List ℕ)
+read_place f bs = do
   tag ← read_byte bs
-  if tag.0 == 3 then read_plan_place tag.1 else before tag.1 (place_in tag.0)
+  if tag.0 == 3 then read_plan_place f tag.1 else before tag.1 (place_in tag.0)
 
 -- the channel with this byte
 unfoldable pub channel_in : ℕ → Option Channel
@@ -157,81 +186,88 @@ read_finding bs = do
   before tag.1 (finding_in tag.0)
 
 -- closing day, the four rates, floor and percentage
-unfoldable pub read_terms : List ℕ → Option (Terms × List ℕ)
-read_terms bs = do
-  close ← read_number bs
-  purchase ← read_number close.1
-  cash ← read_number purchase.1
-  transfer ← read_number cash.1
-  penalty ← read_number transfer.1
-  floor ← read_number penalty.1
-  pct ← read_number floor.1
+unfoldable pub read_terms : Format → List ℕ → Option (Terms × List ℕ)
+read_terms f bs = do
+  close ← read_number f bs
+  purchase ← read_number f close.1
+  cash ← read_number f purchase.1
+  transfer ← read_number f cash.1
+  penalty ← read_number f transfer.1
+  floor ← read_number f penalty.1
+  pct ← read_number f floor.1
   Some (record { close = close.0; purchase = purchase.0; cash = cash.0; transfer = transfer.0; penalty = penalty.0; floor = floor.0; pct = pct.0 }, pct.1)
 
 -- day, terms
-unfoldable pub read_open : List ℕ → Option (Post × List ℕ)
-read_open bs = do
-  day ← read_day bs
-  terms ← read_terms day.1
+unfoldable pub read_open : Format → List ℕ → Option (Post × List ℕ)
+read_open f bs = do
+  day ← read_day f bs
+  terms ← read_terms f day.1
   Some (post.Open day.0 terms.0, terms.1)
 
+-- day, terms
+unfoldable pub read_open_variable : Format → List ℕ → Option (Post × List ℕ)
+read_open_variable f bs = do
+  day ← read_day f bs
+  terms ← read_terms f day.1
+  Some (post.OpenVariable day.0 terms.0, terms.1)
+
 -- day, place, cents
-unfoldable pub read_charge : List ℕ → Option (Post × List ℕ)
-read_charge bs = do
-  day ← read_day bs
-  place ← read_place day.1
-  cents ← read_number place.1
+unfoldable pub read_charge : Format → List ℕ → Option (Post × List ℕ)
+read_charge f bs = do
+  day ← read_day f bs
+  place ← read_place f day.1
+  cents ← read_number f place.1
   Some (post.Charge day.0 place.0 cents.0, cents.1)
 
 -- day, place, cents
-unfoldable pub read_credit : List ℕ → Option (Post × List ℕ)
-read_credit bs = do
-  day ← read_day bs
-  place ← read_place day.1
-  cents ← read_number place.1
+unfoldable pub read_credit : Format → List ℕ → Option (Post × List ℕ)
+read_credit f bs = do
+  day ← read_day f bs
+  place ← read_place f day.1
+  cents ← read_number f place.1
   Some (post.Credit day.0 place.0 cents.0, cents.1)
 
 -- day, minute, channel, cents
-unfoldable pub read_payment : List ℕ → Option (Post × List ℕ)
-read_payment bs = do
-  day ← read_day bs
-  minute ← read_number day.1
+unfoldable pub read_payment : Format → List ℕ → Option (Post × List ℕ)
+read_payment f bs = do
+  day ← read_day f bs
+  minute ← read_number f day.1
   channel ← read_channel minute.1
-  cents ← read_number channel.1
+  cents ← read_number f channel.1
   Some (post.Payment day.0 minute.0 channel.0 cents.0, cents.1)
 
 -- day, target
-unfoldable pub read_return : List ℕ → Option (Post × List ℕ)
-read_return bs = do
-  day ← read_day bs
-  target ← read_number day.1
+unfoldable pub read_return : Format → List ℕ → Option (Post × List ℕ)
+read_return f bs = do
+  day ← read_day f bs
+  target ← read_number f day.1
   Some (post.Return day.0 target.0, target.1)
 
 -- day, kind of plan, rate, end, rate after
-unfoldable pub read_plan : List ℕ → Option (Post × List ℕ)
-read_plan bs = do
-  day ← read_day bs
+unfoldable pub read_plan : Format → List ℕ → Option (Post × List ℕ)
+read_plan f bs = do
+  day ← read_day f bs
   kind ← read_plan_kind day.1
-  rate ← read_number kind.1
-  end ← read_day rate.1
-  after ← read_number end.1
+  rate ← read_number f kind.1
+  end ← read_day f rate.1
+  after ← read_number f end.1
   Some (post.Plan day.0 kind.0 rate.0 end.0 after.0, after.1)
 
 -- day, category, rate, effective day
-unfoldable pub read_notice : List ℕ → Option (Post × List ℕ)
-read_notice bs = do
-  day ← read_day bs
+unfoldable pub read_notice : Format → List ℕ → Option (Post × List ℕ)
+read_notice f bs = do
+  day ← read_day f bs
   category ← read_category day.1
-  rate ← read_number category.1
-  effective ← read_day rate.1
+  rate ← read_number f category.1
+  effective ← read_day f rate.1
   Some (post.Notice day.0 category.0 rate.0 effective.0, effective.1)
 
 -- day, category, rate
-unfoldable pub read_lower : List ℕ → Option (Post × List ℕ)
-read_lower bs = do
-  day ← read_day bs
+unfoldable pub read_lower : Format → List ℕ → Option (Post × List ℕ)
+read_lower f bs = do
+  day ← read_day f bs
   category ← read_category day.1
-  rate ← read_number category.1
+  rate ← read_number f category.1
   Some (post.Lower day.0 category.0 rate.0, rate.1)
 
 -- no field
@@ -239,140 +275,168 @@ unfoldable pub read_penalty : List ℕ → Option (Post × List ℕ)
 read_penalty bs = Some (post.Penalty, bs)
 
 -- day, finding
-unfoldable pub read_review : List ℕ → Option (Post × List ℕ)
-read_review bs = do
-  day ← read_day bs
+unfoldable pub read_review : Format → List ℕ → Option (Post × List ℕ)
+read_review f bs = do
+  day ← read_day f bs
   finding ← read_finding day.1
   Some (post.Review day.0 finding.0, finding.1)
 
 -- day, target, cents
-unfoldable pub read_dispute : List ℕ → Option (Post × List ℕ)
-read_dispute bs = do
-  day ← read_day bs
-  target ← read_number day.1
-  cents ← read_number target.1
+unfoldable pub read_dispute : Format → List ℕ → Option (Post × List ℕ)
+read_dispute f bs = do
+  day ← read_day f bs
+  target ← read_number f day.1
+  cents ← read_number f target.1
   Some (post.Dispute day.0 target.0 cents.0, cents.1)
 
 -- day, target
-unfoldable pub read_ack : List ℕ → Option (Post × List ℕ)
-read_ack bs = do
-  day ← read_day bs
-  target ← read_number day.1
+unfoldable pub read_ack : Format → List ℕ → Option (Post × List ℕ)
+read_ack f bs = do
+  day ← read_day f bs
+  target ← read_number f day.1
   Some (post.Ack day.0 target.0, target.1)
 
 -- day, target, cents
-unfoldable pub read_resolve : List ℕ → Option (Post × List ℕ)
-read_resolve bs = do
-  day ← read_day bs
-  target ← read_number day.1
-  cents ← read_number target.1
+unfoldable pub read_resolve : Format → List ℕ → Option (Post × List ℕ)
+read_resolve f bs = do
+  day ← read_day f bs
+  target ← read_number f day.1
+  cents ← read_number f target.1
   Some (post.Resolve day.0 target.0 cents.0, cents.1)
 
 -- day
-unfoldable pub read_ask_refund : List ℕ → Option (Post × List ℕ)
-read_ask_refund bs = do
-  day ← read_day bs
+unfoldable pub read_ask_refund : Format → List ℕ → Option (Post × List ℕ)
+read_ask_refund f bs = do
+  day ← read_day f bs
   Some (post.AskRefund day.0, day.1)
 
 -- cents
-unfoldable pub read_refund : List ℕ → Option (Post × List ℕ)
-read_refund bs = do
-  cents ← read_number bs
+unfoldable pub read_refund : Format → List ℕ → Option (Post × List ℕ)
+read_refund f bs = do
+  cents ← read_number f bs
   Some (post.Refund cents.0, cents.1)
 
 -- target, day, cents
-unfoldable pub read_amend : List ℕ → Option (Post × List ℕ)
-read_amend bs = do
-  target ← read_number bs
-  day ← read_day target.1
-  cents ← read_number day.1
+unfoldable pub read_amend : Format → List ℕ → Option (Post × List ℕ)
+read_amend f bs = do
+  target ← read_number f bs
+  day ← read_day f target.1
+  cents ← read_number f day.1
   Some (post.Amend target.0 day.0 cents.0, cents.1)
 
 -- cycle
-unfoldable pub read_bill : List ℕ → Option (Post × List ℕ)
-read_bill bs = do
-  cycle ← read_number bs
+unfoldable pub read_bill : Format → List ℕ → Option (Post × List ℕ)
+read_bill f bs = do
+  cycle ← read_number f bs
   Some (post.Bill cycle.0, cycle.1)
 
 -- day
-unfoldable pub read_roll : List ℕ → Option (Shared × List ℕ)
-read_roll bs = do
-  day ← read_day bs
+unfoldable pub read_roll : Format → List ℕ → Option (Shared × List ℕ)
+read_roll f bs = do
+  day ← read_day f bs
   Some (shared.Roll day.0, day.1)
 
 -- day
-unfoldable pub read_holiday : List ℕ → Option (Shared × List ℕ)
-read_holiday bs = do
-  day ← read_day bs
+unfoldable pub read_holiday : Format → List ℕ → Option (Shared × List ℕ)
+read_holiday f bs = do
+  day ← read_day f bs
   Some (shared.Holiday day.0, day.1)
 
 -- day, first, repeat
-unfoldable pub read_fee_row : List ℕ → Option (Shared × List ℕ)
-read_fee_row bs = do
-  day ← read_day bs
-  first ← read_number day.1
-  repeat ← read_number first.1
+unfoldable pub read_fee_row : Format → List ℕ → Option (Shared × List ℕ)
+read_fee_row f bs = do
+  day ← read_day f bs
+  first ← read_number f day.1
+  repeat ← read_number f first.1
   Some (shared.FeeRow day.0 first.0 repeat.0, repeat.1)
 
+-- day, rate
+unfoldable pub read_index : Format → List ℕ → Option (Shared × List ℕ)
+read_index f bs = do
+  day ← read_day f bs
+  rate ← read_number f day.1
+  Some (shared.Index day.0 rate.0, rate.1)
+
 -- the post with this code
-unfoldable pub read_post : ℕ → List ℕ → Option (Post × List ℕ)
-read_post code bs =
-    if code == 4 then read_open bs
-    else if code == 5 then read_charge bs
-    else if code == 6 then read_credit bs
-    else if code == 7 then read_payment bs
-    else if code == 8 then read_return bs
-    else if code == 9 then read_plan bs
-    else if code == 10 then read_notice bs
-    else if code == 11 then read_lower bs
+unfoldable pub read_post : Format → ℕ → List ℕ → Option (Post × List ℕ)
+read_post f code bs =
+    if code == 4 then read_open f bs
+    else if code == 5 then read_charge f bs
+    else if code == 6 then read_credit f bs
+    else if code == 7 then read_payment f bs
+    else if code == 8 then read_return f bs
+    else if code == 9 then read_plan f bs
+    else if code == 10 then read_notice f bs
+    else if code == 11 then read_lower f bs
     else if code == 12 then read_penalty bs
-    else if code == 13 then read_review bs
-    else if code == 14 then read_dispute bs
-    else if code == 15 then read_ack bs
-    else if code == 16 then read_resolve bs
-    else if code == 17 then read_ask_refund bs
-    else if code == 18 then read_refund bs
-    else if code == 19 then read_amend bs
-    else if code == 20 then read_bill bs
+    else if code == 13 then read_review f bs
+    else if code == 14 then read_dispute f bs
+    else if code == 15 then read_ack f bs
+    else if code == 16 then read_resolve f bs
+    else if code == 17 then read_ask_refund f bs
+    else if code == 18 then read_refund f bs
+    else if code == 19 then read_amend f bs
+    else if code == 20 then read_bill f bs
+    else if code == 22 then read_open_variable f bs
     else None
 
 -- the shared request with this code
-unfoldable pub read_shared : ℕ → List ℕ → Option (Shared × List ℕ)
-read_shared code bs =
-    if code == 1 then read_roll bs
-    else if code == 2 then read_holiday bs
-    else if code == 3 then read_fee_row bs
+unfoldable pub read_shared : Format → ℕ → List ℕ → Option (Shared × List ℕ)
+read_shared f code bs =
+    if code == 1 then read_roll f bs
+    else if code == 2 then read_holiday f bs
+    else if code == 3 then read_fee_row f bs
+    else if code == 21 then read_index f bs
     else None
 
 -- a shared request, as a request
-unfoldable pub read_for_all : ℕ → List ℕ → Option (Request × List ℕ)
-read_for_all code bs = do
-  it ← read_shared code bs
+unfoldable pub read_for_all : Format → ℕ → List ℕ → Option (Request × List ℕ)
+read_for_all f code bs = do
+  it ← read_shared f code bs
   Some (request.Shared it.0, it.1)
 
 -- a post, its account and its key
-unfoldable pub read_posted : ℕ → List ℕ → Option (Request × List ℕ)
-read_posted code bs = do
+unfoldable pub read_posted : Format → ℕ → List ℕ → Option (Request × List ℕ)
+read_posted f code bs = do
   account ← read_name bs
   key ← read_name account.1
-  it ← read_post code key.1
+  it ← read_post f code key.1
   Some (request.Post account.0 key.0 it.0, it.1)
 
--- the request with this code: 1 to 3 are shared
-unfoldable pub read_coded : ℕ → List ℕ → Option (Request × List ℕ)
-read_coded code bs = if nat_lt code 4 then read_for_all code bs else read_posted code bs
+-- a shared request has a code of 1 to 3, or 21
+abbrev pub is_shared_code : ℕ → Bool
+is_shared_code code = nat_lt code 4 || (code == 21)
 
--- the code behind the format, which is 1
-unfoldable pub read_format : List ℕ → Option (ℕ × List ℕ)
+-- the request with this code
+unfoldable pub read_coded : Format → ℕ → List ℕ → Option (Request × List ℕ)
+read_coded f code bs = if is_shared_code code then read_for_all f code bs else read_posted f code bs
+
+-- the format with this byte
+unfoldable pub format_in : ℕ → Option Format
+format_in b = if b == 1 then Some format.First else if b == 2 then Some format.Second else None
+
+-- a code, which the format has
+unfoldable pub code_in : Format → ℕ → Option ℕ
+code_in f code = if is_code f code then Some code else None
+
+-- a format, in one byte
+unfoldable pub read_format : List ℕ → Option (Format × List ℕ)
 read_format bs = do
-  format ← read_byte bs
-  if format.0 == 1 then read_byte format.1 else None
+  tag ← read_byte bs
+  before tag.1 (format_in tag.0)
+
+-- a code of the format, in one byte
+unfoldable pub read_code : Format → List ℕ → Option (ℕ × List ℕ)
+read_code f bs = do
+  tag ← read_byte bs
+  before tag.1 (code_in f tag.0)
 
 -- a request, and the bytes behind it
 unfoldable pub read_request : List ℕ → Option (Request × List ℕ)
 read_request bs = do
-  code ← read_format bs
-  read_coded code.0 code.1
+  it ← read_format bs
+  code ← read_code it.0 it.1
+  read_coded it.0 code.0 code.1
 
 -- nothing stands behind it
 abbrev pub whole : {A : Type 0} → A × List ℕ → Option A

@@ -2,9 +2,11 @@
 ghost use Rattle.std.specs.Prelude.{◌≡◌, IfOk};
 ghost use Rattle.card_rows.specs.Reading.{Gives, GivesSome, request_in};
 ghost use Rattle.card_rows.specs.Reading as spec;
+ghost use Rattle.card_rows.specs.Spelling.{is_code};
 
 use crate::fault::RowFault;
 use crate::fields::{read_byte, read_name};
+use crate::format::Format;
 use crate::kinds::{read_post, read_shared};
 use card_events::{NoMemory, Request};
 use std::alloc::Global;
@@ -35,51 +37,98 @@ fn whole(request: Request, rest: &[u8]) -> Option<Request>
 fn read_request(alloc: Global, rest: &mut &[u8]) -> Result<Request, RowFault>
     ensures { Gives result rest.new.now (spec.read_request rest.old.now) }
 {
-    match read_format(rest) {
+    let Some(format) = read_format(rest) else {
+        return Err(RowFault::NoSpelling);
+    };
+    match read_code(format, rest) {
         None => Err(RowFault::NoSpelling),
-        Some(code) => read_coded(alloc, code, rest),
+        Some(code) => read_coded(alloc, format, code, rest),
     }
 }
 
-#[tactic(auto, unfolding(crate::specs::Reading::read_format))]
-fn read_format(rest: &mut &[u8]) -> Option<u8>
+#[tactic(auto, unfolding(crate::specs::Reading::read_format, crate::specs::Reading::format_in))]
+fn read_format(rest: &mut &[u8]) -> Option<Format>
     ensures { GivesSome result rest.new.now (spec.read_format rest.old.now) }
 {
-    let format = read_byte(rest)?;
-    if format != 1 {
-        return None;
+    match read_byte(rest)? {
+        1 => Some(Format::First),
+        2 => Some(Format::Second),
+        _ => None,
     }
-    read_byte(rest)
+}
+
+#[tactic(auto, unfolding(crate::specs::Reading::read_code))]
+fn read_code(format: Format, rest: &mut &[u8]) -> Option<u8>
+    ensures { GivesSome result rest.new.now (spec.read_code format rest.old.now) }
+{
+    code_in(format, read_byte(rest)?)
+}
+
+#[tactic(auto, unfolding(crate::specs::Reading::code_in))]
+fn code_in(format: Format, code: u8) -> Option<u8>
+    ensures { result ≡ spec.code_in format code }
+{
+    if has_code(format, code) {
+        Some(code)
+    } else {
+        None
+    }
+}
+
+fn has_code(format: Format, code: u8) -> bool
+    ensures { result ≡ is_code format code }
+{
+    match format {
+        Format::First => code <= 20,
+        Format::Second => true,
+    }
+}
+
+// whether a shared request has the code
+fn is_shared_code(code: u8) -> bool
+    ensures { result ≡ spec.is_shared_code code }
+{
+    code < 4 || code == 21
 }
 
 #[tactic(auto, unfolding(crate::specs::Reading::read_coded))]
-fn read_coded(alloc: Global, code: u8, rest: &mut &[u8]) -> Result<Request, RowFault>
-    ensures { Gives result rest.new.now (spec.read_coded code rest.old.now) }
+fn read_coded(
+    alloc: Global,
+    format: Format,
+    code: u8,
+    rest: &mut &[u8],
+) -> Result<Request, RowFault>
+    ensures { Gives result rest.new.now (spec.read_coded format code rest.old.now) }
 {
-    if code >= 4 {
-        return read_posted(alloc, code, rest);
+    if !is_shared_code(code) {
+        return read_posted(alloc, format, code, rest);
     }
-    match read_for_all(code, rest) {
+    match read_for_all(format, code, rest) {
         None => Err(RowFault::NoSpelling),
         Some(request) => Ok(request),
     }
 }
 
 #[tactic(auto, unfolding(crate::specs::Reading::read_for_all))]
-fn read_for_all(code: u8, rest: &mut &[u8]) -> Option<Request>
-    ensures { GivesSome result rest.new.now (spec.read_for_all code rest.old.now) }
+fn read_for_all(format: Format, code: u8, rest: &mut &[u8]) -> Option<Request>
+    ensures { GivesSome result rest.new.now (spec.read_for_all format code rest.old.now) }
 {
-    let shared = read_shared(code, rest)?;
+    let shared = read_shared(format, code, rest)?;
     Some(Request::Shared(shared))
 }
 
 #[tactic(auto, unfolding(crate::specs::Reading::read_posted))]
-fn read_posted(alloc: Global, code: u8, rest: &mut &[u8]) -> Result<Request, RowFault>
-    ensures { Gives result rest.new.now (spec.read_posted code rest.old.now) }
+fn read_posted(
+    alloc: Global,
+    format: Format,
+    code: u8,
+    rest: &mut &[u8],
+) -> Result<Request, RowFault>
+    ensures { Gives result rest.new.now (spec.read_posted format code rest.old.now) }
 {
     let account = read_name(alloc, rest)?;
     let key = read_name(alloc, rest)?;
-    match read_post(code, rest) {
+    match read_post(format, code, rest) {
         None => Err(RowFault::NoSpelling),
         Some(post) => Ok(Request::Post { account, key, post }),
     }

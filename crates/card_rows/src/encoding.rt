@@ -1,9 +1,10 @@
-// Writing a kept row.
+// Writing a kept row, in the second format.
 ghost use Rattle.std.specs.Prelude.{◌≡◌, ◌++◌, ◌&&◌, true, OnOk};
 ghost use Rattle.card_events.specs.Dated.{is_request_day, is_dated, is_dated_post, is_dated_shared};
 ghost use Rattle.card_rows.specs.Held.{is_day, is_number, is_place, are_terms, is_post, is_shared, is_request};
 ghost use Rattle.card_rows.specs.Spelling.{spelling};
 ghost use Rattle.card_rows.specs.Spelling as spec;
+ghost use Rattle.card_rows.specs.declared.format.Format.TheVariants.{Second};
 
 use crate::writing::{
     put_category, put_channel, put_day, put_finding, put_name, put_number, put_place,
@@ -17,10 +18,10 @@ use card_events::{
 #[tactic(auto, using(crate::proofs::ReadingLemmas::pieces), unfolding(crate::specs::Spelling::spelling, crate::specs::Held::is_request, card_events::specs::Dated::is_dated))]
 pub fn put_request(row: &mut Vec<u8>, request: &Request) -> Result<(), NoMemory>
     requires dated { is_dated request.now ≡ true }
-    ensures written { OnOk result (row.new.items ≡ row.old.items ++ spelling request.now) }
+    ensures written { OnOk result (row.new.items ≡ row.old.items ++ spelling Second request.now) }
     ensures held { OnOk result (is_request request.now ≡ true) }
 {
-    row.push(1)?;
+    row.push(2)?;
     match request {
         Request::Shared(shared) => {
             row.push(shared_code(shared))?;
@@ -42,13 +43,14 @@ fn shared_code(shared: &Shared) -> u8
         Shared::Roll(_) => 1,
         Shared::Holiday(_) => 2,
         Shared::FeeRow { .. } => 3,
+        Shared::Index { .. } => 21,
     }
 }
 
 #[tactic(auto, using(crate::proofs::ReadingLemmas::pieces), unfolding(crate::specs::Spelling::shared_bytes, crate::specs::Held::is_shared, card_events::specs::Dated::is_dated_shared))]
 fn put_shared(row: &mut Vec<u8>, shared: &Shared) -> Result<(), NoMemory>
     requires dated { is_dated_shared shared.now ≡ true }
-    ensures written { OnOk result (row.new.items ≡ row.old.items ++ spec.shared_bytes shared.now) }
+    ensures written { OnOk result (row.new.items ≡ row.old.items ++ spec.shared_bytes Second shared.now) }
     ensures held { OnOk result (is_shared shared.now ≡ true) }
 {
     match shared {
@@ -57,6 +59,10 @@ fn put_shared(row: &mut Vec<u8>, shared: &Shared) -> Result<(), NoMemory>
             put_day(row, *day)?;
             put_number(row, *first)?;
             put_number(row, *repeat)
+        }
+        Shared::Index { day, rate } => {
+            put_day(row, *day)?;
+            put_number(row, *rate)
         }
     }
 }
@@ -82,17 +88,20 @@ fn post_code(post: &Post) -> u8
         Post::Refund { .. } => 18,
         Post::Amend { .. } => 19,
         Post::Bill { .. } => 20,
+        Post::OpenVariable { .. } => 22,
     }
 }
 
 #[tactic(auto, unfolding(crate::specs::Spelling::post_bytes, crate::specs::Held::is_post, card_events::specs::Dated::is_dated_post))]
 fn put_post(row: &mut Vec<u8>, post: &Post) -> Result<(), NoMemory>
     requires dated { is_dated_post post.now ≡ true }
-    ensures written { OnOk result (row.new.items ≡ row.old.items ++ spec.post_bytes post.now) }
+    ensures written { OnOk result (row.new.items ≡ row.old.items ++ spec.post_bytes Second post.now) }
     ensures held { OnOk result (is_post post.now ≡ true) }
 {
     match post {
-        Post::Open { day, terms } => put_open(row, *day, terms),
+        Post::Open { day, terms } | Post::OpenVariable { day, terms } => {
+            put_open(row, *day, terms)
+        }
         Post::Charge { day, place, cents } | Post::Credit { day, place, cents } => {
             put_placed(row, *day, *place, *cents)
         }
@@ -138,7 +147,7 @@ fn put_post(row: &mut Vec<u8>, post: &Post) -> Result<(), NoMemory>
 #[tactic(auto, using(crate::proofs::ReadingLemmas::pieces))]
 fn put_open(row: &mut Vec<u8>, day: Day, terms: &Terms) -> Result<(), NoMemory>
     requires day { is_request_day day ≡ true }
-    ensures written { OnOk result (row.new.items ≡ row.old.items ++ (spec.day_bytes day ++ spec.terms_bytes terms.now)) }
+    ensures written { OnOk result (row.new.items ≡ row.old.items ++ (spec.day_bytes Second day ++ spec.terms_bytes Second terms.now)) }
     ensures held { OnOk result ((is_day day && are_terms terms.now) ≡ true) }
 {
     put_day(row, day)?;
@@ -149,7 +158,7 @@ fn put_open(row: &mut Vec<u8>, day: Day, terms: &Terms) -> Result<(), NoMemory>
 #[tactic(auto, using(crate::proofs::ReadingLemmas::pieces))]
 fn put_placed(row: &mut Vec<u8>, day: Day, place: Place, cents: Num) -> Result<(), NoMemory>
     requires day { is_request_day day ≡ true }
-    ensures written { OnOk result (row.new.items ≡ row.old.items ++ (spec.day_bytes day ++ spec.place_bytes place ++ spec.number_bytes cents)) }
+    ensures written { OnOk result (row.new.items ≡ row.old.items ++ (spec.day_bytes Second day ++ spec.place_bytes Second place ++ spec.number_bytes Second cents)) }
     ensures held { OnOk result ((is_day day && (is_place place && is_number cents)) ≡ true) }
 {
     put_day(row, day)?;
@@ -167,7 +176,7 @@ fn put_payment(
     cents: Num,
 ) -> Result<(), NoMemory>
     requires day { is_request_day day ≡ true }
-    ensures written { OnOk result (row.new.items ≡ row.old.items ++ (spec.day_bytes day ++ spec.number_bytes minute ++ spec.channel_bytes channel ++ spec.number_bytes cents)) }
+    ensures written { OnOk result (row.new.items ≡ row.old.items ++ (spec.day_bytes Second day ++ spec.number_bytes Second minute ++ spec.channel_bytes channel ++ spec.number_bytes Second cents)) }
     ensures held { OnOk result ((is_day day && (is_number minute && is_number cents)) ≡ true) }
 {
     put_day(row, day)?;
@@ -180,7 +189,7 @@ fn put_payment(
 #[tactic(auto, using(crate::proofs::ReadingLemmas::pieces))]
 fn put_target(row: &mut Vec<u8>, day: Day, target: Num) -> Result<(), NoMemory>
     requires day { is_request_day day ≡ true }
-    ensures written { OnOk result (row.new.items ≡ row.old.items ++ (spec.day_bytes day ++ spec.number_bytes target)) }
+    ensures written { OnOk result (row.new.items ≡ row.old.items ++ (spec.day_bytes Second day ++ spec.number_bytes Second target)) }
     ensures held { OnOk result ((is_day day && is_number target) ≡ true) }
 {
     put_day(row, day)?;
@@ -199,7 +208,7 @@ fn put_plan(
 ) -> Result<(), NoMemory>
     requires day { is_request_day day ≡ true }
     requires end { is_request_day end ≡ true }
-    ensures written { OnOk result (row.new.items ≡ row.old.items ++ (spec.day_bytes day ++ spec.plan_kind_bytes kind ++ spec.number_bytes rate ++ spec.day_bytes end ++ spec.number_bytes after)) }
+    ensures written { OnOk result (row.new.items ≡ row.old.items ++ (spec.day_bytes Second day ++ spec.plan_kind_bytes kind ++ spec.number_bytes Second rate ++ spec.day_bytes Second end ++ spec.number_bytes Second after)) }
     ensures held { OnOk result ((is_day day && (is_number rate && (is_day end && is_number after))) ≡ true) }
 {
     put_day(row, day)?;
@@ -220,7 +229,7 @@ fn put_notice(
 ) -> Result<(), NoMemory>
     requires day { is_request_day day ≡ true }
     requires effective { is_request_day effective ≡ true }
-    ensures written { OnOk result (row.new.items ≡ row.old.items ++ (spec.day_bytes day ++ spec.category_bytes category ++ spec.number_bytes rate ++ spec.day_bytes effective)) }
+    ensures written { OnOk result (row.new.items ≡ row.old.items ++ (spec.day_bytes Second day ++ spec.category_bytes category ++ spec.number_bytes Second rate ++ spec.day_bytes Second effective)) }
     ensures held { OnOk result ((is_day day && (is_number rate && is_day effective)) ≡ true) }
 {
     put_day(row, day)?;
@@ -233,7 +242,7 @@ fn put_notice(
 #[tactic(auto, using(crate::proofs::ReadingLemmas::pieces))]
 fn put_lower(row: &mut Vec<u8>, day: Day, category: Category, rate: Num) -> Result<(), NoMemory>
     requires day { is_request_day day ≡ true }
-    ensures written { OnOk result (row.new.items ≡ row.old.items ++ (spec.day_bytes day ++ spec.category_bytes category ++ spec.number_bytes rate)) }
+    ensures written { OnOk result (row.new.items ≡ row.old.items ++ (spec.day_bytes Second day ++ spec.category_bytes category ++ spec.number_bytes Second rate)) }
     ensures held { OnOk result ((is_day day && is_number rate) ≡ true) }
 {
     put_day(row, day)?;
@@ -245,7 +254,7 @@ fn put_lower(row: &mut Vec<u8>, day: Day, category: Category, rate: Num) -> Resu
 #[tactic(auto, using(crate::proofs::ReadingLemmas::pieces))]
 fn put_review(row: &mut Vec<u8>, day: Day, finding: Finding) -> Result<(), NoMemory>
     requires day { is_request_day day ≡ true }
-    ensures written { OnOk result (row.new.items ≡ row.old.items ++ (spec.day_bytes day ++ spec.finding_bytes finding)) }
+    ensures written { OnOk result (row.new.items ≡ row.old.items ++ (spec.day_bytes Second day ++ spec.finding_bytes finding)) }
     ensures held { OnOk result (is_day day ≡ true) }
 {
     put_day(row, day)?;
@@ -256,7 +265,7 @@ fn put_review(row: &mut Vec<u8>, day: Day, finding: Finding) -> Result<(), NoMem
 #[tactic(auto, using(crate::proofs::ReadingLemmas::pieces))]
 fn put_claim(row: &mut Vec<u8>, day: Day, target: Num, cents: Num) -> Result<(), NoMemory>
     requires day { is_request_day day ≡ true }
-    ensures written { OnOk result (row.new.items ≡ row.old.items ++ (spec.day_bytes day ++ spec.number_bytes target ++ spec.number_bytes cents)) }
+    ensures written { OnOk result (row.new.items ≡ row.old.items ++ (spec.day_bytes Second day ++ spec.number_bytes Second target ++ spec.number_bytes Second cents)) }
     ensures held { OnOk result ((is_day day && (is_number target && is_number cents)) ≡ true) }
 {
     put_day(row, day)?;
@@ -268,7 +277,7 @@ fn put_claim(row: &mut Vec<u8>, day: Day, target: Num, cents: Num) -> Result<(),
 #[tactic(auto, using(crate::proofs::ReadingLemmas::pieces))]
 fn put_amendment(row: &mut Vec<u8>, target: Num, day: Day, cents: Num) -> Result<(), NoMemory>
     requires day { is_request_day day ≡ true }
-    ensures written { OnOk result (row.new.items ≡ row.old.items ++ (spec.number_bytes target ++ spec.day_bytes day ++ spec.number_bytes cents)) }
+    ensures written { OnOk result (row.new.items ≡ row.old.items ++ (spec.number_bytes Second target ++ spec.day_bytes Second day ++ spec.number_bytes Second cents)) }
     ensures held { OnOk result ((is_number target && (is_day day && is_number cents)) ≡ true) }
 {
     put_number(row, target)?;

@@ -157,6 +157,7 @@ row-issued k c bill today sheet None e = cc
 issues-billed : (now : Present) (p : Post) (k : ℕ) → IsCloseDay (anchor_now now).close_day → NoReason now p → is_issued k (issues now p) ≡ (bills k p || false)
 issues-billed now (post.Bill c) k on h = row-issued k c (next_number now) now.today (issued_sheet_of now) (cycle_at c (book_today now).cycles) (bill-closed now c on h)
 issues-billed now (post.Open d t) k on h = refl
+issues-billed now (post.OpenVariable d t) k on h = refl
 issues-billed now (post.Charge d p c) k on h = refl
 issues-billed now (post.Credit d p c) k on h = refl
 issues-billed now (post.Payment d m y c) k on h = refl
@@ -200,6 +201,9 @@ accepts-bills now key p o e h =
 opens-bills : (key : List ℕ) (today accounts : ℕ) (p : Post) → is_open p ≡ true → reason_to_open today accounts p ≡ None → HasIssued (record { posts = kept_as 1 key today p ∷ []; issued = [] })
 unfolding reason_to_open
 opens-bills key today accounts (post.Open d t) o e =
+    let close = where-false ((eqb t.close 0) || ltb 28 t.close) (refusal.BadTerms 1) (none-first _ _ (none-first _ _ e)) in
+    record { begun = omega arith; close_day = within t.close t.close 28 close; issued = λ cycle. refl }
+opens-bills key today accounts (post.OpenVariable d t) o e =
     let close = where-false ((eqb t.close 0) || ltb 28 t.close) (refusal.BadTerms 1) (none-first _ _ (none-first _ _ e)) in
     record { begun = omega arith; close_day = within t.close t.close 28 close; issued = λ cycle. refl }
 opens-bills key today accounts (post.Charge d p c) o e = absurd (cc)

@@ -57,6 +57,7 @@ resolved h k cs new (suc n) a t x e is l f same g z =
 
 plain : (p : Post) → ((t d c : ℕ) → p ≡ post.Amend t d c → ⊥) → ((a t x : ℕ) → p ≡ post.Resolve a t x → ⊥) → corrects p ≡ false
 plain (post.Open d t) f_no g_no = refl
+plain (post.OpenVariable d t) f_no g_no = refl
 plain (post.Charge d p c) f_no g_no = refl
 plain (post.Credit d p c) f_no g_no = refl
 plain (post.Payment d i y c) f_no g_no = refl

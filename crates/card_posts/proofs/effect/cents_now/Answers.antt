@@ -24,6 +24,7 @@ none : (h : List Kept) (n : ℕ) (p : Post)
     → cents_of h n p ≡ 0
 unfolding cents_of
 none h n (post.Open d t) no1 no2 no3 no4 no5 no6 no7 = refl
+none h n (post.OpenVariable d t) no1 no2 no3 no4 no5 no6 no7 = refl
 none h n (post.Charge d p c) no1 no2 no3 no4 no5 no6 no7 = absurd (no1 d p c refl)
 none h n (post.Credit d p c) no1 no2 no3 no4 no5 no6 no7 = absurd (no2 d p c refl)
 none h n (post.Payment d i y c) no1 no2 no3 no4 no5 no6 no7 = absurd (no3 d i y c refl)

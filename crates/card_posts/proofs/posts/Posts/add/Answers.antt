@@ -4,8 +4,7 @@ use Rattle.card_events.specs.declared.kept.Kept.{Kept}
 use Rattle.card_posts.specs.Corrections.{some_waits, waits}
 use Rattle.card_posts.specs.Effect.{corrected_with}
 use Rattle.card_posts.specs.Posted.{Posted, StandsFor}
-use Rattle.card_events.specs.Index.{IsIndex}
-use Rattle.card_events.specs.declared.index.HashedKey.{HashedKey}
+use Rattle.card_keys.specs.Buckets.{Indexed, IsIndex}
 use Rattle.card_posts.proofs.Alone.{waits-more}
 use Rattle.card_posts.proofs.Following.{corrected-is, effects-back}
 use Rattle.card_posts.proofs.posts.Posts.add.Goals as goal
@@ -26,14 +25,14 @@ returns-clause-stands c =
 pub invariant_of-self : goal.invariant_of-self
 invariant_of-self c = (
   c.enter-from.ensures.kept,
-  index-with c.self.inside.history.items c.deref.result.now c.enter-from.new.history.items _ c.enter_key.new.index.items c.deref.ensures.value c.enter-from.ensures.history (c.enter_key.ensures _ refl),
+  index-with c.self.inside.history.items c.deref.result.now c.enter-from.new.history.items _ c.enter_key.new.index c.deref.ensures.value c.enter-from.ensures.history (c.enter_key.ensures.index _ refl),
   c.enter-from.ensures.beside,
   λ e. absurd (cc),
   waits-with c.self.inside.history.items c.enter-from.new.history.items _ c.self.inside.waits _ c.self.invariant.4 c.enter-from.ensures.history c.waits_with-self-inside.ensures,
 )
   where
-    index-with : (h d g : List Kept) (k : Kept) (ns : List HashedKey) → d ≡ h → g ≡ h ++ k ∷ [] → IsIndex (d ++ k ∷ []) ns → IsIndex g ns
-    index-with h d g k ns same is index = subst (λ u. IsIndex u ns) (ap (λ u. u ++ k ∷ []) same ∙ sym is) index
+    index-with : (h d g : List Kept) (k : Kept) (i : Indexed) → d ≡ h → g ≡ h ++ k ∷ [] → IsIndex (d ++ k ∷ []) i → IsIndex g i
+    index-with h d g k i same is index = subst (λ u. IsIndex u i) (ap (λ u. u ++ k ∷ []) same ∙ sym is) index
 
     waits-with : (h g : List Kept) (k : Kept) (w v : Bool) → w ≡ some_waits h → g ≡ h ++ k ∷ [] → v ≡ (w || waits k.post) → v ≡ some_waits g
     waits-with h g k w v known is both = both ∙ (ap (λ b. b || waits k.post) known ∙ (sym (waits-more h k) ∙ ap some_waits (sym is)))

@@ -1,7 +1,5 @@
 use Rattle.std.proofs.Common.{arith, [], ◌∷◌, ap, ◌∙◌, refl, sym}
 use Rattle.card_events.specs.declared.anchor.Anchor.{Anchor}
-use Rattle.card_events.specs.Index.{hash_of}
-use Rattle.card_events.specs.declared.index.HashedKey.{HashedKey}
 use Rattle.card_posts.proofs.Opening.{first-lists, none-waits, stands-one}
 use Rattle.card_posts.proofs.posts.Posts.start.Goals as goal
 

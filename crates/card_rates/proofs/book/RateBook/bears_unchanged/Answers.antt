@@ -1,4 +1,4 @@
-use Rattle.std.proofs.Common.{◌≡◌, [], vec_len, sym, ap, ◌∙◌, subst, arith}
+use Rattle.std.proofs.Common.{◌≡◌, false, [], vec_len, sym, ap, ◌∙◌, subst, arith}
 use Rattle.std.proofs.lemmas.Bool.{eqb-true}
 use Rattle.std.proofs.lemmas.List.{nil_from_length}
 use Rattle.card_rates.specs.RateBooks.{AreByNumber, Rates}
@@ -6,7 +6,7 @@ use Rattle.card_rates.proofs.Unchanged.{rate-is}
 use Rattle.card_rates.proofs.book.RateBook.bears_unchanged.Goals as goal
 
 pub returns : goal.returns
-returns c = λ is its.
+returns c rows is its =
     let rates = c.args.self.now in
     let inside = c.self.inside in
     let there = subst (λ (r : Rates). AreByNumber 2 r.segments) c.self.view_is c.self.invariant in
@@ -16,4 +16,5 @@ returns c = λ is its.
     let penalties = inside.penalties.ok.0 in
     let no_penalty = eqb-true (vec_len inside.penalties) 0 (sym c.is_empty-else-not-is_empty.ensures ∙ c.if-not-is_empty-2.false) in
     let unraised : rates.penalties ≡ [] = ap (λ (r : Rates). r.penalties) (sym c.self.view_is) ∙ nil_from_length inside.penalties.items (omega (arith, penalties, no_penalty)) in
-    rate-is rates c.args.day c.args.g.now there lowers unraised its (sym c.bears_its_own.ensures ∙ is)
+    let fixed : rates.variable ≡ false = ap (λ (r : Rates). r.variable) (sym c.self.view_is) ∙ c.if-inside.false in
+    rate-is rows rates c.args.day c.args.g.now there fixed lowers unraised its (sym c.bears_its_own.ensures ∙ is)

@@ -7,7 +7,7 @@ use Rattle.card_events.specs.declared.post.Terms.{Terms}
 use Rattle.card_model.specs.Segments.{opening_vintages}
 use Rattle.card_rates.specs.Added.{added_from}
 use Rattle.card_rates.specs.RateBooks.{AreByNumber}
-use Rattle.card_rates.proofs.Added.{all-by-number, first-opening, first-terms, lowered-is, same-rates, segments-are}
+use Rattle.card_rates.proofs.Added.{all-by-number, first-opening, first-terms, first-variable, lowered-is, same-rates, segments-are}
 use Rattle.card_rates.proofs.book.RateBook.of.Goals as goal
 
 pub invariant_of-result : goal.invariant_of-result
@@ -27,7 +27,7 @@ returns c holidays =
     let dated =
     ap (λ d. opening_vintages d (terms_in k.post) ++ added_from 1 5 history) opened
     ∙ ap (λ (t : Terms). opening_vintages (anchor_of history).opened t ++ added_from 1 5 history) terms in
-    same-rates (c.penalty_rate_in.ensures ∙ ap (λ (t : Terms). t.penalty) terms)
+    same-rates (c.opens_variable.ensures ∙ first-variable history k c.post_of.ensures) (c.penalty_rate_in.ensures ∙ ap (λ (t : Terms). t.penalty) terms)
     (whole ∙ (dated ∙ sym (segments-are (anchor_of history) (terms_of history) holidays history)))
     (c.in_ok-add_all.ensures.caps ∙ (ap (λ ls. ls ++ filter_map (λ (x : Kept). lowering_of x.post) history) c.new-caps.ensures.items ∙ sym (lowered-is (anchor_of history) holidays history 1 5 history)))
     c.new.ensures.items

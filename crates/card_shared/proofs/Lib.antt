@@ -1,0 +1,2 @@
+pub mod IndexTable
+pub mod RowsFound

@@ -1,0 +1,3 @@
+pub mod IndexTable
+pub mod Rows
+pub mod Table
