@@ -40,7 +40,7 @@ for expected in "$top"/examples/*.statements; do
     name=$(basename "$expected" .statements)
     input="${expected%.statements}.txt"
     rows="$room/$name"
-    account=$(awk '$1 == "open" { print $2; exit }' "$input")
+    account=$(awk '$1 == "open" || $1 == "openvar" { print $2; exit }' "$input")
     cycles=$(grep -c '^bill ' "$input")
     "$program" "$rows" apply <"$input" >"$room/replies"
     texts statement

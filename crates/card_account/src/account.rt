@@ -377,7 +377,7 @@ impl Account {
     }
 }
 
-// The verdict on a post under a new key that is no Open.
+// The verdict on a post under a new key that is no opening.
 fn verdict(reason: Option<Refusal>) -> Verdict
     ensures none { reason ≡ None → result ≡ Verdict.New }
     ensures some { (r : Refusal) → reason ≡ Some r → result ≡ Verdict.Refused r }
@@ -391,5 +391,5 @@ fn verdict(reason: Option<Refusal>) -> Verdict
 fn is_open(post: &Post) -> bool
     ensures { result ≡ is_open post.now }
 {
-    matches!(post, Post::Open { .. })
+    matches!(post, Post::Open { .. } | Post::OpenVariable { .. })
 }

@@ -190,7 +190,7 @@ fees-small g day s l =
 
 -- ---- what is kept stands for the book
 pub kept-of : (g : Given) (day : ℕ) (f : FoldedBook) → IsSound g → IsDayOf g day → IsFoldedTo g day f
-    → AreKeptOf (is_added day) (account_in g) (seen_in g day) (book_on g day) f.rates f.balances f.accruals
+    → AreKeptOf g.shared.index (is_added day) (account_in g) (seen_in g day) (book_on g day) f.rates f.balances f.accruals
 kept-of g day f s d h =
     let b = book_on g day in
     let all : (rates_of g.shared.holidays g.history []).segments ≡ f.rates.segments = ap (λ (r : Rates). r.segments) (sym h.rates) in
@@ -198,7 +198,7 @@ kept-of g day f s d h =
     record {
       seen_ones = books_of_a_day.those g.history g.issued g.shared day d.opened ∙ ap (filter (is_added day)) all;
       others = λ t there e. none-on g day b t d.opened lies (subst (λ (ts : List SegmentTerms). Contains ts t) (sym all) there) e;
-      rates = λ t. ap (λ (r : Rates). rate_of r day t) h.rates ∙ rates_of_a_day.any g.history g.issued g.shared b day day t (omega arith);
+      rates = λ t. ap (λ (r : Rates). rate_of g.shared.index r day t) h.rates ∙ rates_of_a_day.any g.history g.issued g.shared b day day t (omega arith);
       sums = λ n. each-any b.entries f.balances n h.balances;
       accrued = λ t there e.
           h.accruals.sums t there (and-first t day e) (and-last t day e);

@@ -15,7 +15,7 @@ use Rattle.card_model.specs.Fees.{fee_cents, fees_sum, last_due}
 use Rattle.card_model.specs.Folds.{book}
 use Rattle.card_model.specs.Laws.{total}
 use Rattle.card_model.specs.Payments.{asked}
-use Rattle.card_model.specs.Rates.{lowerings, rate_on, starts}
+use Rattle.card_model.specs.Rates.{index_for, lowerings, rate_on, starts}
 use Rattle.card_model.specs.Segments.{SegmentTerms, segment_at}
 use Rattle.card_model.specs.declared.entry.Entry.{Entry}
 use Rattle.card_model.specs.declared.entry.EntryKind.TheVariants as kind
@@ -49,7 +49,8 @@ segments_seen history issued shared on = all_segments (account_of history) (seen
 -- the rate of one of these segments on a day, where penalties are those of a book
 abbrev pub rate_among : List SegmentTerms → List Kept → List IssuedRow → SharedRows → ℕ → Book → ℕ → SegmentTerms → ℕ
 rate_among segments history issued shared on b day g =
-    rate_on (lowerings (seen_on (anchor_of history) shared history issued on).posts) (account_of history).terms.penalty (starts day b.penalties) segments day g
+    let index = index_for (account_of history).variable (seen_on (anchor_of history) shared history issued on).index day in
+    rate_on index (lowerings (seen_on (anchor_of history) shared history issued on).posts) (account_of history).terms.penalty (starts day b.penalties) segments day g
 
 -- What a notice given on a day leaves alone. No charge of the first 14 days after it is owed on the vintage that it adds,
 -- which bears the increased rate; such a charge goes where it would go without the notice; and every older vintage bears on

@@ -96,7 +96,7 @@ fn push(
 {
     let (key, post) = post_of(alloc, line)?;
     let accepted = day(rt, 19_905);
-    assert!(rt; posts.len() < 10_000);
+    assert!(rt; posts.len() < 200_000);
     assert!(rt; target_of(&post) <= u64::from(posts.len()));
     let first = opened(posts).expect(rt, "an opening");
     assert!(rt; is_received(first, accepted, &post));

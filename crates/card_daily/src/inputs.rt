@@ -10,17 +10,17 @@ ghost use Rattle.card_model.specs.Cycles.{IssuedRow};
 
 use crate::Issued;
 use card_events::{Anchor, Calendar, Day, Post, Terms};
-use card_fees::{FeeTable, SharedRows};
+use card_fees::{FeeTable, IndexTable, SharedRows};
 use card_posts::Posts;
 use std::marker::Model;
 
-// The terms of an Open.
+// The terms of an opening.
 fn terms(post: &Post) -> Terms
     requires { IsCloseDay (terms_in post.now).close }
     ensures { result ≡ terms_in post.now }
 {
     match post {
-        Post::Open { terms, .. } => *terms,
+        Post::Open { terms, .. } | Post::OpenVariable { terms, .. } => *terms,
         _ => unreachable!(),
     }
 }
@@ -159,6 +159,13 @@ impl<'a> Inputs<'a> {
         ensures { result.now ≡ self.now.shared.fees }
     {
         self.shared.fees()
+    }
+
+    /// The index.
+    pub fn index(&self) -> &IndexTable
+        ensures { result.now ≡ self.now.shared.index }
+    {
+        self.shared.index()
     }
 
     /// The issued statements.

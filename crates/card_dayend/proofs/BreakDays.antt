@@ -1,5 +1,5 @@
 -- The next break day: the next day of each kind.
-use Rattle.std.proofs.Common.{◌≡◌, ℕ, suc, ◌+◌, ◌-◌, ◌<◌, ◌≤◌, Bool, true, false, ◌&&◌, ◌||◌, eqb, leb, List, [], ◌∷◌, length, get_or, pos, refl, sym, ap, ◌∙◌, subst, arith, ◌⊎◌, inl, inr}
+use Rattle.std.proofs.Common.{◌≡◌, ℕ, suc, ◌+◌, ◌-◌, ◌<◌, ◌≤◌, Bool, true, false, ◌&&◌, ◌||◌, eqb, leb, ltb, List, [], ◌∷◌, length, get_or, pos, refl, sym, ap, ◌∙◌, subst, arith, ◌⊎◌, inl, inr}
 use Rattle.std.specs.List.{filter, list_any}
 use Rattle.std.proofs.lemmas.Bool.{cases_lt, eq-eqb, eqb-true}
 use Rattle.std.proofs.lemmas.Bool.Decides.{nat_tests}
@@ -12,7 +12,8 @@ use Rattle.card_events.specs.declared.anchor.Anchor.{Anchor}
 use Rattle.card_events.proofs.Cycles.{IsAnchor}
 use Rattle.card_events.proofs.DueLaws.{ClosingLaws, IsDueOf, closing_laws, due_before_next, is_due-due, numbered}
 use Rattle.card_events.proofs.MailDays.{due_parts}
-use Rattle.card_events.specs.History.{CorrectedPost, anchor_of, corrected}
+use Rattle.card_events.specs.History.{CorrectedPost, anchor_of, corrected, is_variable}
+use Rattle.card_events.specs.SharedRows.{IndexRow}
 use Rattle.card_events.specs.declared.kept.Kept.{Kept}
 use Rattle.card_events.specs.declared.kept.Slot.{Slot}
 use Rattle.card_fees.proofs.Days.{due-later}
@@ -21,7 +22,7 @@ use Rattle.card_model.specs.Breaks.{breaks_penalty, breaks_segment, is_break}
 use Rattle.card_model.specs.declared.segment.Interval.{Interval}
 use Rattle.card_posts.specs.Change.{on}
 use Rattle.card_posts.specs.Posted.{folding_order}
-use Rattle.card_rates.specs.Next.{IsNext, changes}
+use Rattle.card_rates.specs.Next.{IsNext, changes, index_changes}
 use Rattle.card_rates.specs.RateBooks.{Rates, rates_of}
 use Rattle.card_rates.proofs.Nearest.{next-both, next-never, next-same}
 use Rattle.card_rates.specs.Days.{place_of}
@@ -319,22 +320,26 @@ due-next a number first end day h some within k = next-only (follows_due a) (due
             other-day a.close_day h.opening.close_day.0 h.opening.close_day.1 (sym laws.on_its_day ∙ (ap day_of_month is ∙ day))
 
 -- ---- all kinds
-pub span-next : (g : Given) (penalties : List Interval) (rates : Rates) (first to posted closing' due' issued day : ℕ) → rates.segments ≡ (rates_of g.shared.holidays g.history []).segments → rates.penalties ≡ penalties
+pub span-next : (g : Given) (penalties : List Interval) (rates : Rates) (first to posted closing' due' issued changed day : ℕ) → rates.segments ≡ (rates_of g.shared.holidays g.history []).segments → rates.penalties ≡ penalties → rates.variable ≡ is_variable g.history
     → IsNext (has_post (corrected (anchor_of g.history) g.shared.holidays g.history)) first to posted → IsNext (closes (anchor_of g.history)) first posted closing'
-    → IsNext (follows_due (anchor_of g.history)) first closing' due' → IsNext (has_issue g.issued) first due' issued → IsNext (changes rates) first issued day
+    → IsNext (follows_due (anchor_of g.history)) first closing' due' → IsNext (has_issue g.issued) first due' issued → IsNext (changes rates) first issued changed
+    → IsNext (index_changes (anchor_of g.history).opened g.shared.index rates) first changed day
     → IsNext (breaks_by g penalties) first to day
 unfolding is_break
-span-next g penalties rates first to posted closing' due' issued day segments same p c d i r =
+span-next g penalties rates first to posted closing' due' issued changed day segments same variable p c d i r n =
     let a = anchor_of g.history in
     let has = has_post (corrected a g.shared.holidays g.history) in
     let one = next-both has (closes a) first to posted closing' p c in
     let two = next-both (λ x. has x || closes a x) (follows_due a) first to closing' due' one d in
     let three = next-both (λ x. has x || closes a x || follows_due a x) (has_issue g.issued) first to due' issued two i in
-    let all = next-both (λ x. has x || closes a x || follows_due a x || has_issue g.issued x) (changes rates) first to issued day three r in
-    next-same (λ x. (has x || closes a x || follows_due a x || has_issue g.issued x) || changes rates x) (breaks_by g penalties) first to day
-    (λ x. assoc (has x || closes a x || follows_due a x || has_issue g.issued x) (list_any (breaks_segment x) rates.segments) (list_any (breaks_penalty x) rates.penalties)
+    let four = next-both (λ x. has x || closes a x || follows_due a x || has_issue g.issued x) (changes rates) first to issued changed three r in
+    let all = next-both (λ x. (has x || closes a x || follows_due a x || has_issue g.issued x) || changes rates x) (index_changes a.opened g.shared.index rates) first to changed day four n in
+    next-same (λ x. ((has x || closes a x || follows_due a x || has_issue g.issued x) || changes rates x) || index_changes a.opened g.shared.index rates x) (breaks_by g penalties) first to day
+    (λ x. ap (λ b. b || index_changes a.opened g.shared.index rates x)
+    (assoc (has x || closes a x || follows_due a x || has_issue g.issued x) (list_any (breaks_segment x) rates.segments) (list_any (breaks_penalty x) rates.penalties)
     ∙ (ap (λ gs. has x || closes a x || follows_due a x || has_issue g.issued x || list_any (breaks_segment x) gs || list_any (breaks_penalty x) rates.penalties) segments
-    ∙ ap (λ ps. has x || closes a x || follows_due a x || has_issue g.issued x || list_any (breaks_segment x) (rates_of g.shared.holidays g.history []).segments || list_any (breaks_penalty x) ps) same)) all
+    ∙ ap (λ ps. has x || closes a x || follows_due a x || has_issue g.issued x || list_any (breaks_segment x) (rates_of g.shared.holidays g.history []).segments || list_any (breaks_penalty x) ps) same))
+    ∙ ap (λ v. has x || closes a x || follows_due a x || has_issue g.issued x || list_any (breaks_segment x) (rates_of g.shared.holidays g.history []).segments || list_any (breaks_penalty x) penalties || (v && ltb a.opened x && list_any (λ (row : IndexRow). eqb row.day x) g.shared.index)) variable) all
   where
     assoc : (s t u : Bool) → (s || (t || u)) ≡ (s || t || u)
     assoc true t u = refl

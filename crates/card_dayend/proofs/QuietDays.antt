@@ -31,6 +31,7 @@ use Rattle.card_model.specs.declared.entry.Entry.{Entry}
 use Rattle.card_model.specs.declared.segment.Interval.{Interval}
 use Rattle.card_model.specs.declared.segment.Sort.TheVariants as sort
 use Rattle.card_model.proofs.Quiet.{quiet_days_change_nothing}
+use Rattle.card_events.specs.SharedRows.{IndexRow}
 use Rattle.card_rates.specs.Laws.{AreQuiet}
 use Rattle.card_rates.specs.RateBooks.{Rates}
 use Rattle.card_rates.specs.RateBooks.{rate_of as rate_in_force}
@@ -83,10 +84,11 @@ none-filtered : {X : Type 0} (p : X → Bool) (xs : List X) → list_any p xs �
 none-filtered p [] h = refl
 none-filtered p (x ∷ xs) h = let parts = or-false (p x) (list_any p xs) h in rw parts.0 (none-filtered p xs parts.1)
 
-no-post : (acc : Account) (posts : List CorrectedPost) (issued : List IssuedRow) (penalties : List Interval) (day : ℕ) → is_break acc posts issued penalties day ≡ false → filter (λ (p : CorrectedPost). eqb p.day day) posts ≡ []
+no-post : (acc : Account) (posts : List CorrectedPost) (issued : List IssuedRow) (index : List IndexRow) (penalties : List Interval) (day : ℕ) → is_break acc posts issued index penalties day ≡ false → filter (λ (p : CorrectedPost). eqb p.day day) posts ≡ []
 unfolding is_break
-no-post acc posts issued penalties day h =
-    let a = or-false _ (list_any (breaks_penalty day) penalties) h in
+no-post acc posts issued index penalties day h =
+    let z = or-false _ (acc.variable && ltb acc.anchor.opened day && list_any (λ r. eqb r.day day) index) h in
+    let a = or-false _ (list_any (breaks_penalty day) penalties) z.0 in
     let b = or-false _ (list_any (breaks_segment day) (segments acc.anchor acc.terms posts)) a.0 in
     let c = or-false _ (list_any (λ r. eqb r.day day) issued) b.0 in
     let d = or-false _ (is_due acc.anchor (day - 1)) c.0 in
@@ -100,7 +102,7 @@ quiet-returned g penalties first zero n l q = let e : first + 0 - 1 ≡ first - 
 quiet-returned g penalties first (suc days) n l q =
     let day = first + days in
     let e : first + suc days - 1 ≡ first + days = omega arith in
-    let none : posts_of g day ≡ [] = no-post (account_in g) (corrected (anchor_of g.history) g.shared.holidays g.history) g.issued penalties day (q days (omega arith)) in
+    let none : posts_of g day ≡ [] = no-post (account_in g) (corrected (anchor_of g.history) g.shared.holidays g.history) g.issued g.shared.index penalties day (q days (omega arith)) in
     ap (λ d. is_returned (seen_in g d).posts d n) e
     ∙ (returned-all g day n (omega arith) ∙ (ap (λ ps. returned_by g day ps n) none ∙ (returned-start g day n ∙ quiet-returned g penalties first days n l (λ i m. q i (omega arith)))))
 
@@ -121,14 +123,14 @@ rate-then g b d day later t l m =
     sym (rates_of_a_day.any g.history g.issued g.shared b d later t m) ∙ rates_of_a_day.any g.history g.issued g.shared b d day t l
 
 -- and of each quiet day, which is that of the first
-rate-since : (g : Given) (b : Book) (first days d : ℕ) (t : SegmentTerms) → AreQuiet g.history g.issued g.shared b.penalties first days → first ≤ d → d < first + days
+rate-since : (g : Given) (b : Book) (first days d : ℕ) (t : SegmentTerms) → opened_in g ≤ first → AreQuiet g.history g.issued g.shared b.penalties first days → first ≤ d → d < first + days
     → Contains (rates_by g b.penalties).segments t
-    → rate_in (account_in g) (seen_in g (first + days - 1)) b d t ≡ rate_in_force (rates_by g b.penalties) first t
-rate-since g b first days d t q l m c =
+    → rate_in (account_in g) (seen_in g (first + days - 1)) b d t ≡ rate_in_force g.shared.index (rates_by g b.penalties) first t
+rate-since g b first days d t low q l m c =
     let place : first + (d - first) ≡ d = omega arith in
     sym (rates_of_a_day.any g.history g.issued g.shared b d (first + days - 1) t (omega arith))
-    ∙ (ap (λ x. rate_in_force (rates_by g b.penalties) x t) (sym place)
-    ∙ spans_keep_rates.rates g.history g.issued g.shared b.penalties first days (d - first) t q (omega arith) c)
+    ∙ (ap (λ x. rate_in_force g.shared.index (rates_by g b.penalties) x t) (sym place)
+    ∙ spans_keep_rates.rates g.history g.issued g.shared b.penalties first days (d - first) t low q (omega arith) c)
 
 row-parts : (a : Account) (seen : Seen) (b : Book) (t : SegmentTerms) (d owed rate : ℕ) → row b.entries t.id d ≡ owed → rate_in a seen b d t ≡ rate → day_row a seen b t d ≡ row_of owed (rate_of owed rate) d
 row-parts a seen b t d owed rate e f =
@@ -145,14 +147,14 @@ own-repaid a seen b first t = refl
 quiet-rows : (g : Given) (first days : ℕ) (t : SegmentTerms) → IsSound g → opened_in g ≤ first → first ≤ last_request_day → 1 ≤ days
     → AreQuiet g.history g.issued g.shared (before g first).penalties first days → Contains (rates_by g (before g first).penalties).segments t
     → rows_through g (first_in g first) (first + days - 1) (before g first) t
-    ≡ with_row days (rates_by g (before g first).penalties) first t (owing t.id (before g first).entries) (rows_through g (first_in g first) (first - 1) (before g first) t)
+    ≡ with_row g.shared.index days (rates_by g (before g first).penalties) first t (owing t.id (before g first).entries) (rows_through g (first_in g first) (first - 1) (before g first) t)
 quiet-rows g first days t sound o l some q c =
     let b = before g first in
     let a = account_in g in
     let seen = seen_in g (first - 1) in
     let later = seen_in g (first + days - 1) in
     let owed = owing t.id b.entries in
-    let rate = rate_in_force (rates_by g b.penalties) first t in
+    let rate = rate_in_force g.shared.index (rates_by g b.penalties) first t in
     let low = sound.opening.first in
     let begun = first-by g first sound o (omega arith) in
     let start = first_in g first in
@@ -161,7 +163,7 @@ quiet-rows g first days t sound o l some q c =
       begun = omega (arith, begun);
       day = omega (arith, low, o);
       before = λ d m n. same-row a seen later b t d (rate-then g b d (first - 1) (first + days - 1) t n (omega (arith, n, some)));
-      since = λ d m n. row-parts a later b t d owed rate (quiet-row g first d t.id o (omega (arith, m, low, o))) (rate-since g b first days d t q (omega (arith, m, low, o)) (omega (arith, n, some)) c);
+      since = λ d m n. row-parts a later b t d owed rate (quiet-row g first d t.id o (omega (arith, m, low, o))) (rate-since g b first days d t o q (omega (arith, m, low, o)) (omega (arith, n, some)) c);
     })
     ∙ (ap (λ r. with_days days owed (rate_of owed rate) (with_repaid r (rows_of a seen b start t)))
     (same-brought t.id start (λ n. is_returned later.posts (first + days - 1) n) (λ n. is_returned seen.posts (first - 1) n) (λ n. quiet-returned g b.penalties first days n (omega (arith, low, o)) q) b.entries)
@@ -273,7 +275,7 @@ quiet-few g first days s k h =
 
 -- ---- behind them
 stand-rows : (g : Given) (first days : ℕ) (s : State) (k : Track) → 1 ≤ days → IsQuietFrom g first days s k → length s.segments.balances ≡ length s.rates.segments + 2
-    → with_rows days s.rates s.segments.balances first s.rows.items ≡ map (rows_through g (first_in g first) (first + days - 1) (before g first)) s.rates.segments
+    → with_rows g.shared.index days s.rates s.segments.balances first s.rows.items ≡ map (rows_through g (first_in g first) (first + days - 1) (before g first)) s.rates.segments
 stand-rows g first days s k some h e =
     let b = before g first in
     let ts = s.rates.segments in
@@ -282,10 +284,10 @@ stand-rows g first days s k some h e =
     let numbers = (amid-rated g (rows_before g first) b s k stand).numbers in
     let penalties : s.rates.penalties ≡ b.penalties = ap (λ (r : Rates). r.penalties) stand.rates in
     let q = subst (λ ps. AreQuiet g.history g.issued g.shared ps first days) penalties h.quiet in
-    let change : SegmentTerms → Rows → Rows = λ t r. with_row days s.rates first t (owed_on balances t) r in
+    let change : SegmentTerms → Rows → Rows = λ t r. with_row g.shared.index days s.rates first t (owed_on balances t) r in
     let each : (t : SegmentTerms) → Contains ts t → change t (rows_before g first t) ≡ rows_through g (first_in g first) (first + days - 1) b t =
-    λ t c. ap (λ (r : Rates). with_row days r first t (owed_on balances t) (rows_before g first t)) stand.rates
-    ∙ (ap (λ n. with_row days (rates_by g b.penalties) first t n (rows_before g first t)) (owed-is b.entries balances t stand.sums (id-known s t numbers e c))
+    λ t c. ap (λ (r : Rates). with_row g.shared.index days r first t (owed_on balances t) (rows_before g first t)) stand.rates
+    ∙ (ap (λ n. with_row g.shared.index days (rates_by g b.penalties) first t n (rows_before g first t)) (owed-is b.entries balances t stand.sums (id-known s t numbers e c))
     ∙ sym (quiet-rows g first days t h.sound h.opened (let l = h.last in omega (arith, l)) some q (subst (λ (r : Rates). Contains r.segments t) stand.rates c))) in
     ap (each_with change ts) stand.rows
     ∙ (each-map change (rows_before g first) ts
@@ -324,7 +326,7 @@ stand-accruals g first days s k some h e =
           (each-few change days (first - 1 + 1 - opened_in g) (λ t x l. days-after days (accrual_rate first t) (owed_on balances t) (first - 1 + 1 - opened_in g) x l) ts old h.before.accrued.days);
     }
 
-pub passed : (g : Given) (first days : ℕ) (s new : State) (k : Track) → 1 ≤ days → IsQuietFrom g first days s k → HasRow days first s new → AreBefore g (first + days) new k
+pub passed : (g : Given) (first days : ℕ) (s new : State) (k : Track) → 1 ≤ days → IsQuietFrom g first days s k → HasRow g.shared.index days first s new → AreBefore g (first + days) new k
 passed g first days s new k some h n =
     let b = before g first in
     let stand = h.before.stand in

@@ -24,8 +24,9 @@ use Rattle.card_model.specs.Books.{Book, rate_in}
 use Rattle.card_model.specs.Entries.{AreBalances, at_least_zero, balance, owing, sum_of}
 use Rattle.card_model.specs.Interest.{is_in_row, row}
 use Rattle.card_events.specs.History.{CorrectedPost}
+use Rattle.card_events.specs.SharedRows.{IndexRow}
 use Rattle.card_model.specs.Payments.{is_returned}
-use Rattle.card_model.specs.Rates.{accrual_rate, rate_on}
+use Rattle.card_model.specs.Rates.{accrual_rate, index_for, rate_on}
 use Rattle.card_model.specs.Segments.{SegmentTerms, is_deferred_on, is_over, is_sort, kept_segment}
 use Rattle.card_model.specs.declared.entry.Entry.{Entry}
 use Rattle.card_model.specs.declared.segment.Interval.{Interval}
@@ -104,7 +105,7 @@ earlier-rate : (g : Given) (day d : ℕ) (t : SegmentTerms) → IsSound g → op
 earlier-rate g day d t s o l =
     let r = rates_by g [] in
     sym (rates_of_a_day.any g.history g.issued g.shared (posted g day) d day t (omega arith))
-    ∙ (ap (λ began. rate_on r.lowerings r.penalty began r.segments d t) (earlier-starts g day d o l) ∙ rates_of_a_day.any g.history g.issued g.shared (before g day) d (day - 1) t (omega arith))
+    ∙ (ap (λ began. rate_on (index_for r.variable g.shared.index d) r.lowerings r.penalty began r.segments d t) (earlier-starts g day d o l) ∙ rates_of_a_day.any g.history g.issued g.shared (before g day) d (day - 1) t (omega arith))
 
 -- ---- a row more
 abbrev day_row_of : ℕ → ℕ → ℕ → DayRow
@@ -117,16 +118,16 @@ earlier-day g day d t s o l =
     ∙ ap (λ r. day_row_of d (row (before g day).entries t.id d) r) (earlier-rate g day d t s o l)
 
 today : (g : Given) (day : ℕ) (t : SegmentTerms) → opened_in g ≤ day
-    → day_row (account_in g) (seen_in g day) (posted g day) t day ≡ day_row_of day (owing t.id (posted g day).entries) (rate_in_force (rates_by g (posted g day).penalties) day t)
+    → day_row (account_in g) (seen_in g day) (posted g day) t day ≡ day_row_of day (owing t.id (posted g day).entries) (rate_in_force g.shared.index (rates_by g (posted g day).penalties) day t)
 today g day t o =
     ap (λ x. day_row_of day x (rate_in (account_in g) (seen_in g day) (posted g day) day t)) (row-today g day t.id o)
     ∙ ap (λ r. day_row_of day (owing t.id (posted g day).entries) r) (sym (rates_of_a_day.any g.history g.issued g.shared (posted g day) day day t (omega arith)))
 
 pub row-more : (g : Given) (day : ℕ) (t : SegmentTerms) → IsSound g → opened_in g ≤ day → day ≤ last_request_day
-    → rows_through g (first_in g day) day (posted g day) t ≡ with_row 1 (rates_by g (posted g day).penalties) day t (owing t.id (posted g day).entries) (rows_amid g day (posts_of g day) (posted g day) t)
+    → rows_through g (first_in g day) day (posted g day) t ≡ with_row g.shared.index 1 (rates_by g (posted g day).penalties) day t (owing t.id (posted g day).entries) (rows_amid g day (posts_of g day) (posted g day) t)
 row-more g day t s o l =
     let owed = owing t.id (posted g day).entries in
-    let rate = rate_of owed (rate_in_force (rates_by g (posted g day).penalties) day t) in
+    let rate = rate_of owed (rate_in_force g.shared.index (rates_by g (posted g day).penalties) day t) in
     let first = first-by g day s o (omega arith) in
     let low = s.opening.first in
     rows_grow.days 1 owed rate (first_in g day) (account_in g) t (seen_in g (day - 1)) (seen_in g day) (before g day) (posted g day)
@@ -229,13 +230,17 @@ amid-few g day s k sound o l h =
     All-weaker (λ (a : Accrued). a.days ≤ day - 1 + 1 - opened_in g) (λ (a : Accrued). a.days + 1 ≤ 40000) (λ a d. let low = sound.opening.first in omega arith) s.accruals.items h.accrued.days
 
 -- ---- and after it
--- a state with the rows of so many days more, at the rates of one day
-pub record HasRow (days day : ℕ) (s new : State) : Type 0 where
+-- a state with the rows of so many days more, at the rates of one day under these rows of the index
+pub record HasRow (index : List IndexRow) (days day : ℕ) (s new : State) : Type 0 where
   pub segments : new.segments ≡ s.segments
   pub rates : new.rates ≡ s.rates
   pub balances : length s.segments.balances ≡ length s.rates.segments + 2
-  pub rows : new.rows.items ≡ with_rows days s.rates s.segments.balances day s.rows.items
+  pub rows : new.rows.items ≡ with_rows index days s.rates s.segments.balances day s.rows.items
   pub accruals : new.accruals.items ≡ with_accruals days s.rates s.segments.balances day s.accruals.items
+
+-- under rows that are the same
+pub has-row : (index other : List IndexRow) (days day : ℕ) (s new : State) → index ≡ other → HasRow other days day s new → HasRow index days day s new
+has-row index other days day s new e h = subst (λ u. HasRow u days day s new) (sym e) h
 
 pub owed-is : (entries : List Entry) (balances : List ℤ) (t : SegmentTerms) → AreBalances entries balances → t.id < length balances → owed_on balances t ≡ owing t.id entries
 owed-is entries balances t h l = ap at_least_zero (h.each t.id l)
@@ -244,15 +249,15 @@ pub id-known : (s : State) (t : SegmentTerms) → AreByNumber 2 s.rates.segments
 id-known s t n e c = let below = number-below 2 s.rates.segments t n c in omega (arith, below, e)
 
 rows-after : (g : Given) (day : ℕ) (s : State) (k : Track) → IsSound g → opened_in g ≤ day → day ≤ last_request_day → length s.segments.balances ≡ length s.rates.segments + 2 → AreAmid g day (posts_of g day) s k
-    → with_rows 1 s.rates s.segments.balances day s.rows.items ≡ map (rows_through g (first_in g day) day (posted g day)) s.rates.segments
+    → with_rows g.shared.index 1 s.rates s.segments.balances day s.rows.items ≡ map (rows_through g (first_in g day) day (posted g day)) s.rates.segments
 rows-after g day s k sound o l e h =
     let ts = s.rates.segments in
     let balances = s.segments.balances in
     let numbers = (amid-rated g (rows_amid g day (posts_of g day) (posted g day)) (posted g day) s k h.stand).numbers in
-    let change : SegmentTerms → Rows → Rows = λ t r. with_row 1 s.rates day t (owed_on balances t) r in
+    let change : SegmentTerms → Rows → Rows = λ t r. with_row g.shared.index 1 s.rates day t (owed_on balances t) r in
     let each : (t : SegmentTerms) → Contains ts t → change t (rows_amid g day (posts_of g day) (posted g day) t) ≡ rows_through g (first_in g day) day (posted g day) t =
-    λ t c. ap (λ (r : Rates). with_row 1 r day t (owed_on balances t) (rows_amid g day (posts_of g day) (posted g day) t)) h.stand.rates
-    ∙ (ap (λ n. with_row 1 (rates_by g (posted g day).penalties) day t n (rows_amid g day (posts_of g day) (posted g day) t)) (owed-is (posted g day).entries balances t h.stand.sums (id-known s t numbers e c))
+    λ t c. ap (λ (r : Rates). with_row g.shared.index 1 r day t (owed_on balances t) (rows_amid g day (posts_of g day) (posted g day) t)) h.stand.rates
+    ∙ (ap (λ n. with_row g.shared.index 1 (rates_by g (posted g day).penalties) day t n (rows_amid g day (posts_of g day) (posted g day) t)) (owed-is (posted g day).entries balances t h.stand.sums (id-known s t numbers e c))
     ∙ sym (row-more g day t sound o l)) in
     ap (each_with change ts) h.stand.rows
     ∙ (each-map change (rows_amid g day (posts_of g day) (posted g day)) ts
@@ -303,7 +308,7 @@ accruals-after g day s k sound o e h =
           (each-few change 1 (day - 1 + 1 - opened_in g) (λ t x l. days-after 1 (accrual_rate day t) (owed_on balances t) (day - 1 + 1 - opened_in g) x l) ts old h.accrued.days);
     }
 
-pub posted-of : (g : Given) (day : ℕ) (s new : State) (k : Track) → IsSound g → opened_in g ≤ day → day ≤ last_request_day → HasRow 1 day s new → AreAmid g day (posts_of g day) s k → ArePosted g day new k
+pub posted-of : (g : Given) (day : ℕ) (s new : State) (k : Track) → IsSound g → opened_in g ≤ day → day ≤ last_request_day → HasRow g.shared.index 1 day s new → AreAmid g day (posts_of g day) s k → ArePosted g day new k
 posted-of g day s new k sound o l n h =
     let long = each-length (λ t x. with_accrual_at 1 (accrual_rate day t) (owed_on s.segments.balances t) x) s.rates.segments s.accruals.items in
     let same = ap length n.accruals in

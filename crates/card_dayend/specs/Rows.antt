@@ -1,6 +1,7 @@
 -- The rows of days: those of each segment, and what a deferred balance accrues (12 CFR 1026.14(b), .55(b)(1), comment
 -- 55(b)(1)-3). Days are day numbers, balances cents, rates basis points.
 use Rattle.std.specs.Prelude.{ℕ, ◌≤◌, List, [], ◌∷◌, Option, Some, None, ℤ, pos, slice_index_or}
+use Rattle.card_events.specs.SharedRows.{IndexRow}
 use Rattle.card_closing.specs.Accruals.{Accrued, with_accrual}
 use Rattle.card_closing.specs.BookRows.{rate_of}
 use Rattle.card_closing.specs.Rows.{Rows, with_days}
@@ -15,9 +16,9 @@ use Rattle.card_daily.specs.declared.state.State.{State}
 use Rattle.card_daily.specs.declared.track.Track.{Track}
 
 -- ---- a segment
--- its rows with those of so many days on which this is owed, at the rate of one day where that isn't 0
-abbrev pub with_row : ℕ → Rates → ℕ → SegmentTerms → ℕ → Rows → Rows
-with_row days rates day t owed rows = with_days days owed (rate_of owed (rate_in_force rates day t)) rows
+-- its rows with those of so many days on which this is owed, at the rate of one day, under this index, where that isn't 0
+abbrev pub with_row : List IndexRow → ℕ → Rates → ℕ → SegmentTerms → ℕ → Rows → Rows
+with_row index days rates day t owed rows = with_days days owed (rate_of owed (rate_in_force index rates day t)) rows
 
 -- its accrual with so many days on which this is owed, where it accrues at a rate
 abbrev pub with_accrual_at : ℕ → Option ℕ → ℕ → Accrued → Accrued
@@ -36,8 +37,8 @@ each_with change (t ∷ ts) [] = []
 each_with change (t ∷ ts) (x ∷ xs) = change t x ∷ each_with change ts xs
 
 -- the rows of each with those of so many days, at the rates of one day
-abbrev pub with_rows : ℕ → Rates → List ℤ → ℕ → List Rows → List Rows
-with_rows days rates balances day rows = each_with (λ t r. with_row days rates day t (owed_on balances t) r) rates.segments rows
+abbrev pub with_rows : List IndexRow → ℕ → Rates → List ℤ → ℕ → List Rows → List Rows
+with_rows index days rates balances day rows = each_with (λ t r. with_row index days rates day t (owed_on balances t) r) rates.segments rows
 
 -- the accruals of each with so many days, at the rates of one day
 abbrev pub with_accruals : ℕ → Rates → List ℤ → ℕ → List Accrued → List Accrued

@@ -43,7 +43,7 @@ pub record IsIssueCut (issued : List IssuedRow) (day place : ℕ) : Type 0 where
 
 -- a break day of an account, by these penalties
 abbrev pub breaks_by : Given → List Interval → ℕ → Bool
-breaks_by g penalties day = is_break (account_in g) (corrected (anchor_of g.history) g.shared.holidays g.history) g.issued penalties day
+breaks_by g penalties day = is_break (account_in g) (corrected (anchor_of g.history) g.shared.holidays g.history) g.issued g.shared.index penalties day
 
 -- ---- the cycle that a day lies in
 -- the cycle with a number holds a day that may be folded

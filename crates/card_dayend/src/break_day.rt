@@ -4,7 +4,7 @@ ghost use Rattle.std.specs.List.Sorted.{IsNonDecreasingBy};
 ghost use Rattle.card_events.specs.Billing.{closing};
 ghost use Rattle.card_events.specs.Range.{last_request_day};
 ghost use Rattle.card_events.specs.declared.anchor.Anchor.{Anchor};
-ghost use Rattle.card_events.specs.History.{anchor_of};
+ghost use Rattle.card_events.specs.History.{anchor_of, is_variable};
 ghost use Rattle.card_posts.specs.Posted.{StandsFor};
 ghost use Rattle.card_rates.specs.Days.{place_of};
 ghost use Rattle.card_rates.specs.Next.{IsNext};
@@ -170,14 +170,15 @@ fn next_issue(issued: &[Issued], near: &mut usize, first: Day, end: Day) -> Day
 }
 
 /// The first break day from a day on, where it comes before the last one, and that last day otherwise. Break days are the days
-/// with a post, a closing or an issue, those after a due date, and those on which a rate changes, by the penalties begun so
-/// far. The first day isn't before the opening day nor after the last one, which is at most 2099-12-31. The cursor is one of
+/// with a post, a closing or an issue, those after a due date, those on which a rate changes, by the penalties begun so far,
+/// and, where the opening rates follow the index, those with an index row. The first day isn't before the opening day nor after the last one, which is at most 2099-12-31. The cursor is one of
 /// this account, and stays so. It takes no memory.
 pub fn span_end(inputs: &Inputs, rates: &RateBook, first: Day, to: Day, cursor: &mut Cursor) -> Day
     requires opened { opened_in inputs.now ≤ first }
     requires order { first ≤ to }
     requires last { to ≤ last_request_day }
     requires rates { rates.now.segments ≡ (rates_of inputs.now.shared.holidays inputs.now.history []).segments }
+    requires variable { rates.now.variable ≡ is_variable inputs.now.history }
     requires cursor { IsCursorOf inputs.now cursor.old }
     ensures next { IsNext (breaks_by inputs.now rates.now.penalties) first to result }
     ensures cursor { IsCursorOf inputs.now cursor.new }
@@ -192,5 +193,6 @@ pub fn span_end(inputs: &Inputs, rates: &RateBook, first: Day, to: Day, cursor: 
     let closing = next_closing(&dates, first, posted);
     let due = next_after_due(&dates, first, closing);
     let issued = next_issue(inputs.issued(), &mut cursor.issues, first, due);
-    rates.next_change(first, issued)
+    let changed = rates.next_change(first, issued);
+    rates.next_index(inputs.index(), anchor.opened, first, changed)
 }

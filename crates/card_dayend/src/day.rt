@@ -28,7 +28,7 @@ pub fn next_day(
     let _opening = opening_day(inputs);
     due_day(inputs, day, state, track)?;
     post_day(alloc, inputs, day, state, track)?;
-    row_day(day, state)?;
+    row_day(inputs.index(), day, state)?;
     close_day(alloc, inputs, day, state, track)?;
     Ok(())
 }
@@ -63,6 +63,6 @@ pub fn next_span(
     ensures room { KeepsRoom track.old track.new }
 {
     let _opening = opening_day(inputs);
-    pass_quiet(first, days_to(first, end), state)?;
+    pass_quiet(inputs.index(), first, days_to(first, end), state)?;
     next_day(alloc, inputs, end, state, track)
 }

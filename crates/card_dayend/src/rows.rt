@@ -19,7 +19,7 @@ ghost use Rattle.card_daily.specs.declared.track.Track.{Track};
 use card_closing::{Accrual, CycleRows};
 use card_daily::State;
 use card_events::{Bp, Cents, Day, NoMemory};
-use card_rates::{RateBook, RatedSegment, is_deferred_on};
+use card_rates::{IndexTable, RateBook, RatedSegment, is_deferred_on};
 use card_segments::Segments;
 
 // The rate 0.
@@ -41,14 +41,14 @@ fn owed_on(segments: &Segments, id: u8) -> u64
 }
 
 // The rate of a segment's row: that of the day, and 0 where nothing is owed.
-fn row_rate(rates: &RateBook, id: u8, day: Day, owed: u64) -> Bp
+fn row_rate(rates: &RateBook, index: &IndexTable, id: u8, day: Day, owed: u64) -> Bp
     requires there { id < length rates.now.segments + 2 }
-    ensures { (t : SegmentTerms) → Contains rates.now.segments t → t.id ≡ id → result ≡ rate_of owed (rate_in_force rates.now day t) }
+    ensures { (t : SegmentTerms) → Contains rates.now.segments t → t.id ≡ id → result ≡ rate_of owed (rate_in_force index.now rates.now day t) }
 {
     if owed == 0 {
         no_rate()
     } else {
-        rates.rate_on(id, day)
+        rates.rate_on(index, id, day)
     }
 }
 
@@ -56,6 +56,7 @@ fn row_rate(rates: &RateBook, id: u8, day: Day, owed: u64) -> Bp
 fn add_row(
     rows: &mut CycleRows,
     rates: &RateBook,
+    index: &IndexTable,
     id: u8,
     day: Day,
     days: u32,
@@ -64,9 +65,9 @@ fn add_row(
     requires there { id < length rates.now.segments + 2 }
     requires small { owed ≤ balance_limit }
     requires few { length rows.old.days + days ≤ 31 }
-    ensures { OnOk result ((t : SegmentTerms) → Contains rates.now.segments t → t.id ≡ id → rows.new ≡ with_row days rates.now day t owed rows.old) }
+    ensures { OnOk result ((t : SegmentTerms) → Contains rates.now.segments t → t.id ≡ id → rows.new ≡ with_row index.now days rates.now day t owed rows.old) }
 {
-    rows.row(days, owed as Cents, row_rate(rates, id, day, owed))
+    rows.row(days, owed as Cents, row_rate(rates, index, id, day, owed))
 }
 
 // The rows of all segments on so many days, at the rates of one of them.
@@ -74,6 +75,7 @@ fn add_rows(
     rows: &mut Vec<CycleRows>,
     segments: &Segments,
     rates: &RateBook,
+    index: &IndexTable,
     day: Day,
     days: u32,
 ) -> Result<(), NoMemory>
@@ -81,12 +83,12 @@ fn add_rows(
     requires equal { length rows.old.items ≡ length rates.now.segments }
     requires small { AreWithin balance_limit segments.now.balances }
     requires few { All (λ (r : Rows). length r.days + days ≤ 31) rows.old.items }
-    ensures { OnOk result (rows.new.items ≡ with_rows days rates.now segments.now.balances day rows.old.items) }
+    ensures { OnOk result (rows.new.items ≡ with_rows index.now days rates.now segments.now.balances day rows.old.items) }
 {
     for id in 2..segments.len() {
         let place = id as usize - 2;
         let owed = owed_on(segments, id);
-        add_row(&mut rows[place], rates, id, day, days, owed)?;
+        add_row(&mut rows[place], rates, index, id, day, days, owed)?;
     }
     Ok(())
 }
@@ -160,15 +162,16 @@ fn accrue_all(
 }
 
 /// The rows of a day, up to 2099-12-31, once its posts are folded: of each segment but Credit and Held what is owed at the
-/// end of the day, in cents, with its rate in basis points (12 CFR 1026.14(b)), which is kept as 0 where nothing is owed.
+/// end of the day, in cents, with its rate in basis points under this index (12 CFR 1026.14(b)), which is kept as 0 where
+/// nothing is owed.
 /// A deferred plan in its period accrues the day (12 CFR 1026.55(b)(1), comment 55(b)(1)-3). After want of memory the rows are
 /// of no use.
-pub fn row_day(day: Day, state: &mut State) -> Result<(), NoMemory>
+pub fn row_day(index: &IndexTable, day: Day, state: &mut State) -> Result<(), NoMemory>
     requires last { day ≤ last_request_day }
     requires amid { AwaitsRows day state.old }
-    ensures posted { OnOk result ((g : Given) (t : Track) → IsSound g → opened_in g ≤ day → AreAmid g day (posts_of g day) state.old t → ArePosted g day state.new t) }
+    ensures posted { OnOk result ((g : Given) (t : Track) → g.shared.index ≡ index.now → IsSound g → opened_in g ≤ day → AreAmid g day (posts_of g day) state.old t → ArePosted g day state.new t) }
 {
-    add_rows(&mut state.rows, &state.segments, &state.rates, day, 1)?;
+    add_rows(&mut state.rows, &state.segments, &state.rates, index, day, 1)?;
     accrue_all(&mut state.accruals, &state.segments, &state.rates, day, 1);
     Ok(())
 }
@@ -177,15 +180,27 @@ pub fn row_day(day: Day, state: &mut State) -> Result<(), NoMemory>
 /// cents, with its rate in basis points (12 CFR 1026.14(b)), and what a deferred plan in its period accrues (12 CFR
 /// 1026.55(b)(1), comment 55(b)(1)-3). The rates are those of the first of these days, since the day before may be a plan's
 /// last. The day behind them is at most 2099-12-31. After want of memory the rows are of no use. It takes none for no days.
-pub fn pass_quiet(first: Day, days: u32, state: &mut State) -> Result<(), NoMemory>
+pub fn pass_quiet(
+    index: &IndexTable,
+    first: Day,
+    days: u32,
+    state: &mut State,
+) -> Result<(), NoMemory>
     requires awaits { AwaitsBreak first days state.old }
-    ensures passed { OnOk result ((g : Given) (t : Track) → IsQuietFrom g first days state.old t → AreBefore g (first + days) state.new t) }
+    ensures passed { OnOk result ((g : Given) (t : Track) → g.shared.index ≡ index.now → IsQuietFrom g first days state.old t → AreBefore g (first + days) state.new t) }
     ensures none { days ≡ 0 → IsOk result }
 {
     if days == 0 {
         return Ok(());
     }
-    add_rows(&mut state.rows, &state.segments, &state.rates, first, days)?;
+    add_rows(
+        &mut state.rows,
+        &state.segments,
+        &state.rates,
+        index,
+        first,
+        days,
+    )?;
     accrue_all(
         &mut state.accruals,
         &state.segments,

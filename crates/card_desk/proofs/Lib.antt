@@ -19,3 +19,4 @@ pub mod StepLemmas
 pub mod WorkLemmas
 pub mod MapLemmas
 pub mod Moves
+pub mod MixedRows

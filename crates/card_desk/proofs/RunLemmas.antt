@@ -25,6 +25,12 @@ unfolding accepted_from run_from
 accepted_more s [] r = append-nil (if_new s r)
 accepted_more s (x ∷ rs) r = ap (λ (l : List Request). if_new s x ++ l) (accepted_more (step s x).0 rs r) ∙ sym (append_assoc (if_new s x) (accepted_from (step s x).0 rs) (if_new (run_from (step s x).0 rs) r))
 
+-- the newly accepted of two lists
+pub accepted_both : (s : State) (rs more : List Request) → accepted_from s (rs ++ more) ≡ accepted_from s rs ++ accepted_from (run_from s rs) more
+unfolding accepted_from run_from
+accepted_both s [] more = refl
+accepted_both s (x ∷ rs) more = ap (λ (l : List Request). if_new s x ++ l) (accepted_both (step s x).0 rs more) ∙ sym (append_assoc (if_new s x) (accepted_from (step s x).0 rs) (accepted_from (run_from (step s x).0 rs) more))
+
 pub rows_more : (n : ℕ) (rs more : List Request) → rows_from n (rs ++ more) ≡ rows_from n rs ++ rows_from (n + length rs) more
 unfolding rows_from
 rows_more n [] more = ap (λ (m : ℕ). rows_from m more) (omega arith)

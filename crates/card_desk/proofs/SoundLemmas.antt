@@ -1,23 +1,20 @@
 -- Sound rows.
 use Rattle.std.proofs.Common.{◌≡◌, ℕ, ◌+◌, ◌-◌, ◌<◌, Bool, true, List, [], ◌∷◌, ◌++◌, length, take, get_or, Option, Some, None, refl, ap, sym, ◌∙◌, subst, arith}
 use Rattle.std.specs.Prelude.{if◌then◌else◌, ◌&&◌, slice_get}
-use Rattle.std.specs.List.{list_all}
-use Rattle.std.proofs.lemmas.Bool.{and_from}
 use Rattle.std.proofs.lemmas.List.{length-take-le, take_more}
-use Rattle.std.proofs.lemmas.List.Folds.{list_all-append}
 use Rattle.card_events.specs.declared.request.Request.{Request}
 use Rattle.card_ports.specs.Rows.{KeepsRows, SameRowsTold, GivesRows, next_seq, next_after}
 use Rattle.card_ports.specs.declared.row.Row.{Row}
 use Rattle.card_model.specs.Machine.{State, start, step, run, run_from, is_new, accepted_from}
-use Rattle.card_rows.specs.Held.{is_request}
-use Rattle.card_desk.specs.Kept.{AreSound, AreDamaged, IsNewRow, IsRunOf, Fits, accepted_count, row_of, rows_of, rows_from}
+use Rattle.card_desk.specs.Kept.{AreSound, AreDamaged, AreRowsFrom, IsNewRow, IsRunOf, Fits, accepted_count}
+use Rattle.card_desk.proofs.MixedRows.{are_length, are_more, are_next, one_row}
 use Rattle.card_desk.specs.Loads.{GoesOn}
-use Rattle.card_desk.proofs.RunLemmas.{run_more, accepted_more, rows_more, rows_length, count_all}
+use Rattle.card_desk.proofs.RunLemmas.{run_more, accepted_more, count_all}
 
 -- no row
 pub sound_none : AreSound [] []
-unfolding rows_from accepted_from
-sound_none = record { rows_are = refl; all_new = refl; taken = refl }
+unfolding AreRowsFrom accepted_from
+sound_none = record { rows_are = tt; all_new = refl }
 
 pub run_none : IsRunOf [] start
 unfolding run_from
@@ -25,20 +22,18 @@ run_none = record { requests = []; sound = sound_none; state_is = refl }
 
 -- the rows are as many as the accepted requests
 pub sound_count : (rows : List Row) (rs : List Request) → AreSound rows rs → accepted_count (run rs) ≡ length rows
-sound_count rows rs sound = count_all rs sound.all_new ∙ sym (ap (λ (l : List Row). length l) sound.rows_are ∙ rows_length 1 rs)
+sound_count rows rs sound = count_all rs sound.all_new ∙ sym (are_length 1 rows rs sound.rows_are)
 
 pub run_count : (rows : List Row) (s : State) → IsRunOf rows s → accepted_count s ≡ length rows
 run_count rows s is = ap accepted_count is.state_is ∙ sound_count rows is.requests is.sound
 
 -- one row more
 pub sound_more : (rows : List Row) (rs : List Request) (n : ℕ) (row : Row) (r : Request) → AreSound rows rs → n ≡ length rows + 1 → IsNewRow (run rs) n row r → AreSound (rows ++ row ∷ []) (rs ++ r ∷ [])
-unfolding rows_from
 sound_more rows rs n row r sound place new =
-    let many : 1 + length rs ≡ n = omega (arith, place, ap (λ (l : List Row). length l) sound.rows_are, rows_length 1 rs) in
+    let many : 1 + length rs ≡ n = omega (arith, place, are_length 1 rows rs sound.rows_are) in
     record {
-      rows_are = ap (λ (l : List Row). l ++ row ∷ []) sound.rows_are ∙ ap (λ (x : Row). rows_of rs ++ x ∷ []) new.row_is ∙ ap (λ (m : ℕ). rows_of rs ++ row_of m r ∷ []) (sym many) ∙ sym (rows_more 1 rs (r ∷ []));
+      rows_are = are_more 1 n rows rs (row ∷ []) (r ∷ []) many sound.rows_are (one_row n row r new.row_is);
       all_new = accepted_more start rs r ∙ ap (λ (l : List Request). l ++ (if is_new (run rs) r then r ∷ [] else [])) sound.all_new ∙ ap (λ (b : Bool). rs ++ (if b then r ∷ [] else [])) new.newly;
-      taken = list_all-append is_request rs (r ∷ []) ∙ and_from (list_all is_request rs) (is_request r && true) sound.taken (and_from (is_request r) true new.taken refl);
     }
 
 pub run_goes_on : (rows : List Row) (s next : State) (n : ℕ) (row : Row) → IsRunOf rows s → n ≡ length rows + 1 → GoesOn s n row next → IsRunOf (rows ++ row ∷ []) next
@@ -73,14 +68,9 @@ damaged rows s i n row low place is there bad =
     the_row a b is = cc
 
 -- ---- numbers
-rows_next : (n : ℕ) (rs : List Request) → next_after n (rows_from n rs) ≡ n + length rs
-unfolding next_after rows_from
-rows_next n [] = omega arith
-rows_next n (r ∷ rs) = omega (arith, rows_next (n + 1) rs)
-
 pub run_fits : (rows : List Row) (s : State) → IsRunOf rows s → next_seq rows ≡ accepted_count s + 1
 run_fits rows s is =
-    omega (arith, ap next_seq is.sound.rows_are, rows_next 1 is.requests, ap accepted_count is.state_is, count_all is.requests is.sound.all_new)
+    omega (arith, are_next 1 rows is.requests is.sound.rows_are, ap accepted_count is.state_is, count_all is.requests is.sound.all_new)
 
 -- the same of what a keeper tells
 pub fits_told : (old new : Option (List Row)) (given : List Row) (s : State) → KeepsRows old new → SameRowsTold old new → GivesRows old given → IsRunOf given s → Fits new s

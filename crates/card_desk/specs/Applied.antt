@@ -19,7 +19,7 @@ pub record Steps (rows_old rows_new : Option (List Row)) (s : State) (r : Reques
   pub rows_are : AddsRows rows_old rows_new (new_rows s r)
   pub fits : Fits rows_new new
 
--- no account has more than 10,000 posts
+-- no account has more than 200,000 posts
 abbrev pub are_short : List NamedAccount → Bool
 are_short accounts = list_all (λ a. nat_le (length a.lists.posts) post_limit) accounts
 

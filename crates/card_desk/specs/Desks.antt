@@ -61,6 +61,7 @@ pub record IsDesk (places : List (List ℕ × ℕ)) (common : SharedRows) (count
   pub dated : today ≤ last_request_day
   pub holidays : AreSameHolidays common.holidays (shared_rows rows).holidays
   pub table : common.fees ≡ (shared_rows rows).fees
+  pub index_rows : common.index ≡ (shared_rows rows).index
   pub accounts : AreAccounts today common opened
   pub counted : count ≡ accepted_count (state_of today rows opened)
   pub ran : IsRun (state_of today rows opened)

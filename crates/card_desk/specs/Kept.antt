@@ -1,16 +1,15 @@
 -- The rows of requests.
 use Rattle.std.specs.Prelude.{◌≡◌, ℕ, ◌+◌, ◌-◌, ◌≤◌, true, if◌then◌else◌, List, [], ◌∷◌, length, take, slice_get, Option, Some, None, ⊤}
-use Rattle.std.specs.List.{list_all}
 use Rattle.card_events.specs.declared.request.Request.{Request}
 use Rattle.card_ports.specs.Rows.{next_seq}
 use Rattle.card_ports.specs.declared.row.Row.{Row}
 use Rattle.card_model.specs.Machine.{State, NamedAccount, start, run, is_new, accepted_from}
-use Rattle.card_rows.specs.Held.{is_request}
-use Rattle.card_rows.specs.Spelling.{spelling}
+use Rattle.card_rows.specs.Spelling.{spelling, IsSomeSpelling}
+use Rattle.card_rows.specs.declared.format.Format.TheVariants as format
 
--- the row of a request, under a number
+-- the row that is written for a request, under a number
 abbrev pub row_of : ℕ → Request → Row
-row_of n r = record { seq = n; body = spelling r }
+row_of n r = record { seq = n; body = spelling format.Second r }
 
 -- the rows of requests, numbered from n on
 unfoldable pub rows_from : ℕ → List Request → List Row
@@ -39,16 +38,26 @@ abbrev pub Fits : Option (List Row) → State → Type 0
 Fits None s = ⊤
 Fits (Some rows) s = next_seq rows ≡ accepted_count s + 1
 
--- the rows are those of requests that may be spelled, each of which was newly accepted in its place
-pub record AreSound (rows : List Row) (requests : List Request) : Type 0 where
-  pub rows_are : rows ≡ rows_of requests
-  pub all_new : accepted_from start requests ≡ requests
-  pub taken : list_all is_request requests ≡ true
+-- row n spells a request, in one of the formats
+pub record IsRowOf (n : ℕ) (row : Row) (r : Request) : Type 0 where
+  pub seq : row.seq ≡ n
+  pub spelled : IsSomeSpelling row.body r
 
--- row n is that of a request that may be spelled and is newly accepted in this state
+-- the rows are those of these requests, numbered from n on, each in one of the formats
+unfoldable pub AreRowsFrom : ℕ → List Row → List Request → Type 0
+AreRowsFrom n [] [] = ⊤
+AreRowsFrom n [] (r ∷ rs) = ⊥
+AreRowsFrom n (row ∷ rows) [] = ⊥
+AreRowsFrom n (row ∷ rows) (r ∷ rs) = IsRowOf n row r × AreRowsFrom (n + 1) rows rs
+
+-- the rows are those of requests, each of which was newly accepted in its place
+pub record AreSound (rows : List Row) (requests : List Request) : Type 0 where
+  pub rows_are : AreRowsFrom 1 rows requests
+  pub all_new : accepted_from start requests ≡ requests
+
+-- row n is that of a request that is newly accepted in this state
 pub record IsNewRow (s : State) (n : ℕ) (row : Row) (r : Request) : Type 0 where
-  pub row_is : row ≡ row_of n r
-  pub taken : is_request r ≡ true
+  pub row_is : IsRowOf n row r
   pub newly : is_new s r ≡ true
 
 -- row n is the first that isn't the row of a request that is newly accepted in its place

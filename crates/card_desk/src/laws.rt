@@ -1,5 +1,5 @@
 //! Laws of kept rows and of accounts apart, for all rows and all requests. Their functions do nothing; their clauses are what holds.
-ghost use Rattle.std.specs.Prelude.{◌≡◌, ◌++◌, ℕ, true, List, []};
+ghost use Rattle.std.specs.Prelude.{◌≡◌, ◌++◌, ◌+◌, length, ℕ, true, List, []};
 ghost use Rattle.std.specs.List.{list_all};
 ghost use Rattle.card_events.specs.declared.request.Request.{Request};
 ghost use Rattle.card_ports.specs.declared.row.Row.{Row};
@@ -7,7 +7,7 @@ ghost use Rattle.card_model.specs.Machine.{State, start, step, run, accepted_fro
 ghost use Rattle.card_model.specs.Isolated.{Isolation};
 ghost use Rattle.card_rows.specs.Held.{is_request};
 ghost use Rattle.card_desk.specs.Apart.{LooksIsolated, RequestsStandApart};
-ghost use Rattle.card_desk.specs.Kept.{AreSound, AreDamaged, IsRunOf, rows_of, new_rows};
+ghost use Rattle.card_desk.specs.Kept.{AreSound, AreDamaged, IsRunOf, rows_from, rows_of, new_rows};
 
 /// The rows of what is newly accepted of requests are sound, and a run of the accepted ones alone ends in the state of the
 /// whole run. Sound rows are damaged nowhere: so no row that a desk wrote is ever called damaged, and a desk that is loaded
@@ -15,6 +15,7 @@ ghost use Rattle.card_desk.specs.Kept.{AreSound, AreDamaged, IsRunOf, rows_of, n
 pub fn load_of_rows()
     ensures sound { (requests : List Request) → list_all is_request requests ≡ true → AreSound (rows_of (accepted_from start requests)) (accepted_from start requests) }
     ensures state { (requests : List Request) → run (accepted_from start requests) ≡ run requests }
+    ensures goes_on { (rows : List Row) (requests more : List Request) → AreSound rows requests → list_all is_request more ≡ true → AreSound (rows ++ rows_from (length rows + 1) (accepted_from (run requests) more)) (requests ++ accepted_from (run requests) more) }
     ensures not_damaged { (rows : List Row) (requests : List Request) (n : ℕ) → AreSound rows requests → AreDamaged rows n → ⊥ }
 {}
 

@@ -134,7 +134,7 @@ pub fn last_notice_day(posts: &Posts, anchor: &Anchor, charge: Num) -> Option<Da
     requires posts { AreInCalendar anchor.now posts.now.history }
     ensures { (holidays : List ℕ) → StandsFor holidays posts.now → result ≡ spec.last_notice_day anchor.now posts.now.corrected charge }
 {
-    // what the length says is needed as a fact: at most 10,000 posts are there, so the number of one is a small one
+    // what the length says is needed as a fact: at most 200,000 posts are there, so the number of one is a small one
     let _count = posts.len();
     match charge_day(posts, charge) {
         Some(day) => notice_end(posts, charge.get() as u32, cycle_on(anchor, day)),

@@ -58,7 +58,7 @@ named-is (Some p) = refl
 
 -- ---- segments of an account
 abbrev no_rows : SharedRows
-no_rows = record { holidays = []; fees = [] }
+no_rows = record { holidays = []; fees = []; index = [] }
 
 pub of-rated : (history : List Kept) (kept : List Segment) (rated : Rates) → AreOf history kept rated → AreRated kept rated
 of-rated history kept rated h =

@@ -103,20 +103,20 @@ to-come-empty a seen b rated bs es place s =
     none z e = ap (λ (y : ℤ). ltb 0 (at_least_zero y + 0)) e
 
 same-holdings : (a : Account) (seen : Seen) (b : Book) (rated : Rates) (bs : List ℤ) (es : List Entry) (until day : ℕ) (place : Option Place) (pl : List ℕ) → AreByNumber 2 rated.segments → length rated.segments + 2 ≡ length bs
-    → StandsAt a seen b rated bs es → until ≡ second_closing a seen.day → day ≡ seen.day → AreNumbersOf place rated.segments pl → made.holdings pl bs (ranks_on rated until day) ≡ map (holding a seen b place) rated.segments
+    → StandsAt a seen b rated bs es → until ≡ second_closing a seen.day → day ≡ seen.day → AreNumbersOf place rated.segments pl → made.holdings pl bs (ranks_on seen.index rated until day) ≡ map (holding a seen b place) rated.segments
 same-holdings a seen b rated bs es until day place pl numbers l s u d named =
     let all = rated.segments in
-    holdings-of pl (rank_on rated until day) (holding a seen b place) 2 all bs numbers (omega (arith, l)) (both all (All-contains_itself all) named)
+    holdings-of pl (rank_on seen.index rated until day) (holding a seen b place) 2 all bs numbers (omega (arith, l)) (both all (All-contains_itself all) named)
   where
-    one : (g : SegmentTerms) → Contains rated.segments g → list_any (λ s. eqb s g.id) pl ≡ is_in_place place g → made.holding pl g.id (get_or bs g.id (pos 0)) (rank_on rated until day g) ≡ holding a seen b place g
+    one : (g : SegmentTerms) → Contains rated.segments g → list_any (λ s. eqb s g.id) pl ≡ is_in_place place g → made.holding pl g.id (get_or bs g.id (pos 0)) (rank_on seen.index rated until day g) ≡ holding a seen b place g
     one g c e =
         let below = number-below 2 rated.segments g numbers c in
         rw (u, d, s.rates g, s.sums.each g.id (omega (arith, l, below)), e) refl
 
-    both : (gs : List SegmentTerms) → All (Contains rated.segments) gs → AreNumbersOf place gs pl → All (λ (g : SegmentTerms). made.holding pl g.id (get_or bs g.id (pos 0)) (rank_on rated until day g) ≡ holding a seen b place g) gs
-    both [] c n = All-nil (λ (g : SegmentTerms). made.holding pl g.id (get_or bs g.id (pos 0)) (rank_on rated until day g) ≡ holding a seen b place g)
+    both : (gs : List SegmentTerms) → All (Contains rated.segments) gs → AreNumbersOf place gs pl → All (λ (g : SegmentTerms). made.holding pl g.id (get_or bs g.id (pos 0)) (rank_on seen.index rated until day g) ≡ holding a seen b place g) gs
+    both [] c n = All-nil (λ (g : SegmentTerms). made.holding pl g.id (get_or bs g.id (pos 0)) (rank_on seen.index rated until day g) ≡ holding a seen b place g)
     both (g ∷ gs) c n =
-        All-cons (λ (g : SegmentTerms). made.holding pl g.id (get_or bs g.id (pos 0)) (rank_on rated until day g) ≡ holding a seen b place g) g gs
+        All-cons (λ (g : SegmentTerms). made.holding pl g.id (get_or bs g.id (pos 0)) (rank_on seen.index rated until day g) ≡ holding a seen b place g) g gs
         (one g (All-head (Contains rated.segments) g gs c) (All-head (λ (g : SegmentTerms). list_any (λ s. eqb s g.id) pl ≡ is_in_place place g) g gs n))
         (both gs (All-tail (Contains rated.segments) g gs c) (All-tail (λ (g : SegmentTerms). list_any (λ s. eqb s g.id) pl ≡ is_in_place place g) g gs n))
 
@@ -129,7 +129,7 @@ all-ascend a seen b rated place numbers =
     (ascending (holding a seen b place) (λ g. refl) 2 0 rated.segments numbers (omega arith), ascending-some (holding a seen b place) (λ g. refl) (is_added seen.day) 2 0 rated.segments numbers (omega arith))
 
 pub allocated-is : (a : Account) (seen : Seen) (b : Book) (rated : Rates) (bs : List ℤ) (es : List Entry) (until day minimum amount : ℕ) → AreByNumber 2 rated.segments → length rated.segments + 2 ≡ length bs → StandsAt a seen b rated bs es
-    → until ≡ second_closing a seen.day → day ≡ seen.day → allocated minimum amount (made.holdings [] bs (ranks_on rated until day)) ≡ allocated minimum amount (holdings a seen b None)
+    → until ≡ second_closing a seen.day → day ≡ seen.day → allocated minimum amount (made.holdings [] bs (ranks_on seen.index rated until day)) ≡ allocated minimum amount (holdings a seen b None)
 allocated-is a seen b rated bs es until day minimum amount numbers l s u d =
     let h = holding a seen b None in
     let all = rated.segments in
@@ -142,7 +142,7 @@ allocated-is a seen b rated bs es until day minimum amount numbers l s u d =
 
 pub placed-is : (a : Account) (seen : Seen) (b : Book) (rated : Rates) (bs : List ℤ) (es : List Entry) (until day amount : ℕ) (place : Place) (pl : List ℕ) → AreByNumber 2 rated.segments → length rated.segments + 2 ≡ length bs
     → StandsAt a seen b rated bs es → until ≡ second_closing a seen.day → day ≡ seen.day → AreNumbersOf (Some place) rated.segments pl
-    → placed amount (made.holdings pl bs (ranks_on rated until day)) ≡ placed amount (holdings a seen b (Some place))
+    → placed amount (made.holdings pl bs (ranks_on seen.index rated until day)) ≡ placed amount (holdings a seen b (Some place))
 placed-is a seen b rated bs es until day amount place pl numbers l s u d named =
     let h = holding a seen b (Some place) in
     let all = rated.segments in

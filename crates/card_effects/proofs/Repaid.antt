@@ -1,4 +1,5 @@
 -- The entries of a payment's parts.
+use Rattle.std.specs.Prelude.{map}
 use Rattle.std.proofs.Common.{◌≡◌, ℕ, zero, suc, ◌+◌, ◌<◌, ◌≤◌, Bool, true, false, cond, List, [], ◌∷◌, ◌++◌, length, refl, sym, ap, ◌∙◌, subst, arith, eqb, get_or, Option, None, Some, ℤ, pos, ◌+ℤ◌}
 use Rattle.std.specs.Prelude.{min, ◌≤ℤ◌}
 use Rattle.std.specs.List.{All, Contains}
@@ -20,17 +21,20 @@ use Rattle.card_model.specs.Cycles.{IssuedRow, Seen, last_cycle}
 use Rattle.card_model.specs.Effects.{credit_parts, effect, holdings, parts_entries, payment_parts, second_closing}
 use Rattle.card_model.specs.Entries.{at_least_zero, balance, lowers, negated}
 use Rattle.card_model.specs.Payments.{minimum_left}
-use Rattle.card_model.specs.Segments.{SegmentTerms}
+use Rattle.card_events.specs.SharedRows.{IndexRow}
+use Rattle.card_model.specs.Rates.{index_on, rate_on, starts}
+use Rattle.card_model.specs.Segments.{SegmentTerms, kept_segment}
 use Rattle.card_model.specs.declared.entry.Entry.{Entry}
 use Rattle.card_model.specs.declared.entry.EntryKind.TheVariants as kind
 use Rattle.card_model.specs.declared.entry.Note.{Note}
 use Rattle.card_model.proofs.EntryFacts.{balance-append}
 use Rattle.card_model.proofs.Posted.{balance-entry_of, entry_of-known}
 use Rattle.card_rates.specs.RateBooks.{AreByNumber, Rates}
+use Rattle.card_rates.proofs.DayLaws.{same-index}
 use Rattle.card_rates.proofs.ByNumber.{number-above, number-below}
 use Rattle.card_segments.specs.Balances.{Balances, after_entries}
 use Rattle.card_effects.specs.Places.{numbers_of}
-use Rattle.card_effects.specs.Ranks.{rank_on, ranks_on}
+use Rattle.card_effects.specs.Ranks.{end_by, no_rank, rank_on, ranks_on}
 use Rattle.card_effects.specs.Standing.{IsSlotOf, StandsAt, is_added}
 use Rattle.card_effects.proofs.Named.{named}
 use Rattle.card_effects.proofs.Reached.{allocated-is, placed-is}
@@ -87,8 +91,17 @@ taken a seen b c rated before after es new note cents ps numbers l s t grown sam
         parts-elsewhere note before.balances g.id ps (omega (arith, high)) (s.sums.each g.id (omega (arith, below, l)) ∙ s.to_come g h f) t.whole.covered
 
 -- how many ranks there are
-pub all-are : (rated : Rates) (until day : ℕ) (ranks : List Rank) (n : ℕ) → ranks ≡ ranks_on rated until day → length ranks ≡ n → length rated.segments + 2 ≡ n
-all-are rated until day ranks n e l = omega (arith, ap length e, l, length-map rated.segments (rank_on rated until day))
+pub all-are : (rows : List IndexRow) (rated : Rates) (until day : ℕ) (ranks : List Rank) (n : ℕ) → ranks ≡ ranks_on rows rated until day → length ranks ≡ n → length rated.segments + 2 ≡ n
+all-are rows rated until day ranks n e l = omega (arith, ap length e, l, length-map rated.segments (rank_on rows rated until day))
+
+abbrev the_rank : ℕ → Option ℕ → Rank
+the_rank r e = record { rate = r; last_two = e }
+
+-- the ranks under rows that give the day's index are those under the rows that the day sees
+pub ranks-seen : (rows : List IndexRow) (seen : Seen) (rated : Rates) (until day : ℕ) → day ≡ seen.day → index_on rows seen.day ≡ index_on seen.index seen.day → ranks_on rows rated until day ≡ ranks_on seen.index rated until day
+ranks-seen rows seen rated until day d e =
+    let here : index_on rows day ≡ index_on seen.index day = subst (λ x. index_on rows x ≡ index_on seen.index x) (sym d) e in
+    ap (λ i. no_rank ∷ no_rank ∷ map (λ (g : SegmentTerms). the_rank (rate_on i rated.lowerings rated.penalty (starts day rated.penalties) rated.segments day g) (end_by until day (kept_segment g))) rated.segments) (same-index rated.variable rows seen.index day here)
 
 abbrev pub minimum_of : Seen → CorrectedPost → Book → ℕ
 minimum_of seen p b = min p.cents (minimum_left seen p (last_cycle b.cycles))
@@ -98,15 +111,15 @@ parts-are xs n m ps qs e f = sym (ap (λ (u : Note). xs ++ parts_entries u ps) e
 
 pub payment-stands : (issued : Option IssuedRow) (a : Account) (seen : Seen) (p : CorrectedPost) (b : Book) (day minute cents : ℕ) (by : Channel) (rated : Rates) (before after : Balances) (es new : List Entry) (slot : Slot) (until x y : ℕ) (part : ℤ) (ranks : List Rank) (note : Note) (ps : List (ℕ × ℕ))
     → AreByNumber 2 rated.segments → length ranks ≡ length before.balances → StandsAt a seen b rated before.balances es → IsSlotOf seen p slot → until ≡ second_closing a seen.day → part ≡ pos (minimum_of seen p b)
-    → ranks ≡ ranks_on rated until slot.day → x ≡ at_least_zero part → y ≡ at_least_zero slot.cents → ps ≡ allocated x y (made.holdings [] before.balances ranks) → note ≡ the_note slot.day kind.Payment slot.number
+    → ranks ≡ ranks_on seen.index rated until slot.day → x ≡ at_least_zero part → y ≡ at_least_zero slot.cents → ps ≡ allocated x y (made.holdings [] before.balances ranks) → note ≡ the_note slot.day kind.Payment slot.number
     → AreTaken before after es new note y ps → StandsAt a seen (effect issued a seen p (post.Payment day minute by cents) b) rated after.balances new
 unfolding effect payment_parts
 payment-stands issued a seen p b day minute cents by rated before after es new slot until x y part ranks note ps numbers k s is u m r e f q n t =
-    let l : length rated.segments + 2 ≡ length before.balances = all-are rated until slot.day ranks (length before.balances) r k in
+    let l : length rated.segments + 2 ≡ length before.balances = all-are seen.index rated until slot.day ranks (length before.balances) r k in
     let same : ps ≡ allocated (minimum_of seen p b) p.cents (holdings a seen b None) =
     q ∙ (ap (λ us. allocated x y (made.holdings [] before.balances us)) r
-    ∙ (ap (λ z. allocated z y (made.holdings [] before.balances (ranks_on rated until slot.day))) (e ∙ ap at_least_zero m)
-    ∙ (ap (λ z. allocated (minimum_of seen p b) z (made.holdings [] before.balances (ranks_on rated until slot.day))) (f ∙ slot-cents seen p slot is)
+    ∙ (ap (λ z. allocated z y (made.holdings [] before.balances (ranks_on seen.index rated until slot.day))) (e ∙ ap at_least_zero m)
+    ∙ (ap (λ z. allocated (minimum_of seen p b) z (made.holdings [] before.balances (ranks_on seen.index rated until slot.day))) (f ∙ slot-cents seen p slot is)
     ∙ allocated-is a seen b rated before.balances es until slot.day (minimum_of seen p b) p.cents numbers l s u (slot-day seen p slot is)))) in
     taken a seen b _ rated before after es new note y ps numbers l s t
     (parts-are b.entries note (note_of seen kind.Payment p.number) ps (allocated (minimum_of seen p b) p.cents (holdings a seen b None)) (n ∙ slot-note seen p slot kind.Payment is) same)
@@ -114,15 +127,15 @@ payment-stands issued a seen p b day minute cents by rated before after es new s
 
 pub credit-stands : (issued : Option IssuedRow) (a : Account) (seen : Seen) (p : CorrectedPost) (b : Book) (day cents : ℕ) (place : Place) (rated : Rates) (before after : Balances) (es new : List Entry) (slot : Slot) (until y : ℕ) (ranks : List Rank) (ids : List ℕ) (note : Note) (ps : List (ℕ × ℕ))
     → AreByNumber 2 rated.segments → length ranks ≡ length before.balances → StandsAt a seen b rated before.balances es → IsSlotOf seen p slot → until ≡ second_closing a seen.day
-    → ranks ≡ ranks_on rated until slot.day → ids ≡ numbers_of place rated.segments → y ≡ at_least_zero slot.cents → ps ≡ placed y (made.holdings ids before.balances ranks) → note ≡ the_note slot.day kind.Credit slot.number
+    → ranks ≡ ranks_on seen.index rated until slot.day → ids ≡ numbers_of place rated.segments → y ≡ at_least_zero slot.cents → ps ≡ placed y (made.holdings ids before.balances ranks) → note ≡ the_note slot.day kind.Credit slot.number
     → AreTaken before after es new note y ps → StandsAt a seen (effect issued a seen p (post.Credit day place cents) b) rated after.balances new
 unfolding effect credit_parts
 credit-stands issued a seen p b day cents place rated before after es new slot until y ranks ids note ps numbers k s is u r i f q n t =
-    let l : length rated.segments + 2 ≡ length before.balances = all-are rated until slot.day ranks (length before.balances) r k in
+    let l : length rated.segments + 2 ≡ length before.balances = all-are seen.index rated until slot.day ranks (length before.balances) r k in
     let same : ps ≡ placed p.cents (holdings a seen b (Some place)) =
     q ∙ (ap (λ us. placed y (made.holdings ids before.balances us)) r
-    ∙ (ap (λ us. placed y (made.holdings us before.balances (ranks_on rated until slot.day))) i
-    ∙ (ap (λ z. placed z (made.holdings (numbers_of place rated.segments) before.balances (ranks_on rated until slot.day))) (f ∙ slot-cents seen p slot is)
+    ∙ (ap (λ us. placed y (made.holdings us before.balances (ranks_on seen.index rated until slot.day))) i
+    ∙ (ap (λ z. placed z (made.holdings (numbers_of place rated.segments) before.balances (ranks_on seen.index rated until slot.day))) (f ∙ slot-cents seen p slot is)
     ∙ placed-is a seen b rated before.balances es until slot.day p.cents place (numbers_of place rated.segments) numbers l s u (slot-day seen p slot is) (named place rated.segments numbers)))) in
     taken a seen b _ rated before after es new note y ps numbers l s t
     (parts-are b.entries note (note_of seen kind.Credit p.number) ps (placed p.cents (holdings a seen b (Some place))) (n ∙ slot-note seen p slot kind.Credit is) same)

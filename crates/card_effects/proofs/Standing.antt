@@ -15,7 +15,7 @@ use Rattle.card_model.specs.Cycles.{IssuedRow, Seen}
 use Rattle.card_model.specs.Effects.{effect}
 use Rattle.card_model.specs.Entries.{AreBalances, at_least_zero, balance, credit_balance, credit_in, debit, posted}
 use Rattle.card_model.specs.Limits.{balance_limit}
-use Rattle.card_model.specs.Rates.{lowerings, rate_on, starts}
+use Rattle.card_model.specs.Rates.{index_for, lowerings, rate_on, starts}
 use Rattle.card_model.specs.Segments.{SegmentTerms, newest, opening_vintage, segment_at, segment_of, segments}
 use Rattle.card_model.specs.declared.entry.Entry.{Entry}
 use Rattle.card_model.specs.declared.entry.EntryKind.{EntryKind}
@@ -86,7 +86,7 @@ pub after-entries : (a : Account) (seen : Seen) (b c : Book) (rated : Rates) (bs
 after-entries a seen b c rated bs es more s grown same known there =
     record {
       segments = s.segments;
-      rates = λ g. s.rates g ∙ ap (λ ps. rate_on (lowerings seen.posts) a.terms.penalty (starts seen.day ps) (all_segments a seen) seen.day g) (sym same);
+      rates = λ g. s.rates g ∙ ap (λ ps. rate_on (index_for a.variable seen.index seen.day) (lowerings seen.posts) a.terms.penalty (starts seen.day ps) (all_segments a seen) seen.day g) (sym same);
       same = ap (λ us. us ++ more) s.same ∙ sym grown;
       sums = subst (λ us. AreBalances us (posted more bs)) (sym grown) (are_balances-posted b.entries more bs known s.sums);
       to_come = λ g h f. ap (λ us. balance g.id us) grown ∙ (balance-append g.id b.entries more ∙ omega (arith, ints, s.to_come g h f, there g h f));

@@ -2,6 +2,7 @@
 use Rattle.std.specs.Prelude.{ℕ, ◌≡◌, List, Option, Result, OnErr, ℤ, pos, min, ◌≤ℤ◌}
 use Rattle.card_events.specs.declared.anchor.Channel.{Channel}
 use Rattle.card_events.specs.History.{CorrectedPost}
+use Rattle.card_events.specs.SharedRows.{IndexRow}
 use Rattle.card_events.specs.declared.kept.Slot.{Slot}
 use Rattle.card_events.specs.declared.post.Place.{Place}
 use Rattle.card_events.specs.declared.post.Post.{Post}
@@ -12,6 +13,7 @@ use Rattle.card_model.specs.Effects as model
 use Rattle.card_model.specs.Effects.{effect, meant_for, payment_at, returned_fee, second_closing}
 use Rattle.card_model.specs.Limits.{balance_limit}
 use Rattle.card_model.specs.Payments.{minimum_left}
+use Rattle.card_model.specs.Rates.{index_on}
 use Rattle.card_model.specs.declared.entry.Entry.{Entry}
 use Rattle.card_model.specs.declared.fee.Fee.{Fee}
 use Rattle.card_rates.specs.RateBooks.{Rates}
@@ -58,13 +60,15 @@ PutsBack payment slot rated old entries new after =
     → StandsAt a seen (model.returned a seen p.number payment b) rated new.balances after
 
 -- ---- premises
--- this closing is the one after that of today's cycle
-abbrev pub ClosesNext : ℕ → Option IssuedRow → Account → Seen → CorrectedPost → Book → Type 0
-ClosesNext following issued a seen p b = following ≡ second_closing a seen.day
+-- this closing is the one after that of today's cycle, and these rows give today's index
+pub record ClosesNext (rows : List IndexRow) (closing : ℕ) (issued : Option IssuedRow) (a : Account) (seen : Seen) (p : CorrectedPost) (b : Book) : Type 0 where
+  pub following : closing ≡ second_closing a seen.day
+  pub index : index_on rows seen.day ≡ index_on seen.index seen.day
 
 -- so it is, and the minimum part is what is left of the minimum payment, or the whole payment where that is less
-pub record IsSplit (closing : ℕ) (minimum_part : ℤ) (issued : Option IssuedRow) (a : Account) (seen : Seen) (p : CorrectedPost) (b : Book) : Type 0 where
+pub record IsSplit (rows : List IndexRow) (closing : ℕ) (minimum_part : ℤ) (issued : Option IssuedRow) (a : Account) (seen : Seen) (p : CorrectedPost) (b : Book) : Type 0 where
   pub following : closing ≡ second_closing a seen.day
+  pub index : index_on rows seen.day ≡ index_on seen.index seen.day
   pub minimum : minimum_part ≡ pos (min p.cents (minimum_left seen p (last_cycle b.cycles)))
 
 -- no entry is of a segment that is still to come, and the fee is that for the return of the payment
@@ -73,15 +77,15 @@ pub record IsReturnOf (payment : ℕ) (charged : Option Fee) (rated : Rates) (is
   pub fee : charged ≡ returned_fee issued seen b (meant_for b.cycles (payment_at payment seen.posts))
 
 -- ---- payments
--- a payment is entered so, whatever its day, its minute, its cents and its channel
-abbrev pub EntersPayment : ℕ → ℤ → Slot → Rates → Balances → List Entry → Balances → List Entry → Type 0
-EntersPayment following minimum_part slot rated old entries new after =
-    (day minute cents : ℕ) (by : Channel) → EntersWhere (IsSplit following minimum_part) (post.Payment day minute by cents) slot rated old entries new after
+-- under these rows of the index a payment is entered so, whatever its day, its minute, its cents and its channel
+abbrev pub EntersPayment : List IndexRow → ℕ → ℤ → Slot → Rates → Balances → List Entry → Balances → List Entry → Type 0
+EntersPayment rows following minimum_part slot rated old entries new after =
+    (day minute cents : ℕ) (by : Channel) → EntersWhere (IsSplit rows following minimum_part) (post.Payment day minute by cents) slot rated old entries new after
 
 -- so is a merchant's credit on a place
-abbrev pub EntersCredit : ℕ → Place → Slot → Rates → Balances → List Entry → Balances → List Entry → Type 0
-EntersCredit following place slot rated old entries new after =
-    (day cents : ℕ) → EntersWhere (ClosesNext following) (post.Credit day place cents) slot rated old entries new after
+abbrev pub EntersCredit : List IndexRow → ℕ → Place → Slot → Rates → Balances → List Entry → Balances → List Entry → Type 0
+EntersCredit rows following place slot rated old entries new after =
+    (day cents : ℕ) → EntersWhere (ClosesNext rows following) (post.Credit day place cents) slot rated old entries new after
 
 -- ---- what is left
 -- the segments stay, and after want of memory balances and entries are as they were

@@ -1,10 +1,11 @@
 -- Posts as the fold of a day sees them, by their numbers.
 use Rattle.std.specs.Prelude.{ℕ, nat_le, if◌then◌else◌, List, Option, Some, None, option_map, unsigned_abs}
+use Rattle.card_events.specs.History.{charge_disputed}
 use Rattle.card_events.specs.declared.kept.Kept.{Kept}
 use Rattle.card_events.specs.declared.kept.Slot.{Slot}
 use Rattle.card_events.specs.declared.post.Post.{Post}
 use Rattle.card_model.specs.Cycles.{Seen, post_at}
-use Rattle.card_model.specs.Effects.{charge_at, charge_disputed, is_charge, place_charged, place_segment}
+use Rattle.card_model.specs.Effects.{charge_at, is_charge, place_charged, place_segment}
 use Rattle.card_model.specs.Segments.{SegmentTerms}
 use Rattle.card_rates.specs.Days.{day_post, found_for, only_folded}
 use Rattle.card_rates.specs.declared.day.DayPost.{DayPost}

@@ -24,7 +24,7 @@ pub record AreRated (segments : List Segment) (rated : Rates) : Type 0 where
 -- its segment's entries, and a segment that is still to come has none
 pub record StandsAt (a : Account) (seen : Seen) (b : Book) (rated : Rates) (balances : List ℤ) (entries : List Entry) : Type 0 where
   pub segments : all_segments a seen ≡ filter (is_added seen.day) rated.segments
-  pub rates : (g : SegmentTerms) → rate_of rated seen.day g ≡ rate_in a seen b seen.day g
+  pub rates : (g : SegmentTerms) → rate_of seen.index rated seen.day g ≡ rate_in a seen b seen.day g
   pub same : entries ≡ b.entries
   pub sums : AreBalances b.entries balances
   pub to_come : (g : SegmentTerms) → Contains rated.segments g → is_added seen.day g ≡ false → balance g.id b.entries ≡ pos 0

@@ -17,7 +17,7 @@ use crate::debits::note_of;
 use crate::place::numbers_of;
 use crate::ranks::ranks;
 use card_events::{Cents, Day, NoMemory, Place, Slot};
-use card_rates::RateBook;
+use card_rates::{IndexTable, RateBook};
 use card_segments::{Entry, EntryKind, Parts, Segments, allocate, place_credit, take};
 use std::alloc::Global;
 
@@ -29,6 +29,7 @@ pub fn payment(
     alloc: Global,
     segments: &mut Segments,
     rates: &RateBook,
+    index: &IndexTable,
     slot: &Slot,
     minimum_part: Cents,
     following_closing: Day,
@@ -37,13 +38,13 @@ pub fn payment(
     requires asked { MayMove segments.old rates.now slot.now.cents }
     requires minimum { pos 0 ≤ℤ minimum_part }
     requires within { minimum_part ≤ℤ slot.now.cents }
-    ensures stands { OnOk result (EntersPayment following_closing minimum_part slot.now rates.now segments.old out.old.items segments.new out.new.items) }
+    ensures stands { OnOk result (EntersPayment index.now following_closing minimum_part slot.now rates.now segments.old out.old.items segments.new out.new.items) }
     ensures entries { IfOk result (λ parts. out.new.items ≡ out.old.items ++ parts_entries (record { day = slot.now.day; kind = kind.Payment; post = slot.now.number }) parts) }
     ensures whole { IfOk result (λ parts. AreParts segments.old.balances (at_least_zero slot.now.cents) parts) }
     ensures left { Leaves result segments.old segments.new out.old.items out.new.items }
     ensures capacity { vec_capacity out.old ≤ vec_capacity out.new }
 {
-    let ranks = ranks(alloc, segments, rates, following_closing, slot.day)?;
+    let ranks = ranks(alloc, segments, rates, index, following_closing, slot.day)?;
     let parts = allocate(alloc, segments, &ranks, minimum_part, slot.cents)?;
     let note = note_of(slot, EntryKind::Payment);
     take(segments, &parts, &note, out)?;
@@ -58,19 +59,20 @@ pub fn credit(
     alloc: Global,
     segments: &mut Segments,
     rates: &RateBook,
+    index: &IndexTable,
     slot: &Slot,
     place: &Place,
     following_closing: Day,
     out: &mut Vec<Entry>,
 ) -> Result<Parts, NoMemory>
     requires asked { MayMove segments.old rates.now slot.now.cents }
-    ensures stands { OnOk result (EntersCredit following_closing place.now slot.now rates.now segments.old out.old.items segments.new out.new.items) }
+    ensures stands { OnOk result (EntersCredit index.now following_closing place.now slot.now rates.now segments.old out.old.items segments.new out.new.items) }
     ensures entries { IfOk result (λ parts. out.new.items ≡ out.old.items ++ parts_entries (record { day = slot.now.day; kind = kind.Credit; post = slot.now.number }) parts) }
     ensures whole { IfOk result (λ parts. AreParts segments.old.balances (at_least_zero slot.now.cents) parts) }
     ensures left { Leaves result segments.old segments.new out.old.items out.new.items }
     ensures capacity { vec_capacity out.old ≤ vec_capacity out.new }
 {
-    let ranks = ranks(alloc, segments, rates, following_closing, slot.day)?;
+    let ranks = ranks(alloc, segments, rates, index, following_closing, slot.day)?;
     let first = numbers_of(alloc, segments, place)?;
     let parts = place_credit(alloc, segments, &ranks, &first, slot.cents)?;
     let note = note_of(slot, EntryKind::Credit);

@@ -7,7 +7,7 @@ ghost use Rattle.card_model.specs.Segments.{SegmentTerms};
 use card_closing::is_deferred;
 use card_events::{Day, NoMemory};
 use card_model::Segment;
-use card_rates::RateBook;
+use card_rates::{IndexTable, RateBook};
 use card_segments::{Rank, Segments};
 use std::alloc::Global;
 
@@ -25,13 +25,20 @@ fn end_by(until: Day, day: Day, segment: &Segment) -> Option<Day>
 }
 
 // The rank of a segment other than Credit and Held.
-fn rank(segments: &Segments, rates: &RateBook, id: u8, until: Day, day: Day) -> Rank
+fn rank(
+    segments: &Segments,
+    rates: &RateBook,
+    index: &IndexTable,
+    id: u8,
+    until: Day,
+    day: Day,
+) -> Rank
     requires rated { AreRated segments.now.segments rates.now }
     requires low { 2 ≤ id }
     requires known { id < length segments.now.segments }
-    ensures { (d : SegmentTerms) → result ≡ rank_on rates.now until day (slice_index_or rates.now.segments (id - 2) d) }
+    ensures { (d : SegmentTerms) → result ≡ rank_on index.now rates.now until day (slice_index_or rates.now.segments (id - 2) d) }
 {
-    let rate = rates.rate_on(id, day);
+    let rate = rates.rate_on(index, id, day);
     let segment = segments.get(id);
     Rank {
         rate: rate.get(),
@@ -61,18 +68,19 @@ pub fn ranks(
     alloc: Global,
     segments: &Segments,
     rates: &RateBook,
+    index: &IndexTable,
     until: Day,
     day: Day,
 ) -> Result<Vec<Rank>, NoMemory>
     requires { AreRated segments.now.segments rates.now }
-    ensures items { IfOk result (λ v. v.items ≡ ranks_on rates.now until day) }
+    ensures items { IfOk result (λ v. v.items ≡ ranks_on index.now rates.now until day) }
     ensures all { IfOk result (λ v. length v.items ≡ length segments.now.balances) }
 {
     let mut list = Vec::with_capacity(alloc, segments.len() as usize)?;
     add(&mut list, 0, None)?;
     add(&mut list, 0, None)?;
     for id in 2..segments.len() {
-        let rank = rank(segments, rates, id, until, day);
+        let rank = rank(segments, rates, index, id, until, day);
         add(&mut list, rank.rate, rank.last_two)?;
     }
     Ok(list)

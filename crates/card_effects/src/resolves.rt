@@ -8,7 +8,7 @@ ghost use Rattle.card_events.specs.SharedRows.{SharedRows};
 ghost use Rattle.card_events.specs.declared.post.Post.TheVariants as post;
 ghost use Rattle.card_model.specs.Books.{Book, account_of};
 ghost use Rattle.card_model.specs.Cycles.{IssuedRow};
-ghost use Rattle.card_model.specs.Effects.{charge_disputed, effect, is_held_by, moved_by};
+ghost use Rattle.card_model.specs.Effects.{effect, is_held_by, moved_by};
 ghost use Rattle.card_model.specs.Entries.{sum_of};
 ghost use Rattle.card_posts.specs.Posted.{StandsFor};
 ghost use Rattle.card_rates.specs.Laws.{seen_in};
@@ -20,7 +20,7 @@ ghost use Rattle.card_effects.specs.Seen.{charge_named};
 use crate::charges::segment_of;
 use crate::disputes::note_of;
 use crate::seen::{charge_seen, post_seen};
-use card_events::{Cents, NoMemory, Num, Post, Slot};
+use card_events::{Cents, NoMemory, Num, Slot};
 use card_posts::Posts;
 use card_rates::{DayPost, RateBook};
 use card_segments::{Entry, EntryKind, Segments};
@@ -58,21 +58,11 @@ pub fn moved_by(entries: &[Entry], dispute: Num) -> Cents
     if sum < 0 { 0 } else { sum }
 }
 
-// The charge that a post disputes, 0 where it is no Dispute.
-fn charge_in(post: &Post) -> u64
-    ensures { result ≡ charge_disputed post.now }
-{
-    match post {
-        Post::Dispute { target, .. } => target.get(),
-        _ => 0,
-    }
-}
-
 fn charge_named(dispute: &Option<DayPost>) -> u64
     ensures { result ≡ charge_named dispute.now }
 {
     match dispute {
-        Some(dispute) => charge_in(&dispute.post),
+        Some(dispute) => dispute.post.charge_disputed(),
         None => 0,
     }
 }

@@ -15,7 +15,7 @@ mod required;
 
 pub use card_model::{Fee, FeeKind, GraceCase};
 pub use card_shared::{
-    FeeTable, SharedRows, fees_reason, holiday_reason, index_reason, roll_reason,
+    FeeTable, IndexTable, SharedRows, fees_reason, holiday_reason, index_reason, roll_reason,
 };
 pub use charge::{late_fee, returned_fee};
 pub use counting::{counted, counted_before, credited};

@@ -12,8 +12,8 @@ use Rattle.card_lines.specs.declared.word.Word.{Word}
 use Rattle.card_lines.specs.declared.word.Word.TheVariants as word
 use Rattle.card_lines.specs.Fields.{◌>>=◌, fields_of, field, formed, end_at}
 use Rattle.card_lines.specs.Forms.{name_of, number_of, day_of, place_of, category_of, channel_of, plan_kind_of, finding_of, is_day_text, request_day_at}
-use Rattle.card_lines.specs.Lines.{roll_of, holiday_of, fee_row_of, posted_of, show_of, request_line, show_line, line_of_word, line_of_known, line_of_fields, line_of, IsDatedLine}
-use Rattle.card_lines.specs.Posts.{terms_of, open_of, charge_of, credit_of, payment_of, return_of, plan_of, notice_of, lower_of, penalty_of, review_of, dispute_of, ack_of, resolve_of, ask_refund_of, refund_of, amend_of, bill_of, post_of}
+use Rattle.card_lines.specs.Lines.{roll_of, holiday_of, fee_row_of, index_of, posted_of, show_of, request_line, show_line, line_of_word, line_of_known, line_of_fields, line_of, IsDatedLine}
+use Rattle.card_lines.specs.Posts.{terms_of, opening_of, open_of, open_variable_of, charge_of, credit_of, payment_of, return_of, plan_of, notice_of, lower_of, penalty_of, review_of, dispute_of, ack_of, resolve_of, ask_refund_of, refund_of, amend_of, bill_of, post_of}
 use Rattle.card_lines.specs.Words.{word_of}
 
 abbrev IsDated : ℕ → Type 0
@@ -130,13 +130,25 @@ bill_dated : (fs : List (List ℕ)) → IfOk (bill_of fs) IsDatedPost
 unfolding bill_of is_dated_post
 bill_dated fs = skip IsDatedPost (field number_of 4 fs) _ (λ cycle. skip IsDatedPost (end_at 5 cycle.1) _ (λ _. refl))
 
+abbrev IsDatedOpening : ℕ × Terms → Type 0
+IsDatedOpening x = is_request_day x.0 ≡ true
+
+opening_dated : (fs : List (List ℕ)) → IfOk (opening_of fs) IsDatedOpening
+unfolding opening_of
+opening_dated fs = on_day IsDatedOpening 4 fs _ (λ day is_day. skip IsDatedOpening (terms_of day.1) _ (λ terms. skip IsDatedOpening (end_at 12 terms.1) _ (λ _. is_day)))
+
 open_dated : (fs : List (List ℕ)) → IfOk (open_of fs) IsDatedPost
 unfolding open_of is_dated_post
-open_dated fs = on_day IsDatedPost 4 fs _ (λ day is_day. skip IsDatedPost (terms_of day.1) _ (λ terms. skip IsDatedPost (end_at 12 terms.1) _ (λ _. is_day)))
+open_dated fs = bound IsDatedOpening IsDatedPost (opening_of fs) _ (opening_dated fs) (λ opening is. is)
+
+open_variable_dated : (fs : List (List ℕ)) → IfOk (open_variable_of fs) IsDatedPost
+unfolding open_variable_of is_dated_post
+open_variable_dated fs = bound IsDatedOpening IsDatedPost (opening_of fs) _ (opening_dated fs) (λ opening is. is)
 
 post_dated : (kind : PostKind) (fs : List (List ℕ)) → IfOk (post_of kind fs) IsDatedPost
 unfolding post_of
 post_dated post_kind.Open fs = open_dated fs
+post_dated post_kind.OpenVariable fs = open_variable_dated fs
 post_dated post_kind.Charge fs = charge_dated fs
 post_dated post_kind.Credit fs = credit_dated fs
 post_dated post_kind.Payment fs = payment_dated fs
@@ -166,6 +178,10 @@ fee_row_dated : (fs : List (List ℕ)) → IfOk (fee_row_of fs) IsDatedRequest
 unfolding fee_row_of is_dated is_dated_shared
 fee_row_dated fs = on_day IsDatedRequest 2 fs _ (λ day is_day. skip IsDatedRequest (field number_of 3 day.1) _ (λ first. skip IsDatedRequest (field number_of 4 first.1) _ (λ repeat. skip IsDatedRequest (end_at 5 repeat.1) _ (λ _. is_day))))
 
+index_dated : (fs : List (List ℕ)) → IfOk (index_of fs) IsDatedRequest
+unfolding index_of is_dated is_dated_shared
+index_dated fs = on_day IsDatedRequest 2 fs _ (λ day is_day. skip IsDatedRequest (field number_of 3 day.1) _ (λ rate. skip IsDatedRequest (end_at 4 rate.1) _ (λ _. is_day)))
+
 posted_dated : (kind : PostKind) (fs : List (List ℕ)) → IfOk (posted_of kind fs) IsDatedRequest
 unfolding posted_of is_dated
 posted_dated kind fs =
@@ -185,6 +201,7 @@ unfolding line_of_word
 word_dated word.Roll fs = request_dated _ (roll_dated fs)
 word_dated word.Holiday fs = request_dated _ (holiday_dated fs)
 word_dated word.FeeRow fs = request_dated _ (fee_row_dated fs)
+word_dated word.Index fs = request_dated _ (index_dated fs)
 word_dated word.Show fs = show_dated (show_of fs)
 word_dated (word.Post kind) fs = request_dated _ (posted_dated kind fs)
 

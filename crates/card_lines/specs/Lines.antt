@@ -37,6 +37,14 @@ fee_row_of fs = do
   _ ← end_at 5 repeat.1
   Ok (request.Shared (shared.FeeRow day.0 first.0 repeat.0))
 
+-- day, rate
+unfoldable pub index_of : List (List ℕ) → Result Request ℕ
+index_of fs = do
+  day ← field day_of 2 fs
+  rate ← field number_of 3 day.1
+  _ ← end_at 4 rate.1
+  Ok (request.Shared (shared.Index day.0 rate.0))
+
 -- account, key, and the fields of the post
 unfoldable pub posted_of : PostKind → List (List ℕ) → Result Request ℕ
 posted_of kind fs = do
@@ -67,6 +75,7 @@ unfoldable pub line_of_word : Word → List (List ℕ) → Line
 line_of_word word.Roll fs = request_line (roll_of fs)
 line_of_word word.Holiday fs = request_line (holiday_of fs)
 line_of_word word.FeeRow fs = request_line (fee_row_of fs)
+line_of_word word.Index fs = request_line (index_of fs)
 line_of_word word.Show fs = show_line (show_of fs)
 line_of_word (word.Post kind) fs = request_line (posted_of kind fs)
 

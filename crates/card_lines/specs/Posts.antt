@@ -27,12 +27,24 @@ terms_of fs = do
   Ok (record { close = close.0; purchase = purchase.0; cash = cash.0; transfer = transfer.0; penalty = last.0.0; floor = last.0.1; pct = last.0.2 }, last.1)
 
 -- day, terms
-unfoldable pub open_of : List (List ℕ) → Result Post ℕ
-open_of fs = do
+unfoldable pub opening_of : List (List ℕ) → Result (ℕ × Terms) ℕ
+opening_of fs = do
   day ← field day_of 4 fs
   terms ← terms_of day.1
   _ ← end_at 12 terms.1
-  Ok (post.Open day.0 terms.0)
+  Ok (day.0, terms.0)
+
+-- an opening with fixed rates
+unfoldable pub open_of : List (List ℕ) → Result Post ℕ
+open_of fs = do
+  opening ← opening_of fs
+  Ok (post.Open opening.0 opening.1)
+
+-- an opening whose rates follow the index
+unfoldable pub open_variable_of : List (List ℕ) → Result Post ℕ
+open_variable_of fs = do
+  opening ← opening_of fs
+  Ok (post.OpenVariable opening.0 opening.1)
 
 -- day, place, cents
 unfoldable pub charge_of : List (List ℕ) → Result Post ℕ
@@ -173,6 +185,7 @@ bill_of fs = do
 -- the post of this kind that the fields behind account and key give
 unfoldable pub post_of : PostKind → List (List ℕ) → Result Post ℕ
 post_of post_kind.Open fs = open_of fs
+post_of post_kind.OpenVariable fs = open_variable_of fs
 post_of post_kind.Charge fs = charge_of fs
 post_of post_kind.Credit fs = credit_of fs
 post_of post_kind.Payment fs = payment_of fs

@@ -41,6 +41,7 @@ refusal_name refusal.LedgerFull = codes "LedgerFull"
 refusal_name (refusal.RollBack day) = codes "RollBack"
 refusal_name refusal.RollTooFar = codes "RollTooFar"
 refusal_name (refusal.PastRow day) = codes "PastRow"
+refusal_name refusal.NoIndex = codes "NoIndex"
 
 -- the value of a refusal that has one
 abbrev pub refusal_value : Refusal → Option RefusalValue
@@ -73,6 +74,7 @@ refusal_value refusal.LedgerFull = None
 refusal_value (refusal.RollBack day) = Some (value.Day day)
 refusal_value refusal.RollTooFar = None
 refusal_value (refusal.PastRow day) = Some (value.Day day)
+refusal_value refusal.NoIndex = None
 
 -- numbers and cents in decimal, days as `YYYY-MM-DD`
 abbrev pub value_text : RefusalValue → List ℕ

@@ -24,6 +24,7 @@ follow_up_of bs =
 unfoldable pub post_kind_of : List ℕ → Option PostKind
 post_kind_of bs =
     if bytes_eq bs (codes "open") then Some kind.Open
+    else if bytes_eq bs (codes "openvar") then Some kind.OpenVariable
     else if bytes_eq bs (codes "charge") then Some kind.Charge
     else if bytes_eq bs (codes "credit") then Some kind.Credit
     else if bytes_eq bs (codes "payment") then Some kind.Payment
@@ -44,5 +45,6 @@ word_of bs =
     if bytes_eq bs (codes "roll") then Some word.Roll
     else if bytes_eq bs (codes "holiday") then Some word.Holiday
     else if bytes_eq bs (codes "feerow") then Some word.FeeRow
+    else if bytes_eq bs (codes "index") then Some word.Index
     else if bytes_eq bs (codes "show") then Some word.Show
     else posted_word (post_kind_of bs)

@@ -2,7 +2,7 @@
 ghost use Rattle.std.specs.Prelude.{◌≡◌, ℕ, List, Result, IfOk};
 ghost use Rattle.card_events.specs.declared.request.Request.{Request};
 ghost use Rattle.card_lines.specs.Fields.{fields_left, GivesAll, ReadsAll};
-ghost use Rattle.card_lines.specs.Lines.{roll_of, holiday_of, fee_row_of, posted_of, show_of, line_of_word, line_of, IsDatedLine};
+ghost use Rattle.card_lines.specs.Lines.{roll_of, holiday_of, fee_row_of, index_of, posted_of, show_of, line_of_word, line_of, IsDatedLine};
 ghost use Rattle.card_lines.specs.Lines as spec;
 
 use crate::fields::{at_end, day_field, name_field, number_field, split_field};
@@ -43,6 +43,7 @@ fn read_fields(alloc: Global, word: Word, rest: &[u8]) -> Result<Line, NoMemory>
         Word::Roll => Ok(shared_line(read_roll(rest))),
         Word::Holiday => Ok(shared_line(read_holiday(rest))),
         Word::FeeRow => Ok(shared_line(read_fee_row(rest))),
+        Word::Index => Ok(shared_line(read_index(rest))),
         Word::Show => show_line(read_show(alloc, rest)),
         Word::Post(kind) => request_line(read_posted(alloc, kind, rest)),
     }
@@ -108,6 +109,17 @@ fn read_fee_row(text: &[u8]) -> Result<Request, BadField>
     let row = Shared::FeeRow { day, first, repeat };
     at_end(5, rest)?;
     Ok(Request::Shared(row))
+}
+
+#[tactic(auto, unfolding(crate::specs::Lines::index_of))]
+fn read_index(text: &[u8]) -> Result<Request, BadField>
+    ensures { ReadsAll result (index_of (fields_left text.now)) }
+{
+    let mut rest = text;
+    let day = day_field(2, &mut rest)?;
+    let rate = number_field(3, &mut rest)?;
+    at_end(4, rest)?;
+    Ok(Request::Shared(Shared::Index { day, rate }))
 }
 
 #[tactic(auto, unfolding(crate::specs::Lines::posted_of))]

@@ -1,6 +1,6 @@
 // The fields of each kind of post, behind the account and the key.
 ghost use Rattle.card_lines.specs.Fields.{fields_left, Reads, ReadsAll};
-ghost use Rattle.card_lines.specs.Posts.{post_of, terms_of, last_terms_of, open_of, charge_of, credit_of, payment_of, return_of, plan_of, notice_of, lower_of, penalty_of, review_of, dispute_of, ack_of, resolve_of, ask_refund_of, refund_of, amend_of, bill_of};
+ghost use Rattle.card_lines.specs.Posts.{post_of, terms_of, last_terms_of, opening_of, open_of, open_variable_of, charge_of, credit_of, payment_of, return_of, plan_of, notice_of, lower_of, penalty_of, review_of, dispute_of, ack_of, resolve_of, ask_refund_of, refund_of, amend_of, bill_of};
 
 use crate::fields::{
     at_end, category_field, channel_field, day_field, finding_field, number_field, place_field,
@@ -8,7 +8,7 @@ use crate::fields::{
 };
 use crate::line::BadField;
 use crate::word::PostKind;
-use card_events::{Num, Post, Terms};
+use card_events::{Day, Num, Post, Terms};
 
 /// The post of this kind that the rest of a line gives.
 #[tactic(auto, unfolding(crate::specs::Posts::post_of))]
@@ -17,6 +17,7 @@ pub fn read_post(kind: PostKind, text: &[u8]) -> Result<Post, BadField>
 {
     match kind {
         PostKind::Open => read_open(text),
+        PostKind::OpenVariable => read_open_variable(text),
         PostKind::Charge => read_charge(text),
         PostKind::Credit => read_credit(text),
         PostKind::Payment => read_payment(text),
@@ -72,15 +73,32 @@ fn read_terms(rest: &mut &[u8]) -> Result<Terms, BadField>
     Ok(terms)
 }
 
-#[tactic(auto, unfolding(crate::specs::Posts::open_of))]
-fn read_open(text: &[u8]) -> Result<Post, BadField>
-    ensures { ReadsAll result (open_of (fields_left text.now)) }
+// The day and the terms of an opening.
+#[tactic(auto, unfolding(crate::specs::Posts::opening_of))]
+fn read_opening(text: &[u8]) -> Result<(Day, Terms), BadField>
+    ensures { ReadsAll result (opening_of (fields_left text.now)) }
 {
     let mut rest = text;
     let day = day_field(4, &mut rest)?;
     let terms = read_terms(&mut rest)?;
     at_end(12, rest)?;
+    Ok((day, terms))
+}
+
+#[tactic(auto, unfolding(crate::specs::Posts::open_of))]
+fn read_open(text: &[u8]) -> Result<Post, BadField>
+    ensures { ReadsAll result (open_of (fields_left text.now)) }
+{
+    let (day, terms) = read_opening(text)?;
     Ok(Post::Open { day, terms })
+}
+
+#[tactic(auto, unfolding(crate::specs::Posts::open_variable_of))]
+fn read_open_variable(text: &[u8]) -> Result<Post, BadField>
+    ensures { ReadsAll result (open_variable_of (fields_left text.now)) }
+{
+    let (day, terms) = read_opening(text)?;
+    Ok(Post::OpenVariable { day, terms })
 }
 
 #[tactic(auto, unfolding(crate::specs::Posts::charge_of))]

@@ -62,6 +62,7 @@ pub fn refusal_name(refusal: &Refusal) -> &'static str
         Refusal::RollBack(_) => "RollBack",
         Refusal::RollTooFar => "RollTooFar",
         Refusal::PastRow(_) => "PastRow",
+        Refusal::NoIndex => "NoIndex",
     }
 }
 

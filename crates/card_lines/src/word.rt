@@ -8,6 +8,7 @@ pub enum Word {
     Roll,
     Holiday,
     FeeRow,
+    Index,
     Show,
     Post(PostKind),
 }
@@ -16,6 +17,7 @@ pub enum Word {
 #[derive(Clone, Copy)]
 pub enum PostKind {
     Open,
+    OpenVariable,
     Charge,
     Credit,
     Payment,
@@ -53,6 +55,8 @@ pub fn read_word(text: &[u8]) -> Option<Word>
         Some(Word::Holiday)
     } else if is_word(text, b"feerow") {
         Some(Word::FeeRow)
+    } else if is_word(text, b"index") {
+        Some(Word::Index)
     } else if is_word(text, b"show") {
         Some(Word::Show)
     } else {
@@ -69,6 +73,8 @@ fn read_post_kind(text: &[u8]) -> Option<PostKind>
 {
     if is_word(text, b"open") {
         Some(PostKind::Open)
+    } else if is_word(text, b"openvar") {
+        Some(PostKind::OpenVariable)
     } else if is_word(text, b"charge") {
         Some(PostKind::Charge)
     } else if is_word(text, b"credit") {

@@ -13,7 +13,7 @@ use Rattle.card_events.specs.declared.post.Post.{Post}
 use Rattle.card_events.specs.declared.post.Post.TheVariants as post
 use Rattle.card_events.specs.declared.post.Terms.{Terms}
 use Rattle.card_model.specs.Folds.{book}
-use Rattle.card_model.specs.Rates.{accrual_rate, index_for, lowering_of, lowerings, rate_on, starts}
+use Rattle.card_model.specs.Rates.{accrual_rate, index_for, index_on, lowering_of, lowerings, rate_on, starts}
 use Rattle.card_model.specs.Segments.{SegmentTerms, is_over, is_sort, newest, opening_vintage, segment_of, segments}
 use Rattle.card_model.specs.declared.segment.Sort.TheVariants as sort
 use Rattle.card_model.proofs.Past.{filter_implied}
@@ -106,6 +106,11 @@ seen-within history shared x y l = filter_implied (λ (p : CorrectedPost). leb p
 pub index-seen : (variable : Bool) (rows : List IndexRow) (day later : ℕ) → day ≤ later → index_for variable (filter (λ r. leb r.day later) rows) day ≡ index_for variable rows day
 index-seen false rows day later l = refl
 index-seen true rows day later l = ap (λ o. Some (unwrap_or o 0)) (index-up_to day later rows l)
+
+-- rows that give a day one index give it one to follow
+pub same-index : (variable : Bool) (rows others : List IndexRow) (day : ℕ) → index_on rows day ≡ index_on others day → index_for variable rows day ≡ index_for variable others day
+same-index false rows others day e = refl
+same-index true rows others day e = ap (λ o. Some (unwrap_or o 0)) e
 
 pub rates_any : RatesOfAnyBook
 rates_any history issued shared b x y g l =

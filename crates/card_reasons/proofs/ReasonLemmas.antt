@@ -26,20 +26,13 @@ use Rattle.card_model.specs.Payments.{sixty_days_late}
 use Rattle.card_model.specs.Refusals
 use Rattle.card_model.specs.Refusals.{Present, account_full, amount_range, anchor_now, bad_terms, book_today, day_ahead, day_before_open, first_reason, fits_target, holds_of, is_above_claim, is_no_amount, is_out_of_range, named, not_closed, reason_against, reason_to_open, reasons, seen_today, segments_full, where_true, wrong_entry, wrong_target}
 
--- ---- an Open
--- bad terms come first, and then the reasons behind them
-pub open_bad : (today accounts day : ℕ) (t : Terms) (r : Refusal) → Some r ≡ bad_terms (post.Open day t) → Some r ≡ reason_to_open today accounts (post.Open day t)
-unfolding reason_to_open
-open_bad today accounts day t r is =
-    let rest = first_reason (where_true (nat_lt today day) refusal.DayAhead ∷ where_true (nat_le 1000000 accounts) refusal.LedgerFull ∷ []) in
-    subst (λ (o : Option Refusal). Some r ≡ option_or o rest) is refl
+-- ---- an opening
+-- what comes first, and then the reasons behind it
+pub first_is : (o : Option Refusal) (r : Refusal) (rest : List (Option Refusal)) → o ≡ Some r → Some r ≡ first_reason (o ∷ rest)
+first_is o r rest is = subst (λ (p : Option Refusal). Some r ≡ option_or p (first_reason rest)) (sym is) refl
 
-pub open_good : (today accounts day : ℕ) (t : Terms) → None ≡ bad_terms (post.Open day t)
-    → first_reason (where_true (nat_lt today day) refusal.DayAhead ∷ where_true (nat_le 1000000 accounts) refusal.LedgerFull ∷ []) ≡ reason_to_open today accounts (post.Open day t)
-unfolding reason_to_open
-open_good today accounts day t is =
-    let rest = first_reason (where_true (nat_lt today day) refusal.DayAhead ∷ where_true (nat_le 1000000 accounts) refusal.LedgerFull ∷ []) in
-    subst (λ (o : Option Refusal). rest ≡ option_or o rest) is refl
+pub first_after : (o : Option Refusal) (rest : List (Option Refusal)) → o ≡ None → first_reason rest ≡ first_reason (o ∷ rest)
+first_after o rest is = subst (λ (p : Option Refusal). first_reason rest ≡ option_or p (first_reason rest)) (sym is) refl
 
 -- ---- where there is none
 pub none_from : (n : ℕ) (rs : List (Option Refusal)) → first_reason rs ≡ None → first_reason (drop n rs) ≡ None

@@ -23,7 +23,7 @@ fn early_reason(out: bool, today: Day, opened: Day, day: Day) -> Option<Refusal>
     }
 }
 
-/// Behind all else: the account has 10,000 posts.
+/// Behind all else: the account has 200,000 posts.
 pub fn full_reason(posts: &Posts) -> Option<Refusal>
     ensures { result ≡ reasons.full_reason (length posts.now.history) }
 {

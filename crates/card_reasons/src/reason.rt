@@ -322,8 +322,8 @@ fn claim_reason(posts: &Posts, anchor: &Anchor, today: Day, post: &Post) -> Opti
 }
 
 /// Why a post under a new key isn't accepted today, on an account with these posts and this anchor: the first reason, and None
-/// where it is accepted. Its days are days of requests. It reads the posts alone: an Open, a Penalty or a Refund is judged
-/// elsewhere.
+/// where it is accepted. Its days are days of requests. It reads the posts alone: an opening, a Penalty or a Refund is
+/// judged elsewhere.
 pub fn post_reason(posts: &Posts, anchor: &Anchor, today: Day, post: &Post) -> Option<Refusal>
     requires not_open { is_open post.now ≡ false }
     requires reads { reads_book post.now ≡ false }

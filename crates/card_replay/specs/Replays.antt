@@ -6,7 +6,7 @@ use Rattle.card_events.specs.History.{CorrectedPost, anchor_of, corrected}
 use Rattle.card_events.specs.SharedRows.{SharedRows}
 use Rattle.card_events.specs.declared.post.Post.{Post}
 use Rattle.card_model.specs.Cycles.{Cycle}
-use Rattle.card_model.specs.Laws.{fees_up_to}
+use Rattle.card_model.specs.Laws.{fees_up_to, index_up_to}
 use Rattle.card_model.specs.Machine.{kept_as}
 use Rattle.card_model.specs.Refusals.{Lists, Present}
 use Rattle.card_posts.specs.Posted.{Posted, last_accepted}
@@ -140,3 +140,4 @@ pub record SameLists (old new : Replay) : Type 0 where
 pub record AreLaterRows (day : ℕ) (old new : SharedRows) : Type 0 where
   pub holidays : AgreeUpTo day old.holidays new.holidays
   pub fees : fees_up_to day new ≡ fees_up_to day old
+  pub index : index_up_to day new ≡ index_up_to day old

@@ -10,6 +10,7 @@ use Rattle.card_bounds.proofs.OnSegments.{entries_have_segments}
 use Rattle.card_closing.proofs.Bridge.{later-in}
 use Rattle.card_events.specs.Money.{interest}
 use Rattle.card_closing.specs.Accruals.{Accrued}
+use Rattle.card_events.specs.SharedRows.{IndexRow}
 use Rattle.card_model.specs.Books.{Account, Book, all_segments, rate_in}
 use Rattle.card_model.specs.Closing.{nonzero}
 use Rattle.card_model.specs.Cycles.{Cycle, Seen}
@@ -138,27 +139,27 @@ seen-lines f h sees (g ∷ gs) k u =
     by false q rest = ap (λ o. cons_option o (filter_map f gs)) (u g (0, omega arith, refl) q) ∙ rest
 
 -- ---- the lines of rates
-rate-same : (a : Account) (seen : Seen) (b : Book) (rated : Rates) (c : Cycle) (g : SegmentTerms) → c.closing ≡ seen.day → rate_of rated seen.day g ≡ rate_in a seen b seen.day g
-    → kept_rate_line rated c b.entries g ≡ rate_line a seen c b g
+rate-same : (rows : List IndexRow) (a : Account) (seen : Seen) (b : Book) (rated : Rates) (c : Cycle) (g : SegmentTerms) → c.closing ≡ seen.day → rate_of rows rated seen.day g ≡ rate_in a seen b seen.day g
+    → kept_rate_line rows rated c b.entries g ≡ rate_line a seen c b g
 unfolding kept_rate_line
-rate-same a seen b rated c g today e =
-    let rate : rate_of rated c.closing g ≡ rate_in a seen b c.closing g = ap (λ day. rate_of rated day g) today ∙ (e ∙ ap (λ day. rate_in a seen b day g) (sym today)) in
-    ap (λ t. cond t (Some (kept_line rated c g)) None) (was-owed c.first c.closing g.id b.entries)
+rate-same rows a seen b rated c g today e =
+    let rate : rate_of rows rated c.closing g ≡ rate_in a seen b c.closing g = ap (λ day. rate_of rows rated day g) today ∙ (e ∙ ap (λ day. rate_in a seen b day g) (sym today)) in
+    ap (λ t. cond t (Some (kept_line rows rated c g)) None) (was-owed c.first c.closing g.id b.entries)
     ∙ ap (λ n. cond (had_balance c.first c.closing b.entries g.id) (Some (with_rate n)) None) rate
   where
     with_rate : ℕ → RateLine
-    with_rate n = record { segment = g.id; sort = g.sort; rate = n; average = (kept_line rated c g).average; interest = (kept_line rated c g).interest }
+    with_rate n = record { segment = g.id; sort = g.sort; rate = n; average = (kept_line rows rated c g).average; interest = (kept_line rows rated c g).interest }
 
-rate-none : (rated : Rates) (c : Cycle) (es : List Entry) (g : SegmentTerms) → All (λ e. eqb e.segment g.id ≡ false) es → kept_rate_line rated c es g ≡ None
+rate-none : (rows : List IndexRow) (rated : Rates) (c : Cycle) (es : List Entry) (g : SegmentTerms) → All (λ e. eqb e.segment g.id ≡ false) es → kept_rate_line rows rated c es g ≡ None
 unfolding kept_rate_line
-rate-none rated c es g h = ap (λ t. cond t (Some (kept_line rated c g)) None) (was-owed c.first c.closing g.id es ∙ none-owed c.first c.closing g.id es h)
+rate-none rows rated c es g h = ap (λ t. cond t (Some (kept_line rows rated c g)) None) (was-owed c.first c.closing g.id es ∙ none-owed c.first c.closing g.id es h)
 
-rates-same : (sees : SegmentTerms → Bool) (a : Account) (seen : Seen) (b : Book) (rated : Rates) (balances : List ℤ) (accruals : List Accrued) → AreKeptOf sees a seen b rated balances accruals
-    → (c : Cycle) → c.closing ≡ seen.day → kept_rate_lines rated c b.entries ≡ rate_lines a seen c b
+rates-same : (rows : List IndexRow) (sees : SegmentTerms → Bool) (a : Account) (seen : Seen) (b : Book) (rated : Rates) (balances : List ℤ) (accruals : List Accrued) → AreKeptOf rows sees a seen b rated balances accruals
+    → (c : Cycle) → c.closing ≡ seen.day → kept_rate_lines rows rated c b.entries ≡ rate_lines a seen c b
 unfolding kept_rate_lines rate_lines
-rates-same sees a seen b rated balances accruals h c today =
-    seen-lines (kept_rate_line rated c b.entries) (rate_line a seen c b) sees rated.segments
-    (λ g there q. rate-same a seen b rated c g today (h.rates g)) (λ g there q. rate-none rated c b.entries g (h.others g there q))
+rates-same rows sees a seen b rated balances accruals h c today =
+    seen-lines (kept_rate_line rows rated c b.entries) (rate_line a seen c b) sees rated.segments
+    (λ g there q. rate-same rows a seen b rated c g today (h.rates g)) (λ g there q. rate-none rows rated c b.entries g (h.others g there q))
     ∙ ap (filter_map (rate_line a seen c b)) (sym h.seen_ones)
 
 -- ---- what is owed on each segment
@@ -168,9 +169,9 @@ owing-same balances b s e = ap at_least_zero e
 owing-none : (balances : List ℤ) (b : Book) (s : ℕ) → get_or balances s (pos 0) ≡ balance s b.entries → All (λ e. eqb e.segment s ≡ false) b.entries → kept_owing balances s ≡ 0
 owing-none balances b s e h = ap at_least_zero (e ∙ entries_have_segments.none b.entries s h)
 
-closing-same : (sees : SegmentTerms → Bool) (a : Account) (seen : Seen) (b : Book) (rated : Rates) (balances : List ℤ) (accruals : List Accrued) → AreKeptOf sees a seen b rated balances accruals
+closing-same : (rows : List IndexRow) (sees : SegmentTerms → Bool) (a : Account) (seen : Seen) (b : Book) (rated : Rates) (balances : List ℤ) (accruals : List Accrued) → AreKeptOf rows sees a seen b rated balances accruals
     → kept_amounts balances rated.segments ≡ filter_map (nonzero (λ g. owing g.id b.entries)) (all_segments a seen)
-closing-same sees a seen b rated balances accruals h =
+closing-same rows sees a seen b rated balances accruals h =
     seen-lines (nonzero (λ g. kept_owing balances g.id)) (nonzero (λ g. owing g.id b.entries)) sees rated.segments
     (λ g there q. ap (λ n. amount g n) (owing-same balances b g.id (h.sums g.id)))
     (λ g there q. ap (λ n. amount g n) (owing-none balances b g.id (h.sums g.id) (h.others g there q)))
@@ -202,18 +203,18 @@ deferred-none day balances accruals g e =
     ap (λ n. cond (is_deferred_on day g && ltb 0 n) (Some (line g n (kept_accrual accruals g.id))) None) e
     ∙ ap (λ t. cond t (Some (line g 0 (kept_accrual accruals g.id))) None) (and-none (is_deferred_on day g) (ltb 0 0) refl)
 
-deferred-lines : (sees : SegmentTerms → Bool) (a : Account) (seen : Seen) (b : Book) (rated : Rates) (balances : List ℤ) (accruals : List Accrued) → AreKeptOf sees a seen b rated balances accruals
+deferred-lines : (rows : List IndexRow) (sees : SegmentTerms → Bool) (a : Account) (seen : Seen) (b : Book) (rated : Rates) (balances : List ℤ) (accruals : List Accrued) → AreKeptOf rows sees a seen b rated balances accruals
     → kept_deferred_lines seen.day balances accruals rated.segments ≡ deferred_lines a seen b
 unfolding kept_deferred_lines deferred_lines
-deferred-lines sees a seen b rated balances accruals h =
+deferred-lines rows sees a seen b rated balances accruals h =
     seen-lines (kept_deferred_line seen.day balances accruals) (deferred_line seen b) sees rated.segments
     (λ g there q. deferred-same seen b balances accruals g (owing-same balances b g.id (h.sums g.id)) (h.accrued g there))
     (λ g there q. deferred-none seen.day balances accruals g (owing-none balances b g.id (h.sums g.id) (h.others g there q)))
     ∙ ap (filter_map (deferred_line seen b)) (sym h.seen_ones)
 
 pub lines_are_of_the_book : LinesAreOfTheBook
-lines_are_of_the_book sees a seen b rated balances accruals h = record {
-  rates = rates-same sees a seen b rated balances accruals h;
-  deferred = deferred-lines sees a seen b rated balances accruals h;
-  closing = closing-same sees a seen b rated balances accruals h;
+lines_are_of_the_book rows sees a seen b rated balances accruals h = record {
+  rates = rates-same rows sees a seen b rated balances accruals h;
+  deferred = deferred-lines rows sees a seen b rated balances accruals h;
+  closing = closing-same rows sees a seen b rated balances accruals h;
 }

@@ -5,6 +5,7 @@ use Rattle.std.specs.Prelude.{ℕ, ◌≡◌, true, false, ◌+◌, ◌-◌, Boo
 use Rattle.std.specs.List.{All, Contains, filter, filter_map, list_any, range_with_len, sum_by}
 use Rattle.card_events.specs.Money.{interest}
 use Rattle.card_closing.specs.Accruals.{Accrued, nothing_accrued}
+use Rattle.card_events.specs.SharedRows.{IndexRow}
 use Rattle.card_model.specs.Books.{Account, Book, all_segments, rate_in}
 use Rattle.card_model.specs.Closing.{by_segment}
 use Rattle.card_model.specs.Cycles.{Amounts, Cycle, Seen, amount_at}
@@ -45,18 +46,18 @@ unfoldable pub was_owed : ℕ → ℕ → List Entry → Bool
 was_owed first last on = list_any (is_owed_on on) (range_with_len first (last + 1 - first))
 
 -- ---- the lines of rates
--- that of a segment: its rate on the closing day, and its amounts of the cycle
-abbrev pub kept_line : Rates → Cycle → SegmentTerms → RateLine
-kept_line rated c g =
-    record { segment = g.id; sort = g.sort; rate = rate_of rated c.closing g; average = amount_at g.id c.average; interest = amount_at g.id c.interest }
+-- that of a segment: its rate on the closing day under these rows of the index, and its amounts of the cycle
+abbrev pub kept_line : List IndexRow → Rates → Cycle → SegmentTerms → RateLine
+kept_line rows rated c g =
+    record { segment = g.id; sort = g.sort; rate = rate_of rows rated c.closing g; average = amount_at g.id c.average; interest = amount_at g.id c.interest }
 
 -- where it had a balance
-unfoldable pub kept_rate_line : Rates → Cycle → List Entry → SegmentTerms → Option RateLine
-kept_rate_line rated c entries g = if was_owed c.first c.closing (entries_on g.id entries) then Some (kept_line rated c g) else None
+unfoldable pub kept_rate_line : List IndexRow → Rates → Cycle → List Entry → SegmentTerms → Option RateLine
+kept_rate_line rows rated c entries g = if was_owed c.first c.closing (entries_on g.id entries) then Some (kept_line rows rated c g) else None
 
 -- those of all segments, by number
-unfoldable pub kept_rate_lines : Rates → Cycle → List Entry → List RateLine
-kept_rate_lines rated c entries = filter_map (kept_rate_line rated c entries) rated.segments
+unfoldable pub kept_rate_lines : List IndexRow → Rates → Cycle → List Entry → List RateLine
+kept_rate_lines rows rated c entries = filter_map (kept_rate_line rows rated c entries) rated.segments
 
 -- ---- what is owed on each segment
 -- what is owed on a segment, of balances by number
@@ -89,21 +90,21 @@ kept_deferred_lines day balances accruals segments = filter_map (kept_deferred_l
 
 -- ---- by the book
 -- What is kept of an account stands for its book: the segments of the day are those that it sees, and no entry is on another
--- one; rates, balances and accruals are those of the book
-pub record AreKeptOf (sees : SegmentTerms → Bool) (a : Account) (seen : Seen) (b : Book) (rated : Rates) (balances : List ℤ) (accruals : List Accrued) : Type 0 where
+-- one; rates, under these rows of the index, balances and accruals are those of the book
+pub record AreKeptOf (rows : List IndexRow) (sees : SegmentTerms → Bool) (a : Account) (seen : Seen) (b : Book) (rated : Rates) (balances : List ℤ) (accruals : List Accrued) : Type 0 where
   pub seen_ones : all_segments a seen ≡ filter sees rated.segments
   pub others : (g : SegmentTerms) → Contains rated.segments g → sees g ≡ false → All (λ e. (e.segment == g.id) ≡ false) b.entries
-  pub rates : (g : SegmentTerms) → rate_of rated seen.day g ≡ rate_in a seen b seen.day g
+  pub rates : (g : SegmentTerms) → rate_of rows rated seen.day g ≡ rate_in a seen b seen.day g
   pub sums : (s : ℕ) → slice_index_or balances s (pos 0) ≡ balance s b.entries
   pub accrued : (g : SegmentTerms) → Contains rated.segments g → is_deferred_on seen.day g ≡ true → kept_accrual accruals g.id ≡ accrual seen b g
 
 -- then the lines that are read from it are those of the book
-pub record AreLinesOf (a : Account) (seen : Seen) (b : Book) (rated : Rates) (balances : List ℤ) (accruals : List Accrued) : Type 0 where
-  pub rates : (c : Cycle) → c.closing ≡ seen.day → kept_rate_lines rated c b.entries ≡ rate_lines a seen c b
+pub record AreLinesOf (rows : List IndexRow) (a : Account) (seen : Seen) (b : Book) (rated : Rates) (balances : List ℤ) (accruals : List Accrued) : Type 0 where
+  pub rates : (c : Cycle) → c.closing ≡ seen.day → kept_rate_lines rows rated c b.entries ≡ rate_lines a seen c b
   pub deferred : kept_deferred_lines seen.day balances accruals rated.segments ≡ deferred_lines a seen b
   pub closing : kept_amounts balances rated.segments ≡ by_segment (λ g. owing g.id b.entries) (all_segments a seen)
 
 abbrev pub LinesAreOfTheBook : Type 0
 LinesAreOfTheBook =
-    (sees : SegmentTerms → Bool) (a : Account) (seen : Seen) (b : Book) (rated : Rates) (balances : List ℤ) (accruals : List Accrued)
-    → AreKeptOf sees a seen b rated balances accruals → AreLinesOf a seen b rated balances accruals
+    (rows : List IndexRow) (sees : SegmentTerms → Bool) (a : Account) (seen : Seen) (b : Book) (rated : Rates) (balances : List ℤ)
+    (accruals : List Accrued) → AreKeptOf rows sees a seen b rated balances accruals → AreLinesOf rows a seen b rated balances accruals

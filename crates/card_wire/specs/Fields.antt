@@ -66,6 +66,7 @@ is_number field.Pct = true
 -- the fields of a post, in order
 unfoldable pub post_fields : PostKind → List Field
 post_fields kind.Open = field.Account ∷ field.Key ∷ field.Day ∷ field.Close ∷ field.Purchase ∷ field.Cash ∷ field.Transfer ∷ field.Penalty ∷ field.Floor ∷ field.Pct ∷ []
+post_fields kind.OpenVariable = field.Account ∷ field.Key ∷ field.Day ∷ field.Close ∷ field.Purchase ∷ field.Cash ∷ field.Transfer ∷ field.Penalty ∷ field.Floor ∷ field.Pct ∷ []
 post_fields kind.Charge = field.Account ∷ field.Key ∷ field.Day ∷ field.Place ∷ field.Cents ∷ []
 post_fields kind.Credit = field.Account ∷ field.Key ∷ field.Day ∷ field.Place ∷ field.Cents ∷ []
 post_fields kind.Payment = field.Account ∷ field.Key ∷ field.Day ∷ field.Minute ∷ field.Channel ∷ field.Cents ∷ []
@@ -88,5 +89,6 @@ unfoldable pub fields_of : Word → List Field
 fields_of word.Roll = field.Day ∷ []
 fields_of word.Holiday = field.Day ∷ []
 fields_of word.FeeRow = field.Day ∷ field.First ∷ field.Repeat ∷ []
+fields_of word.Index = field.Day ∷ field.Rate ∷ []
 fields_of word.Show = []
 fields_of (word.Post k) = post_fields k

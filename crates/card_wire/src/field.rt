@@ -117,6 +117,7 @@ pub fn fields_of(word: Word) -> &'static [Field]
         Word::Roll => &[Field::Day],
         Word::Holiday => &[Field::Day],
         Word::FeeRow => &[Field::Day, Field::First, Field::Repeat],
+        Word::Index => &[Field::Day, Field::Rate],
         Word::Show => &[],
         Word::Post(kind) => post_fields(kind),
     }
@@ -128,7 +129,7 @@ fn post_fields(kind: PostKind) -> &'static [Field]
     ensures few { length result.now ≤ 10 }
 {
     match kind {
-        PostKind::Open => &[
+        PostKind::Open | PostKind::OpenVariable => &[
             Field::Account,
             Field::Key,
             Field::Day,

@@ -3,7 +3,10 @@ use Rattle.std.proofs.lemmas.Int.{to_z-of_z}
 use Rattle.std.specs.Prelude.{min, slice_get}
 use Rattle.card_events.specs.declared.kept.Slot.{Slot}
 use Rattle.card_model.specs.Cycles.{Cycle, last_cycle}
+use Rattle.card_events.specs.SharedRows.{IndexRow}
 use Rattle.card_model.specs.Payments.{minimum_left}
+use Rattle.card_model.specs.Rates.{index_on}
+use Rattle.card_model.proofs.IndexDays.{index-up_to}
 use Rattle.card_model.specs.declared.entry.EntryKind.TheVariants as kind
 use Rattle.card_daily.proofs.Lasts.{last-get}
 use Rattle.card_daily.proofs.Posting.{handed, lesser-is, payment-fees, repaid-stand}
@@ -31,7 +34,7 @@ returns-clause-stands c on minute cents by issued first returned rows_by p b un 
     (to_z-of_z w64 c.left_if_any-left.result (record { sfits = c.left_if_any-left.type_inv }) ∙ left)
     ∙ ap (λ (cs : List Cycle). pos (min p.cents (minimum_left (seen_in g day) p (last_cycle cs)))) (sym un.cycles)) in
     let following = c.following_closing.ensures (account_in g) (sym c.anchor-anchor.ensures.value) in
-    let at = c.in_ok-parts.ensures.stands on minute cents by issued (account_in g) (seen_in g day) p b h.at is (record { following = following; minimum = part }) in
+    let at = c.in_ok-parts.ensures.stands on minute cents by issued (account_in g) (seen_in g day) p b h.at is (record { following = following; index = ap (λ (rows : List IndexRow). index_on rows day) c.index.ensures ∙ sym (index-up_to day day g.shared.index (omega arith)); minimum = part }) in
     let new : State = record { segments = c.payment.new.segments; rates = c.args.state.now.rates; rows = with_items c.args.state.now.rows c.repay.new.rows; accruals = c.args.state.now.accruals } in
     let after : Track = record { entries = c.payment.new.out; cycles = c.args.track.now.cycles; fees = c.args.track.now.fees } in
     repaid-stand kind.Payment (account_in g) (seen_in g day) first returned rows_by b _ c.args.state.now new c.args.track.now after c.args.slot.now c.in_ok-parts.parts c.deref_mut.result.now c.repay.new.rows c.requires.asked.rated.numbers un.begun (ap not (ap returned (sym number) ∙ un.stands)) h at refl refl (payment-fees issued (account_in g) (seen_in g day) p b on minute cents by) c.in_ok-parts.ensures.entries c.in_ok-repay.ensures.repaid c.deref_mut.ensures.value

@@ -32,5 +32,5 @@ next_day-requires-clause-before c =
     let whole = c.days_to.ensures in
     let place : c.args.first + c.days_to.result ≡ c.args.end = omega (arith, l, whole) in
     subst (λ d. AreBefore c.args.inputs.now d c.pass_quiet.new.state c.args.track.now) place
-    (c.in_ok-pass_quiet.ensures.passed c.args.inputs.now c.args.track.now
+    (c.in_ok-pass_quiet.ensures.passed c.args.inputs.now c.args.track.now (sym c.index.ensures)
     (quiet c.args.inputs.now c.args.first c.args.end c.days_to.result c.args.state.now c.args.track.now c.opening_day-opening.ensures.sound c.requires.opened c.requires.order c.requires.dated c.requires.before c.requires.quiet whole))

@@ -2,7 +2,7 @@ use Rattle.std.proofs.Common.{◌-◌, refl, arith}
 use Rattle.card_daily.proofs.Books.{before-small}
 use Rattle.card_daily.specs.Stands.{before, first_in, rows_through}
 use Rattle.card_dayend.proofs.QuietDays.{passed, quiet-few, quiet-room, stays}
-use Rattle.card_dayend.proofs.RowsOfADay.{amid-rated, balances-within}
+use Rattle.card_dayend.proofs.RowsOfADay.{amid-rated, balances-within, has-row}
 use Rattle.card_dayend.proofs.rows.pass_quiet.Goals as goal
 
 pub add_rows-requires-clause-rated : goal.add_rows-requires-clause-rated
@@ -44,9 +44,9 @@ accrue_all-requires-clause-few c =
     quiet-few h.given c.args.first c.args.days c.args.state.now h.track h.quiet
 
 pub returns-then-days-eq0-clause-passed : goal.returns-then-days-eq0-clause-passed
-returns-then-days-eq0-clause-passed c = λ g t h. stays g c.args.first c.args.days c.args.state.now t c.if-days-eq0.true h
+returns-then-days-eq0-clause-passed c = λ g t same h. stays g c.args.first c.args.days c.args.state.now t c.if-days-eq0.true h
 
 pub returns-clause-passed : goal.returns-clause-passed
-returns-clause-passed c = λ g t h.
+returns-clause-passed c = λ g t same h.
     passed g c.args.first c.args.days c.args.state.now _ t (omega (arith, c.if-days-eq0.false)) h
-    (record { segments = refl; rates = refl; balances = c.accrue_all.ensures.balances; rows = c.in_ok-add_rows.ensures; accruals = c.accrue_all.ensures.accruals })
+    (has-row g.shared.index c.args.index.now c.args.days c.args.first c.args.state.now _ same (record { segments = refl; rates = refl; balances = c.accrue_all.ensures.balances; rows = c.in_ok-add_rows.ensures; accruals = c.accrue_all.ensures.accruals }))

@@ -1,7 +1,7 @@
 use Rattle.std.proofs.Common.{refl}
 use Rattle.card_daily.specs.Stands.{posted, posts_of, rows_amid}
 use Rattle.card_daily.proofs.Cycles.{posted-small}
-use Rattle.card_dayend.proofs.RowsOfADay.{amid-few, amid-rated, amid-room, balances-within, posted-of}
+use Rattle.card_dayend.proofs.RowsOfADay.{has-row, amid-few, amid-rated, amid-room, balances-within, posted-of}
 use Rattle.card_dayend.proofs.rows.row_day.Goals as goal
 
 pub add_rows-requires-clause-rated : goal.add_rows-requires-clause-rated
@@ -36,7 +36,7 @@ accrue_all-requires-clause-few c =
 
 pub returns : goal.returns
 returns c = record {
-  posted = λ g t sound opened amid.
+  posted = λ g t same sound opened amid.
       posted-of g c.args.day c.args.state.now _ t sound opened c.requires.last
-      (record { segments = refl; rates = refl; balances = c.accrue_all.ensures.balances; rows = c.in_ok-add_rows.ensures; accruals = c.accrue_all.ensures.accruals }) amid;
+      (has-row g.shared.index c.args.index.now 1 c.args.day c.args.state.now _ same (record { segments = refl; rates = refl; balances = c.accrue_all.ensures.balances; rows = c.in_ok-add_rows.ensures; accruals = c.accrue_all.ensures.accruals })) amid;
 }

@@ -7,4 +7,4 @@ use Rattle.card_statement.proofs.rate.lines_of.Given as goal
 
 abbrev pub invariant-loop-g : goal.invariant-loop-g
 invariant-loop-g l =
-    (earlier : List Entry) → LeaveBalances l.cycle.first earlier l.entries l.segments.balances → l.lines.items ≡ filter_map (kept_rate_line l.rates l.cycle (earlier ++ l.entries)) (take l.g-index l.rated)
+    (earlier : List Entry) → LeaveBalances l.cycle.first earlier l.entries l.segments.balances → l.lines.items ≡ filter_map (kept_rate_line l.index l.rates l.cycle (earlier ++ l.entries)) (take l.g-index l.rated)

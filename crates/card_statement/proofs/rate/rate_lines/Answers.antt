@@ -27,7 +27,7 @@ returns c =
       days = c.requires.earlier;
       sums = λ s. c.requires.sums s ∙ ap (balance s) (sym whole);
     } in
-    let line = kept_rate_line rates cycle in
+    let line = kept_rate_line c.args.index.now rates cycle in
     IfOk-weaker c.lines_of.result
     (λ (v : Vec RateLine). (earlier : List Entry) → LeaveBalances cycle.first earlier c.cycle_entries-own.result.now c.args.segments.now.balances
     → v.items ≡ filter_map (line (earlier ++ c.cycle_entries-own.result.now)) c.segments.result.now)
