@@ -188,17 +188,17 @@ at-place g day place o x s low high e is =
     let found = is-found (post_at_place g day place) x (sym e ∙ is) in
     record { same = found.0; folded = found.1; of_day = of-day g day (place - place_in g day) any_post s (omega (arith, low, high)) }
 
-pub place-day : (g : Given) (day place : ℕ) (x : DayPost) → IsAtPlace g day place x → x.day ≡ day
-place-day g day place x h = ap (λ (d : DayPost). d.day) h.same ∙ h.of_day.day
+pub place-day : (g : Given) (day place : ℕ) (x : DayPost) → IsAtPlace g day place x → x.slot.day ≡ day
+place-day g day place x h = ap (λ (d : DayPost). d.slot.day) h.same ∙ h.of_day.day
 
-pub place-low : (g : Given) (day place : ℕ) (x : DayPost) → IsAtPlace g day place x → pos 0 ≤ℤ x.cents
-place-low g day place x h = let low : pos 0 ≤ℤ pos (post_at_place g day place).cents = omega (arith, ints) in subst (λ (d : DayPost). pos 0 ≤ℤ d.cents) (sym h.same) low
+pub place-low : (g : Given) (day place : ℕ) (x : DayPost) → IsAtPlace g day place x → pos 0 ≤ℤ x.slot.cents
+place-low g day place x h = let low : pos 0 ≤ℤ pos (post_at_place g day place).cents = omega (arith, ints) in subst (λ (d : DayPost). pos 0 ≤ℤ d.slot.cents) (sym h.same) low
 
-pub place-high : (g : Given) (day place : ℕ) (x : DayPost) → IsAtPlace g day place x → x.cents ≤ℤ pos balance_limit
+pub place-high : (g : Given) (day place : ℕ) (x : DayPost) → IsAtPlace g day place x → x.slot.cents ≤ℤ pos balance_limit
 place-high g day place x h =
     let few = h.of_day.few h.folded in
     let high : pos (post_at_place g day place).cents ≤ℤ pos balance_limit = omega (arith, ints, few) in
-    subst (λ (d : DayPost). d.cents ≤ℤ pos balance_limit) (sym h.same) high
+    subst (λ (d : DayPost). d.slot.cents ≤ℤ pos balance_limit) (sym h.same) high
 
 -- a post that is no Penalty
 no-penalty : (p : Post) → (p ≡ post.Penalty → ⊥) → is_penalty p ≡ false
@@ -228,12 +228,12 @@ place-kind g day place x h other = no-penalty x.post other
 post-kind : (g : Given) (day place : ℕ) (x : DayPost) → IsAtPlace g day place x → is_penalty x.post ≡ false → is_penalty (post_at_place g day place).post ≡ false
 post-kind g day place x h e = ap (λ (d : DayPost). is_penalty d.post) (sym h.same) ∙ e
 
-pub place-cycles : (g : Given) (day place : ℕ) (x : DayPost) (done : List CorrectedPost) (s : State) (t : Track) → IsAtPlace g day place x → AreAmid g day done s t → t.cycles.items ≡ (before g x.day).cycles
+pub place-cycles : (g : Given) (day place : ℕ) (x : DayPost) (done : List CorrectedPost) (s : State) (t : Track) → IsAtPlace g day place x → AreAmid g day done s t → t.cycles.items ≡ (before g x.slot.day).cycles
 place-cycles g day place x done s t p h = h.stand.cycles ∙ (cycles-before g day done ∙ ap (λ d. (before g d).cycles) (sym (place-day g day place x p)))
 
 -- a Return names an earlier payment, which the fold of its day sees
 pub place-named : (g : Given) (day place n : ℕ) (x : DayPost) → IsSound g → place_in g day ≤ place → place < place_in g day + length (posts_of g day) → IsAtPlace g day place x → returns n x.post ≡ true
-    → (n ≤ post_limit) × SeesPayment g x.day n
+    → (n ≤ post_limit) × SeesPayment g x.slot.day n
 place-named g day place n x s low high h gives =
     let there = sees-payment g day (place - place_in g day) n any_post s (omega (arith, low, high)) (ap (λ (d : DayPost). returns n d.post) (sym h.same) ∙ gives) in
     (there.0, subst (λ d. SeesPayment g d n) (sym (place-day g day place x h)) there.1)
@@ -269,7 +269,7 @@ may-follow g day place s t sound o low high h =
     }
 
 -- the same of another day that is this one
-moved : (g : Given) (from day : ℕ) (x : DayPost) (s new : State) (t after : Track) (first : ℕ) (returned : ℕ → Bool) (held : SegmentTerms → Rows) (p : CorrectedPost) (b : Book) → x.day ≡ day → EntersPost g x s new t after
+moved : (g : Given) (from day : ℕ) (x : DayPost) (s new : State) (t after : Track) (first : ℕ) (returned : ℕ → Bool) (held : SegmentTerms → Rows) (p : CorrectedPost) (b : Book) → x.slot.day ≡ day → EntersPost g x s new t after
     → first ≤ day → b.cycles ≡ (before g day).cycles → MayFollow day s.rates returned p b → x ≡ day_post p → StandWith (account_in g) (seen_in g day) first returned held b s t
     → StandWith (account_in g) (seen_in g day) first (returned_after returned p.post) held (effect (row_in g (day - opened_in g)) (account_in g) (seen_in g day) p p.post b) new after
 moved g from day x s new t after first returned held p b e did =

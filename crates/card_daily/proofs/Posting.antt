@@ -287,11 +287,8 @@ pub lesser-is : (r x y : ℤ) (m n : ℕ) → r ≡ pos (min (unsigned_abs x) (u
 lesser-is r x y m n e f g = e ∙ (ap (λ u. pos (min (unsigned_abs u) (unsigned_abs y))) f ∙ ap (λ u. pos (min m (unsigned_abs u))) g)
 
 -- ---- a post's slot
-pub slot-is : (seen : Seen) (p : CorrectedPost) (x : DayPost) (cents : ℤ) → x ≡ day_post p → cents ≡ x.cents → x.day ≡ seen.day → IsSlotOf seen p (record { day = x.day; number = x.number; cents = cents })
-slot-is seen p x cents e f d = record { same = ap (the_slot x.day x.number) f ∙ ap (λ (y : DayPost). the_slot y.day y.number y.cents) e; day = sym (ap (λ (y : DayPost). y.day) e) ∙ d }
-  where
-    the_slot : ℕ → ℕ → ℤ → Slot
-    the_slot day number cents = record { day = day; number = number; cents = cents }
+pub slot-is : (seen : Seen) (p : CorrectedPost) (x : DayPost) → x ≡ day_post p → x.slot.day ≡ seen.day → IsSlotOf seen p x.slot
+slot-is seen p x e d = record { same = ap (λ (y : DayPost). y.slot) e; day = sym (ap (λ (y : DayPost). y.slot.day) e) ∙ d }
 
 -- an amount as it is handed on
 pub handed : (z : ℤ) → pos 0 ≤ℤ z → z ≤ℤ pos balance_limit → to_z w64 (of_z w64 z) ≡ z

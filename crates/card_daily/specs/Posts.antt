@@ -112,6 +112,6 @@ EntersReturn g payment slot s new t after =
 -- a post of its day, of whatever kind
 abbrev pub EntersPost : Given → DayPost → State → State → Track → Track → Type 0
 EntersPost g x s new t after =
-    (first : ℕ) (returned : ℕ → Bool) (rows_by : SegmentTerms → Rows) (p : CorrectedPost) (b : Book) → first ≤ x.day → b.cycles ≡ (before g x.day).cycles
-    → MayFollow x.day s.rates returned p b → x ≡ day_post p → StandOn g x.day first returned rows_by b s t
-    → StandOn g x.day first (returned_after returned p.post) rows_by (effect_on g x.day p p.post b) new after
+    (first : ℕ) (returned : ℕ → Bool) (rows_by : SegmentTerms → Rows) (p : CorrectedPost) (b : Book) → first ≤ x.slot.day → b.cycles ≡ (before g x.slot.day).cycles
+    → MayFollow x.slot.day s.rates returned p b → x ≡ day_post p → StandOn g x.slot.day first returned rows_by b s t
+    → StandOn g x.slot.day first (returned_after returned p.post) rows_by (effect_on g x.slot.day p p.post b) new after

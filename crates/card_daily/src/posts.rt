@@ -187,36 +187,32 @@ fn enter_post(
     state: &mut State,
     track: &mut Track,
 ) -> Result<(), NoMemory>
-    requires closed { AreClosedBefore inputs.now post.now.day track.old.cycles.items }
-    requires asked { MayMove state.old.segments state.old.rates post.now.cents }
+    requires closed { AreClosedBefore inputs.now post.now.slot.day track.old.cycles.items }
+    requires asked { MayMove state.old.segments state.old.rates post.now.slot.cents }
     requires rows { length state.old.rows.items + 2 ≡ length state.old.segments.balances }
     requires parts { (n : ℕ) → AreReturnable (length state.old.segments.balances) (parts_of n track.old.entries.items) }
     requires kind { is_penalty post.now.post ≡ false }
     requires account { AreOf inputs.now.history state.old.segments.segments state.old.rates }
     requires moved { moved track.old.entries.items ≤ balance_limit }
     requires held { (n : ℕ) → resolves n post.now.post ≡ true → pos (moved_by n track.old.entries.items) ≤ℤ slice_index_or state.old.segments.balances 1 (pos 0) }
-    requires named { (n : ℕ) → returns n post.now.post ≡ true → (n ≤ post_limit) × SeesPayment inputs.now post.now.day n }
+    requires named { (n : ℕ) → returns n post.now.post ≡ true → (n ≤ post_limit) × SeesPayment inputs.now post.now.slot.day n }
     ensures stands { OnOk result (EntersPost inputs.now post.now state.old state.new track.old track.new) }
     ensures left { LeavesRest result state.old state.new track.old track.new }
     ensures room { KeepsRoom track.old track.new }
 {
-    let slot = Slot {
-        day: post.day,
-        number: post.number,
-        cents: post.cents,
-    };
+    let slot = &post.slot;
     match &post.post {
-        Post::Charge { place, .. } => enter_charge(&slot, place, state, track),
-        Post::Credit { place, .. } => enter_credit(alloc, inputs, &slot, place, state, track),
-        Post::Payment { .. } => enter_payment(alloc, inputs, &slot, state, track),
-        Post::Refund { .. } => enter_refund(&slot, state, track),
+        Post::Charge { place, .. } => enter_charge(slot, place, state, track),
+        Post::Credit { place, .. } => enter_credit(alloc, inputs, slot, place, state, track),
+        Post::Payment { .. } => enter_payment(alloc, inputs, slot, state, track),
+        Post::Refund { .. } => enter_refund(slot, state, track),
         Post::Return { target, .. } => {
-            enter_return(alloc, inputs, &slot, target.get() as u32, state, track)
+            enter_return(alloc, inputs, slot, target.get() as u32, state, track)
         }
         Post::Dispute { target, cents, .. } => {
-            enter_dispute(inputs, &slot, *target, *cents, state, track)
+            enter_dispute(inputs, slot, *target, *cents, state, track)
         }
-        Post::Resolve { target, .. } => enter_resolve(inputs, &slot, *target, state, track),
+        Post::Resolve { target, .. } => enter_resolve(inputs, slot, *target, state, track),
         _ => Ok(()),
     }
 }

@@ -41,7 +41,7 @@ charge-all N two (Some p) gs h = places-all N two (place_charged p.post) p.day g
 
 seen-all : (N : ℕ → Type 0) → N 2 → (o : Option DayPost) (gs : List SegmentTerms) → All (λ (g : SegmentTerms). N g.id) gs → N (segment_of gs o)
 seen-all N two None gs h = two
-seen-all N two (Some p) gs h = places-all N two (place_charged p.post) p.day gs h
+seen-all N two (Some p) gs h = places-all N two (place_charged p.post) p.slot.day gs h
 
 -- ---- of a charge that is seen
 pub segment-is : (gs : List SegmentTerms) (o : Option CorrectedPost) → segment_of gs (option_map day_post o) ≡ charge_segment gs o

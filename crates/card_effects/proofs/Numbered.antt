@@ -81,11 +81,11 @@ stand-from a holidays history n segment (k ∷ ks) h =
 all-stand : (a : Anchor) (holidays : List ℕ) (history : List Kept) → All (Stands history) (corrected a holidays history)
 all-stand a holidays history = stand-from a holidays history 1 5 history (λ i. let next : suc i ≡ 1 + i = omega arith in ap (λ m. at_number m history) next)
 
-abbrev made : ℕ → ℕ → ℤ → Post → DayPost
-made number day cents p = record { number = number; day = day; cents = cents; post = p }
+abbrev made : Slot → Post → DayPost
+made s p = record { slot = s; post = p }
 
 slot-found : (history : List Kept) (p : CorrectedPost) → Stands history p → found_for history (Some (slot_of p)) ≡ Some (day_post p)
-slot-found history p s = ap (option_map (slot_post (slot_of p))) s.found ∙ ap (λ (q : Post). Some (made p.number p.day (pos p.cents) q)) (sym s.same)
+slot-found history p s = ap (option_map (slot_post (slot_of p))) s.found ∙ ap (λ (q : Post). Some (made (slot_of p) q)) (sym s.same)
 
 -- ---- the post with a number
 pub seen-is : (history : List Kept) (issued : List IssuedRow) (shared : SharedRows) (day n : ℕ)
@@ -114,19 +114,19 @@ seen-is history issued shared day n =
         (slot-found history p (found-all (Stands history) n (corrected (anchor_of history) shared.holidays history) p (all-stand (anchor_of history) shared.holidays history) e))
 
 -- it counts by the day
-pub seen-by : (day : ℕ) (history : List Kept) (o : Option Slot) → IfSome (post_by day history o) (λ p. p.day ≤ day)
+pub seen-by : (day : ℕ) (history : List Kept) (o : Option Slot) → IfSome (post_by day history o) (λ p. p.slot.day ≤ day)
 seen-by day history None = tt
 seen-by day history (Some s) = by (leb s.day day) refl
   where
-    kept : (o : Option Kept) → s.day ≤ day → IfSome (only_folded (option_map (slot_post s) o)) (λ p. p.day ≤ day)
+    kept : (o : Option Kept) → s.day ≤ day → IfSome (only_folded (option_map (slot_post s) o)) (λ p. p.slot.day ≤ day)
     kept None l = tt
     kept (Some k) l = folds (is_folded k.post)
       where
-        folds : (t : Bool) → IfSome (cond t (Some (slot_post s k)) None) (λ p. p.day ≤ day)
+        folds : (t : Bool) → IfSome (cond t (Some (slot_post s k)) None) (λ p. p.slot.day ≤ day)
         folds true = l
         folds false = tt
 
-    by : (t : Bool) → leb s.day day ≡ t → IfSome (cond t (only_folded (found_for history (Some s))) None) (λ p. p.day ≤ day)
+    by : (t : Bool) → leb s.day day ≡ t → IfSome (cond t (only_folded (found_for history (Some s))) None) (λ p. p.slot.day ≤ day)
     by true e = kept (at_number s.number history) (leb-true s.day day e)
     by false e = tt
 

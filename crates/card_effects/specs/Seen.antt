@@ -36,12 +36,12 @@ segment_in all day p = place_segment day all (place_charged p)
 -- the segment of a charge, the opening purchases where there is none
 abbrev pub segment_of : List SegmentTerms → Option DayPost → ℕ
 segment_of all None = 2
-segment_of all (Some p) = segment_in all p.day p.post
+segment_of all (Some p) = segment_in all p.slot.day p.post
 
 -- its cents, 0 where there is none
 abbrev pub cents_of : Option DayPost → ℕ
 cents_of None = 0
-cents_of (Some p) = unsigned_abs p.cents
+cents_of (Some p) = unsigned_abs p.slot.cents
 
 -- the number of the charge that a Dispute names, 0 where there is no Dispute
 abbrev pub charge_named : Option DayPost → ℕ

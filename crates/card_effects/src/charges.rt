@@ -21,7 +21,7 @@ fn segment_in(rates: &RateBook, segments: &Segments, post: &Post, day: Day, toda
 
 // The segment of a charge on its day, as the fold of this or a later day sees it.
 pub fn segment_of(rates: &RateBook, segments: &Segments, charge: &Option<DayPost>, today: Day) -> u8
-    requires { IfSome charge.now (λ p. p.day ≤ today) }
+    requires { IfSome charge.now (λ p. p.slot.day ≤ today) }
     ensures value { OfSeenSegments today segments.now.segments rates.now (λ all. result ≡ segment_of all charge.now) }
     ensures low { (history : List Kept) → AreOf history segments.now.segments rates.now → 2 ≤ result }
     ensures known { (history : List Kept) → AreOf history segments.now.segments rates.now → result < length segments.now.balances }
@@ -29,7 +29,7 @@ pub fn segment_of(rates: &RateBook, segments: &Segments, charge: &Option<DayPost
     // what the length says is needed as a fact: a balance for each segment, five of them at least, and at most 64
     let _count = segments.len();
     match charge {
-        Some(charge) => segment_in(rates, segments, &charge.post, charge.day, today),
+        Some(charge) => segment_in(rates, segments, &charge.post, charge.slot.day, today),
         None => 2,
     }
 }
@@ -39,7 +39,7 @@ pub fn cents_of(charge: &Option<DayPost>) -> u64
     ensures { result ≡ cents_of charge.now }
 {
     match charge {
-        Some(charge) => charge.cents.unsigned_abs(),
+        Some(charge) => charge.slot.cents.unsigned_abs(),
         None => 0,
     }
 }

@@ -28,9 +28,7 @@ fn post_of(posts: &Posts, slot: &Slot) -> Option<DayPost>
 {
     match posts.get(slot.number) {
         Some(kept) => if_folded(DayPost {
-            number: slot.number,
-            day: slot.day,
-            cents: slot.cents,
+            slot: *slot,
             post: kept.post,
         }),
         None => None,
@@ -56,7 +54,7 @@ fn post_by(posts: &Posts, slot: Option<Slot>, day: Day) -> Option<DayPost>
 // The post with a number, as the fold of a day sees it.
 pub fn post_seen(posts: &Posts, number: u64, day: Day) -> Option<DayPost>
     ensures value { (issued : List IssuedRow) (shared : SharedRows) → StandsFor shared.holidays posts.now → result ≡ seen.post_seen (seen_in posts.now.history issued shared day) number }
-    ensures by { IfSome result (λ p. p.day ≤ day) }
+    ensures by { IfSome result (λ p. p.slot.day ≤ day) }
 {
     post_by(posts, posts.slot(number), day)
 }
@@ -74,7 +72,7 @@ fn if_charge(post: DayPost) -> Option<DayPost>
 // The charge with a number, as the fold of a day sees it.
 pub fn charge_seen(posts: &Posts, number: u64, day: Day) -> Option<DayPost>
     ensures value { (issued : List IssuedRow) (shared : SharedRows) → StandsFor shared.holidays posts.now → result ≡ seen.charge_seen (seen_in posts.now.history issued shared day) number }
-    ensures by { IfSome result (λ p. p.day ≤ day) }
+    ensures by { IfSome result (λ p. p.slot.day ≤ day) }
 {
     match post_seen(posts, number, day) {
         Some(post) => if_charge(post),

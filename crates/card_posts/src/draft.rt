@@ -1,6 +1,7 @@
 // A post that is entered for a while, and taken back.
-ghost use Rattle.std.specs.Prelude.{◌≡◌, ◌<◌, ◌≤◌, length, vec_len, vec_capacity, false, IsOk, IfOk, None};
+ghost use Rattle.std.specs.Prelude.{◌≡◌, ◌-◌, ◌<◌, ◌≤◌, length, take, vec_len, vec_capacity, false, IsOk, IfOk, None};
 ghost use Rattle.card_events.specs.Limits.{post_limit};
+ghost use Rattle.card_keys.specs.Buckets.{HasRoom, IsIndex};
 ghost use Rattle.card_posts.specs.Corrections.{corrects};
 ghost use Rattle.card_posts.specs.Draft.{IsCopy, IsCopyIfAny, IsRoomyIfAny, corrections_before, effects_before, slots_before};
 ghost use Rattle.card_posts.specs.Effect.{slots_from};
@@ -10,7 +11,8 @@ use crate::correction::Correction;
 use crate::effect::Effect;
 use crate::order::take_out;
 use crate::refresh::is_correction;
-use card_events::{Day, NoMemory, Post, Slot};
+use card_events::{Day, Kept, NoMemory, Post, Slot};
+use card_keys::{KeyTable, leave_key};
 use std::alloc::Global;
 
 // What was kept beside the posts before one that corrects others.
@@ -129,5 +131,19 @@ pub fn put_back(
             *order = kept.order;
         }
         None => pop_last(corrections, effects, order),
+    }
+}
+
+// Takes the last post out of the history, and out of the index of keys.
+pub fn take_last(history: &mut Vec<Kept>, index: &mut KeyTable)
+    requires some { 1 ≤ length history.old.items }
+    requires index { IsIndex history.old.items index.old }
+    ensures history { history.new.items ≡ take (length history.old.items - 1) history.old.items }
+    ensures index { IsIndex history.new.items index.new }
+    ensures history_room { vec_len history.new < vec_capacity history.new }
+    ensures index_room { HasRoom 1 index.new }
+{
+    if let Some(last) = history.pop() {
+        leave_key(history, index, &last);
     }
 }

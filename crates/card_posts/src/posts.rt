@@ -1,5 +1,5 @@
 use crate::correction::Correction;
-use crate::draft::{Draft, beside_if_corrected, put_back};
+use crate::draft::{Draft, beside_if_corrected, put_back, take_last};
 use crate::effect::{Effect, no_cents};
 use crate::enter::enter;
 use crate::foretold::first_with;
@@ -7,7 +7,7 @@ use crate::make::{copy_history, make_room_in, one, opening};
 use crate::order::{slot, slot_with};
 use crate::refresh::{is_correction, waits_with};
 use card_events::{Anchor, Calendar, Day, Kept, Name, NoMemory, Post, Slot, numbered};
-use card_keys::{KeyTable, enter_key, find, leave_key, rebuilt};
+use card_keys::{KeyTable, enter_key, find, rebuilt};
 use std::alloc::Global;
 use std::marker::Model;
 
@@ -278,9 +278,7 @@ impl Posts {
             &mut self.effects,
             &mut self.order,
         );
-        if let Some(last) = self.history.pop() {
-            leave_key(&self.history, &mut self.index, &last);
-        }
+        take_last(&mut self.history, &mut self.index);
         self.waits = draft.waits;
         self.has_room = true;
     }

@@ -1,5 +1,5 @@
 -- The posts of a day are told by its slots.
-use Rattle.std.proofs.Common.{◌≡◌, ℕ, suc, ◌+◌, ◌<◌, Bool, true, false, cond, ◌==◌, nat_lt, List, [], ◌∷◌, length, map, Some, refl, sym, ap, ◌∙◌, subst, arith, get_or, ℤ, pos}
+use Rattle.std.proofs.Common.{◌≡◌, ℕ, suc, ◌+◌, ◌<◌, Bool, true, false, cond, ◌==◌, nat_lt, List, [], ◌∷◌, length, map, Some, refl, sym, ap, ◌∙◌, subst, arith, get_or}
 use Rattle.std.specs.Prelude.{option_map, slice_get}
 use Rattle.std.specs.List.{All}
 use Rattle.std.proofs.lemmas.List.{get_or-map, length-map}
@@ -70,8 +70,8 @@ slot-at a holidays history day i d l =
     ∙ (ap (λ ys. Some (get_or ys i (slot_of d))) slots ∙ ap Some (get_or-map slot_of (on day posts) i d (slot_of d) l)))
 
 -- and its post is that post
-abbrev made : ℕ → ℕ → ℤ → Post → DayPost
-made number day cents p = record { number = number; day = day; cents = cents; post = p }
+abbrev made : Slot → Post → DayPost
+made s p = record { slot = s; post = p }
 
 pub found-is : (holidays : List ℕ) (posts : Posted) (day i place : ℕ) (d : CorrectedPost) → StandsFor holidays posts → place ≡ place_of day posts.corrected + i → i < length (on day posts.corrected)
     → found_for posts.history (slice_get (folding_order posts.corrected) place) ≡ Some (day_post (get_or (on day posts.corrected) i d))
@@ -85,4 +85,4 @@ found-is holidays posts day i place d stands at l =
         let q = get_or (on day cs) i d in
         let s = stands-on (anchor_of posts.history) holidays posts.history day i d m in
         let slot : slice_get (folding_order cs) place ≡ Some (slot_of q) = ap (slice_get (folding_order cs)) e ∙ slot-at (anchor_of posts.history) holidays posts.history day i d m in
-        ap (found_for posts.history) slot ∙ (ap (option_map (slot_post (slot_of q))) s.found ∙ ap (λ (p : Post). Some (made q.number q.day (pos q.cents) p)) (sym s.same))
+        ap (found_for posts.history) slot ∙ (ap (option_map (slot_post (slot_of q))) s.found ∙ ap (λ (p : Post). Some (made (slot_of q) p)) (sym s.same))

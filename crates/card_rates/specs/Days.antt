@@ -1,8 +1,8 @@
 -- The posts of a day, in the order in which they are folded.
-use Rattle.std.specs.Prelude.{◌≡◌, ℕ, ◌+◌, ◌<◌, nat_lt, if◌then◌else◌, List, length, slice_index_or, Option, Some, None, pos}
+use Rattle.std.specs.Prelude.{◌≡◌, ℕ, ◌+◌, ◌<◌, nat_lt, if◌then◌else◌, List, length, slice_index_or, Option, Some, None}
 use Rattle.std.specs.List.{count_by}
 use Rattle.std.specs.Prelude.{option_map}
-use Rattle.card_events.specs.History.{CorrectedPost, at_number, is_folded}
+use Rattle.card_events.specs.History.{CorrectedPost, at_number, is_folded, slot_of}
 use Rattle.card_events.specs.declared.kept.Kept.{Kept}
 use Rattle.card_events.specs.declared.kept.Slot.{Slot}
 use Rattle.card_posts.specs.Change.{on}
@@ -19,7 +19,7 @@ slots_before day slots = count_by (λ s. nat_lt s.day day) slots
 
 -- a corrected post without what its fold doesn't read
 abbrev pub day_post : CorrectedPost → DayPost
-day_post p = record { number = p.number; day = p.day; cents = pos p.cents; post = p.post }
+day_post p = record { slot = slot_of p; post = p.post }
 
 -- and none of a kind that isn't folded
 abbrev pub only_folded : Option DayPost → Option DayPost
@@ -38,7 +38,7 @@ IsFoldedAt place posts found =
 
 -- the post of a slot
 abbrev pub slot_post : Slot → Kept → DayPost
-slot_post s k = record { number = s.number; day = s.day; cents = s.cents; post = k.post }
+slot_post s k = record { slot = s; post = k.post }
 
 -- the post of a slot, where both are there
 abbrev pub found_for : List Kept → Option Slot → Option DayPost

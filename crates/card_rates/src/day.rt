@@ -5,15 +5,13 @@ ghost use Rattle.card_posts.specs.Order.{IsAscending};
 ghost use Rattle.card_posts.specs.Posted.{StandsFor, folding_order};
 ghost use Rattle.card_rates.specs.Days.{IsFoldedAt, found_for, only_folded, place_of, slots_before};
 
-use card_events::{Cents, Day, Post, Slot};
+use card_events::{Day, Post, Slot};
 use card_posts::Posts;
 
-/// A post as it counts now: its number, its effective day, its corrected cents (0 for kinds without cents), and its content.
+/// A post as it counts now: its slot, and its content.
 #[derive(Clone, Copy)]
 pub struct DayPost {
-    pub number: u32,
-    pub day: Day,
-    pub cents: Cents,
+    pub slot: Slot,
     pub post: Post,
 }
 
@@ -63,9 +61,7 @@ fn found(posts: &Posts, place: usize) -> Option<DayPost>
     let slot = posts.in_order().get(place)?;
     let kept = posts.get(slot.number)?;
     Some(DayPost {
-        number: slot.number,
-        day: slot.day,
-        cents: slot.cents,
+        slot: *slot,
         post: kept.post,
     })
 }

@@ -13,4 +13,4 @@ returns-clause-value c issued shared stands =
     ∙ seen-is h issued shared c.args.day c.args.number)
 
 pub returns-clause-by : goal.returns-clause-by
-returns-clause-by c = subst (λ (o : Option DayPost). IfSome o (λ p. p.day ≤ c.args.day)) (sym c.post_by.ensures) (seen-by c.args.day c.args.posts.now.history _)
+returns-clause-by c = subst (λ (o : Option DayPost). IfSome o (λ p. p.slot.day ≤ c.args.day)) (sym c.post_by.ensures) (seen-by c.args.day c.args.posts.now.history _)
