@@ -59,42 +59,42 @@ no_opening (post.AskRefund d) other = (refl, refl)
 no_opening (post.Refund c) other = (refl, refl)
 
 -- an Open that is accepted is on no later day than today
-first-held : (key : List ℕ) (today accounts : ℕ) (p : Post) → IsTakenPost p → is_open p ≡ true → reason_to_open today accounts p ≡ None → AreHeld today (record { posts = kept_as 1 key today p ∷ []; issued = [] })
+first-held : (key : List ℕ) (today accounts : ℕ) (shared : SharedRows) (p : Post) → IsTakenPost p → is_open p ≡ true → reason_to_open today accounts shared p ≡ None → AreHeld today (record { posts = kept_as 1 key today p ∷ []; issued = [] })
 unfolding reason_to_open NamePayments
-first-held key today accounts (post.Open day t) taken is none =
-    let rest = none_tail (bad_terms (post.Open day t)) (day_ahead today (post.Open day t) ∷ where_true (nat_le 1000000 accounts) refusal.LedgerFull ∷ []) none in
-    let ahead = none_head (day_ahead today (post.Open day t)) (where_true (nat_le 1000000 accounts) refusal.LedgerFull ∷ []) rest in
+first-held key today accounts shared (post.Open day t) taken is none =
+    let rest = none_tail (bad_terms (post.Open day t)) (day_ahead today (post.Open day t) ∷ no_index shared.index (post.Open day t) ∷ where_true (nat_le 1000000 accounts) refusal.LedgerFull ∷ []) none in
+    let ahead = none_head (day_ahead today (post.Open day t)) (no_index shared.index (post.Open day t) ∷ where_true (nat_le 1000000 accounts) refusal.LedgerFull ∷ []) rest in
     let by : day ≤ today = ltb-false today day (where_none (nat_lt today day) refusal.DayAhead ahead) in
     record {
       some = omega arith;
       posts = All-cons (IsHeld today day) (kept_as 1 key today (post.Open day t)) [] (record { accepted = omega arith; received = tt; opening = by; first = taken }) (All-nil (IsHeld today day));
       returns = (tt, tt);
     }
-first-held key today accounts (post.OpenVariable day t) taken is none =
-    let rest = none_tail (bad_terms (post.OpenVariable day t)) (day_ahead today (post.OpenVariable day t) ∷ where_true (nat_le 1000000 accounts) refusal.LedgerFull ∷ []) none in
-    let ahead = none_head (day_ahead today (post.OpenVariable day t)) (where_true (nat_le 1000000 accounts) refusal.LedgerFull ∷ []) rest in
+first-held key today accounts shared (post.OpenVariable day t) taken is none =
+    let rest = none_tail (bad_terms (post.OpenVariable day t)) (day_ahead today (post.OpenVariable day t) ∷ no_index shared.index (post.OpenVariable day t) ∷ where_true (nat_le 1000000 accounts) refusal.LedgerFull ∷ []) none in
+    let ahead = none_head (day_ahead today (post.OpenVariable day t)) (no_index shared.index (post.OpenVariable day t) ∷ where_true (nat_le 1000000 accounts) refusal.LedgerFull ∷ []) rest in
     let by : day ≤ today = ltb-false today day (where_none (nat_lt today day) refusal.DayAhead ahead) in
     record {
       some = omega arith;
       posts = All-cons (IsHeld today day) (kept_as 1 key today (post.OpenVariable day t)) [] (record { accepted = omega arith; received = tt; opening = by; first = taken }) (All-nil (IsHeld today day));
       returns = (tt, tt);
     }
-first-held key today accounts (post.Charge d p c) taken is none = absurd (cc)
-first-held key today accounts (post.Credit d p c) taken is none = absurd (cc)
-first-held key today accounts (post.Payment d m by c) taken is none = absurd (cc)
-first-held key today accounts (post.Bill c) taken is none = absurd (cc)
-first-held key today accounts (post.Amend t d c) taken is none = absurd (cc)
-first-held key today accounts (post.Return d t) taken is none = absurd (cc)
-first-held key today accounts (post.Plan d v r w f) taken is none = absurd (cc)
-first-held key today accounts (post.Notice d y r w) taken is none = absurd (cc)
-first-held key today accounts (post.Lower d y r) taken is none = absurd (cc)
-first-held key today accounts post.Penalty taken is none = absurd (cc)
-first-held key today accounts (post.Review d f) taken is none = absurd (cc)
-first-held key today accounts (post.Dispute d t c) taken is none = absurd (cc)
-first-held key today accounts (post.Ack d t) taken is none = absurd (cc)
-first-held key today accounts (post.Resolve d t c) taken is none = absurd (cc)
-first-held key today accounts (post.AskRefund d) taken is none = absurd (cc)
-first-held key today accounts (post.Refund c) taken is none = absurd (cc)
+first-held key today accounts shared (post.Charge d p c) taken is none = absurd (cc)
+first-held key today accounts shared (post.Credit d p c) taken is none = absurd (cc)
+first-held key today accounts shared (post.Payment d m by c) taken is none = absurd (cc)
+first-held key today accounts shared (post.Bill c) taken is none = absurd (cc)
+first-held key today accounts shared (post.Amend t d c) taken is none = absurd (cc)
+first-held key today accounts shared (post.Return d t) taken is none = absurd (cc)
+first-held key today accounts shared (post.Plan d v r w f) taken is none = absurd (cc)
+first-held key today accounts shared (post.Notice d y r w) taken is none = absurd (cc)
+first-held key today accounts shared (post.Lower d y r) taken is none = absurd (cc)
+first-held key today accounts shared post.Penalty taken is none = absurd (cc)
+first-held key today accounts shared (post.Review d f) taken is none = absurd (cc)
+first-held key today accounts shared (post.Dispute d t c) taken is none = absurd (cc)
+first-held key today accounts shared (post.Ack d t) taken is none = absurd (cc)
+first-held key today accounts shared (post.Resolve d t c) taken is none = absurd (cc)
+first-held key today accounts shared (post.AskRefund d) taken is none = absurd (cc)
+first-held key today accounts shared (post.Refund c) taken is none = absurd (cc)
 
 -- ---- an accepted post
 same_anchor : (ks : List Kept) (k : Kept) → 1 ≤ length ks → anchor_of (ks ++ k ∷ []) ≡ anchor_of ks
@@ -151,13 +151,13 @@ at_key-held : (now : Present) (key : List ℕ) (p : Post) (o : Option ℕ) → I
 at_key-held now key p (Some n) taken held = either-unit now.today n n (is_repeat_of p (at_number n now.lists.posts))
 at_key-held now key p None taken held = new-held now key p (is_open p) refl taken held
 
-opened-held : (key : List ℕ) (today accounts : ℕ) (p : Post) (r : Option Refusal) → reason_to_open today accounts p ≡ r → IsTakenPost p → is_open p ≡ true → HeldIf today (opened key today p r)
-opened-held key today accounts p (Some r) is taken open_is = tt
-opened-held key today accounts p None is taken open_is = first-held key today accounts p taken open_is is
+opened-held : (key : List ℕ) (today accounts : ℕ) (shared : SharedRows) (p : Post) (r : Option Refusal) → reason_to_open today accounts shared p ≡ r → IsTakenPost p → is_open p ≡ true → HeldIf today (opened key today p r)
+opened-held key today accounts shared p (Some r) is taken open_is = tt
+opened-held key today accounts shared p None is taken open_is = first-held key today accounts shared p taken open_is is
 
-none-held : (key : List ℕ) (today accounts : ℕ) (p : Post) (b : Bool) → is_open p ≡ b → IsTakenPost p → HeldIf today (cond b (opened key today p (reason_to_open today accounts p)) (Refuses refusal.UnknownAccount))
-none-held key today accounts p true is taken = opened-held key today accounts p (reason_to_open today accounts p) refl taken is
-none-held key today accounts p false is taken = tt
+none-held : (key : List ℕ) (today accounts : ℕ) (shared : SharedRows) (p : Post) (b : Bool) → is_open p ≡ b → IsTakenPost p → HeldIf today (cond b (opened key today p (reason_to_open today accounts shared p)) (Refuses refusal.UnknownAccount))
+none-held key today accounts shared p true is taken = opened-held key today accounts shared p (reason_to_open today accounts shared p) refl taken is
+none-held key today accounts shared p false is taken = tt
 
 -- the lists of an account, where it is there
 abbrev pub HeldThere : ℕ → Option Lists → Type 0
@@ -166,7 +166,7 @@ HeldThere today (Some l) = AreHeld today l
 
 pub outcome-held : (today : ℕ) (rows : List Shared) (accounts : ℕ) (key : List ℕ) (p : Post) (o : Option Lists) → IsTakenPost p → HeldThere today o → HeldIf today (outcome today rows accounts key p o)
 unfolding outcome
-outcome-held today rows accounts key p None taken held = none-held key today accounts p (is_open p) refl taken
+outcome-held today rows accounts key p None taken held = none-held key today accounts (shared_rows rows) p (is_open p) refl taken
 outcome-held today rows accounts key p (Some l) taken held = at_key-held (record { today = today; shared = shared_rows rows; lists = l }) key p (with_key key l.posts) taken held
 
 -- ---- later days

@@ -388,7 +388,8 @@ fn verdict(reason: Option<Refusal>) -> Verdict
     }
 }
 
-fn is_open(post: &Post) -> bool
+/// Whether a post opens an account.
+pub fn is_open(post: &Post) -> bool
     ensures { result ≡ is_open post.now }
 {
     matches!(post, Post::Open { .. } | Post::OpenVariable { .. })

@@ -12,7 +12,7 @@ mod tasks;
 mod verdict;
 mod work;
 
-pub use account::Account;
+pub use account::{Account, is_open};
 pub use card_daily::{Issued, Statement};
 pub use card_disputes::{Task, TaskKind};
 pub use card_reasons::open_reason;

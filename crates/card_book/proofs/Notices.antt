@@ -19,7 +19,7 @@ use Rattle.card_model.specs.Books.{Book, account_of}
 use Rattle.card_model.specs.Cycles.{IssuedRow, seen_on}
 use Rattle.card_model.specs.Entries.{is_kind}
 use Rattle.card_model.specs.Folds.{book}
-use Rattle.card_model.specs.Rates.{bears_in, own, rate_on}
+use Rattle.card_model.specs.Rates.{bears_in, index_for, own, rate_on}
 use Rattle.card_model.specs.Segments.{SegmentTerms, id_of, is_plan, is_sort, last_that, opening_vintages, segment_at, segment_of, segments, sort_of_category}
 use Rattle.card_model.specs.declared.entry.Entry.{Entry}
 use Rattle.card_model.specs.declared.entry.EntryKind.{EntryKind}
@@ -240,15 +240,18 @@ older-passes day id v s (g ∷ gs) l =
     out false b c d e = refl
     out true true c d e = cc
 
-same-own : (day v : ℕ) (g : SegmentTerms) (gs : List SegmentTerms) → g.id < v → own gs day g ≡ own (without v gs) day g
-same-own day v g gs l =
+same-own : (index : Option ℕ) (day v : ℕ) (g : SegmentTerms) (gs : List SegmentTerms) → g.id < v → own index gs day g ≡ own index (without v gs) day g
+same-own index day v g gs l =
     let same = last-without (λ (x : SegmentTerms). not (eqb x.id v)) (bears_in day g.sort g.id) gs (older-passes day g.id v g.sort gs l) in
     rw same refl
 
 same-rate : (history : List Kept) (issued : List IssuedRow) (shared : SharedRows) (on day v : ℕ) (b : Book) (g : SegmentTerms) (gs : List SegmentTerms) → g.id < v
     → rate_among gs history issued shared on b day g ≡ rate_among (without v gs) history issued shared on b day g
 unfolding rate_on
-same-rate history issued shared on day v b g gs l = let same = same-own day v g gs l in rw same refl
+same-rate history issued shared on day v b g gs l =
+    let index = index_for (account_of history).variable (seen_on (anchor_of history) shared history issued on).index day in
+    let same = same-own index day v g gs l in
+    rw same refl
 
 -- ---- the law
 From : ℕ → CorrectedPost → Type 0

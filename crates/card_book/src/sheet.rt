@@ -18,6 +18,7 @@ ghost use Rattle.card_model.specs.Sheets as spec;
 use crate::folded::Folded;
 use card_daily::{Amounts, Cycle, Inputs, Issued};
 use card_events::{Bp, Cents, Day, NoMemory};
+use card_fees::IndexTable;
 use card_statement::{
     DeferredLine, Move, RateLine, Sheet, closing_amounts, corrections, cycle_entries,
     deferred_lines, fees_year, has_due_payment, interest_year, late_up_to, moves_of, owed_before,
@@ -75,11 +76,16 @@ struct Listed {
 }
 
 // What it lists of a cycle, of which the book is that of the closing.
-fn listed_of(alloc: Global, folded: &Folded, cycle: &Cycle) -> Result<Listed, NoMemory>
+fn listed_of(
+    alloc: Global,
+    index: &IndexTable,
+    folded: &Folded,
+    cycle: &Cycle,
+) -> Result<Listed, NoMemory>
     requires small { sizes (spec.cycle_entries cycle.now folded.now.book) ≤ 10 ^ 17 }
     requires earlier { All (λ e. e.day < cycle.now.first) (take (spec.entries_by (cycle_at (cycle.now.number - 1) folded.now.book.cycles)) folded.now.book.entries) }
     ensures moves { IfOk result (λ l. l.moves.items ≡ spec.moves_of (spec.cycle_entries cycle.now folded.now.book)) }
-    ensures rates { IfOk result (λ l. l.rates.items ≡ lines.kept_rate_lines folded.now.rates cycle.now folded.now.book.entries) }
+    ensures rates { IfOk result (λ l. l.rates.items ≡ lines.kept_rate_lines index.now folded.now.rates cycle.now folded.now.book.entries) }
     ensures deferred { IfOk result (λ l. l.deferred.items ≡ lines.kept_deferred_lines cycle.now.closing folded.now.balances folded.now.accruals folded.now.rates.segments) }
     ensures closing { IfOk result (λ l. l.closing ≡ lines.kept_amounts folded.now.balances folded.now.rates.segments) }
 {
@@ -89,7 +95,7 @@ fn listed_of(alloc: Global, folded: &Folded, cycle: &Cycle) -> Result<Listed, No
     let entries = folded.entries();
     Ok(Listed {
         moves: moves_of(alloc, cycle_entries(cycle, cycles, entries))?,
-        rates: rate_lines(alloc, rates, balances, cycle, cycles, entries)?,
+        rates: rate_lines(alloc, rates, index, balances, cycle, cycles, entries)?,
         deferred: deferred_lines(alloc, rates, balances, folded.accruals(), cycle.closing)?,
         closing: closing_amounts(alloc, rates, balances)?,
     })
@@ -159,7 +165,7 @@ fn sheet_in(
     let earlier = earlier_of(inputs, folded, cycle);
     let years = years_of(folded, cycle.closing);
     let stated = stated_of(inputs, folded, issue);
-    let listed = listed_of(alloc, folded, cycle)?;
+    let listed = listed_of(alloc, inputs.index(), folded, cycle)?;
     Ok(Sheet {
         due_payment: has_due_payment(issue, cycle.due),
         previous: earlier.previous,

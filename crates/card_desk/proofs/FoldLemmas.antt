@@ -27,7 +27,8 @@ use Rattle.card_events.specs.Keys.{with_key}
 use Rattle.card_events.specs.Names.{is_name}
 use Rattle.card_events.specs.declared.reply.Refusal.{Refusal}
 use Rattle.card_events.specs.declared.reply.Refusal.TheVariants as refusal
-use Rattle.card_events.specs.SharedRows.{FeeRow, SharedRows, shared_rows}
+use Rattle.card_events.specs.SharedRows.{FeeRow, IndexRow, SharedRows, shared_rows, with_index}
+use Rattle.card_events.proofs.IndexRows.{index-later}
 use Rattle.card_events.specs.declared.post.Post.{Post}
 use Rattle.card_events.specs.declared.post.Post.TheVariants as post
 use Rattle.card_events.specs.declared.request.Request.{Request}
@@ -59,6 +60,7 @@ day_parts day is = let parts = and_parts (nat_le first_calendar_day day) (is_req
 post_days : (p : Post) → is_post p ≡ true → (is_dated_post p ≡ true) × (opens p ≡ true → first_calendar_day ≤ opening_in p)
 unfolding is_post is_dated_post
 post_days (post.Open d t) is = let day = day_parts d (and_parts (is_day d) (are_terms t) is).0 in (day.1, λ _. day.0)
+post_days (post.OpenVariable d t) is = let day = day_parts d (and_parts (is_day d) (are_terms t) is).0 in (day.1, λ _. day.0)
 post_days (post.Charge d p c) is = ((day_parts d (and_parts (is_day d) (is_place p && is_number c) is).0).1, λ e. absurd (cc))
 post_days (post.Credit d p c) is = ((day_parts d (and_parts (is_day d) (is_place p && is_number c) is).0).1, λ e. absurd (cc))
 post_days (post.Payment d m by c) is = ((day_parts d (and_parts (is_day d) (is_number m && is_number c) is).0).1, λ e. absurd (cc))
@@ -87,6 +89,7 @@ pub shared_day : (r : Shared) → is_shared r ≡ true → is_dated_shared r ≡
 unfolding is_shared is_dated_shared
 shared_day (shared.Roll day) is = (day_parts day is).1
 shared_day (shared.Holiday day) is = (day_parts day is).1
+shared_day (shared.Index day rate) is = (day_parts day (and_parts (is_day day) (is_number rate) is).0).1
 shared_day (shared.FeeRow day first repeat) is = (day_parts day (and_parts (is_day day) (is_number first && is_number repeat) is).0).1
 
 taken_is : (r : Request) → is_request r ≡ true → IsTaken r
@@ -114,17 +117,20 @@ running_at s accounts i d low all =
 -- ---- books under the same holidays
 -- one corrected list gives one book
 pub one_book : (lists : Lists) (today : ℕ) (these those : SharedRows) → corrected (anchor_of lists.posts) these.holidays lists.posts ≡ corrected (anchor_of lists.posts) those.holidays lists.posts
-    → these.fees ≡ those.fees → book_today (present_of today these lists) ≡ book_today (present_of today those lists)
+    → these.fees ≡ those.fees → these.index ≡ those.index → book_today (present_of today these lists) ≡ book_today (present_of today those lists)
 unfolding book_today book
-one_book lists today these those same fees =
-    ap (λ (posts : List CorrectedPost). on posts these.fees) same ∙ ap (λ (rows : List FeeRow). on (corrected (anchor_of lists.posts) those.holidays lists.posts) rows) fees
+one_book lists today these those same fees index =
+    ap (λ (posts : List CorrectedPost). on posts these.fees these.index) same
+    ∙ (ap (λ (rows : List FeeRow). on (corrected (anchor_of lists.posts) those.holidays lists.posts) rows these.index) fees
+    ∙ ap (λ (rows : List IndexRow). on (corrected (anchor_of lists.posts) those.holidays lists.posts) those.fees rows) index)
   where
-    on : List CorrectedPost → List FeeRow → Book
-    on posts rows = book_after lists.issued (account_of lists.posts)
+    on : List CorrectedPost → List FeeRow → List IndexRow → Book
+    on posts rows index = book_after lists.issued (account_of lists.posts)
         (λ day. record {
           day = day;
           posts = filter (λ p. nat_le p.day day) (filter (λ p. is_folded p.post) posts);
           fees = filter (λ r. nat_le r.day day) rows;
+          index = filter (λ r. nat_le r.day day) index;
           issued = filter (λ r. nat_lt r.day day) lists.issued;
         }) (today + 1 - (anchor_of lists.posts).opened)
 
@@ -134,7 +140,7 @@ pub same_book : (places : List (List ℕ × ℕ)) (common : SharedRows) (count t
 same_book places common count today rows accounts i d desk low =
     let lists = (get_or accounts i d).named.lists in
     let one = running_at (state_of today rows accounts) accounts i d low (all_running (state_of today rows accounts) desk.ran) in
-    one_book lists today common (shared_rows rows) (same-corrected (anchor_of lists.posts) common.holidays (shared_rows rows).holidays lists.posts one.timely (λ x l. desk.holidays x)) desk.table
+    one_book lists today common (shared_rows rows) (same-corrected (anchor_of lists.posts) common.holidays (shared_rows rows).holidays lists.posts one.timely (λ x l. desk.holidays x)) desk.table desk.index_rows
 
 -- so the account is judged alike
 pub alike_at : (places : List (List ℕ × ℕ)) (common : SharedRows) (count today : ℕ) (rows : List Shared) (accounts : List OpenAccount) (i : ℕ) (d : OpenAccount)
@@ -146,15 +152,16 @@ alike_at places common count today rows accounts i d desk low =
       posts = same-corrected (anchor_of lists.posts) common.holidays (shared_rows rows).holidays lists.posts one.timely (λ x l. desk.holidays x);
       books = same_book places common count today rows accounts i d desk low;
       fees = desk.table;
+      index = desk.index_rows;
     }
 
 -- so are any lists that a run leaves
 pub alike_run : (s : State) (lists : Lists) (common : SharedRows) → AreRunning s lists → AreSameHolidays common.holidays (shared_rows s.shared).holidays → common.fees ≡ (shared_rows s.shared).fees
-    → AreAlike s.today lists common (shared_rows s.shared)
-alike_run s lists common one holidays table =
+    → common.index ≡ (shared_rows s.shared).index → AreAlike s.today lists common (shared_rows s.shared)
+alike_run s lists common one holidays table index =
     let listed : corrected (anchor_of lists.posts) common.holidays lists.posts ≡ corrected (anchor_of lists.posts) (shared_rows s.shared).holidays lists.posts =
     same-corrected (anchor_of lists.posts) common.holidays (shared_rows s.shared).holidays lists.posts one.timely (λ x l. holidays x) in
-    record { posts = listed; books = one_book lists s.today common (shared_rows s.shared) listed table; fees = table }
+    record { posts = listed; books = one_book lists s.today common (shared_rows s.shared) listed table index; fees = table; index = index }
 
 pub same_reason_at : (places : List (List ℕ × ℕ)) (common : SharedRows) (count today : ℕ) (rows : List Shared) (accounts : List OpenAccount) (i : ℕ) (d : OpenAccount) (p : Post)
     → IsDesk places common count today rows accounts → i < length accounts
@@ -205,14 +212,17 @@ same_verdict places common count today rows accounts i a key p v desk low is fou
 pub same_sheet : (today : ℕ) (lists : Lists) (a b : SharedRows) (issue : ℕ) (c : Cycle) → AreAlike today lists a b → sheet_of lists.posts lists.issued a issue c ≡ sheet_of lists.posts lists.issued b issue c
 unfolding sheet_of book
 same_sheet today lists a b issue c alike =
-    ap (λ (posts : List CorrectedPost). on posts a.fees) alike.posts ∙ ap (λ (rows : List FeeRow). on (corrected (anchor_of lists.posts) b.holidays lists.posts) rows) alike.fees
+    ap (λ (posts : List CorrectedPost). on posts a.fees a.index) alike.posts
+    ∙ (ap (λ (rows : List FeeRow). on (corrected (anchor_of lists.posts) b.holidays lists.posts) rows a.index) alike.fees
+    ∙ ap (λ (rows : List IndexRow). on (corrected (anchor_of lists.posts) b.holidays lists.posts) b.fees rows) alike.index)
   where
-    on : List CorrectedPost → List FeeRow → Sheet
-    on posts rows =
+    on : List CorrectedPost → List FeeRow → List IndexRow → Sheet
+    on posts rows index =
         let seen : ℕ → Seen = λ day. record {
           day = day;
           posts = filter (λ p. nat_le p.day day) (filter (λ p. is_folded p.post) posts);
           fees = filter (λ r. nat_le r.day day) rows;
+          index = filter (λ r. nat_le r.day day) index;
           issued = filter (λ r. nat_lt r.day day) lists.issued;
         } in
         sheet_in (account_of lists.posts) (seen c.closing) rows lists.issued issue c
@@ -312,7 +322,7 @@ sound_under s l shared one few = record {
   in_turn = one.sound.in_turn;
 }
 
--- holidays and fee rows of later days leave the accounts
+-- holidays, fee rows and index rows of later days leave the accounts
 pub accounts_later : (s : State) (old new : SharedRows) (accounts : List OpenAccount) → All (λ (x : NamedAccount). AreRunning s x.lists) (named_all accounts) → All HasFewFees new.fees
     → ((reached : ℕ) → reached ≤ s.today → AreLaterRows reached old new) → AreAccounts s.today old accounts → AreAccounts s.today new accounts
 accounts_later s old new [] all few later stand = All-nil (IsAccount s.today new)
@@ -324,7 +334,7 @@ accounts_later s old new (a ∷ rest) all few later stand =
     (accounts_later s old new rest (All-tail (λ (x : NamedAccount). AreRunning s x.lists) a.named (named_all rest) all) few later (All-tail (IsAccount s.today old) a rest stand))
 
 pub later_holidays : (today day : ℕ) (old : SharedRows) → today < day → (reached : ℕ) → reached ≤ today → AreLaterRows reached old (record old { holidays = with_holiday day old.holidays })
-later_holidays today day old later reached l = record { holidays = λ x low. sym (with_holiday-agrees reached day old.holidays (omega (arith, later, l)) x low); fees = refl }
+later_holidays today day old later reached l = record { holidays = λ x low. sym (with_holiday-agrees reached day old.holidays (omega (arith, later, l)) x low); fees = refl; index = refl }
 
 -- no row of a later day is among those up to a day
 none-later : (row : FeeRow) (reached : ℕ) → reached < row.day → filter (λ r. nat_le r.day reached) (row ∷ []) ≡ []
@@ -334,7 +344,11 @@ pub later_fees : (today : ℕ) (row : FeeRow) (old : SharedRows) → today < row
 later_fees today row old later reached l = record {
   holidays = λ x low. refl;
   fees = filter-append (λ r. nat_le r.day reached) old.fees (row ∷ []) ∙ (ap (λ rs. filter (λ r. nat_le r.day reached) old.fees ++ rs) (none-later row reached (omega (arith, later, l))) ∙ append-nil (filter (λ r. nat_le r.day reached) old.fees));
+  index = refl;
 }
+
+pub later_index : (today : ℕ) (row : IndexRow) (old : SharedRows) → today < row.day → (reached : ℕ) → reached ≤ today → AreLaterRows reached old (record old { index = with_index row old.index })
+later_index today row old later reached l = record { holidays = λ x low. refl; fees = refl; index = index-later reached row old.index (omega (arith, later, l)) }
 
 -- a later day is still not before the one last reached
 pub accounts_rolled : (today day : ℕ) (common : SharedRows) (accounts : List OpenAccount) → today ≤ day → day ≤ last_request_day → AreAccounts today common accounts → AreAccounts day common accounts

@@ -1,5 +1,5 @@
 -- A desk after a request that is newly accepted.
-use Rattle.std.proofs.Common.{◌≡◌, ℕ, ◌+◌, ◌<◌, ◌≤◌, true, List, [], ◌∷◌, ◌++◌, length, get_or, set, None, refl, ap, sym, ◌∙◌, subst, arith, length-append, append-nil, nat_eq, ◌||◌, Bool, false}
+use Rattle.std.proofs.Common.{◌≡◌, ℕ, ◌+◌, ◌<◌, ◌≤◌, true, List, [], ◌∷◌, ◌++◌, length, get_or, set, Option, None, refl, ap, sym, ◌∙◌, subst, arith, length-append, append-nil, nat_eq, ◌||◌, Bool, false}
 use Rattle.std.proofs.lemmas.Bool.{and_from, leb-false, leb-true, ltb-false, or_parts}
 use Rattle.std.proofs.lemmas.List.{get_or-map, length-set, map-append, map-set}
 use Rattle.std.proofs.Math.Seq.{map-set_same}
@@ -22,13 +22,15 @@ use Rattle.card_desk.specs.Places.{IsIndex, IsPlace, place_from}
 use Rattle.card_desk.proofs.CountLemmas.{short_pushed, short_set}
 use Rattle.card_desk.proofs.DeskLemmas.{changed_state, count_added, count_opened, count_shared, opened_state}
 use Rattle.card_desk.proofs.IndexLemmas.{index_set}
-use Rattle.card_desk.proofs.OutcomeLemmas.{open_accepted}
+use Rattle.card_desk.proofs.OutcomeLemmas.{open_accepted, opening_reason}
 use Rattle.card_desk.proofs.PlaceLemmas.{no_place}
 use Rattle.card_desk.proofs.StepLemmas.{post_step}
 use Rattle.card_desk.proofs.FoldLemmas.{shared_day}
 use Rattle.card_desk.proofs.RunLemmas.{run_more}
 use Rattle.card_events.specs.Dated.{is_dated_shared}
-use Rattle.card_events.specs.SharedRows.{FeeRow, SharedRows, fee_row_of, holiday_of, shared_rows}
+use Rattle.card_events.specs.SharedRows.{FeeRow, IndexRow, SharedRows, fee_row_of, holiday_of, index_row_of, shared_rows, with_index}
+use Rattle.card_events.specs.Money.{rate_limit}
+use Rattle.card_events.proofs.IndexRows.{index-more, with_more}
 use Rattle.card_events.specs.declared.post.Post.{Post}
 use Rattle.card_events.specs.declared.reply.Reply.{Reply}
 use Rattle.card_events.specs.declared.reply.Reply.TheVariants as reply
@@ -37,7 +39,7 @@ use Rattle.card_events.specs.declared.request.Request.TheVariants as request
 use Rattle.card_events.specs.declared.request.Shared.{Shared}
 use Rattle.card_events.specs.declared.request.Shared.TheVariants as shared
 use Rattle.card_model.specs.Machine.{Accepts, NamedAccount, State, accepted, has_accounts, is_open, kept_as, outcome_in, rolled, run_from, shared_reason, start, step, with_shared}
-use Rattle.card_model.specs.Refusals.{Lists, Present, reason_to_open, where_true}
+use Rattle.card_model.specs.Refusals.{Lists, Present, where_true}
 use Rattle.card_rows.specs.Held.{is_request, is_shared}
 
 -- one request more
@@ -64,6 +66,7 @@ same_holidays calendar rows r none same x =
     by (shared.Roll d) none = refl
     by (shared.Holiday d) none = absurd (cc)
     by (shared.FeeRow d f e) none = refl
+    by (shared.Index d e) none = refl
 
 pub same_fees : (fees : List FeeRow) (rows : List Shared) (r : Shared) → fee_row_of r ≡ None → fees ≡ (shared_rows rows).fees → fees ≡ (shared_rows (rows ++ r ∷ [])).fees
 same_fees fees rows r none same =
@@ -73,6 +76,10 @@ same_fees fees rows r none same =
     by (shared.Roll d) none = refl
     by (shared.Holiday d) none = refl
     by (shared.FeeRow d f e) none = absurd (cc)
+    by (shared.Index d e) none = refl
+
+pub same_index : (index : List IndexRow) (rows : List Shared) (r : Shared) → index_row_of r ≡ None → index ≡ (shared_rows rows).index → index ≡ (shared_rows (rows ++ r ∷ [])).index
+same_index index rows r none same = same ∙ sym (index-more rows r ∙ ap (λ (o : Option IndexRow). with_more o (shared_rows rows).index) none)
 
 is_holiday-push : (xs : List ℕ) (day x : ℕ) → (nat_eq x day || is_holiday xs x) ≡ is_holiday (xs ++ day ∷ []) x
 unfolding is_holiday
@@ -94,12 +101,18 @@ pub more_fees : (fees : List FeeRow) (rows : List Shared) (day first repeat : �
     → fees ++ record { day = day; first = first; repeat = repeat } ∷ [] ≡ (shared_rows (rows ++ shared.FeeRow day first repeat ∷ [])).fees
 more_fees fees rows day first repeat same = ap (λ (l : List FeeRow). l ++ record { day = day; first = first; repeat = repeat } ∷ []) same ∙ sym (fees_more rows (shared.FeeRow day first repeat))
 
+-- one more index row
+pub more_index : (index : List IndexRow) (rows : List Shared) (day rate : ℕ) → index ≡ (shared_rows rows).index
+    → with_index (record { day = day; rate = rate }) index ≡ (shared_rows (rows ++ shared.Index day rate ∷ [])).index
+more_index index rows day rate same = ap (with_index (record { day = day; rate = rate })) same ∙ sym (index-more rows (shared.Index day rate))
+
 -- ---- a shared request
 pub rolled_by : (today : ℕ) (r : Shared) → is_shared r ≡ true → today ≤ last_request_day → rolled today r ≤ last_request_day
 unfolding is_dated_shared
 rolled_by today (shared.Roll day) held last = leb-true day last_request_day (shared_day (shared.Roll day) held)
 rolled_by today (shared.Holiday day) held last = last
 rolled_by today (shared.FeeRow day first repeat) held last = last
+rolled_by today (shared.Index day rate) held last = last
 
 shared_step : (s : State) (r : Shared) → shared_reason s.today (has_accounts s) r ≡ None → step s (request.Shared r) ≡ with_shared s r None
 unfolding step
@@ -107,10 +120,10 @@ shared_step s r none = ap (with_shared s r) none
 
 pub shared_desk : (places : List (List ℕ × ℕ)) (common more : SharedRows) (count today : ℕ) (rows : List Shared) (accounts : List OpenAccount) (r : Shared)
     → IsDesk places common count today rows accounts → is_request (request.Shared r) ≡ true → shared_reason today (has_accounts (state_of today rows accounts)) r ≡ None
-    → AreSameHolidays more.holidays (shared_rows (rows ++ r ∷ [])).holidays → more.fees ≡ (shared_rows (rows ++ r ∷ [])).fees → AreAccounts (rolled today r) more accounts
-    → IsDesk places more (count + 1) (rolled today r) (rows ++ r ∷ []) accounts
+    → AreSameHolidays more.holidays (shared_rows (rows ++ r ∷ [])).holidays → more.fees ≡ (shared_rows (rows ++ r ∷ [])).fees
+    → more.index ≡ (shared_rows (rows ++ r ∷ [])).index → AreAccounts (rolled today r) more accounts → IsDesk places more (count + 1) (rolled today r) (rows ++ r ∷ []) accounts
 unfolding is_request
-shared_desk places common more count today rows accounts r desk held none holidays table stands =
+shared_desk places common more count today rows accounts r desk held none holidays table index_rows stands =
     let s = state_of today rows accounts in
     let t = state_of (rolled today r) (rows ++ r ∷ []) accounts in
     record {
@@ -120,6 +133,7 @@ shared_desk places common more count today rows accounts r desk held none holida
       dated = rolled_by today r held desk.dated;
       holidays = holidays;
       table = table;
+      index_rows = index_rows;
       accounts = stands;
       counted = ap (λ (n : ℕ). n + 1) desk.counted ∙ sym (count_shared s t r refl);
       ran = run_on s t (request.Shared r) (with_shared s r None).1 desk.ran held (sym (shared_step s r none));
@@ -153,8 +167,20 @@ few_fees today any day first repeat none =
     let both = or_parts (nat_lt 100000 first) (nat_lt 100000 repeat) parts.0 in
     (ltb-false 100000 first both.0, ltb-false 100000 repeat both.1)
 
+pub later_rate : (today : ℕ) (any : Bool) (day rate : ℕ) → shared_reason today any (shared.Index day rate) ≡ None → today < day
+unfolding shared_reason
+later_rate today any day rate none =
+    leb-false day today (where_none (nat_le day today) (refusal.PastRow today)
+    (none_head (where_true (nat_le day today) (refusal.PastRow today)) [] (none_tail (where_true (nat_lt rate_limit rate) refusal.AmountRange) (where_true (nat_le day today) (refusal.PastRow today) ∷ []) none)))
+
+pub small_rate : (today : ℕ) (any : Bool) (day rate : ℕ) → shared_reason today any (shared.Index day rate) ≡ None → rate ≤ rate_limit
+unfolding shared_reason
+small_rate today any day rate none =
+    ltb-false rate_limit rate (where_none (nat_lt rate_limit rate) refusal.AmountRange
+    (none_head (where_true (nat_lt rate_limit rate) refusal.AmountRange) (where_true (nat_le day today) (refusal.PastRow today) ∷ []) none))
+
 -- ---- an account that is opened
-pub opened_is : (s : State) (name key : List ℕ) (p : Post) (made : NamedAccount) → place_from name 0 s.accounts ≡ None → is_open p ≡ true → reason_to_open s.today (length s.accounts) p ≡ None
+pub opened_is : (s : State) (name key : List ℕ) (p : Post) (made : NamedAccount) → place_from name 0 s.accounts ≡ None → is_open p ≡ true → opening_reason s p ≡ None
     → made ≡ record { name = name; lists = record { posts = kept_as 1 key s.today p ∷ []; issued = [] } } → (record { today = s.today; shared = s.shared; accounts = s.accounts ++ made ∷ [] }, reply.Accepted 1) ≡ step s (request.Post name key p)
 opened_is s name key p made absent opens_is none is =
     let l : Lists = record { posts = kept_as 1 key s.today p ∷ []; issued = [] } in
@@ -164,7 +190,7 @@ opened_is s name key p made absent opens_is none is =
 
 pub opened_desk : (places more : List (List ℕ × ℕ)) (common : SharedRows) (count today : ℕ) (rows : List Shared) (accounts : List OpenAccount) (made : OpenAccount) (name key : List ℕ) (p : Post)
     → IsDesk places common count today rows accounts → is_request (request.Post name key p) ≡ true → place_from name 0 (named_all accounts) ≡ None → is_open p ≡ true
-    → reason_to_open today (length (named_all accounts)) p ≡ None → made.named ≡ record { name = name; lists = record { posts = kept_as 1 key today p ∷ []; issued = [] } }
+    → opening_reason (state_of today rows accounts) p ≡ None → made.named ≡ record { name = name; lists = record { posts = kept_as 1 key today p ∷ []; issued = [] } }
     → IsIndex more (named_all accounts ++ made.named ∷ []) → length accounts < 1000000 → IsAccount today common made → IsDesk more common (count + 1) today rows (accounts ++ made ∷ [])
 opened_desk places more common count today rows accounts made name key p desk taken absent opens_is none is index room stands =
     let s = state_of today rows accounts in
@@ -180,6 +206,7 @@ opened_desk places more common count today rows accounts made name key p desk ta
       dated = desk.dated;
       holidays = desk.holidays;
       table = desk.table;
+      index_rows = desk.index_rows;
       accounts = All-push (IsAccount today common) accounts made desk.accounts stands;
       counted = ap (λ (n : ℕ). n + 1) desk.counted ∙ sym (count_opened s t made.named refl all one);
       ran = run_on s t (request.Post name key p) (reply.Accepted 1) desk.ran taken next;
@@ -219,6 +246,7 @@ posted_desk places common count today rows accounts i a d name key p desk taken 
       dated = desk.dated;
       holidays = desk.holidays;
       table = desk.table;
+      index_rows = desk.index_rows;
       accounts = All-set (IsAccount today common) accounts i a stands desk.accounts;
       counted = ap (λ (n : ℕ). n + 1) desk.counted ∙ sym (count_added s t i a.named d.named refl all place.bound more);
       ran = run_on s t (request.Post name key p) (reply.Accepted (length a.named.lists.posts)) desk.ran taken next;
@@ -240,6 +268,7 @@ roomy_desk places common count today rows accounts i a b desk low is named stand
         dated = desk.dated;
         holidays = desk.holidays;
         table = desk.table;
+        index_rows = desk.index_rows;
         accounts = All-set (IsAccount today common) accounts i a stands desk.accounts;
         counted = desk.counted ∙ ap (λ (l : List NamedAccount). accepted_count (state l)) (sym all);
         ran = subst (λ (l : List NamedAccount). IsRun (state l)) (sym all) desk.ran;
@@ -256,6 +285,7 @@ first_desk = record {
   dated = omega arith;
   holidays = λ x. refl;
   table = refl;
+  index_rows = refl;
   accounts = All-nil (IsAccount first_calendar_day (record { holidays = []; fees = [] }));
   counted = refl;
   ran = record { requests = []; taken = refl; state_is = refl };
@@ -271,6 +301,7 @@ index_desk places less common count today rows accounts desk index = record {
   dated = desk.dated;
   holidays = desk.holidays;
   table = desk.table;
+  index_rows = desk.index_rows;
   accounts = desk.accounts;
   counted = desk.counted;
   ran = desk.ran;

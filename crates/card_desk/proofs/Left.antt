@@ -13,7 +13,7 @@ use Rattle.card_desk.specs.Desks.{IsDesk, OpenDesk, named_all, reached_all, stat
 use Rattle.card_desk.specs.Steps.{AreFewOn, AreFewToApply, AreFewToKeep, AreFewToOpen, AreFewToPost, AreFewToTell, ReachedLists, breaks_left, most_for_all, reached_at, reached_of, reached_there, steps_at, steps_left}
 use Rattle.card_desk.specs.Places.{place_from}
 use Rattle.card_events.specs.History.{CorrectedPost, anchor_of, corrected, opening_in}
-use Rattle.card_events.specs.SharedRows.{SharedRows, shared_rows}
+use Rattle.card_events.specs.SharedRows.{IndexRow, SharedRows, shared_rows}
 use Rattle.card_events.specs.declared.post.Post.{Post}
 use Rattle.card_events.specs.declared.request.Request.TheVariants as request
 use Rattle.card_events.specs.declared.request.Shared.{Shared}
@@ -53,22 +53,24 @@ no-less n m = omega arith
 pub same_steps : (today : ℕ) (lists : Lists) (a b : SharedRows) (first : ℕ) → AreAlike today lists a b → steps_over (given_of lists a) today first ≡ steps_over (given_of lists b) today first
 unfolding book_today
 same_steps today lists a b first alike =
-    ap (λ (posts : List CorrectedPost). steps_among (λ day. is_break (account_of lists.posts) posts lists.issued (book_today (present_of today a lists)).penalties day) first today) alike.posts
-    ∙ ap (λ (x : Book). steps_among (λ day. is_break (account_of lists.posts) (corrected (anchor_of lists.posts) b.holidays lists.posts) lists.issued x.penalties day) first today) alike.books
+    ap (λ (posts : List CorrectedPost). steps_among (λ day. is_break (account_of lists.posts) posts lists.issued a.index (book_today (present_of today a lists)).penalties day) first today) alike.posts
+    ∙ (ap (λ (x : Book). steps_among (λ day. is_break (account_of lists.posts) (corrected (anchor_of lists.posts) b.holidays lists.posts) lists.issued a.index x.penalties day) first today) alike.books
+    ∙ ap (λ (rows : List IndexRow). steps_among (λ day. is_break (account_of lists.posts) (corrected (anchor_of lists.posts) b.holidays lists.posts) lists.issued rows (book_today (present_of today b lists)).penalties day) first today) alike.index)
 
 -- with either of two lists
 same_either : (today : ℕ) (old new : Lists) (a b : SharedRows) (first : ℕ) → AreAlike today old a b → AreAlike today new a b
     → breaks_with (given_of old a) (given_of new a) first today ≡ breaks_with (given_of old b) (given_of new b) first today
 unfolding book_today
 same_either today old new a b first one two =
-    ap (λ (posts : List CorrectedPost). breaks_among (λ day. is_break (account_of old.posts) posts old.issued (book_today (present_of today a old)).penalties day
-    || is_break (account_of new.posts) (corrected (anchor_of new.posts) a.holidays new.posts) new.issued (book_today (present_of today a new)).penalties day) first (today + 1 - first)) one.posts
-    ∙ (ap (λ (x : Book). breaks_among (λ day. is_break (account_of old.posts) (corrected (anchor_of old.posts) b.holidays old.posts) old.issued x.penalties day
-    || is_break (account_of new.posts) (corrected (anchor_of new.posts) a.holidays new.posts) new.issued (book_today (present_of today a new)).penalties day) first (today + 1 - first)) one.books
-    ∙ (ap (λ (posts : List CorrectedPost). breaks_among (λ day. is_break (account_of old.posts) (corrected (anchor_of old.posts) b.holidays old.posts) old.issued (book_today (present_of today b old)).penalties day
-    || is_break (account_of new.posts) posts new.issued (book_today (present_of today a new)).penalties day) first (today + 1 - first)) two.posts
-    ∙ ap (λ (x : Book). breaks_among (λ day. is_break (account_of old.posts) (corrected (anchor_of old.posts) b.holidays old.posts) old.issued (book_today (present_of today b old)).penalties day
-    || is_break (account_of new.posts) (corrected (anchor_of new.posts) b.holidays new.posts) new.issued x.penalties day) first (today + 1 - first)) two.books))
+    ap (λ (posts : List CorrectedPost). between posts (corrected (anchor_of new.posts) a.holidays new.posts) a.index (book_today (present_of today a old)) (book_today (present_of today a new))) one.posts
+    ∙ (ap (λ (x : Book). between (corrected (anchor_of old.posts) b.holidays old.posts) (corrected (anchor_of new.posts) a.holidays new.posts) a.index x (book_today (present_of today a new))) one.books
+    ∙ (ap (λ (posts : List CorrectedPost). between (corrected (anchor_of old.posts) b.holidays old.posts) posts a.index (book_today (present_of today b old)) (book_today (present_of today a new))) two.posts
+    ∙ (ap (λ (x : Book). between (corrected (anchor_of old.posts) b.holidays old.posts) (corrected (anchor_of new.posts) b.holidays new.posts) a.index (book_today (present_of today b old)) x) two.books
+    ∙ ap (λ (rows : List IndexRow). between (corrected (anchor_of old.posts) b.holidays old.posts) (corrected (anchor_of new.posts) b.holidays new.posts) rows (book_today (present_of today b old)) (book_today (present_of today b new))) one.index)))
+  where
+    between : List CorrectedPost → List CorrectedPost → List IndexRow → Book → Book → ℕ
+    between these those rows x y =
+        breaks_among (λ day. is_break (account_of old.posts) these old.issued rows x.penalties day || is_break (account_of new.posts) those new.issued rows y.penalties day) first (today + 1 - first)
 
 -- the first day that differs is one under both
 pub same_first : (today : ℕ) (old new : Lists) (a b : SharedRows) (from : ℕ) → AreAlike today old a b → AreAlike today new a b → IsFirstBetween b old new from → IsFirstBetween a old new from

@@ -55,7 +55,7 @@ key_count now key p None l is = judged_count now key p (is_open p) (reason_again
 -- an accepted post is one more
 pub outcome_count : (today : ℕ) (rows : List Shared) (n : ℕ) (key : List ℕ) (p : Post) (lists : Option Lists) (l : Lists) → outcome today rows n key p lists ≡ Accepts l → length l.posts ≡ posts_of lists + 1
 unfolding outcome
-outcome_count today rows n key p None l is = opened_count key today p (is_open p) (reason_to_open today n p) l is
+outcome_count today rows n key p None l is = opened_count key today p (is_open p) (reason_to_open today n (shared_rows rows) p) l is
 outcome_count today rows n key p (Some lists) l is = key_count (record { today = today; shared = shared_rows rows; lists = lists }) key p (with_key key lists.posts) l is
 
 -- ---- steps

@@ -167,7 +167,7 @@ posted-moves places common count today rows accounts i a x b d name key p desk v
     let stays = stays-told today common b x (account_at places common count today rows accounts i b desk low is) told in
     let own = subst (λ (n : NamedAccount). StaysNear today common n.lists new x.folding.reached a.folding.reached) told.named near in
     let one = subst (λ (y : OpenAccount). AreAlike today y.named.lists common (shared_rows rows)) (sym is) (alike_at places common count today rows accounts i b desk low) in
-    let two = alike_run s new common running desk.holidays desk.table in
+    let two = alike_run s new common running desk.holidays desk.table desk.index_rows in
     let same = near-same today b.named.lists new common (shared_rows rows) b.folding.reached a.folding.reached one two (then-near today common b.named.lists new b.folding.reached x.folding.reached a.folding.reached stays.forward own) in
     let there = subst (λ (y : ReachedLists). IsDayAfter s y (Accepts new) a.folding.reached) (sym (there_is rows today accounts i b low is)) same in
     let by = subst (λ (o : Outcome). IsDayAfter s (reached_there here i) o a.folding.reached) (sym accepts) there in

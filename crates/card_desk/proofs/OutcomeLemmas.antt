@@ -1,15 +1,15 @@
 -- What a post comes to, for an account that is there and for one that isn't.
 use Rattle.std.proofs.Common.{◌≡◌, ℕ, Bool, true, false, List, [], ◌∷◌, length, Option, Some, None, refl, ap, ◌∙◌}
-use Rattle.std.specs.Prelude.{if◌then◌else◌}
+use Rattle.std.specs.Prelude.{if◌then◌else◌, nat_le}
 use Rattle.card_desk.specs.Desks.{now_of}
 use Rattle.card_events.specs.Keys.{with_key}
+use Rattle.card_events.specs.SharedRows.{SharedRows, shared_rows}
 use Rattle.card_events.specs.declared.post.Post.{Post}
 use Rattle.card_events.specs.declared.post.Post.TheVariants as post
-use Rattle.card_events.specs.declared.post.Terms.{Terms}
 use Rattle.card_events.specs.declared.reply.Refusal.{Refusal}
 use Rattle.card_events.specs.declared.reply.Refusal.TheVariants as refusal
 use Rattle.card_model.specs.Machine.{State, Outcome, Refuses, Repeats, Accepts, lists_of, outcome, outcome_in, at_key, judged, accepted, kept_as, is_open, is_repeat_of, opened}
-use Rattle.card_model.specs.Refusals.{Lists, Present, reason_against, reason_to_open}
+use Rattle.card_model.specs.Refusals.{Lists, Present, bad_terms, day_ahead, first_reason, no_index, reason_against, reason_to_open, where_true}
 use Rattle.card_events.specs.History.{at_number}
 use Rattle.card_account.specs.Verdicts.{verdict_of}
 use Rattle.card_account.specs.declared.verdict.Verdict.TheVariants as verdict
@@ -20,28 +20,35 @@ unfolding outcome
 known_outcome s name key p lists is = ap (outcome s.today s.shared (length s.accounts) key p) is
 
 -- ---- accounts that aren't there
-pub open_refused : (s : State) (name key : List ℕ) (day : ℕ) (t : Terms) (r : Refusal) → lists_of name s.accounts ≡ None → reason_to_open s.today (length s.accounts) (post.Open day t) ≡ Some r
-    → outcome_in s name key (post.Open day t) ≡ Refuses r
-unfolding outcome
-open_refused s name key day t r absent is = ap (outcome s.today s.shared (length s.accounts) key (post.Open day t)) absent ∙ ap (opened key s.today (post.Open day t)) is
+-- the reason against an opening, by the rows that a state has
+abbrev pub opening_reason : State → Post → Option Refusal
+opening_reason s p = reason_to_open s.today (length s.accounts) (shared_rows s.shared) p
 
-pub open_accepted : (s : State) (name key : List ℕ) (p : Post) → lists_of name s.accounts ≡ None → is_open p ≡ true → reason_to_open s.today (length s.accounts) p ≡ None
+-- it reads the index alone of the shared rows
+pub reason_under : (today accounts : ℕ) (a b : SharedRows) (p : Post) → a.index ≡ b.index → reason_to_open today accounts a p ≡ reason_to_open today accounts b p
+unfolding reason_to_open
+reason_under today accounts a b p same =
+    ap (λ rows. first_reason (bad_terms p ∷ day_ahead today p ∷ no_index rows p ∷ where_true (nat_le 1000000 accounts) refusal.LedgerFull ∷ [])) same
+
+pub open_refused : (s : State) (name key : List ℕ) (p : Post) (r : Refusal) → lists_of name s.accounts ≡ None → is_open p ≡ true → opening_reason s p ≡ Some r → outcome_in s name key p ≡ Refuses r
+unfolding outcome
+open_refused s name key p r absent opens is =
+    ap (outcome s.today s.shared (length s.accounts) key p) absent
+    ∙ ap (λ (b : Bool). if b then opened key s.today p (opening_reason s p) else Refuses refusal.UnknownAccount) opens ∙ ap (opened key s.today p) is
+
+pub open_accepted : (s : State) (name key : List ℕ) (p : Post) → lists_of name s.accounts ≡ None → is_open p ≡ true → opening_reason s p ≡ None
     → outcome_in s name key p ≡ Accepts (record { posts = kept_as 1 key s.today p ∷ []; issued = [] })
 unfolding outcome
 open_accepted s name key p absent opens is =
     ap (outcome s.today s.shared (length s.accounts) key p) absent
-    ∙ ap (λ (b : Bool). if b then opened key s.today p (reason_to_open s.today (length s.accounts) p) else Refuses refusal.UnknownAccount) opens ∙ ap (opened key s.today p) is
+    ∙ ap (λ (b : Bool). if b then opened key s.today p (opening_reason s p) else Refuses refusal.UnknownAccount) opens ∙ ap (opened key s.today p) is
 
-not_open : (p : Post) → ((day : ℕ) (t : Terms) → p ≡ post.Open day t → ⊥) → is_open p ≡ false
-not_open (post.Open day t) other = absurd (other day t refl)
-not_open _ other = refl
-
-pub unknown_refused : (s : State) (name key : List ℕ) (p : Post) → lists_of name s.accounts ≡ None → ((day : ℕ) (t : Terms) → p ≡ post.Open day t → ⊥)
+pub unknown_refused : (s : State) (name key : List ℕ) (p : Post) → lists_of name s.accounts ≡ None → is_open p ≡ false
     → outcome_in s name key p ≡ Refuses refusal.UnknownAccount
 unfolding outcome
 unknown_refused s name key p absent other =
     ap (outcome s.today s.shared (length s.accounts) key p) absent
-    ∙ ap (λ (b : Bool). if b then opened key s.today p (reason_to_open s.today (length s.accounts) p) else Refuses refusal.UnknownAccount) (not_open p other)
+    ∙ ap (λ (b : Bool). if b then opened key s.today p (opening_reason s p) else Refuses refusal.UnknownAccount) other
 
 -- ---- accounts that are there
 new_by_reason : (now : Present) (key : List ℕ) (p : Post) (r : Option Refusal) → verdict.New ≡ verdict_of (judged now key p r) → judged now key p r ≡ Accepts (accepted now key p)

@@ -10,7 +10,7 @@ use Rattle.card_daily.specs.Given.{IsSound}
 use Rattle.card_desk.proofs.FoldLemmas.{accepted_in, alike_at, alike_run, all_running, sound_under}
 use Rattle.card_desk.proofs.KeptLemmas.{opened_is, posted_is, run_on}
 use Rattle.card_desk.proofs.Left.{few_to_keep, few_to_open, there_is}
-use Rattle.card_desk.proofs.OutcomeLemmas.{open_accepted}
+use Rattle.card_desk.proofs.OutcomeLemmas.{open_accepted, opening_reason}
 use Rattle.card_desk.proofs.PlaceLemmas.{no_place}
 use Rattle.card_desk.specs.Desks.{IsDesk, IsRun, OpenDesk, named_all, now_of, reached_all, state_of}
 use Rattle.card_desk.specs.Places.{IsPlace, place_from}
@@ -23,7 +23,7 @@ use Rattle.card_events.specs.declared.request.Request.TheVariants as request
 use Rattle.card_events.specs.declared.request.Shared.{Shared}
 use Rattle.card_model.specs.Accepted.{HasFewFees}
 use Rattle.card_model.specs.Machine.{Accepts, NamedAccount, State, accepted, is_open, outcome_in, step}
-use Rattle.card_model.specs.Refusals.{Lists, reason_to_open}
+use Rattle.card_model.specs.Refusals.{Lists}
 use Rattle.card_reasons.proofs.SameReasons.{AreAlike}
 use Rattle.card_replay.specs.Replays.{given_of, opened_lists, present_of}
 use Rattle.card_replay.specs.Steps.{AreFewToPrepare}
@@ -35,7 +35,7 @@ all-last P [] x h = All-head P x [] h
 all-last P (y ∷ ys) x h = all-last P ys x (All-tail P y (ys ++ x ∷ []) h)
 
 opened_running : (s : State) (name key : List ℕ) (p : Post) → IsRun s → is_request (request.Post name key p) ≡ true → place_from name 0 s.accounts ≡ None → is_open p ≡ true
-    → reason_to_open s.today (length s.accounts) p ≡ None → AreRunning s (opened_lists key s.today p)
+    → opening_reason s p ≡ None → AreRunning s (opened_lists key s.today p)
 opened_running s name key p ran taken absent opens none =
     let made : NamedAccount = record { name = name; lists = opened_lists key s.today p } in
     let t : State = record { today = s.today; shared = s.shared; accounts = s.accounts ++ made ∷ [] } in
@@ -46,10 +46,10 @@ opened_running s name key p ran taken absent opens none =
 -- of a desk, with the post's conditions said of its state
 pub opened_is_running : (places : List (List ℕ × ℕ)) (common : SharedRows) (count today : ℕ) (rows : List Shared) (accounts : List OpenAccount) (s : State) (name key : List ℕ) (p : Post)
     → IsDesk places common count today rows accounts → state_of today rows accounts ≡ s → is_request (request.Post name key p) ≡ true → place_from name 0 s.accounts ≡ None → is_open p ≡ true
-    → reason_to_open s.today (length s.accounts) p ≡ None → AreRunning (state_of today rows accounts) (opened_lists key today p)
+    → opening_reason s p ≡ None → AreRunning (state_of today rows accounts) (opened_lists key today p)
 opened_is_running places common count today rows accounts s name key p desk state taken absent opens none =
     opened_running (state_of today rows accounts) name key p desk.ran taken (ap (λ (x : State). place_from name 0 x.accounts) state ∙ absent) opens
-    (ap (λ (x : State). reason_to_open x.today (length x.accounts) p) state ∙ none)
+    (ap (λ (x : State). opening_reason x p) state ∙ none)
 
 -- so its fold may begin
 pub opened_sound : (places : List (List ℕ × ℕ)) (common : SharedRows) (count today : ℕ) (rows : List Shared) (accounts : List OpenAccount) (l : Lists)
@@ -60,16 +60,16 @@ opened_sound places common count today rows accounts l desk one =
 -- and its steps are few
 pub few_opened : (places : List (List ℕ × ℕ)) (common : SharedRows) (count today : ℕ) (rows : List Shared) (accounts : List OpenAccount) (s : State) (name key : List ℕ) (p : Post) (before after : ℕ)
     → IsDesk places common count today rows accounts → state_of today rows accounts ≡ s → is_request (request.Post name key p) ≡ true → place_from name 0 s.accounts ≡ None → is_open p ≡ true
-    → reason_to_open s.today (length s.accounts) p ≡ None → after ≤ before + steps_over (given_of (opened_lists key today p) common) today (opening_in p)
+    → opening_reason s p ≡ None → after ≤ before + steps_over (given_of (opened_lists key today p) common) today (opening_in p)
     → AreFewToOpen s p (outcome_in s name key p) before after
 few_opened places common count today rows accounts s name key p before after desk state taken absent opens none l =
     let t = state_of today rows accounts in
     let one = opened_is_running places common count today rows accounts s name key p desk state taken absent opens none in
     let gone = ap (λ (x : State). place_from name 0 x.accounts) state ∙ absent in
-    let fine = ap (λ (x : State). reason_to_open x.today (length x.accounts) p) state ∙ none in
+    let fine = ap (λ (x : State). opening_reason x p) state ∙ none in
     let outcome = open_accepted t name key p (no_place name 0 t.accounts gone).0 opens fine in
     subst (λ (x : State). AreFewToOpen x p (outcome_in x name key p) before after) state
-    (few_to_open t p (outcome_in t name key p) (opened_lists key today p) common before after outcome (alike_run t (opened_lists key today p) common one desk.holidays desk.table) l)
+    (few_to_open t p (outcome_in t name key p) (opened_lists key today p) common before after outcome (alike_run t (opened_lists key today p) common one desk.holidays desk.table desk.index_rows) l)
 
 -- ---- an account with one post more
 posted_running : (s : State) (name key : List ℕ) (p : Post) (i : ℕ) (l : Lists) (d : NamedAccount) → IsRun s → is_request (request.Post name key p) ≡ true → IsPlace name s.accounts i
@@ -109,4 +109,4 @@ few_posted places common count today rows accounts i b d name key p before after
     let alike = subst (λ (x : OpenAccount). AreAlike today x.named.lists common (shared_rows rows)) (sym is) (alike_at places common count today rows accounts i b desk low) in
     subst (λ (x : OpenDesk). AreFewToKeep x.state (reached_at x (Some i)) (outcome_in x.state name key p) before after) view
     (few_to_keep (record { state = s; reached = reached_all accounts }) i (outcome_in s name key p) here (accepted (present_of today common b.named.lists) key p) common before after
-    (there_is rows today accounts i b low is) accepts alike (alike_run s (accepted (present_of today common b.named.lists) key p) common one desk.holidays desk.table) few)
+    (there_is rows today accounts i b low is) accepts alike (alike_run s (accepted (present_of today common b.named.lists) key p) common one desk.holidays desk.table desk.index_rows) few)

@@ -60,6 +60,7 @@ worked_desk places common count today rows xs ys desk told =
       dated = desk.dated;
       holidays = desk.holidays;
       table = desk.table;
+      index_rows = desk.index_rows;
       accounts = all-told today common xs ys told;
       counted = desk.counted ∙ ap (λ (l : List NamedAccount). accepted_count (state l)) (sym all);
       ran = subst (λ (l : List NamedAccount). IsRun (state l)) (sym all) desk.ran;

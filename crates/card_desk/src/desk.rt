@@ -10,7 +10,9 @@ use crate::keep::keep_row;
 use crate::row::row_of;
 use crate::share::{load, loaded, rolled, shared_reason};
 use crate::{Ask, Fault, View};
-use card_account::{Account, EntryList, Owing, Statement, Tasks, Verdict, open_reason, work_today};
+use card_account::{
+    Account, EntryList, Owing, Statement, Tasks, Verdict, is_open, open_reason, work_today,
+};
 use card_events::{Day, Name, NoMemory, Num, Post, Refusal, Reply, Request, Shared, Steps};
 use card_fees::SharedRows;
 use card_ports::{Keeper, Row};
@@ -48,7 +50,7 @@ impl Desk {
     ghost use Rattle.card_account.specs.Entries.{entries_today};
     ghost use Rattle.card_account.specs.Verdicts.{verdict_of};
     ghost use Rattle.card_events.specs.Keys.{with_key};
-    ghost use Rattle.card_events.specs.SharedRows.{SharedRows};
+    ghost use Rattle.card_events.specs.SharedRows.{SharedRows, shared_rows};
     ghost use Rattle.card_rows.specs.Held.{is_request};
     ghost use Rattle.card_desk.specs.Desks.{now_at};
     ghost use Rattle.card_events.specs.Billing.{IsCloseDay};
@@ -149,7 +151,7 @@ impl Desk {
         }
     }
 
-    // Keeps the row of an Open, and opens the account.
+    // Keeps the row of an opening, and opens the account.
     fn keep_open<K: Keeper, L: Ledger>(
         &mut self,
         alloc: Global,
@@ -166,7 +168,7 @@ impl Desk {
         requires asked { IsAsked (K.rows keeper.old) self.old.state request.now }
         requires absent { place_from account.now 0 self.old.state.accounts ≡ None }
         requires room { length self.old.state.accounts < 1_000_000 }
-        requires no_reason { reason_to_open self.old.state.today (length self.old.state.accounts) post.now ≡ None }
+        requires no_reason { reason_to_open self.old.state.today (length self.old.state.accounts) (shared_rows self.old.state.shared) post.now ≡ None }
         ensures carried { Carried (K.rows keeper.old) (K.rows keeper.new) (K.faults keeper.old) (K.faults keeper.new) self.old.state request.now self.new.state result }
         ensures reached { MovesOn None (outcome_in self.old.state account.now key.now post.now) result self.old self.new }
         ensures most { AreFewToOpen self.old.state post.now (outcome_in self.old.state account.now key.now post.now) steps.old steps.new }
@@ -209,14 +211,12 @@ impl Desk {
         ensures reached { MovesOn None (outcome_in self.old.state account.now key.now post.now) result self.old self.new }
         ensures most { AreFewToOpen self.old.state post.now (outcome_in self.old.state account.now key.now post.now) steps.old steps.new }
     {
-        match post {
-            Post::Open { day, terms } => {
-                match open_reason(self.today, self.accounts.len(), *day, terms) {
-                    Some(refusal) => Ok(Reply::Refused(refusal)),
-                    None => self.keep_open(alloc, keeper, request, account, key, post, steps),
-                }
-            }
-            _ => Ok(Reply::Refused(Refusal::UnknownAccount)),
+        if !is_open(post) {
+            return Ok(Reply::Refused(Refusal::UnknownAccount));
+        }
+        match open_reason(self.today, self.accounts.len(), &self.common, post) {
+            Some(refusal) => Ok(Reply::Refused(refusal)),
+            None => self.keep_open(alloc, keeper, request, account, key, post, steps),
         }
     }
 

@@ -4,7 +4,7 @@ ghost use Rattle.card_model.specs.Machine.{rolled, shared_reason};
 ghost use Rattle.card_desk.specs.Shares.{IsLoadable, loaded};
 
 use card_events::{Day, NoMemory, Refusal, Shared};
-use card_fees::{SharedRows, fees_reason, holiday_reason, roll_reason};
+use card_fees::{SharedRows, fees_reason, holiday_reason, index_reason, roll_reason};
 use std::alloc::Global;
 
 /// Why a shared request isn't accepted today, where so many accounts exist.
@@ -15,6 +15,7 @@ pub fn shared_reason(today: Day, accounts: usize, shared: &Shared) -> Option<Ref
         Shared::Roll(day) => roll_reason(today, accounts, *day),
         Shared::Holiday(day) => holiday_reason(today, *day),
         Shared::FeeRow { day, first, repeat } => fees_reason(today, *day, *first, *repeat),
+        Shared::Index { day, rate } => index_reason(today, *day, *rate),
     }
 }
 
@@ -26,6 +27,7 @@ pub fn rolled(today: Day, shared: &Shared) -> Day
         Shared::Roll(day) => *day,
         Shared::Holiday(_) => today,
         Shared::FeeRow { .. } => today,
+        Shared::Index { .. } => today,
     }
 }
 
@@ -44,6 +46,7 @@ pub fn loaded(
         Shared::FeeRow { day, first, repeat } => {
             Ok(Some(common.with_fees(alloc, *day, *first, *repeat)?))
         }
+        Shared::Index { day, rate } => Ok(Some(common.with_index(alloc, *day, *rate)?)),
     }
 }
 

@@ -4,7 +4,7 @@ use Rattle.std.specs.Prelude.{not, nat_lt, nat_le, pos}
 use Rattle.std.specs.List.{filter}
 use Rattle.std.specs.Option.{option_or}
 use Rattle.card_events.specs.History.{CorrectedPost, anchor_of, corrected, is_folded}
-use Rattle.card_events.specs.SharedRows.{FeeRow, SharedRows}
+use Rattle.card_events.specs.SharedRows.{FeeRow, IndexRow, SharedRows}
 use Rattle.card_events.specs.declared.post.Finding.{Finding}
 use Rattle.card_events.specs.declared.post.Post.{Post}
 use Rattle.card_events.specs.declared.post.Post.TheVariants as post
@@ -29,17 +29,21 @@ pub record AreAlike (today : ℕ) (l : Lists) (a b : SharedRows) : Type 0 where
   pub posts : corrected (anchor_of l.posts) a.holidays l.posts ≡ corrected (anchor_of l.posts) b.holidays l.posts
   pub books : book_today (present today a l) ≡ book_today (present today b l)
   pub fees : a.fees ≡ b.fees
+  pub index : a.index ≡ b.index
 
 -- ---- the reasons that read them
 seen_same : (today : ℕ) (l : Lists) (a b : SharedRows) → AreAlike today l a b → seen_today (present today a l) ≡ seen_today (present today b l)
 seen_same today l a b alike =
-    let seen : List CorrectedPost → List FeeRow → Seen = λ posts fees. record {
+    let seen : List CorrectedPost → List FeeRow → List IndexRow → Seen = λ posts fees index. record {
       day = today;
       posts = filter (λ p. nat_le p.day today) (filter (λ p. is_folded p.post) posts);
       fees = filter (λ r. nat_le r.day today) fees;
+      index = filter (λ r. nat_le r.day today) index;
       issued = filter (λ r. nat_lt r.day today) l.issued;
     } in
-    ap (λ (posts : List CorrectedPost). seen posts a.fees) alike.posts ∙ ap (λ (fees : List FeeRow). seen (corrected (anchor_of l.posts) b.holidays l.posts) fees) alike.fees
+    ap (λ (posts : List CorrectedPost). seen posts a.fees a.index) alike.posts
+    ∙ (ap (λ (fees : List FeeRow). seen (corrected (anchor_of l.posts) b.holidays l.posts) fees a.index) alike.fees
+    ∙ ap (λ (index : List IndexRow). seen (corrected (anchor_of l.posts) b.holidays l.posts) b.fees index) alike.index)
 
 late_same : (today : ℕ) (l : Lists) (a b : SharedRows) (d t c : ℕ) → AreAlike today l a b → Refusals.dispute_late (present today a l) (post.Dispute d t c) ≡ Refusals.dispute_late (present today b l) (post.Dispute d t c)
 unfolding Refusals.dispute_late

@@ -5,7 +5,7 @@ use Rattle.std.specs.List.{filter}
 use Rattle.std.proofs.lemmas.Bool.{leb-true, leb-false}
 use Rattle.std.proofs.lemmas.List.Elements.{All-nil}
 use Rattle.card_events.specs.History.{CorrectedPost, anchor_of}
-use Rattle.card_events.specs.SharedRows.{FeeRow, SharedRows}
+use Rattle.card_events.specs.SharedRows.{FeeRow, IndexRow, SharedRows}
 use Rattle.card_events.specs.declared.kept.Kept.{Kept}
 use Rattle.card_model.specs.CycleDays.{IsOpening}
 use Rattle.card_model.specs.Cycles.{Cycle}
@@ -45,8 +45,10 @@ pub agree-earlier : (old new : SharedRows) (history later : List Kept) (x d : �
 agree-earlier old new history later x d l h = record {
   anchor = h.anchor;
   terms = h.terms;
+  variable = h.variable;
   posts = sym (one-filter (λ (p : CorrectedPost). p.day) x d l _) ∙ (ap (filter (λ (p : CorrectedPost). nat_le p.day x)) h.posts ∙ one-filter (λ (p : CorrectedPost). p.day) x d l _);
   fees = sym (one-filter (λ (r : FeeRow). r.day) x d l new.fees) ∙ (ap (filter (λ (r : FeeRow). nat_le r.day x)) h.fees ∙ one-filter (λ (r : FeeRow). r.day) x d l old.fees);
+  index = sym (one-filter (λ (r : IndexRow). r.day) x d l new.index) ∙ (ap (λ is. filter (λ (r : IndexRow). nat_le r.day x) is) h.index ∙ one-filter (λ (r : IndexRow). r.day) x d l old.index);
 }
 
 -- an account that is opened has a post
@@ -60,7 +62,7 @@ rows-on : (old new : SharedRows) (r : Replay) (day : ℕ) (f : Folding) → IsRe
 rows-on old new r day f h accepted rows within stood folding =
     let was = given_of r.lists old in
     let now = given_of r.lists new in
-    let agree = later_rows_agree r.lists.posts old new day day h.timely accepted rows.holidays rows.fees in
+    let agree = later_rows_agree r.lists.posts old new day day h.timely accepted rows.holidays rows.fees rows.index in
     let there = agree-earlier old new r.lists.posts r.lists.posts f.reached day within agree in
     let continues : Continues was now (Some f.reached) = agreement_goes_on was now f.reached refl there in
     let rates : HaveSameRates was now = rates_go_on was now [] (sym (append-nil r.lists.posts)) (some-posts r.lists.posts h.sound.opening) (All-nil (λ (k : Kept). sets_rates k.post ≡ false)) in

@@ -1,6 +1,6 @@
 -- Folding on, closing by closing: where it begins, and its steps.
 use Rattle.std.proofs.Common.{◌≡◌, inr, ℕ, zero, suc, ◌+◌, ◌-◌, ◌≤◌, Bool, true, false, ◌&&◌, ◌||◌, nat_le, [], refl, sym, subst, arith, Some, None, eq-eqb}
-use Rattle.std.specs.Prelude.{◌==◌}
+use Rattle.std.specs.Prelude.{◌==◌, nat_lt}
 use Rattle.std.specs.List.{list_any}
 use Rattle.std.proofs.lemmas.Bool.{le-leb}
 use Rattle.std.proofs.lemmas.List.Elements.{All-nil}
@@ -8,6 +8,7 @@ use Rattle.card_events.specs.Business.{is_due}
 use Rattle.card_events.specs.Civil.{day_of_month}
 use Rattle.card_events.specs.Range.{last_request_day}
 use Rattle.card_events.specs.History.{CorrectedPost, anchor_of, corrected}
+use Rattle.card_events.specs.SharedRows.{IndexRow}
 use Rattle.card_model.specs.Breaks.{breaks_penalty, breaks_segment, is_break}
 use Rattle.card_model.specs.Cycles.{Cycle, IssuedRow}
 use Rattle.card_model.specs.CycleDays.{IsOpening}
@@ -48,9 +49,9 @@ pub none-recorded : (p : Past) → IsEmpty p → IsBlank p.track
 none-recorded p e = record { entries = e.entries; cycles = e.cycles; fees = e.fees }
 
 -- ---- a closing is a break day
-closes-anyway : (p d i s q : Bool) → (p || true || d || i || s || q) ≡ true
-closes-anyway true d i s q = refl
-closes-anyway false d i s q = refl
+closes-anyway : (p d i s q x : Bool) → (p || true || d || i || s || q || x) ≡ true
+closes-anyway true d i s q x = refl
+closes-anyway false d i s q x = refl
 
 pub closing-breaks : (g : Given) (to day : ℕ) → opened_in g ≤ day → day_of_month day ≡ (anchor_of g.history).close_day → breaks_of g to day ≡ true
 unfolding is_break
@@ -62,10 +63,11 @@ closing-breaks g to day low e =
     let rows = list_any (λ (r : IssuedRow). r.day == day) g.issued in
     let parts = list_any (breaks_segment day) (segments a (account_in g).terms all) in
     let rates = list_any (breaks_penalty day) (book_on g to).penalties in
+    let index = (account_in g).variable && nat_lt a.opened day && list_any (λ (r : IndexRow). r.day == day) g.shared.index in
     let begun : nat_le a.opened day ≡ true = le-leb a.opened day low in
     let on : (day_of_month day == a.close_day) ≡ true = eq-eqb (day_of_month day) a.close_day e in
     let closes : nat_le a.opened day && (day_of_month day == a.close_day) ≡ true = rw (begun, on) refl in
-    subst (λ b. (posts || b || due || rows || parts || rates) ≡ true) (sym closes) (closes-anyway posts due rows parts rates)
+    subst (λ b. (posts || b || due || rows || parts || rates || index) ≡ true) (sym closes) (closes-anyway posts due rows parts rates index)
 
 -- so folding to it, and then on, takes the steps of the whole
 pub steps-on : (g : Given) (first day to before mid : ℕ) → IsOpening (anchor_of g.history) → opened_in g ≤ day → day_of_month day ≡ (anchor_of g.history).close_day → first ≤ day + 1 → day ≤ to → to ≤ last_request_day

@@ -167,12 +167,12 @@ impl Replay {
     }
 
     // Makes room for one more post with its statement.
-    fn make_room(&mut self) -> Result<(), NoMemory>
+    fn make_room(&mut self, alloc: Global) -> Result<(), NoMemory>
         ensures same { SameLists self.old self.new }
         ensures folding { self.new.folding ≡ self.old.folding }
         ensures room { OnOk result (self.new.has_room ≡ true) }
     {
-        self.posts.make_room()?;
+        self.posts.make_room(alloc)?;
         self.issued.reserve(1)?;
         self.has_room = true;
         Ok(())
@@ -394,7 +394,7 @@ impl Replay {
     {
         self.reach_for(alloc, post, today, shared, steps)?;
         let issued = self.issued_today(alloc, post, today, shared)?;
-        self.make_room()?;
+        self.make_room(alloc)?;
         let rewound = self.rewound(alloc, &key, post, today, shared, steps)?;
         Ok(Change {
             key,

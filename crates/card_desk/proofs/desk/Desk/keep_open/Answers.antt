@@ -5,7 +5,7 @@ use Rattle.card_events.specs.declared.reply.Reply.TheVariants as reply
 use Rattle.card_events.specs.declared.request.Request.{Request}
 use Rattle.card_events.specs.declared.request.Request.TheVariants as request
 use Rattle.card_model.specs.Machine.{State, NamedAccount, kept_as, outcome_in}
-use Rattle.card_model.specs.Refusals.{Lists, reason_to_open}
+use Rattle.card_model.specs.Refusals.{Lists}
 use Rattle.card_desk.specs.Applied.{Steps}
 use Rattle.card_desk.specs.Desks.{IsDesk, named_all, state_of}
 use Rattle.card_desk.specs.Kept.{row_of, accepted_count}
@@ -15,7 +15,7 @@ use Rattle.card_desk.proofs.IndexLemmas.{index_back, index_pushed}
 use Rattle.card_desk.specs.IndexPlaces.{Places}
 use Rattle.card_desk.proofs.KeptLemmas.{index_desk, opened_desk}
 use Rattle.card_desk.proofs.Left.{none_to_open}
-use Rattle.card_desk.proofs.OutcomeLemmas.{open_accepted}
+use Rattle.card_desk.proofs.OutcomeLemmas.{open_accepted, opening_reason}
 use Rattle.card_desk.proofs.Running.{few_opened, opened_is_running, opened_sound}
 use Rattle.card_replay.specs.Replays.{opened_lists}
 use Rattle.card_desk.proofs.PlaceLemmas.{no_place}
@@ -41,7 +41,7 @@ invariant_of-self-in-Ok g c =
     c.in_ok-made.ensures.named ∙ ap (λ (n : List ℕ). record { name = n; lists = record { posts = kept_as 1 key d.today p ∷ []; issued = [] } }) c.in_ok-name.ensures in
     let name_is : made.named.name ≡ name = ap (λ (a : NamedAccount). a.name) made_is in
     let absent : place_from name 0 (named_all items) ≡ None = ap (λ (x : State). place_from name 0 x.accounts) (state_by _ _ c.self.view_is) ∙ c.requires.absent in
-    let none = ap (λ (x : State). reason_to_open x.today (length x.accounts) p) (state_by _ _ c.self.view_is) ∙ c.requires.no_reason in
+    let none = ap (λ (x : State). opening_reason x p) (state_by _ _ c.self.view_is) ∙ c.requires.no_reason in
     let long : length (named_all items) ≡ length items = length-map items (λ (x : OpenAccount). x.named) in
     let place : c.len-place.result ≡ length (named_all items) = c.len-place.ensures ∙ c.reserve.new.self.ok.0 ∙ ap (λ l. length l) c.in_ok-reserve.ensures.items ∙ sym long in
     let room : length items < 1000000 = omega (arith, c.requires.room, ap (λ (x : State). length x.accounts) (state_by _ _ c.self.view_is), long) in
