@@ -81,7 +81,7 @@ unfolding everything
 no-penalties n key accepted = refl
 
 abbrev pub breaks_by : Given → List Interval → ℕ → Bool
-breaks_by g penalties = is_break (account_in g) (corrected (anchor_of g.history) g.shared.holidays g.history) g.issued penalties
+breaks_by g penalties = is_break (account_in g) (corrected (anchor_of g.history) g.shared.holidays g.history) g.issued g.shared.index penalties
 
 abbrev steps_with : ℕ → Given → List Interval → ℕ
 steps_with first g penalties = steps_among (breaks_by g penalties) first 19792

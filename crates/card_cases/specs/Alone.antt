@@ -21,7 +21,7 @@ pub record IsAlone (history : List Kept) : Type 0 where
 
 -- no holiday and no fee row
 abbrev pub no_rows : SharedRows
-no_rows = record { holidays = []; fees = [] }
+no_rows = record { holidays = []; fees = []; index = [] }
 
 -- what its fold is given: no issued statement, no holiday and no fee row
 abbrev pub given_alone : List Kept → Given

@@ -100,7 +100,7 @@ fn push(
     assert!(rt; target_of(&post) <= u64::from(posts.len()));
     let first = opened(posts).expect(rt, "an opening");
     assert!(rt; is_received(first, accepted, &post));
-    let pushed = posts.push(key, accepted, &post, calendar)?;
+    let pushed = posts.push(alloc, key, accepted, &post, calendar)?;
     Ok(pushed.from.number())
 }
 

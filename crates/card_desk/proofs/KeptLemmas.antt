@@ -276,7 +276,7 @@ roomy_desk places common count today rows accounts i a b desk low is named stand
     )
 
 -- a new desk
-pub first_desk : IsDesk [] (record { holidays = []; fees = [] }) 0 first_calendar_day [] []
+pub first_desk : IsDesk [] (record { holidays = []; fees = []; index = [] }) 0 first_calendar_day [] []
 unfolding place_of place_from posts_in run_from
 first_desk = record {
   index = λ name. refl;
@@ -286,7 +286,7 @@ first_desk = record {
   holidays = λ x. refl;
   table = refl;
   index_rows = refl;
-  accounts = All-nil (IsAccount first_calendar_day (record { holidays = []; fees = [] }));
+  accounts = All-nil (IsAccount first_calendar_day (record { holidays = []; fees = []; index = [] }));
   counted = refl;
   ran = record { requests = []; taken = refl; state_is = refl };
 }

@@ -6,6 +6,7 @@ use Rattle.std.proofs.lemmas.Bool.Decides.{nat_tests}
 use Rattle.std.proofs.lemmas.List.{length-append}
 use Rattle.std.proofs.lemmas.List.Elements.{All-weaker}
 use Rattle.std.proofs.lemmas.List.Folds.{list_any-append}
+use Rattle.card_events.specs.SharedRows.{SharedRows}
 use Rattle.card_events.specs.Billing.{IsCloseDay, closing, closings_among, cycle_of, next_on}
 use Rattle.card_events.specs.Civil.{date_of, day_at, day_of_month}
 use Rattle.card_events.specs.History.{anchor_of}
@@ -198,30 +199,30 @@ accepts-bills now key p o e h =
           ∙ sym (list_any-append (λ (j : Kept). bills cycle j.post) now.lists.posts (k ∷ [])));
     }
 
-opens-bills : (key : List ℕ) (today accounts : ℕ) (p : Post) → is_open p ≡ true → reason_to_open today accounts p ≡ None → HasIssued (record { posts = kept_as 1 key today p ∷ []; issued = [] })
+opens-bills : (key : List ℕ) (today accounts : ℕ) (shared : SharedRows) (p : Post) → is_open p ≡ true → reason_to_open today accounts shared p ≡ None → HasIssued (record { posts = kept_as 1 key today p ∷ []; issued = [] })
 unfolding reason_to_open
-opens-bills key today accounts (post.Open d t) o e =
+opens-bills key today accounts shared (post.Open d t) o e =
     let close = where-false ((eqb t.close 0) || ltb 28 t.close) (refusal.BadTerms 1) (none-first _ _ (none-first _ _ e)) in
     record { begun = omega arith; close_day = within t.close t.close 28 close; issued = λ cycle. refl }
-opens-bills key today accounts (post.OpenVariable d t) o e =
+opens-bills key today accounts shared (post.OpenVariable d t) o e =
     let close = where-false ((eqb t.close 0) || ltb 28 t.close) (refusal.BadTerms 1) (none-first _ _ (none-first _ _ e)) in
     record { begun = omega arith; close_day = within t.close t.close 28 close; issued = λ cycle. refl }
-opens-bills key today accounts (post.Charge d p c) o e = absurd (cc)
-opens-bills key today accounts (post.Credit d p c) o e = absurd (cc)
-opens-bills key today accounts (post.Payment d m y c) o e = absurd (cc)
-opens-bills key today accounts (post.Return d t) o e = absurd (cc)
-opens-bills key today accounts (post.Plan d g r f a) o e = absurd (cc)
-opens-bills key today accounts (post.Notice d c r f) o e = absurd (cc)
-opens-bills key today accounts (post.Lower d c r) o e = absurd (cc)
-opens-bills key today accounts post.Penalty o e = absurd (cc)
-opens-bills key today accounts (post.Review d f) o e = absurd (cc)
-opens-bills key today accounts (post.Dispute d t c) o e = absurd (cc)
-opens-bills key today accounts (post.Ack d t) o e = absurd (cc)
-opens-bills key today accounts (post.Resolve d t c) o e = absurd (cc)
-opens-bills key today accounts (post.AskRefund d) o e = absurd (cc)
-opens-bills key today accounts (post.Refund c) o e = absurd (cc)
-opens-bills key today accounts (post.Amend t d c) o e = absurd (cc)
-opens-bills key today accounts (post.Bill c) o e = absurd (cc)
+opens-bills key today accounts shared (post.Charge d p c) o e = absurd (cc)
+opens-bills key today accounts shared (post.Credit d p c) o e = absurd (cc)
+opens-bills key today accounts shared (post.Payment d m y c) o e = absurd (cc)
+opens-bills key today accounts shared (post.Return d t) o e = absurd (cc)
+opens-bills key today accounts shared (post.Plan d g r f a) o e = absurd (cc)
+opens-bills key today accounts shared (post.Notice d c r f) o e = absurd (cc)
+opens-bills key today accounts shared (post.Lower d c r) o e = absurd (cc)
+opens-bills key today accounts shared post.Penalty o e = absurd (cc)
+opens-bills key today accounts shared (post.Review d f) o e = absurd (cc)
+opens-bills key today accounts shared (post.Dispute d t c) o e = absurd (cc)
+opens-bills key today accounts shared (post.Ack d t) o e = absurd (cc)
+opens-bills key today accounts shared (post.Resolve d t c) o e = absurd (cc)
+opens-bills key today accounts shared (post.AskRefund d) o e = absurd (cc)
+opens-bills key today accounts shared (post.Refund c) o e = absurd (cc)
+opens-bills key today accounts shared (post.Amend t d c) o e = absurd (cc)
+opens-bills key today accounts shared (post.Bill c) o e = absurd (cc)
 
 pub bills_issue : BillsIssue
 bills_issue requests =
