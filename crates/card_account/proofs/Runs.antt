@@ -82,6 +82,7 @@ shared-held s r (Some e) is all = all
 shared-held s (shared.Roll day) None is all = later-accounts s.today day s.accounts (later-day s.today (has_accounts s) day is) all
 shared-held s (shared.Holiday day) None is all = all
 shared-held s (shared.FeeRow day first repeat) None is all = all
+shared-held s (shared.Index day rate) None is all = all
 
 step-held : (s : State) (r : Request) → IsTaken r → AllHeld s.today s.accounts → AllHeld (step s r).0.today (step s r).0.accounts
 unfolding step
@@ -167,6 +168,7 @@ rolled-by s r (Some e) dated last = last
 rolled-by s (shared.Roll day) None dated last = leb-true day last_request_day dated
 rolled-by s (shared.Holiday day) None dated last = last
 rolled-by s (shared.FeeRow day first repeat) None dated last = last
+rolled-by s (shared.Index day rate) None dated last = last
 
 step-today : (s : State) (r : Request) → IsTaken r → s.today ≤ last_request_day → (step s r).0.today ≤ last_request_day
 unfolding step

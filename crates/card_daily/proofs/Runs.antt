@@ -178,8 +178,8 @@ outcome-planned : (today : ℕ) (rows : List Shared) (accounts : ℕ) (key : Lis
 unfolding outcome PlannedThere PlannedIf
 outcome-planned today rows accounts key p None h = by (is_open p) refl
   where
-    by : (t : Bool) → is_open p ≡ t → PlannedIf (cond t (opened key today p (reason_to_open today accounts p)) (Refuses refusal.UnknownAccount))
-    by true e = opened-planned key today p (reason_to_open today accounts p) e
+    by : (t : Bool) → is_open p ≡ t → PlannedIf (cond t (opened key today p (reason_to_open today accounts (shared_rows rows) p)) (Refuses refusal.UnknownAccount))
+    by true e = opened-planned key today p (reason_to_open today accounts (shared_rows rows) p) e
     by false e = tt
 outcome-planned today rows accounts key p (Some l) h = at_key-planned (record { today = today; shared = shared_rows rows; lists = l }) key p (with_key key l.posts) h
 

@@ -224,8 +224,8 @@ outcome-turn : (today : ℕ) (rows : List Shared) (accounts : ℕ) (key : List �
 unfolding outcome TurnThere TurnIf
 outcome-turn today rows accounts key p None h = by (is_open p) refl
   where
-    by : (t : Bool) → is_open p ≡ t → TurnIf today (cond t (opened key today p (reason_to_open today accounts p)) (Refuses refusal.UnknownAccount))
-    by true e = opened-turn key today p (reason_to_open today accounts p) e
+    by : (t : Bool) → is_open p ≡ t → TurnIf today (cond t (opened key today p (reason_to_open today accounts (shared_rows rows) p)) (Refuses refusal.UnknownAccount))
+    by true e = opened-turn key today p (reason_to_open today accounts (shared_rows rows) p) e
     by false e = tt
 outcome-turn today rows accounts key p (Some l) h = at_key-turn (record { today = today; shared = shared_rows rows; lists = l }) key p (with_key key l.posts) h
 
@@ -274,6 +274,7 @@ shared-turn s r (Some e) is g = g
 shared-turn s (shared.Roll day) None is g = later-all s.today day s.accounts (later-day s.today (has_accounts s) day is) g
 shared-turn s (shared.Holiday day) None is g = g
 shared-turn s (shared.FeeRow day first repeat) None is g = g
+shared-turn s (shared.Index day rate) None is g = g
 
 step-turn : (s : State) (r : Request) → All (IsInTurn s.today) s.accounts → All (IsInTurn (step s r).0.today) (step s r).0.accounts
 unfolding step

@@ -64,7 +64,7 @@ DatedThere (Some l) = Dated l
 
 outcome-dated : (today : ℕ) (rows : List Shared) (accounts : ℕ) (key : List ℕ) (p : Post) (o : Option Lists) → is_dated_post p ≡ true → DatedThere o → DatedIf (outcome today rows accounts key p o)
 unfolding outcome DatedThere DatedIf
-outcome-dated today rows accounts key p None e h = either-dated (is_open p) _ _ (opened-dated key today p (reason_to_open today accounts p) e) tt
+outcome-dated today rows accounts key p None e h = either-dated (is_open p) _ _ (opened-dated key today p (reason_to_open today accounts (shared_rows rows) p) e) tt
 outcome-dated today rows accounts key p (Some l) e h = at_key-dated (record { today = today; shared = shared_rows rows; lists = l }) key p (with_key key l.posts) e h
 
 abbrev AllDated : List NamedAccount → Type 0

@@ -130,8 +130,8 @@ outcome-few : (today : ℕ) (rows : List Shared) (accounts : ℕ) (key : List �
 unfolding outcome FewThere FewIf
 outcome-few today rows accounts key p None h = by (is_open p) refl
   where
-    by : (t : Bool) → is_open p ≡ t → FewIf (cond t (opened key today p (reason_to_open today accounts p)) (Refuses refusal.UnknownAccount))
-    by true e = opened-few key today p (reason_to_open today accounts p) e
+    by : (t : Bool) → is_open p ≡ t → FewIf (cond t (opened key today p (reason_to_open today accounts (shared_rows rows) p)) (Refuses refusal.UnknownAccount))
+    by true e = opened-few key today p (reason_to_open today accounts (shared_rows rows) p) e
     by false e = tt
 outcome-few today rows accounts key p (Some l) h = at_key-few (record { today = today; shared = shared_rows rows; lists = l }) key p (with_key key l.posts) h
 
