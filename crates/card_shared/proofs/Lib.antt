@@ -1,2 +1,2 @@
-pub mod IndexTable
+pub mod IndexFound
 pub mod RowsFound

@@ -1,7 +1,7 @@
 use Rattle.std.proofs.Common.{nat_lt, rules}
 use Rattle.std.proofs.lemmas.List.Sorted.{IsPartitionPoint-from_clause}
 use Rattle.card_shared.specs.declared.index_table.Row.{Row}
-use Rattle.card_shared.proofs.IndexTable.{less-down, parted, point-leading}
+use Rattle.card_shared.proofs.IndexFound.{less-down, parted, point-leading}
 use Rattle.card_shared.proofs.index_table.before.Goals as goal
 
 pub returns : goal.returns

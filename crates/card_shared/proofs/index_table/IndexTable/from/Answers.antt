@@ -5,7 +5,7 @@ use Rattle.std.specs.Prelude.{slice_get}
 use Rattle.card_events.specs.SharedRows.{IndexRow}
 use Rattle.card_shared.specs.IndexTable.{index_rows, leading}
 use Rattle.card_shared.specs.declared.index_table.Row.{Row}
-use Rattle.card_shared.proofs.IndexTable.{first-day}
+use Rattle.card_shared.proofs.IndexFound.{first-day}
 use Rattle.card_shared.proofs.index_table.IndexTable.from.Goals as goal
 
 pub returns : goal.returns

@@ -2,7 +2,7 @@ use Rattle.std.proofs.Common.{◌≡◌, ◌≤◌, nat_le, length, List, Some, 
 use Rattle.card_events.specs.SharedRows.{IndexRow, index_on}
 use Rattle.card_shared.specs.IndexTable.{index_rows, leading}
 use Rattle.card_shared.specs.declared.index_table.Row.{Row}
-use Rattle.card_shared.proofs.IndexTable.{leading-up_to, none-on, rate-on}
+use Rattle.card_shared.proofs.IndexFound.{leading-up_to, none-on, rate-on}
 use Rattle.card_shared.proofs.index_table.IndexTable.on.Goals as goal
 
 pub returns-then-count-eq0 : goal.returns-then-count-eq0
