@@ -20,7 +20,7 @@ if [ -d /dev/shm ]; then
 fi
 seed=1
 while [ "$seed" -le 60 ]; do
-    answer=$(PYTHONDONTWRITEBYTECODE=1 python3 -m oracle.compare "$program" "$seed" 250 --accounts 4 --stage 10 --whole 2>&1)
+    answer=$(PYTHONDONTWRITEBYTECODE=1 python3 -m oracle.compare "$program" "$seed" 250 --accounts 4 --stage 17 --whole 2>&1)
     if [ "$answer" != same ]; then
         echo "compare: seed $seed differs"
         echo "$answer"
@@ -50,7 +50,7 @@ def views(model):
 compare.views = views
 for way, count in (("lines", 40), ("csv", 60), ("http", 60)):
     for seed in range(1, count + 1):
-        found = compare.compare(sys.argv[1], seed, 250, 4, Stage(12, True), way)
+        found = compare.compare(sys.argv[1], seed, 250, 4, Stage(17, True), way)
         if found:
             print(f"compare: seed {seed} by {way} over a file differs")
             print(found)
@@ -59,7 +59,7 @@ print("compare: 40 inputs over a file of rows, 60 of CSV records that come twice
 for seed in range(1, 11):
     size = (seed * 99_999_999_999, seed, 60 // seed)
     found = subprocess.run([sys.argv[1], "-", "demo", *map(str, size)], stdin=subprocess.DEVNULL, capture_output=True, text=True)
-    if found.returncode != 0 or found.stdout != demo_text(*size, Stage(12, True)):
+    if found.returncode != 0 or found.stdout != demo_text(*size, Stage(17, True)):
         print(f"compare: the demonstration {size} differs (status {found.returncode})")
         print(found.stdout)
         sys.exit(1)

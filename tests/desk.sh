@@ -30,8 +30,9 @@ import time
 PROGRAM, DESCRIPTION = sys.argv[1:]
 DEADLINE = 30
 FIELDS = {
-    "roll": "day", "holiday": "day", "feerow": "day first repeat",
+    "roll": "day", "holiday": "day", "feerow": "day first repeat", "index": "day rate",
     "open": "account key day close purchase cash transfer penalty floor pct",
+    "openvar": "account key day close purchase cash transfer penalty floor pct",
     "charge": "account key day place cents", "credit": "account key day place cents",
     "payment": "account key day minute channel cents", "return": "account key day target",
     "plan": "account key day plan rate end after", "notice": "account key day category rate effective",
@@ -100,7 +101,9 @@ askrefund k q 2024-01-29
 refund k f 100
 amend k m 2 2024-01-29 900
 bill k b 1
+openvar v o 2024-01-29 28 1449 1949 1649 2999 2500 100
 feerow 2024-02-01 3100 4200
+index 2024-02-01 550
 roll 2024-01-30""".splitlines()
 
 

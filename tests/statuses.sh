@@ -68,6 +68,12 @@ import os, resource, shutil, signal, sqlite3, subprocess, sys
 
 program, room = sys.argv[1:]
 ROLL, OPEN, CHARGE = map(bytes.fromhex, (
+    "020112c8",
+    "02040161016f12c801050207cf0209c3020897020bb70209c40164",
+    "02050161026331" "12c8" "00" "0204e2",
+))
+# the same rows in format 1, which is read and no longer written
+OLD_ROLL, OLD_OPEN, OLD_CHARGE = map(bytes.fromhex, (
     "010100004d47",
     "01040161016f00004d47000000000000000500000000000007cf00000000000009c300000000000008970000000000000bb700000000000009c40000000000000064",
     "01050161026331" "00004d47" "00" "00000000000004e2",
@@ -102,6 +108,8 @@ expect("three rows", base.execute("SELECT seq, body FROM kept ORDER BY seq").fet
 base.close()
 for rows, wanted in (
     ([(1, ROLL), (2, OPEN), (3, CHARGE)], (0, SHOWN)),
+    ([(1, OLD_ROLL), (2, OLD_OPEN), (3, OLD_CHARGE)], (0, SHOWN)),
+    ([(1, OLD_ROLL), (2, OPEN), (3, OLD_CHARGE)], (0, SHOWN)),
     ([(1, ROLL), (2, OPEN), (4, CHARGE)], (8, "damaged 3\n")),
     ([(1, ROLL), (2, OPEN), (3, CHARGE[:-1])], (8, "damaged 3\n")),
     ([(1, ROLL), (2, OPEN), (3, OPEN)], (8, "damaged 3\n")),
