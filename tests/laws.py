@@ -43,7 +43,7 @@ CUT_OFF = 17 * 60  # minutes of a day
 DAY = datetime.timedelta(days=1)
 TIMELY = 21 * DAY  # from the issue of a statement to its due date
 NOTICE = 45 * DAY  # from the acceptance of a penalty to its first day
-POSTS = ("open charge credit payment return plan notice lower penalty review dispute ack resolve askrefund refund amend bill").split()
+POSTS = ("open openvar charge credit payment return plan notice lower penalty review dispute ack resolve askrefund refund amend bill").split()
 
 Entry = collections.namedtuple("Entry", "day segment kind post cents")
 Cycle = collections.namedtuple("Cycle", "minimum rates")
@@ -93,6 +93,7 @@ class Account:
     opened: datetime.date
     close: int
     posts: dict  # by number
+    index_days: set  # those of the rows of the index
     entries: list = dataclasses.field(default_factory=list)
     cycles: dict = dataclasses.field(default_factory=dict)  # by number
 
@@ -170,6 +171,7 @@ class Papers:
     accounts: dict
     holidays: set
     fee_rows: list
+    index_days: set
     today: datetime.date
 
 
@@ -178,14 +180,16 @@ def read_shared(papers, word, fields):
         papers.today = day_of(fields[0])
     elif word == "holiday":
         papers.holidays.add(day_of(fields[0]))
+    elif word == "index":
+        papers.index_days.add(day_of(fields[0]))
     else:
         papers.fee_rows.append(FeeRow(day_of(fields[0]), int(fields[1]), int(fields[2])))
 
 
 def read_post(papers, number, word, name, fields):
     """A post under a new number; one that was sent again has its old number."""
-    if word == "open" and name not in papers.accounts:
-        papers.accounts[name] = Account(name, day_of(fields[0]), int(fields[1]), {})
+    if word in ("open", "openvar") and name not in papers.accounts:
+        papers.accounts[name] = Account(name, day_of(fields[0]), int(fields[1]), {}, papers.index_days)
     posts = papers.accounts[name].posts
     if number > len(posts):
         posts[number] = Post(number, word, fields, papers.today)
@@ -193,7 +197,7 @@ def read_post(papers, number, word, name, fields):
 
 def read_requests(folder):
     """All that was accepted, in order."""
-    papers = Papers({}, set(), [], day_of("2011-01-01"))
+    papers = Papers({}, set(), [], set(), day_of("2011-01-01"))
     lines = (folder / "lines").read_bytes().split(b"\n")
     replies = (folder / "replies").read_text(encoding="ascii").splitlines()
     for line, reply in zip(lines, replies):
@@ -315,7 +319,9 @@ def is_in_last_two_cycles(account, plans, segment, day):
 def rate_changes(account):
     """The days on which some rate may change, but for those of plans that are over, which end with a closing."""
     for post in account.posts.values():
-        if post.word == "notice":
+        if post.word == "openvar":
+            yield from account.index_days
+        elif post.word == "notice":
             yield day_of(post.fields[3])
         elif post.word in ("lower", "plan"):
             yield day_of(post.fields[0])
