@@ -14,7 +14,8 @@ use std::alloc::Global;
 use std::marker::Model;
 
 /// The rates of an account: the segments that its posts add, with the rates that they give them, the lowered rates, the
-/// penalties that began, and whether the opening rates follow the index (12 CFR 1026.55(b)), which is no part of it. Segments are numbered from 0 on; 0 is Credit and 1 is Held.
+/// penalties that began, and whether the opening rates follow the index (12 CFR 1026.55(b)), which is no part of it. Segments
+/// are numbered from 0 on; 0 is Credit and 1 is Held.
 #[derive(Drop)]
 pub struct RateBook {
     variable: bool,

@@ -82,9 +82,9 @@ fn lines_of(
 
 /// The lines of rates of a cycle (12 CFR 1026.7(b)(4), (b)(5), (b)(6)(ii)): one for each segment on which, by these entries,
 /// something was owed at the end of some day of the cycle, in order of number. Each has the segment's rate on the closing day
-/// under this index, and the cycle's average daily balance and interest of it, in cents. `segments` have the balances that the entries left, and
-/// `cycles` are those closed by the cycle's closing, in order; what stood at the closing before is of the days before the
-/// cycle. It costs what the entries of the cycle cost.
+/// under this index, and the cycle's average daily balance and interest of it, in cents. `segments` have the balances that the
+/// entries left, and `cycles` are those closed by the cycle's closing, in order; what stood at the closing before is of the
+/// days before the cycle. It costs what the entries of the cycle cost.
 #[tactic(auto, unfolding(crate::specs::Lines::kept_rate_lines))]
 pub fn rate_lines(
     alloc: Global,
