@@ -13,7 +13,7 @@ use Rattle.card_daily.proofs.Naming.{names-more}
 use Rattle.card_daily.specs.Given.{NamePayments}
 use Rattle.card_events.specs.History.{anchor_of, at_number, opening_in}
 use Rattle.card_events.specs.Keys.{with_key}
-use Rattle.card_events.specs.SharedRows.{shared_rows}
+use Rattle.card_events.specs.SharedRows.{SharedRows, shared_rows}
 use Rattle.card_events.specs.declared.kept.Kept.{Kept}
 use Rattle.card_events.specs.declared.post.Post.{Post}
 use Rattle.card_events.specs.declared.post.Post.TheVariants as post
@@ -21,7 +21,7 @@ use Rattle.card_events.specs.declared.reply.Refusal.{Refusal}
 use Rattle.card_events.specs.declared.reply.Refusal.TheVariants as refusal
 use Rattle.card_events.specs.declared.request.Shared.{Shared}
 use Rattle.card_model.specs.Machine.{Accepts, Outcome, Refuses, Repeats, accepted, at_key, is_open, is_repeat_of, judged, kept_as, next_number, opened, outcome}
-use Rattle.card_model.specs.Refusals.{Lists, Present, bad_terms, day_ahead, reason_against, reason_to_open, where_true}
+use Rattle.card_model.specs.Refusals.{Lists, Present, bad_terms, day_ahead, no_index, reason_against, reason_to_open, where_true}
 use Rattle.card_posts.specs.Posted.{IsReceived, opens}
 
 -- a post that is kept, in an account that was opened on a day

@@ -3,7 +3,7 @@ use Rattle.std.specs.Prelude.{slice_get}
 use Rattle.card_events.specs.SharedRows.{IndexRow, AreByDay, with_index}
 use Rattle.card_shared.specs.IndexTable.{index_row, index_rows, is_day, leading}
 use Rattle.card_shared.specs.declared.index_table.Row.{Row}
-use Rattle.card_shared.proofs.IndexLemmas.{index-by-day}
+use Rattle.card_events.proofs.IndexRows.{index-by-day}
 use Rattle.card_shared.proofs.IndexFound.{leading-up_to, with-set, with-insert}
 use Rattle.card_shared.proofs.index_table.IndexTable.add.Goals as goal
 

@@ -1,5 +1,6 @@
 use Rattle.std.proofs.Common.{◌≡◌, ◌≤◌, nat_le, length, List, Some, arith, ap, ◌∙◌}
-use Rattle.card_events.specs.SharedRows.{IndexRow, index_on}
+use Rattle.card_events.specs.SharedRows.{IndexRow}
+use Rattle.card_model.specs.Rates.{index_on}
 use Rattle.card_shared.specs.IndexTable.{index_rows, leading}
 use Rattle.card_shared.specs.declared.index_table.Row.{Row}
 use Rattle.card_shared.proofs.IndexFound.{leading-up_to, none-on, rate-on}
