@@ -116,11 +116,7 @@ pub fn rebuilt(
 
 /// Makes room for one post more. Where the posts are as many as the buckets, these become twice as many, in memory of their own.
 /// After want of memory the posts are found as before.
-pub fn make_room(
-    alloc: Global,
-    history: &[Kept],
-    index: &mut KeyTable,
-) -> Result<(), NoMemory>
+pub fn make_room(alloc: Global, history: &[Kept], index: &mut KeyTable) -> Result<(), NoMemory>
     requires few { length history.now ≤ post_limit }
     requires index { IsIndex history.now index.old }
     ensures index { IsIndex history.now index.new }
