@@ -171,7 +171,14 @@ pub fn row_day(index: &IndexTable, day: Day, state: &mut State) -> Result<(), No
     requires amid { AwaitsRows day state.old }
     ensures posted { OnOk result ((g : Given) (t : Track) → g.shared.index ≡ index.now → IsSound g → opened_in g ≤ day → AreAmid g day (posts_of g day) state.old t → ArePosted g day state.new t) }
 {
-    add_rows(&mut state.rows, &state.segments, &state.rates, index, day, 1)?;
+    add_rows(
+        &mut state.rows,
+        &state.segments,
+        &state.rates,
+        index,
+        day,
+        1,
+    )?;
     accrue_all(&mut state.accruals, &state.segments, &state.rates, day, 1);
     Ok(())
 }

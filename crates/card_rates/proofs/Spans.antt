@@ -259,8 +259,8 @@ spans_keep_rates = record {
       let began = λ x. starts x penalties in
       span (λ x. rate_of shared.index (rates_of shared.holidays history penalties) x g) first days
       (λ x m h.
-          ap (λ index. rate_on index (lowerings posts) (terms_of history).penalty (began (suc x)) all (suc x) g) (index-after history issued shared penalties first days low q x m h)
-          ∙ rate-next (index_for (is_variable history) shared.index x) (terms_of history).penalty x g posts all penalties (corrected-dated (anchor_of history) shared.holidays history) c (quiet-next history issued shared penalties first days q x m h)) i l;
+      ap (λ index. rate_on index (lowerings posts) (terms_of history).penalty (began (suc x)) all (suc x) g) (index-after history issued shared penalties first days low q x m h)
+      ∙ rate-next (index_for (is_variable history) shared.index x) (terms_of history).penalty x g posts all penalties (corrected-dated (anchor_of history) shared.holidays history) c (quiet-next history issued shared penalties first days q x m h)) i l;
   accruals = λ history issued shared penalties first days i g q l c.
       let posts = corrected (anchor_of history) shared.holidays history in
       let all = (rates_of shared.holidays history penalties).segments in

@@ -110,5 +110,9 @@ pub fn next_row(index: &IndexTable, opened: Day, first: Day, end: Day) -> Day
         return end;
     }
     let after = opened.next();
-    if end < after { end } else { next_from(index, after, end) }
+    if end < after {
+        end
+    } else {
+        next_from(index, after, end)
+    }
 }

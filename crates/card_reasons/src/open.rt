@@ -37,12 +37,7 @@ fn bad_term(terms: &Terms) -> Option<Refusal>
 /// Why the opening of an account isn't accepted today, where so many accounts exist: terms out of their ranges, a day ahead, no
 /// index on the day where the rates follow it (12 CFR 1026.55(b)(2)), or a full ledger. `BadTerms` gives the place of the first
 /// bad term, from 1. None where it is accepted. It takes no memory.
-pub fn open_reason(
-    today: Day,
-    accounts: usize,
-    shared: &SharedRows,
-    post: &Post,
-) -> Option<Refusal>
+pub fn open_reason(today: Day, accounts: usize, shared: &SharedRows, post: &Post) -> Option<Refusal>
     requires opens { is_open post.now ≡ true }
     ensures value { result ≡ reason_to_open today accounts shared.now post.now }
     ensures room { result ≡ None → accounts < 1_000_000 }

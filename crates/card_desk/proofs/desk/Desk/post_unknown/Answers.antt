@@ -37,8 +37,8 @@ keep_open-requires-clause-room g c =
 pub keep_open-requires-clause-open : goal.keep_open-requires-clause-open
 keep_open-requires-clause-open g c = sym c.is_open.ensures ∙ c.if-not-is_open.false
 
-pub open_reason-requires : goal.open_reason-requires
-open_reason-requires g c = sym c.is_open.ensures ∙ c.if-not-is_open.false
+pub open_reason-requires-clause-opens : goal.open_reason-requires-clause-opens
+open_reason-requires-clause-opens g c = sym c.is_open.ensures ∙ c.if-not-is_open.false
 
 pub keep_open-requires-clause-no_reason : goal.keep_open-requires-clause-no_reason
 keep_open-requires-clause-no_reason g c =
@@ -56,7 +56,7 @@ returns-in-Some-clause-carried g c =
     let rows = g.K.Keeper.rows c.args.keeper.now in
     let absent = (no_place name 0 s.accounts c.requires.absent).0 in
     let reason = its-reason d.index d.common d.count d.today d.shared.items d.accounts.items s p c.len.result c.open_reason.result c.self.invariant (state_by _ _ c.self.view_is)
-        (c.len.ensures ∙ c.self.inside.accounts.ok.0) c.open_reason.ensures.value ∙ c.in-Some.is in
+    (c.len.ensures ∙ c.self.inside.accounts.ok.0) c.open_reason.ensures.value ∙ c.in-Some.is in
     let outcome = open_refused s name key p c.in-Some.refusal absent (sym c.is_open.ensures ∙ c.if-not-is_open.false) reason in
     answered (g.K.Keeper.rows c.args.keeper.now) (g.K.Keeper.faults c.args.keeper.now) s c.args.request.now (reply.Refused c.in-Some.refusal)
     (subst (λ (x : Request). Steps rows rows s x s (reply.Refused c.in-Some.refusal)) (sym c.requires.request) (post_refused rows s name key c.args.post.now c.in-Some.refusal c.requires.asked.fits outcome))
@@ -89,7 +89,7 @@ returns-in-Some-clause-reached g c =
     let p = c.args.post.now in
     let absent = (no_place name 0 s.accounts c.requires.absent).0 in
     let reason = its-reason d.index d.common d.count d.today d.shared.items d.accounts.items s p c.len.result c.open_reason.result c.self.invariant (state_by _ _ c.self.view_is)
-        (c.len.ensures ∙ c.self.inside.accounts.ok.0) c.open_reason.ensures.value ∙ c.in-Some.is in
+    (c.len.ensures ∙ c.self.inside.accounts.ok.0) c.open_reason.ensures.value ∙ c.in-Some.is in
     let outcome = open_refused s name key p c.in-Some.refusal absent (sym c.is_open.ensures ∙ c.if-not-is_open.false) reason in
     done-moves _ None _ _ _ (away-moves c.args.self.now (outcome_in s name key c.args.post.now) c.in-Some.refusal outcome)
 
