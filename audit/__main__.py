@@ -3,7 +3,8 @@
 Every account is recomputed from its opening day by a model that is written
 apart from the program (README.md).  Compared are each account's `show`, its
 entries, its open tasks, and the statements of its cycles as issued and as
-recomputed.  The file is copied and never written.
+recomputed; and, where they are given, statements as they were sent.  The file
+is copied and never written.
 
 Standard error has the progress, standard output what was compared, or the
 first difference with both sides.  Status 0: all is the same.  1: something
@@ -29,13 +30,16 @@ def main() -> int:
     parser.add_argument("--program", metavar="billctl",
                         help="the program; otherwise the one that is built in this repository, or "
                              "the one on the PATH")
+    parser.add_argument("--sent", metavar="PATH", nargs="+", default=[],
+                        help="files or folders with statements as they were printed when they were "
+                             "issued: a kept row that was changed since can't change these")
     parser.add_argument("--quiet", action="store_true", help="no progress")
     given = parser.parse_args()
     path = given.program or (str(BUILT) if BUILT.exists() else shutil.which("billctl"))
     try:
         if path is None:
             raise Failed("there is no program: build it, or name one with --program")
-        print(f"same: {check(given.file, path, given.quiet)}")
+        print(f"same: {check(given.file, path, given.sent, given.quiet)}")
     except Different as different:
         print(f"different: {different}")
         return 1

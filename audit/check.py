@@ -10,6 +10,7 @@ from .difference import first_difference
 from .ledger_file import copied, rows_of
 from .machine import Machine
 from .program import Failed, Program, Server
+from .sent import Sent, statements_below
 from .tasks import tasks_text
 from .views import view
 
@@ -30,16 +31,20 @@ class Counted:
     entries: int = 0
     cents: int = 0
     tasks: int = 0
+    sent: int = 0
 
     def add(self, other: "Counted") -> None:
         for f in fields(self):
             setattr(self, f.name, getattr(self, f.name) + getattr(other, f.name))
 
     def text(self) -> str:
-        repay = f", {self.repayments} repayments" if self.repayments else ""
-        return (f"{self.accounts} accounts: {self.issued} statements as issued and "
-                f"{self.recomputed} as recomputed{repay}, {self.entries} entries that move "
-                f"{self.cents} cents, {self.tasks} open tasks")
+        """All counts in one line; of repayments and statements as sent only where some were there."""
+        parts = [f"accounts {self.accounts}", f"statements issued {self.issued}",
+                 f"recomputed {self.recomputed}", f"entries {self.entries}", f"cents {self.cents}",
+                 f"open tasks {self.tasks}"]
+        parts += [f"repayments {self.repayments}"] if self.repayments else []
+        parts += [f"statements sent {self.sent}"] if self.sent else []
+        return ", ".join(parts)
 
 
 class Progress:
@@ -57,6 +62,15 @@ class Progress:
         self.say(f"{done} of {of} rows carried out")
 
 
+def same(what: str, model: str | None, other: bytes | None, side: str = "program") -> bool:
+    """Whether the text is there, on both sides and the same."""
+    ours = b"none\n" if model is None else model.encode("utf-8")
+    found = first_difference(ours, b"none\n" if other is None else other, side=side)
+    if found is not None:
+        raise Different(f"{what}, {found}")
+    return model is not None
+
+
 class Audit:
     """The model of a ledger's rows beside the program over the same rows."""
 
@@ -69,23 +83,14 @@ class Audit:
             self.tasks.setdefault(line.split(b" ")[1].decode(), []).append(line)
         self.work = work
 
-    def same(self, what: str, model: str | None, program: bytes | None) -> bool:
-        """Whether the text is there, on both sides and the same."""
-        ours = b"none\n" if model is None else model.encode("utf-8")
-        theirs = b"none\n" if program is None else program
-        found = first_difference(ours, theirs)
-        if found is not None:
-            raise Different(f"{what}, {found}")
-        return model is not None
-
     def asked(self, what: str, word: str, path: str, name: str, cycle: int | None = None) -> bool:
         """A view by its command's word, and by the program's answer to its path."""
-        return self.same(what, view(self.machine, word, name, cycle), self.server.get(path))
+        return same(what, view(self.machine, word, name, cycle), self.server.get(path))
 
     def repayment(self, name: str, k: int) -> bool:
         """The repayment lines of an issued statement, which have no path of their own."""
         told, status = self.program.run(["repay", name, str(k)])
-        return self.same(f"account {name}, repayment of statement {k}",
+        return same(f"account {name}, repayment of statement {k}",
                          view(self.machine, "repay", name, k), None if status == 1 else told)
 
     def statements(self, name: str) -> Counted:
@@ -107,7 +112,7 @@ class Audit:
         self.asked(f"account {name}, show", "show", f"/accounts/{name}", name)
         self.asked(f"account {name}, entries", "export", f"/accounts/{name}/entries", name)
         tasks = self.machine.tasks(name)
-        self.same(f"account {name}, open tasks", tasks_text(tasks),
+        same(f"account {name}, open tasks", tasks_text(tasks),
                   b"".join(self.tasks.get(name, [])))
         found = self.statements(name)
         entries = self.machine.entries(name)[0]
@@ -123,7 +128,7 @@ class Audit:
             counted.add(found)
             progress.say(f"account {place} of {len(self.machine.accounts)}, {name}: "
                          f"{found.issued} statements, {found.entries} entries")
-        self.same("open tasks of all accounts", view(self.machine, "work"), self.work)
+        same("open tasks of all accounts", view(self.machine, "work"), self.work)
         return counted
 
 
@@ -141,14 +146,25 @@ def recomputed(kept: list[tuple[int, bytes]], program: Program, progress: Progre
                      "nothing was compared") from None
 
 
-def check(file: str, path: str, quiet: bool = False) -> str:
+def compare_sent(machine: Machine, sent: list[Sent]) -> Counted:
+    """Statements as they were sent, beside those that the model issues."""
+    for s in sent:
+        same(f"account {s.account}, statement {s.cycle} in {s.file}",
+             view(machine, "statement", s.account, s.cycle), s.text, side="sent")
+    return Counted(sent=len(sent))
+
+
+def check(file: str, path: str, sent: list[str] = (), quiet: bool = False) -> str:
     """What was compared, in words; `Different` where something isn't the same."""
     progress = Progress(quiet)
+    statements = statements_below(sent)
     with copied(file) as copy:
         kept = rows_of(copy)
         program = Program(path, str(copy))
         machine = recomputed(kept, program, progress)
         progress.say(f"{len(kept)} rows, {len(machine.accounts)} accounts, "
                      f"today {day_text(machine.today)}", at_once=True)
+        counted = compare_sent(machine, statements)
         with Server(program) as server:
-            return Audit(machine, program, server).whole(progress).text()
+            counted.add(Audit(machine, program, server).whole(progress))
+        return counted.text()

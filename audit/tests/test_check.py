@@ -8,12 +8,14 @@ import tempfile
 import unittest
 from pathlib import Path
 
-from audit.check import Audit, Different, Progress, recomputed
+from audit.check import Audit, Different, Progress, compare_sent, recomputed
 from audit.commands import load
 from audit.connections import serve
 from audit.ledger_file import Unreadable, copied, rows_of
 from audit.program import Failed
 from audit.rows import decode, encode
+from audit.sent import statements_below
+from audit.views import view
 from audit.words import Request
 
 from .session import billed
@@ -63,8 +65,8 @@ class Compared(unittest.TestCase):
         """1,000.00 and 30.00 charged, 500.00 paid, 10.00 set aside on two segments, 7.86 and 0.31
         of interest."""
         self.assertEqual(audited(rows(), rows()),
-                         "2 accounts: 2 statements as issued and 2 as recomputed, 7 entries that "
-                         "move 155817 cents, 2 open tasks")
+                         "accounts 2, statements issued 2, recomputed 2, entries 7, cents 155817, "
+                         "open tasks 2")
 
     def test_changed_amount(self):
         kept = rows()
@@ -148,6 +150,25 @@ class Files(unittest.TestCase):
         self.written([])
         with copied(str(self.file)) as copy:
             self.assertEqual(rows_of(copy), [])
+
+    def test_statements_as_sent(self):
+        """A row that was changed to another one that is accepted differs from what was sent."""
+        kept = rows()
+        machine = load(kept)
+        sent = Path(self.folder.name) / "sent"
+        sent.mkdir()
+        (sent / "both").write_text("".join(view(machine, "statement", "a", k) for k in (1, 2)))
+        statements = statements_below([str(sent)])
+        self.assertEqual([(s.account, s.cycle) for s in statements], [("a", 1), ("a", 2)])
+        self.assertEqual(compare_sent(machine, statements).sent, 2)
+        place = next(i for i, (_, body) in enumerate(kept) if decode(body).word == "payment")
+        with self.assertRaises(Different) as found:
+            compare_sent(load(changed(kept, place, cents=50001)), statements)
+        self.assertIn(f"account a, statement 2 in {sent / 'both'}, line ", str(found.exception))
+        self.assertIn("-500.01\n  sent:", str(found.exception))
+        (sent / "other").write_text("a letter\n")
+        with self.assertRaises(Unreadable):
+            statements_below([str(sent)])
 
     def test_unreadable(self):
         def why() -> str:
