@@ -110,10 +110,10 @@ class Machine:
         account.posts.append(Kept(number, self.today, r))
         account.keys[r.key] = number
         if r.word == "bill":
-            self._issue(account, r.cycle, number)
+            self.issue(account, r.cycle, number)
         return Reply(number=number, new=True)
 
-    def _issue(self, account: Account, k: int, bill: int) -> None:
+    def issue(self, account: Account, k: int, bill: int) -> None:
         """The statement of a cycle is issued as it stands today."""
         timely = is_timely(account.anchor, k, self.today)
         statement = statement_of(self.book(account), k, self.today, timely)
