@@ -1,4 +1,4 @@
-"""What a writer of request lines draws: names, days, amounts, places and numbers that mostly fit the state."""
+"""What a writer of request lines draws: names, days, amounts and numbers that mostly fit the state."""
 
 import random
 

@@ -14,6 +14,7 @@ from pathlib import Path
 
 # the bytes of a file by which readers and writers of SQLite keep out of each other's way
 _SHARED_FIRST, _SHARED_SIZE = 0x40000002, 510
+COLUMNS = [("seq", "INTEGER"), ("body", "BLOB")]
 
 
 class Unreadable(Exception):
@@ -51,10 +52,11 @@ def rows_of(copy: Path) -> list[tuple[int, bytes]]:
     """The kept rows of a copy by their numbers; none where it has no table."""
     try:
         with contextlib.closing(sqlite3.connect(copy)) as base:
-            names = [name for name, in base.execute("SELECT name FROM sqlite_schema")]
+            names = [name for name, in base.execute("SELECT name FROM sqlite_master")]
             if not names:
                 return []
-            if names != ["kept"]:
+            columns = [row[1:3] for row in base.execute("PRAGMA table_info(kept)")]
+            if names != ["kept"] or columns != COLUMNS:
                 raise Unreadable(f"it has other tables than a ledger's: {', '.join(names)}")
             return base.execute("SELECT seq, body FROM kept ORDER BY seq").fetchall()
     except sqlite3.Error as error:

@@ -117,7 +117,9 @@ class _Reader:
 
 def decode(body: bytes) -> Request | None:
     """The request of a spelling in one of the formats, None where the bytes are none."""
-    if len(body) < 2 or body[0] not in (1, 2) or body[1] not in _WORD_OF_CODE:
+    if not isinstance(body, bytes) or len(body) < 2:
+        return None
+    if body[0] not in (1, 2) or body[1] not in _WORD_OF_CODE:
         return None
     if body[0] == 1 and body[1] not in _FORMAT_1_CODES:
         return None

@@ -166,9 +166,11 @@ class Files(unittest.TestCase):
             compare_sent(load(changed(kept, place, cents=50001)), statements)
         self.assertIn(f"account a, statement 2 in {sent / 'both'}, line ", str(found.exception))
         self.assertIn("-500.01\n  sent:", str(found.exception))
-        (sent / "other").write_text("a letter\n")
-        with self.assertRaises(Unreadable):
-            statements_below([str(sent)])
+        (sent / "tasks").write_text("2024-03-21 a ACK 6\n")
+        self.assertEqual(statements_below([str(sent)]), statements)
+        for path in (sent / "tasks", sent / "none"):
+            with self.assertRaises(Unreadable):
+                statements_below([str(path)])
 
     def test_unreadable(self):
         def why() -> str:
