@@ -1,0 +1,128 @@
+"""`run`, the safe way in: guards first, then apply or import, and each refusal with its line and its reason."""
+
+import os
+import sys
+from dataclasses import dataclass, field
+from typing import List
+
+from companion import guards, reasons
+from companion.days import day_of
+from companion.ledger_file import cause_of_name, require_openable
+from companion.program import ask_of, feed
+from companion.requests import bad_line, bad_record
+from companion.state import State, read_state
+from companion.trouble import CANNOT_OPEN, DONE, FOUND, Trouble, say
+
+
+# How long a look behind a run waits for another process that took the file.
+AFTER_SECONDS = 5
+
+
+@dataclass
+class Sent:
+    """What came of an input: billctl's status, its replies, the state and the new rows behind it, and what was refused."""
+
+    status: int
+    replies: List[str]
+    after: State
+    new: int = 0
+    repeats: List[str] = field(default_factory=list)
+    refused: List[str] = field(default_factory=list)
+    unanswered: str = ""
+
+
+def state_before(path, new, wait):
+    """What the file comes to before anything is sent. Refuses a file that isn't there without `new`, and one that is with it."""
+    cause = cause_of_name(path)
+    if cause:
+        raise Trouble(cause, CANNOT_OPEN)
+    if not os.path.lexists(path):
+        if not new:
+            raise guards.guard(f"{path} isn't there; --new begins a new, empty ledger under this name")
+        return State()
+    if new:
+        raise guards.guard(f"{path} is there already; leave --new out")
+    require_openable(path, wait)
+    return read_state(path, wait)
+
+
+def is_repeat(reply, item, before, rolled_to, today):
+    """Whether a refusal only says that a shared request was carried out before: a roll to today, or a row that is kept."""
+    number = reasons.number_of(reply)
+    if number == reasons.ROLL_BACK:
+        return rolled_to == today and (item == f"roll {today}" or item in before.shared)
+    return number == reasons.PAST_ROW and item in before.shared
+
+
+def last_roll(items):
+    """The greatest day that request lines roll to, else None."""
+    days = [day_of(line[5:]) for line in items if line.startswith("roll ")]
+    return max((day for day in days if day), default=None)
+
+
+def told(sent, given, before, today):
+    """Sorts the replies that are no `ok` and no `show` into repeats and refusals, each in words."""
+    is_lines = given.word == "apply"
+    rolled_to = last_roll(given.items) if is_lines else None
+    for place, (reply, item) in enumerate(zip(sent.replies, given.items)):
+        word = reply.split(" ", 1)[0]
+        shown = item if is_lines else ",".join(item)
+        if word == "bad":
+            field_at = int(reply.split(" ")[2])
+            why = bad_line(item, field_at) if is_lines else bad_record(item, field_at)
+        elif word == "no":
+            kind = item.split(" ", 1)[0] if is_lines else item[2]
+            why = reasons.reason_of(reply, kind)
+        else:
+            continue
+        if word == "no" and is_lines and is_repeat(reply, item, before, rolled_to, today):
+            sent.repeats.append(f"{given.name_of(place)}: {shown[:120]}: carried out before")
+        else:
+            sent.refused.append(f"{given.name_of(place)}: {shown[:120]}: {reply}: {why}")
+
+
+def send(program, path, given, before, out=None):
+    """Sends what passed the guards. Gives what came of it, in words where something was refused."""
+    status, replies = feed(program, path, given.word, given.data, len(given.items), out)
+    sent = Sent(status, replies, before)
+    if status in (DONE, FOUND):
+        sent.after = read_state(path, AFTER_SECONDS)
+        sent.new = sent.after.rows - before.rows
+        told(sent, given, before, sent.after.today)
+        if status == FOUND and not sent.refused:
+            sent.status = DONE
+        return sent
+    told(sent, given, before, before.today)
+    if len(replies) < len(given.items):
+        place = len(replies)
+        item = given.items[place] if given.word == "apply" else ",".join(given.items[place])
+        sent.unanswered = f"{given.name_of(place)}: {item[:120]}: the first one without a reply"
+    return sent
+
+
+def report(sent, given, path):
+    """Says what came of an input, and where it ended early what that asks."""
+    for text in sent.repeats + sent.refused:
+        say(text)
+    answered = len(sent.replies)
+    kind = "lines" if given.word == "apply" else "records"
+    say(f"{len(given.items)} {kind}: {answered} answered, {len(sent.refused)} refused, {sent.new} new rows")
+    if sent.unanswered:
+        say(sent.unanswered)
+    if sent.status not in (DONE, FOUND):
+        say(f"billctl ended with {sent.status}: {ask_of(sent.status)}")
+        if sent.status == CANNOT_OPEN:
+            require_openable(path)
+    elif sent.status == FOUND:
+        say(f"status 1: {ask_of(FOUND)}")
+
+
+def run(program, path, data, new=False, far=False, wait=0):
+    """Sends request lines or records to a ledger, past the guards. Gives the exit status."""
+    given = guards.read_input(data)
+    before = state_before(path, new, wait)
+    if given.word == "apply":
+        guards.require_near(given.items, before, far)
+    sent = send(program, path, given, before, sys.stdout)
+    report(sent, given, path)
+    return sent.status

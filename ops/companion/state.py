@@ -1,0 +1,109 @@
+"""What the rows of a ledger come to, as far as no rule is needed: today, the accounts, their closings and their bills."""
+
+from dataclasses import dataclass, field
+from datetime import date
+from typing import Dict, List, Set, Tuple
+
+from companion.days import FIRST_DAY, closed_cycles, closing, day_of, last_bill_day
+from companion.ledger_file import damaged, open_rows
+from companion.requests import OPENINGS, SHARED
+from companion.rows import NoSpelling, decode
+
+# Keys that this companion gives to bills begin so.
+BILL_KEY = "bill-"
+
+
+@dataclass
+class Account:
+    """An account as its posts have it: the opening day, the closing day of the month, how many posts, and its bills."""
+
+    name: str
+    opened: date
+    close: int
+    posts: int = 0
+    bills: Dict[int, date] = field(default_factory=dict)
+    bill_keys: Set[str] = field(default_factory=set)
+
+    def closed(self, today):
+        return closed_cycles(self.opened, self.close, today)
+
+
+@dataclass(frozen=True)
+class Due:
+    """A closed cycle that has no bill yet, and the last day on which its bill asks for a payment."""
+
+    account: str
+    cycle: int
+    closing: date
+    last_day: date
+
+
+@dataclass
+class State:
+    """What a ledger's rows come to."""
+
+    rows: int = 0
+    today: date = FIRST_DAY
+    accounts: Dict[str, Account] = field(default_factory=dict)
+    shared: Set[str] = field(default_factory=set)
+    issued: List[Tuple[date, str, int]] = field(default_factory=list)
+
+    def take(self, request):
+        """Carries out the request of the next row."""
+        self.rows += 1
+        if request.word in SHARED:
+            self.shared.add(request.line())
+            if request.word == "roll":
+                self.today = day_of(request.fields["day"])
+            return
+        name, key = request.fields["account"], request.fields["key"]
+        if request.word in OPENINGS:
+            self.accounts[name] = Account(name, day_of(request.fields["day"]), int(request.fields["close"]))
+        account = self.accounts[name]
+        account.posts += 1
+        if key.startswith(BILL_KEY):
+            account.bill_keys.add(key)
+        if request.word == "bill":
+            cycle = int(request.fields["cycle"])
+            account.bills[cycle] = self.today
+            self.issued.append((self.today, name, cycle))
+
+    def issued_on(self, day):
+        """The account and the cycle of each statement that was issued on a day."""
+        return [(account, cycle) for when, account, cycle in self.issued if when == day]
+
+    def due(self):
+        """The closed cycles without a bill, those whose last day comes first in front."""
+        found = []
+        for account in self.accounts.values():
+            for cycle in range(1, account.closed(self.today) + 1):
+                if cycle not in account.bills:
+                    closed = closing(account.opened, account.close, cycle)
+                    found.append(Due(account.name, cycle, closed, last_bill_day(closed)))
+        return sorted(found, key=lambda one: (one.last_day, one.account, one.cycle))
+
+
+def requests_of(rows):
+    """The request of each row, in order. Raises Trouble at the first one that isn't sound by itself."""
+    for number, (seq, body) in enumerate(rows, start=1):
+        if seq != number:
+            raise damaged(number, f"its number is {seq}")
+        try:
+            yield decode(body)
+        except NoSpelling as reason:
+            raise damaged(number, str(reason)) from reason
+
+
+def state_of(requests):
+    state = State()
+    for request in requests:
+        if request.word not in SHARED and request.word not in OPENINGS and request.fields["account"] not in state.accounts:
+            raise damaged(state.rows + 1, f"it names the account {request.fields['account']}, which isn't there")
+        state.take(request)
+    return state
+
+
+def read_state(path, wait=0):
+    """What the rows of a ledger's file come to."""
+    with open_rows(path, wait) as rows:
+        return state_of(requests_of(rows))
