@@ -8,7 +8,7 @@ import time
 
 from companion import locks
 from companion.check import cause_in, require_sound
-from companion.ledger_file import cause_of_name, copy_pair, held, require_openable
+from companion.opening import cause_of_name, copy_pair, held, require_openable
 from companion.seals import Seal, read_seal
 from companion.state import read_state
 from companion.trouble import CANNOT_OPEN, DONE, GUARDED, OWN_FILES, Trouble, say

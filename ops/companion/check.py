@@ -4,10 +4,10 @@ import os
 import shutil
 import sqlite3
 
-from companion.ledger_file import cause_of_schema, copied, has_commits, rows_in, things_of
+from companion.opening import cause_of_schema, copied, has_commits, rows_in, things_of
 from companion.program import ask_of, call
 from companion.rows import NoSpelling, decode
-from companion.state import State, requests_of, state_of
+from companion.state import State, fold, requests_of
 from companion.trouble import CANNOT_OPEN, DAMAGED, DONE, FOUND, Trouble, say
 
 # While a run keeps rows the log grows to some 4.3 MB.
@@ -83,7 +83,7 @@ def check(program, path, wait):
             raise Trouble(cause, CANNOT_OPEN)
         base = sqlite3.connect(copy, isolation_level=None)
         has_table = bool(things_of(base))
-        state = state_of(requests_of(rows_in(base, path))) if has_table else State()
+        state = fold(State(), requests_of(rows_in(base, path))) if has_table else State()
         base.close()
     warn_of_room(path)
     if not has_table:

@@ -12,6 +12,9 @@ from companion.trouble import GUARDED, Trouble
 # A roll of more days wants --far.
 FAR_DAYS = 7
 HEADER = ",".join(COLUMNS)
+
+# So much of a line is shown.
+SHOWN = 120
 BYTE_ORDER_MARK = b"\xef\xbb\xbf"
 
 
@@ -23,9 +26,11 @@ class Input:
     word: str
     items: List
 
-    def name_of(self, place):
-        """The n-th item as the program counts it; records count from the header on."""
-        return f"line {place + 1}" if self.word == "apply" else f"record {place + 2}"
+    def shown(self, place):
+        """An item with its number as the program counts it; records count from the header on."""
+        if self.word == "apply":
+            return f"line {place + 1}: {self.items[place][:SHOWN]}"
+        return f"record {place + 2}: {','.join(self.items[place])[:SHOWN]}"
 
 
 def guard(message):

@@ -1,6 +1,6 @@
 """`accounts`, `due`, `today`, `bills` and `rows`: what can be read off a ledger's rows without a rule."""
 
-from companion.ledger_file import open_rows
+from companion.opening import open_rows
 from companion.state import BILL_KEY, read_state, requests_of
 from companion.trouble import DONE, say
 

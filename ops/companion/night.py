@@ -7,12 +7,12 @@ import contextlib
 import fcntl
 import os
 import shutil
-from dataclasses import dataclass, field
+from dataclasses import dataclass
 from datetime import date, timedelta
 
 from companion import guards
 from companion.backups import backup, make_folder, put_text
-from companion.ledger_file import require_openable
+from companion.opening import require_openable
 from companion.looks import bill_lines
 from companion.program import ask_of
 from companion.run import send
@@ -57,8 +57,8 @@ class Night:
     home: str
     day: date
     state: State
+    calls: bool = False
     found: bool = False
-    told: list = field(default_factory=list)
 
     def path(self, *names):
         return os.path.join(self.home, *names)
@@ -97,7 +97,6 @@ class Night:
             require_openable(self.ledger)
             where = f"; {sent.unanswered}" if sent.unanswered else ""
             raise Trouble(f"{name}: billctl ended with {sent.status}: {ask_of(sent.status)}{where}", sent.status if sent.status > 0 else OWN_FILES)
-        self.state = sent.after
         self.found = self.found or bool(sent.refused)
         return given, sent
 
@@ -174,7 +173,7 @@ def print_all(night):
     """The statements of the day and the open tasks."""
     folder = night.path("statements", str(night.day))
     wanted = night.state.issued_on(night.day)
-    put_statements(night.program, night.ledger, wanted, folder)
+    put_statements(night.program, night.ledger, wanted, folder, night.calls)
     tasks = put_tasks(night.program, night.ledger, folder)
     night.tell(f"statements: {len(wanted)} in {os.path.relpath(folder, night.home)}")
     until = (night.day + timedelta(days=AHEAD)).isoformat()
@@ -233,11 +232,11 @@ def require_home(home):
         raise Trouble(f"{os.path.join(home, LEDGER)} isn't there; begin the ledger by `run {os.path.join(home, LEDGER)} --new`", GUARDED)
 
 
-def night_of(program, home, day, far, wait):
+def night_of(program, home, day, far, wait, calls):
     require_home(home)
     with locked(home):
         require_openable(os.path.join(home, LEDGER), wait)
-        night = Night(program, home, day, read_state(os.path.join(home, LEDGER), wait))
+        night = Night(program, home, day, read_state(os.path.join(home, LEDGER), wait), calls)
         if day < night.state.today:
             raise Trouble(f"the ledger's today is {night.state.today} already, and {day} is before it", GUARDED)
         for name in ("reports", INBOX):
@@ -249,9 +248,9 @@ def night_of(program, home, day, far, wait):
         return FOUND if night.found else DONE
 
 
-def night(program, home, day, far, wait):
+def night(program, home, day, far, wait, calls=False):
     """The word `night`."""
     try:
-        return night_of(program, home, day, far, wait)
+        return night_of(program, home, day, far, wait, calls)
     except OSError as error:
         raise Trouble(f"{error.filename or home}: {error.strerror}; the next call goes on from here", OWN_FILES) from error

@@ -7,10 +7,10 @@ from typing import List
 
 from companion import guards, reasons
 from companion.days import day_of
-from companion.ledger_file import cause_of_name, require_openable
+from companion.opening import cause_of_name, log_of, require_openable
 from companion.program import ask_of, feed
 from companion.requests import bad_line, bad_record
-from companion.state import State, read_state
+from companion.state import State, read_on, read_state
 from companion.trouble import CANNOT_OPEN, DONE, FOUND, Trouble, say
 
 
@@ -20,11 +20,10 @@ AFTER_SECONDS = 5
 
 @dataclass
 class Sent:
-    """What came of an input: billctl's status, its replies, the state and the new rows behind it, and what was refused."""
+    """What came of an input: billctl's status, its replies, how many rows are new, and what was refused, in words."""
 
     status: int
     replies: List[str]
-    after: State
     new: int = 0
     repeats: List[str] = field(default_factory=list)
     refused: List[str] = field(default_factory=list)
@@ -39,6 +38,8 @@ def state_before(path, new, wait):
     if not os.path.lexists(path):
         if not new:
             raise guards.guard(f"{path} isn't there; --new begins a new, empty ledger under this name")
+        if os.path.lexists(log_of(path)):
+            raise guards.guard(f"{log_of(path)} is there without its file; a log and a file of another time mustn't meet: move it away")
         return State()
     if new:
         raise guards.guard(f"{path} is there already; leave --new out")
@@ -46,12 +47,15 @@ def state_before(path, new, wait):
     return read_state(path, wait)
 
 
-def is_repeat(reply, item, before, rolled_to, today):
-    """Whether a refusal only says that a shared request was carried out before: a roll to today, or a row that is kept."""
+def is_repeat(reply, item, state, rolled_to):
+    """Whether a refusal only says that a shared request was carried out before: a roll to today, or a row that is kept.
+
+    A roll to an earlier day is one only where the input goes on to today.
+    """
     number = reasons.number_of(reply)
     if number == reasons.ROLL_BACK:
-        return rolled_to == today and (item == f"roll {today}" or item in before.shared)
-    return number == reasons.PAST_ROW and item in before.shared
+        return rolled_to == state.today and item in state.shared
+    return number == reasons.PAST_ROW and item in state.shared
 
 
 def last_roll(items):
@@ -60,43 +64,37 @@ def last_roll(items):
     return max((day for day in days if day), default=None)
 
 
-def told(sent, given, before, today):
+def told(sent, given, state):
     """Sorts the replies that are no `ok` and no `show` into repeats and refusals, each in words."""
     is_lines = given.word == "apply"
     rolled_to = last_roll(given.items) if is_lines else None
     for place, (reply, item) in enumerate(zip(sent.replies, given.items)):
         word = reply.split(" ", 1)[0]
-        shown = item if is_lines else ",".join(item)
         if word == "bad":
             field_at = int(reply.split(" ")[2])
             why = bad_line(item, field_at) if is_lines else bad_record(item, field_at)
         elif word == "no":
-            kind = item.split(" ", 1)[0] if is_lines else item[2]
-            why = reasons.reason_of(reply, kind)
+            why = reasons.reason_of(reply, item.split(" ", 1)[0] if is_lines else item[2])
         else:
             continue
-        if word == "no" and is_lines and is_repeat(reply, item, before, rolled_to, today):
-            sent.repeats.append(f"{given.name_of(place)}: {shown[:120]}: carried out before")
+        if word == "no" and is_lines and is_repeat(reply, item, state, rolled_to):
+            sent.repeats.append(f"{given.shown(place)}: carried out before")
         else:
-            sent.refused.append(f"{given.name_of(place)}: {shown[:120]}: {reply}: {why}")
+            sent.refused.append(f"{given.shown(place)}: {reply}: {why}")
 
 
-def send(program, path, given, before, out=None):
-    """Sends what passed the guards. Gives what came of it, in words where something was refused."""
+def send(program, path, given, state, out=None):
+    """Sends what passed the guards, and brings the state to the rows behind it. Gives what came of it."""
     status, replies = feed(program, path, given.word, given.data, len(given.items), out)
-    sent = Sent(status, replies, before)
+    sent = Sent(status, replies)
     if status in (DONE, FOUND):
-        sent.after = read_state(path, AFTER_SECONDS)
-        sent.new = sent.after.rows - before.rows
-        told(sent, given, before, sent.after.today)
-        if status == FOUND and not sent.refused:
-            sent.status = DONE
-        return sent
-    told(sent, given, before, before.today)
-    if len(replies) < len(given.items):
-        place = len(replies)
-        item = given.items[place] if given.word == "apply" else ",".join(given.items[place])
-        sent.unanswered = f"{given.name_of(place)}: {item[:120]}: the first one without a reply"
+        before = state.rows
+        sent.new = read_on(state, path, AFTER_SECONDS).rows - before
+    told(sent, given, state)
+    if status == FOUND and not sent.refused:
+        sent.status = DONE
+    if status not in (DONE, FOUND) and len(replies) < len(given.items):
+        sent.unanswered = f"{given.shown(len(replies))}: the first one without a reply"
     return sent
 
 
@@ -120,9 +118,9 @@ def report(sent, given, path):
 def run(program, path, data, new=False, far=False, wait=0):
     """Sends request lines or records to a ledger, past the guards. Gives the exit status."""
     given = guards.read_input(data)
-    before = state_before(path, new, wait)
+    state = state_before(path, new, wait)
     if given.word == "apply":
-        guards.require_near(given.items, before, far)
-    sent = send(program, path, given, before, sys.stdout)
+        guards.require_near(given.items, state, far)
+    sent = send(program, path, given, state, sys.stdout)
     report(sent, given, path)
     return sent.status

@@ -3,7 +3,7 @@
 import hashlib
 from dataclasses import dataclass
 
-from companion.ledger_file import open_rows
+from companion.opening import open_rows
 from companion.trouble import DONE, FOUND, say
 
 

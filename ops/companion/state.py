@@ -5,7 +5,7 @@ from datetime import date
 from typing import Dict, List, Set, Tuple
 
 from companion.days import FIRST_DAY, closed_cycles, closing, day_of, last_bill_day
-from companion.ledger_file import damaged, open_rows
+from companion.opening import damaged, open_rows
 from companion.requests import OPENINGS, SHARED
 from companion.rows import NoSpelling, decode
 
@@ -83,9 +83,9 @@ class State:
         return sorted(found, key=lambda one: (one.last_day, one.account, one.cycle))
 
 
-def requests_of(rows):
+def requests_of(rows, since=0):
     """The request of each row, in order. Raises Trouble at the first one that isn't sound by itself."""
-    for number, (seq, body) in enumerate(rows, start=1):
+    for number, (seq, body) in enumerate(rows, start=since + 1):
         if seq != number:
             raise damaged(number, f"its number is {seq}")
         try:
@@ -94,8 +94,8 @@ def requests_of(rows):
             raise damaged(number, str(reason)) from reason
 
 
-def state_of(requests):
-    state = State()
+def fold(state, requests):
+    """Carries out requests on a state, and gives it."""
     for request in requests:
         if request.word not in SHARED and request.word not in OPENINGS and request.fields["account"] not in state.accounts:
             raise damaged(state.rows + 1, f"it names the account {request.fields['account']}, which isn't there")
@@ -105,5 +105,10 @@ def state_of(requests):
 
 def read_state(path, wait=0):
     """What the rows of a ledger's file come to."""
-    with open_rows(path, wait) as rows:
-        return state_of(requests_of(rows))
+    return read_on(State(), path, wait)
+
+
+def read_on(state, path, wait=0):
+    """The state with the rows that came behind it."""
+    with open_rows(path, wait, state.rows) as rows:
+        return fold(state, requests_of(rows, state.rows))

@@ -10,7 +10,7 @@ import subprocess
 import time
 
 from companion.backups import make_folder, put_text
-from companion.ledger_file import require_openable
+from companion.opening import require_openable
 from companion.program import ask_of, call, start
 from companion.state import read_state
 from companion.trouble import DONE, OWN_FILES, Progress, Trouble, say

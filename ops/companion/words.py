@@ -100,7 +100,7 @@ def add_ways_in(words):
     way.add_argument("--far", action="store_true", help="a roll of more than 7 days is meant")
     way = words.add("convert", "from a sheet's own columns to records", "Reads a sheet from standard input, with the columns that COLUMNS.toml describes, and prints the ledger's\n"
                     "records for `run`. Where anything isn't understood, nothing is printed but a table of it, with status 1.\n"
-                    "examples/columns.toml of the repository shows all that a description may say.",
+                    "examples/sheet/columns.toml of the repository shows all that a description may say.",
                     lambda asked: convert(asked.columns, sys.stdin.buffer.read()), wait=None, file=False)
     way.add_argument("columns", metavar="COLUMNS.toml")
     way = words.add("statements", "the statements of a day, in files", "Writes each statement that was issued on DAY to DIR/ACCOUNT-CYCLE.txt, and the open tasks of today to\n"
@@ -130,10 +130,11 @@ def add_keeping(words):
                      "HOME/backups, and a report in HOME/reports. A file that a guard refuses goes to HOME/refused/DAY with its\n"
                      "cause, the others to HOME/done/DAY with their replies. It may be stopped anywhere and called again; a second\n"
                      "call of a night changes nothing. Status 1: something was refused.",
-                     lambda asked: night.night(find_program(asked.program), asked.home, asked.day, asked.far, asked.wait), wait=60, file=False, program=True)
+                     lambda asked: night.night(find_program(asked.program), asked.home, asked.day, asked.far, asked.wait, asked.calls), wait=60, file=False, program=True)
     word.add_argument("home", metavar="HOME")
     word.add_argument("--day", type=day, default=None, metavar="DAY", help="the day to roll to; else today's by the clock")
     word.add_argument("--far", action="store_true", help="a roll of more than 7 days is meant")
+    word.add_argument("--calls", action="store_true", help="no server for the statements: a call each")
 
 
 def parsed(args):

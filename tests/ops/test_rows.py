@@ -5,7 +5,7 @@ import signal
 import unittest
 from datetime import date
 
-from common import HEADER, LINES, Case, ledger, start_program
+from common import HEADER, LINES, TOP, Case, ledger, start_program
 
 from companion.days import closed_cycles, closing, due, last_bill_day
 from companion.rows import NoSpelling, decode
@@ -201,6 +201,11 @@ convert: 8 of 12 records aren't understood; nothing was written
             done = self.convert(columns, sheet)
             self.expect(done, 10, why)
             self.assertEqual(done[1], "")
+
+    def test_example(self):
+        folder = os.path.join(TOP, "examples", "sheet")
+        with open(os.path.join(folder, "bank.csv"), "rb") as sheet, open(os.path.join(folder, "records.csv"), encoding="ascii") as records:
+            self.assertEqual(ledger("convert", os.path.join(folder, "columns.toml"), given=sheet.read())[:2], (0, records.read()))
 
     def test_toml(self):
         self.assertEqual(read_toml('a = "x \\"y\\" \\\\" # c\nb = -3\nc = true\n[s]\n"k 1" = \'\\n\'\n\n[t] # d\n'),

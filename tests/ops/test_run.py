@@ -24,6 +24,10 @@ class Guards(Case):
         self.begin()
         self.refuse("show anna\n", f"{self.file} is there already; leave --new out", "--new")
 
+    def test_log_alone(self):
+        self.write("rows.db-wal", b"")
+        self.refuse(LINES, f"{self.file}-wal is there without its file; a log and a file of another time mustn't meet: move it away", "--new", "--far")
+
     def test_empty(self):
         self.begin()
         self.refuse("", "the input is empty")

@@ -25,6 +25,7 @@ COLUMNS = [("seq", "INTEGER", 0, None, 1), ("body", "BLOB", 1, None, 0)]
 
 
 def log_of(path):
+    """The log that belongs to a file, where a link leads."""
     return os.path.realpath(path) + "-wal"
 
 
@@ -80,7 +81,7 @@ def cause_of_content(real, path):
 
 def cause_of_pair(real, path):
     """Why the file or the log beside it can't be opened, but for locks, else None."""
-    log = real + "-wal"
+    log = log_of(path)
     cause = cause_of_kind(real, path) or cause_of_journal(real, path)
     if cause:
         return cause
@@ -162,19 +163,22 @@ def cause_of_schema(base, path):
     return None
 
 
-def rows_in(base, path):
-    """The rows of a database in order, as numbers and bytes."""
+def rows_in(base, path, since=0):
+    """The rows of a database behind the first ones in order, as numbers and bytes."""
     cause = cause_of_schema(base, path)
     if cause:
         raise Trouble(cause, CANNOT_OPEN)
     if not things_of(base):
         return
-    yield from base.execute("SELECT seq, body FROM kept ORDER BY seq")
+    if since == 0:
+        yield from base.execute("SELECT seq, body FROM kept ORDER BY seq")
+    else:
+        yield from base.execute("SELECT seq, body FROM kept WHERE seq > ? ORDER BY seq", (since,))
 
 
 @contextlib.contextmanager
-def open_rows(path, wait=0):
-    """The rows of a ledger's file in order. Raises Trouble with the cause where it can't be opened or is damaged."""
+def open_rows(path, wait=0, since=0):
+    """The rows of a ledger's file behind the first ones in order. Raises Trouble with the cause where it can't be opened or is damaged."""
     with contextlib.ExitStack() as stack:
         real = stack.enter_context(held(path, wait))
         try:
@@ -185,7 +189,7 @@ def open_rows(path, wait=0):
             else:
                 base = connection(real)
             stack.callback(base.close)
-            rows = rows_in(base, path)
+            rows = rows_in(base, path, since)
             stack.callback(rows.close)
             yield rows
         except sqlite3.Error as error:
