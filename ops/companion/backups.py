@@ -11,7 +11,7 @@ from companion.check import cause_in, require_sound
 from companion.opening import cause_of_name, copy_pair, held, require_openable
 from companion.seals import Seal, read_seal
 from companion.state import read_state
-from companion.trouble import CANNOT_OPEN, DONE, GUARDED, OWN_FILES, Trouble, say
+from companion.trouble import CANNOT_OPEN, DONE, GUARDED, OWN_FILES, Trouble, counted, say
 
 SEAL_END = ".seal"
 
@@ -40,6 +40,10 @@ def put_text(path, text):
 
 
 def make_folder(path):
+    """Makes a folder, with those above it, that its owner alone may read; one that is there stays as it is."""
+    above = os.path.dirname(os.path.abspath(path))
+    if not os.path.isdir(above):
+        make_folder(above)
     try:
         os.makedirs(path, mode=0o700, exist_ok=True)
     except OSError as error:
@@ -114,7 +118,7 @@ def require_same(to, found):
 def tell_backup(program, path, folder, wait):
     """The word `backup`."""
     to, is_new = backup(program, path, folder, wait)
-    say(f"backup: {to}, {seal_beside(to).rows} rows" if is_new else f"backup: {to} is there already with these rows")
+    say(f"backup: {to}, {counted(seal_beside(to).rows, 'row')}" if is_new else f"backup: {to} is there already with these rows")
     print(to)
     return DONE
 
@@ -164,7 +168,7 @@ def restore(program, backup_path, path, wait):
     settle(os.path.realpath(path))
     if read_seal(path) != found:
         raise Trouble(f"{path} hasn't the rows of {backup_path}; the disk may fail", OWN_FILES)
-    say(f"restore: {path} has the {found.rows} rows of {backup_path}")
+    say(f"restore: {path} has the {counted(found.rows, 'row')} of {backup_path}")
     if folder:
         say(f"restore: what was there is in {folder}; `rows` prints its rows from {found.rows + 1} on as lines, where it can be read")
     say("restore: send again what came in since; what is in the backup already gets its old number")

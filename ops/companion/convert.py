@@ -10,7 +10,7 @@ from typing import Dict, List
 from companion.guards import HEADER
 from companion.requests import COLUMNS, KINDS, form_of, is_of_form
 from companion.toml import read_toml
-from companion.trouble import DONE, FOUND, GUARDED, OWN_FILES, Trouble, say
+from companion.trouble import DONE, FOUND, GUARDED, OWN_FILES, Trouble, counted, say
 
 MARKS = {"tab": "\t"}
 SETTINGS = {"separator": ",", "encoding": "utf-8", "skip": 0, "point": ".", "thousands": "", "date": "YYYY-MM-DD"}
@@ -232,10 +232,10 @@ def convert(path, data):
         say("record | column | what it has | why it isn't understood")
         for row in unclear:
             say(" | ".join(str(cell) for cell in row))
-        say(f"convert: {len(unclear)} of {len(records)} records aren't understood; nothing was written")
+        say(f"convert: {len(unclear)} of {counted(len(records), 'record')} not understood; nothing was written")
         return FOUND
     print(HEADER)
     for record in made:
         print(",".join(record))
-    say(f"convert: {len(made)} records")
+    say(f"convert: {counted(len(made), 'record')}")
     return DONE

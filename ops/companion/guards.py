@@ -7,7 +7,7 @@ from typing import List
 
 from companion.days import day_of
 from companion.requests import COLUMNS, OPENINGS, WORDS
-from companion.trouble import GUARDED, Trouble
+from companion.trouble import GUARDED, Trouble, counted
 
 # A roll of more days wants --far.
 FAR_DAYS = 7
@@ -25,6 +25,9 @@ class Input:
     data: bytes
     word: str
     items: List
+
+    def count(self):
+        return counted(len(self.items), "line" if self.word == "apply" else "record")
 
     def shown(self, place):
         """An item with its number as the program counts it; records count from the header on."""

@@ -2,7 +2,7 @@
 
 from companion.opening import open_rows
 from companion.state import BILL_KEY, read_state, requests_of
-from companion.trouble import DONE, say
+from companion.trouble import DONE, counted, say
 
 
 def today(path, wait):
@@ -26,7 +26,7 @@ def due(path, wait):
     for one in found:
         print(one.account, one.cycle, one.closing, one.last_day)
     late = sum(one.last_day < state.today for one in found)
-    say(f"due: {len(found)} bills on {state.today}" + (f", {late} of them too late to ask for a payment" if late else ""))
+    say(f"due: {counted(len(found), 'bill')} on {state.today}" + (f", {late} of them too late to ask for a payment" if late else ""))
     return DONE
 
 

@@ -19,7 +19,7 @@ from companion.run import send
 from companion.seals import read_seal
 from companion.state import State, read_state
 from companion.statements import put_statements, put_tasks
-from companion.trouble import DONE, FOUND, GUARDED, LOCKED, OWN_FILES, Trouble, say
+from companion.trouble import DONE, FOUND, GUARDED, LOCKED, OWN_FILES, Trouble, counted, say
 
 LEDGER = "rows.db"
 INBOX = "inbox"
@@ -140,8 +140,7 @@ def take_in(night, name):
         to = put_away(night, name, "refused", ".why", [trouble.message])
         night.tell(f"inbox {name}: {trouble.message}; it is in {to}")
         return
-    kind = "lines" if given.word == "apply" else "records"
-    night.tell(f"inbox {name}: {len(given.items)} {kind}, {sent.new} new rows, {len(sent.refused)} refused")
+    night.tell(f"inbox {name}: {given.count()}, {counted(sent.new, 'new row')}, {len(sent.refused)} refused")
     for text in sent.refused:
         night.tell(f"  {text}")
     put_away(night, name, "done", ".replies", sent.replies + sent.refused)
@@ -190,13 +189,12 @@ def save(night):
 
 
 def end_report(night):
-    """Ends the report with the seal, and gives it its name."""
+    """Ends the report with the seal, gives it its name, and prints that."""
     night.tell(f"seal: {read_seal(night.ledger).text()}")
     night.tell(f"rows: {night.state.rows}")
     to = night.path("reports", night.report_name(len(night.reports()) + 1))
     os.replace(night.part, to)
-    with open(to, encoding="utf-8") as file:
-        print(file.read(), end="")
+    print(to)
 
 
 def is_done(night):

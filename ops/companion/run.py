@@ -11,7 +11,7 @@ from companion.opening import cause_of_name, log_of, require_openable
 from companion.program import ask_of, feed
 from companion.requests import bad_line, bad_record
 from companion.state import State, read_on, read_state
-from companion.trouble import CANNOT_OPEN, DONE, FOUND, Trouble, say
+from companion.trouble import CANNOT_OPEN, DONE, FOUND, Trouble, counted, say
 
 
 # How long a look behind a run waits for another process that took the file.
@@ -102,9 +102,7 @@ def report(sent, given, path):
     """Says what came of an input, and where it ended early what that asks."""
     for text in sent.repeats + sent.refused:
         say(text)
-    answered = len(sent.replies)
-    kind = "lines" if given.word == "apply" else "records"
-    say(f"{len(given.items)} {kind}: {answered} answered, {len(sent.refused)} refused, {sent.new} new rows")
+    say(f"{given.count()}: {len(sent.replies)} answered, {len(sent.refused)} refused, {counted(sent.new, 'new row')}")
     if sent.unanswered:
         say(sent.unanswered)
     if sent.status not in (DONE, FOUND):

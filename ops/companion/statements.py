@@ -13,7 +13,7 @@ from companion.backups import make_folder, put_text
 from companion.opening import require_openable
 from companion.program import ask_of, call, start
 from companion.state import read_state
-from companion.trouble import DONE, OWN_FILES, Progress, Trouble, say
+from companion.trouble import DONE, OWN_FILES, Progress, Trouble, counted, say
 
 # From so many statements on a server is asked.
 MANY = 3
@@ -151,5 +151,5 @@ def statements(program, path, day, folder, wait=0, calls=False):
     for which in wanted:
         print(os.path.join(folder, file_name(*which)))
     tasks = len(put_tasks(program, path, folder))
-    say(f"statements: {len(wanted)} issued on {day}, {new} of them new in {folder}; {tasks} open tasks in {TASKS}")
+    say(f"statements: {len(wanted)} issued on {day}, {new} of them new in {folder}; {counted(tasks, 'open task')} in {TASKS}")
     return DONE

@@ -31,6 +31,11 @@ def say(text):
     print(text, file=sys.stderr, flush=True)
 
 
+def counted(number, what):
+    """A number with what it counts, as `1 line` and `2 lines`."""
+    return f"{number} {what}" if number == 1 else f"{number} {what}s"
+
+
 class Progress:
     """Says how far long work is, at most once in two seconds."""
 

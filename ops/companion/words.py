@@ -129,7 +129,7 @@ def add_keeping(words):
                      "names, the bills that are due, their statements and the open tasks in HOME/statements/DAY, a backup in\n"
                      "HOME/backups, and a report in HOME/reports. A file that a guard refuses goes to HOME/refused/DAY with its\n"
                      "cause, the others to HOME/done/DAY with their replies. It may be stopped anywhere and called again; a second\n"
-                     "call of a night changes nothing. Status 1: something was refused.",
+                     "call of a night changes nothing. Prints the path of the report. Status 1: something was refused.",
                      lambda asked: night.night(find_program(asked.program), asked.home, asked.day, asked.far, asked.wait, asked.calls), wait=60, file=False, program=True)
     word.add_argument("home", metavar="HOME")
     word.add_argument("--day", type=day, default=None, metavar="DAY", help="the day to roll to; else today's by the clock")

@@ -18,6 +18,9 @@ BIG = 1500
 MUCH = 600
 PAGE = 4096
 
+# A log of so many bytes is that of some hundred records.
+LOG = 1_500_000
+
 # What is left on the small disk: too little for the log of an import of 600 records.
 ROOM = 600_000
 
@@ -84,8 +87,14 @@ class Month(Nights):
     def plain(self, day):
         done = self.night(day)
         self.assertEqual(done[0], 0, done)
-        self.assertIn(f"night of {day}\n", done[1])
-        self.assertIn(f"roll: from {day - timedelta(days=1)} to {day}\n", done[1])
+        report = os.path.join(self.home, "reports", f"{day}.txt")
+        self.assertEqual(done[1], report + "\n")
+        with open(report, encoding="ascii") as file:
+            told = file.read()
+        self.assertIn(f"night of {day}\n", told)
+        self.assertIn(f"roll: from {day - timedelta(days=1)} to {day}\n", told)
+        for line in told.splitlines():
+            self.assertIn(line, done[2])
 
     def broken_files(self, day):
         """A wrong header and a cut file: the night goes on without them, ends with 1, and says where they are."""
@@ -95,7 +104,7 @@ class Month(Nights):
         self.assertEqual(done[0], 1, done)
         for text in (f"inbox a-wrong.csv: nothing was sent: column 4 of the header is 'place', wanted 'day'; the header is {HEADER.strip()}; it is in refused/{day}/a-wrong.csv\n",
                      f"inbox b-cut.csv: nothing was sent: the last line doesn't end with a line feed, so it may be cut: 'card-01,x2,charge,{day},purchase,987'; it is in refused/{day}/b-cut.csv\n"):
-            self.assertIn(text, done[1])
+            self.assertIn(text, done[2])
         self.assertEqual(sorted(os.listdir(os.path.join(self.home, "refused", str(day)))), ["a-wrong.csv", "a-wrong.csv.why", "b-cut.csv", "b-cut.csv.why"])
         self.assertEqual(self.night(day)[0], 0)
 
@@ -117,14 +126,14 @@ class Month(Nights):
         done = self.night(day)
         self.assertEqual(done[0], 0, done)
         self.assertIn("it is gone on with", done[2])
-        self.assertIn(f"inbox big.csv: {BIG} records, ", done[1])
+        self.assertIn(f"inbox big.csv: {BIG} records, ", done[2])
         lines = ledger("rows", self.file)[1]
         self.assertEqual(sum(" big" in line for line in lines.splitlines()), BIG)
         self.assertGreater(rows, 0)
 
     def kill_amid(self, day):
         """Has billctl killed when the log of its import is of some size, and the companion with it. Gives how many rows were kept."""
-        limit = os.path.getsize(self.file) + ROOM // 3
+        limit = os.path.getsize(self.file) + LOG
         killed = self.write("killed", KILLED.format(python=sys.executable, limit=limit, program=PROGRAM))
         os.chmod(killed, 0o755)
         running = start_ledger("night", self.home, "--day", str(day), "--program", killed)

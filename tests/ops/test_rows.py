@@ -75,7 +75,7 @@ class Looks(Case):
         self.assertEqual(ledger("today", self.file)[:2], (0, "2024-02-06\n"))
         self.assertEqual(ledger("accounts", self.file)[:2], (0, "anna 2024-01-06 5 2 1 0\nben 2024-02-06 6 1 0 0\n"))
         done = ledger("due", self.file)
-        self.assertEqual(done, (0, "anna 1 2024-02-05 2024-02-09\n", "due: 1 bills on 2024-02-06\n"))
+        self.assertEqual(done, (0, "anna 1 2024-02-05 2024-02-09\n", "due: 1 bill on 2024-02-06\n"))
         self.assertEqual(ledger("rows", self.file)[1], LINES + "open ben o 2024-02-06 6 1999 2499 2199 2999 2500 100\n")
         self.assertEqual(ledger("rows", self.file, "--since", "4")[1].count("\n"), 2)
 
@@ -86,7 +86,7 @@ class Looks(Case):
         self.assertEqual(ledger("run", self.file, given="bill anna bill-1.2 1\n")[:2], (0, "ok 4\n"))
         self.assertEqual(ledger("bills", self.file)[1], "")
         ledger("run", self.file, "--far", given="roll 2024-03-13\n")
-        self.expect(ledger("due", self.file), 0, "due: 1 bills on 2024-03-13, 1 of them too late to ask for a payment")
+        self.expect(ledger("due", self.file), 0, "due: 1 bill on 2024-03-13, 1 of them too late to ask for a payment")
 
     def test_nothing_changes(self):
         """A run was killed, so its rows are in the log. A look leaves the file and the log as they are, with nothing beside them."""
@@ -180,7 +180,7 @@ ben,r4,credit,2026-03-02,purchase,987,,
 11 | Reference | r4 | record 5 has the same key of this account
 12 | Time | 25:00 | no time of the day
 13 |  | 3 | the header has 7 columns
-convert: 8 of 12 records aren't understood; nothing was written
+convert: 8 of 12 records not understood; nothing was written
 """)
 
     def test_signs(self):

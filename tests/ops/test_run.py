@@ -106,7 +106,7 @@ line 6: plan: bad 6 2: field 2 (account) is missing
 line 7: charge anna c1 2024-01-10 purchase 100001: no 3 KeyReused 2: the key is in the account with other content: post 2
 line 9: show: bad 9 2: field 2 (account) is missing
 line 10: : bad 10 1: the line is empty
-10 lines: 10 answered, 8 refused, 1 new rows
+10 lines: 10 answered, 8 refused, 1 new row
 status 1: something was refused; those lines had no effect, and the others stand
 """)
 
@@ -122,7 +122,7 @@ status 1: something was refused; those lines had no effect, and the others stand
                      "record 5: anna,p3,payment,2024-02-06,,987,600,online,x: bad 5 9: column 9 is surplus\n",
                      "record 6: anna,p4,refund,2024-02-06,,987,,: bad 6 3: column 3 (kind) is 'refund', wanted charge, credit or payment\n",
                      "record 7: anna,p5,payment,2024-02-06,,987,1440,online: no 5 AmountRange: the cents aren't 1 to 1,000,000,000, or the minute is above 1,439\n",
-                     "6 records: 6 answered, 5 refused, 1 new rows\n"):
+                     "6 records: 6 answered, 5 refused, 1 new row\n"):
             self.assertIn(line, err)
 
     def test_repeats(self):
