@@ -4,10 +4,10 @@ import os
 import shutil
 import sqlite3
 
-from companion.opening import cause_of_schema, copied, has_commits, rows_in, things_of
+from companion.opening import cause_of_form, cause_of_schema, copied, has_commits, rows_in, things_of
 from companion.program import ask_of, call
 from companion.rows import NoSpelling, decode
-from companion.state import State, fold, requests_of
+from companion.state import State, fold
 from companion.trouble import CANNOT_OPEN, DAMAGED, DONE, FOUND, Trouble, say
 
 # While a run keeps rows the log grows to some 4.3 MB.
@@ -20,14 +20,18 @@ def cause_of_pages(base, path):
     found = [row[0] for row in base.execute("PRAGMA integrity_check")]
     if found == ["ok"]:
         return None
-    return f"{path} is damaged, as SQLite's integrity_check finds: {'; '.join(found[:FIRST_FINDINGS])}; restore a backup"
+    told = "; ".join(" ".join(text.split()) for text in found[:FIRST_FINDINGS])
+    return f"{path} is damaged, as SQLite's integrity_check finds: {told}; restore a backup"
 
 
-def cause_in(copy, path):
-    """Why stock SQLite finds a copy to be no ledger's file, else None."""
+def cause_in(copy, path, is_refused=False):
+    """Why stock SQLite finds a copy to be no ledger's file, else None. Where billctl refused it, also what it may have refused."""
     base = sqlite3.connect(copy, isolation_level=None)
     try:
-        return cause_of_pages(base, path) or cause_of_schema(base, path)
+        cause = cause_of_pages(base, path) or cause_of_schema(base, path)
+        if is_refused and not cause:
+            return cause_of_form(base, path) or f"{path}: billctl refuses it or its log, and SQLite finds no cause; restore a backup"
+        return cause
     except sqlite3.Error as error:
         return f"{path} is damaged, as SQLite finds: {error}; restore a backup"
     finally:
@@ -69,7 +73,7 @@ def require_sound(program, path, copy):
         number = int(written.split()[1])
         raise Trouble(f"{path}: row {number} is damaged: {row_told(copy, number)}; restore a backup", DAMAGED)
     if status == CANNOT_OPEN:
-        raise Trouble(f"{cause_in(copy, path) or f'{path}: billctl refuses it or its log, and SQLite finds no cause; restore a backup'}", CANNOT_OPEN)
+        raise Trouble(cause_in(copy, path, True), CANNOT_OPEN)
     if status != DONE:
         raise Trouble(f"billctl ended with {status} over a copy of {path}: {ask_of(status)}", status if status > 0 else FOUND)
 
@@ -83,7 +87,7 @@ def check(program, path, wait):
             raise Trouble(cause, CANNOT_OPEN)
         base = sqlite3.connect(copy, isolation_level=None)
         has_table = bool(things_of(base))
-        state = fold(State(), requests_of(rows_in(base, path))) if has_table else State()
+        state = fold(State(), rows_in(base, path)) if has_table else State()
         base.close()
     warn_of_room(path)
     if not has_table:

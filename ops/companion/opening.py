@@ -153,13 +153,21 @@ def things_of(base):
     return base.execute("SELECT type, name, sql FROM sqlite_master ORDER BY rowid").fetchall()
 
 
+def cause_of_form(base, path):
+    """That the table isn't spelled as a ledger's, else None."""
+    for _, _, sql in things_of(base):
+        if " ".join(sql.split()) != TABLE:
+            return f"{path}: its table kept is of another form: {' '.join(sql.split())}; a ledger's is: {TABLE}"
+    return None
+
+
 def cause_of_schema(base, path):
     """What the database has that isn't the table of a ledger, else None."""
     for kind, name, sql in things_of(base):
         if (kind, name) != ("table", "kept"):
             return f"{path} has the {kind} {name}, which is no ledger's; a ledger's file has the table kept alone"
         if [row[1:6] for row in base.execute("PRAGMA table_info(kept)")] != COLUMNS or "STRICT" not in sql.upper():
-            return f"{path}: its table kept is of another form: {' '.join(sql.split())}; a ledger's is: {TABLE}"
+            return cause_of_form(base, path)
     return None
 
 

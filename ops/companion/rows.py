@@ -76,6 +76,12 @@ class Bytes:
         return {"name": self.name, "day": self.day, "number": self.number, "place": self.place}[form]()
 
 
+def account_and_key(body):
+    """The account and the key of a post's row, without a look at the fields behind them. Raises IndexError where it is too short."""
+    end = 3 + body[2]
+    return body[3:end].decode("latin-1"), body[end + 1:end + 1 + body[end]].decode("latin-1")
+
+
 def decode(body):
     """The request that a row's bytes spell. Raises NoSpelling where they are none."""
     if len(body) < 2:

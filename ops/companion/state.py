@@ -6,8 +6,14 @@ from typing import Dict, List, Set, Tuple
 
 from companion.days import FIRST_DAY, closed_cycles, closing, day_of, last_bill_day
 from companion.opening import damaged, open_rows
-from companion.requests import OPENINGS, SHARED
-from companion.rows import NoSpelling, decode
+from companion.requests import CODES, OPENINGS, SHARED
+from companion.rows import NoSpelling, account_and_key, decode
+
+FORMATS = (1, 2)
+LAST_CLOSE = 28
+
+# The codes of posts of which it is enough to count them.
+COUNTED = frozenset(code for code, word in CODES.items() if word not in SHARED and word not in OPENINGS and word != "bill")
 
 # Keys that this companion gives to bills begin so.
 BILL_KEY = "bill-"
@@ -23,6 +29,12 @@ class Account:
     posts: int = 0
     bills: Dict[int, date] = field(default_factory=dict)
     bill_keys: Set[str] = field(default_factory=set)
+
+    def count(self, key):
+        """One more post, with its key."""
+        self.posts += 1
+        if key.startswith(BILL_KEY):
+            self.bill_keys.add(key)
 
     def closed(self, today):
         return closed_cycles(self.opened, self.close, today)
@@ -58,11 +70,12 @@ class State:
             return
         name, key = request.fields["account"], request.fields["key"]
         if request.word in OPENINGS:
-            self.accounts[name] = Account(name, day_of(request.fields["day"]), int(request.fields["close"]))
+            close = int(request.fields["close"])
+            if not 1 <= close <= LAST_CLOSE:
+                raise NoSpelling(f"it opens an account that closes on day {close} of the month")
+            self.accounts[name] = Account(name, day_of(request.fields["day"]), close)
         account = self.accounts[name]
-        account.posts += 1
-        if key.startswith(BILL_KEY):
-            account.bill_keys.add(key)
+        account.count(key)
         if request.word == "bill":
             cycle = int(request.fields["cycle"])
             account.bills[cycle] = self.today
@@ -94,12 +107,30 @@ def requests_of(rows, since=0):
             raise damaged(number, str(reason)) from reason
 
 
-def fold(state, requests):
-    """Carries out requests on a state, and gives it."""
-    for request in requests:
-        if request.word not in SHARED and request.word not in OPENINGS and request.fields["account"] not in state.accounts:
-            raise damaged(state.rows + 1, f"it names the account {request.fields['account']}, which isn't there")
-        state.take(request)
+def take_row(state, body):
+    """Carries out a row. Of most posts only the account and the key are read, since ledgers have many of them."""
+    if len(body) < 2 or body[0] not in FORMATS or body[1] not in COUNTED:
+        state.take(decode(body))
+        return
+    name, key = account_and_key(body)
+    state.accounts[name].count(key)
+    state.rows += 1
+
+
+def fold(state, rows):
+    """Carries out the rows behind those that the state has, and gives it. Raises Trouble at one that can't be sound."""
+    for seq, body in rows:
+        number = state.rows + 1
+        if seq != number:
+            raise damaged(number, f"its number is {seq}")
+        try:
+            take_row(state, body)
+        except NoSpelling as reason:
+            raise damaged(number, str(reason)) from reason
+        except KeyError as name:
+            raise damaged(number, f"it names the account {name.args[0]}, which isn't there") from name
+        except IndexError as reason:
+            raise damaged(number, "its bytes end inside a field") from reason
     return state
 
 
@@ -111,4 +142,4 @@ def read_state(path, wait=0):
 def read_on(state, path, wait=0):
     """The state with the rows that came behind it."""
     with open_rows(path, wait, state.rows) as rows:
-        return fold(state, requests_of(rows, state.rows))
+        return fold(state, rows)
