@@ -8,7 +8,7 @@ import time
 
 from companion import locks
 from companion.check import cause_in, require_sound
-from companion.opening import cause_of_name, copy_pair, held, require_openable
+from companion.opening import cause_of_name, copy_pair, held, log_of, require_openable
 from companion.seals import Seal, read_seal
 from companion.state import read_state
 from companion.trouble import CANNOT_OPEN, DONE, GUARDED, OWN_FILES, Trouble, counted, say
@@ -150,6 +150,16 @@ def move_away(path):
     return folder
 
 
+def keep_access(real, copy):
+    """Gives a copy the mode of the file whose place it takes, and its owner where this user may."""
+    found = os.stat(real)
+    os.chmod(copy, found.st_mode & 0o777)
+    try:
+        os.chown(copy, found.st_uid, found.st_gid)
+    except PermissionError:
+        say(f"restore: {real} belongs to this user now")
+
+
 def restore(program, backup_path, path, wait):
     """The word `restore`: the file becomes the backup; what was there is moved into a folder beside it."""
     cause = cause_of_name(path)
@@ -162,7 +172,8 @@ def restore(program, backup_path, path, wait):
         copy = join(room, backup_path, wait)
         settle(copy)
         if os.path.lexists(path):
-            locks.wait_for([os.path.realpath(path), os.path.realpath(path) + "-wal"], wait)
+            locks.wait_for([os.path.realpath(path), log_of(path)], wait)
+            keep_access(os.path.realpath(path), copy)
         folder = move_away(path)
         os.rename(copy, os.path.realpath(path))
     settle(os.path.realpath(path))

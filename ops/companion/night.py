@@ -143,6 +143,10 @@ def take_in(night, name):
     night.tell(f"inbox {name}: {given.count()}, {counted(sent.new, 'new row')}, {len(sent.refused)} refused")
     for text in sent.refused:
         night.tell(f"  {text}")
+    if os.path.getsize(night.path(INBOX, name)) != len(data):
+        night.found = True
+        night.tell(f"inbox {name}: it was written to meanwhile, so it stays for the next call")
+        return
     put_away(night, name, "done", ".replies", sent.replies + sent.refused)
 
 

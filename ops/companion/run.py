@@ -11,7 +11,7 @@ from companion.opening import cause_of_name, log_of, require_openable
 from companion.program import ask_of, feed
 from companion.requests import bad_line, bad_record
 from companion.state import State, read_on, read_state
-from companion.trouble import CANNOT_OPEN, DONE, FOUND, Trouble, counted, say
+from companion.trouble import CANNOT_OPEN, DONE, FOUND, OWN_FILES, Trouble, counted, say
 
 
 # How long a look behind a run waits for another process that took the file.
@@ -121,4 +121,4 @@ def run(program, path, data, new=False, far=False, wait=0):
         guards.require_near(given.items, state, far)
     sent = send(program, path, given, state, sys.stdout)
     report(sent, given, path)
-    return sent.status
+    return sent.status if sent.status >= 0 else OWN_FILES

@@ -56,7 +56,9 @@ class Backups(Case):
             self.assertEqual(file.read(), ledger("seal", self.file)[1])
         self.assertEqual(ledger("backup", self.file, self.at("saved"))[2], f"backup: {to} is there already with these rows\n")
         ledger("run", self.file, given="charge anna c2 2024-02-06 purchase 500\n")
+        os.chmod(self.file, 0o640)
         done = ledger("restore", to, self.file)
+        self.assertEqual(os.stat(self.file).st_mode & 0o777, 0o640)
         self.expect(done, 0, f"restore: {self.file} has the 5 rows of {to}")
         self.assertEqual(self.rows(), before)
         moved = [name for name in os.listdir(self.room) if name.startswith("rows.db.before-")]

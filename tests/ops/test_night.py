@@ -1,6 +1,7 @@
 """A month of 50 accounts by `night` alone, day by day, with what goes wrong in a month."""
 
 import ctypes
+import fcntl
 import os
 import resource
 import shutil
@@ -8,8 +9,9 @@ import signal
 import subprocess
 import sys
 from datetime import timedelta
+from unittest import mock
 
-from common import PROGRAM, TOP, Case, ledger, start_ledger
+from common import PROGRAM, TOP, Case, ledger, start_ledger, start_program
 from issuer import FIRST, HEADER, Issuer
 
 DAYS = 31
@@ -231,3 +233,71 @@ class Month(Nights):
                 found[name] = file.read()
         self.assertEqual(found.pop("work.txt"), tasks[number], day)
         self.assertEqual(found, {name: statement_text(name.rpartition("-")[0], one) for name, one in issued.get(number, {}).items()}, day)
+
+
+class Inbox(Nights):
+    def setUp(self):
+        super().setUp()
+        self.begin("roll 2024-02-05\nopen anna o 2024-01-06 5 1999 2499 2199 2999 2500 100\n")
+
+    def test_refused(self):
+        """Some records are refused: status 1, the reasons are in the report and beside the file."""
+        self.put("cards.csv", HEADER + "anna,c1,charge,2024-02-05,purchase,500,,\nben,c1,charge,2024-02-05,purchase,500,,\n")
+        done = self.night("2024-02-06")
+        why = "record 3: ben,c1,charge,2024-02-05,purchase,500,,: no 1 UnknownAccount: there is no account of this name\n"
+        self.expect(done, 1, "inbox cards.csv: 2 records, 1 new row, 1 refused\n  " + why)
+        with open(os.path.join(self.home, "done", "2024-02-06", "cards.csv.replies"), encoding="ascii") as file:
+            self.assertEqual(file.read(), "ok 2\nno 1 UnknownAccount\n" + why)
+        self.assertEqual(ledger("rows", self.file, "--since", "3")[1], "charge anna c1 2024-02-05 purchase 500\nbill anna bill-1 1\n")
+
+    def test_rolls(self):
+        self.put("desk.txt", "roll 2024-02-07\n")
+        done = self.night("2024-02-06")
+        self.expect(done, 1, "inbox desk.txt: nothing was sent: it rolls, and only the night does; it is in refused/2024-02-06/desk.txt")
+        self.assertEqual(ledger("today", self.file)[1], "2024-02-06\n")
+
+    def test_names(self):
+        """What is still being written stays, and a second file of a name doesn't take the place of the first."""
+        self.put(".cards.csv", HEADER)
+        for _ in range(2):
+            self.put("cards.csv", HEADER)
+            self.assertEqual(self.night("2024-02-06")[0], 0)
+        self.assertEqual(os.listdir(os.path.join(self.home, "inbox")), [".cards.csv"])
+        self.assertEqual(sorted(os.listdir(os.path.join(self.home, "done", "2024-02-06"))), ["cards.csv", "cards.csv.2", "cards.csv.2.replies", "cards.csv.replies"])
+        self.assertEqual(sorted(os.listdir(os.path.join(self.home, "reports"))), ["2024-02-06-2.txt", "2024-02-06.txt"])
+
+    def test_growing(self):
+        self.put("cards.csv", HEADER)
+        with mock.patch("companion.night.os.path.getsize", lambda path: 1000):
+            self.expect(self.night("2024-02-06"), 1, "inbox cards.csv: it was written to meanwhile, so it stays for the next call")
+        self.assertEqual(os.listdir(os.path.join(self.home, "inbox")), ["cards.csv"])
+
+    def test_days(self):
+        self.expect(self.night("2024-02-13"), 10, "rolls from 2024-02-05 to 2024-02-13, 8 days, and no roll can be taken back; more than 7 days want --far")
+        self.assertEqual(self.night("2024-02-13", "--far")[0], 0)
+        self.expect(self.night("2024-02-12"), 10, "the ledger's today is 2024-02-13 already, and 2024-02-12 is before it")
+        with open(os.path.join(self.home, "reports", "2024-02-13.txt"), encoding="ascii") as file:
+            self.assertIn("bills: 1, 1 of them too late to ask for a payment\n", file.read())
+
+    def test_home(self):
+        self.expect(ledger("night", self.at("none")), 10, f"{self.at('none')} is no folder")
+        self.expect(ledger("night", self.room), 10, f"{self.file_in(self.room)} isn't there; begin the ledger by `run {self.file_in(self.room)} --new`")
+
+    def file_in(self, home):
+        return os.path.join(home, "rows.db")
+
+    def test_under_way(self):
+        """A second night in the folder is turned away, and so is a night while another process has the ledger."""
+        with open(os.path.join(self.home, "night.lock"), "w", encoding="ascii") as file:
+            file.write("4711\n")
+            file.flush()
+            fcntl.flock(file, fcntl.LOCK_EX)
+            self.expect(self.night("2024-02-06"), 11, f"another night is under way in {self.home}: process 4711")
+        running = start_program(self.file, "apply")
+        running.stdin.write(b"show anna\n")
+        running.stdout.readline()
+        self.expect(self.night("2024-02-06", "--wait", "0"), 5, f"{self.file} is in use by process {running.pid} (billctl)")
+        running.stdin.close()
+        running.wait()
+        running.stdout.close()
+        self.assertEqual(self.night("2024-02-06")[0], 0)

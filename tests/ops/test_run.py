@@ -177,7 +177,7 @@ status 1: something was refused; those lines had no effect, and the others stand
         os.chmod(killed, 0o755)
         done = ledger("run", self.file, "--program", killed, given="show anna\n")
         self.assertIn("it was ended by SIGKILL; every line with a reply stands", done[2])
-        self.assertNotEqual(done[0], 0)
+        self.assertEqual(done[0], 12)
 
 
 class Command(Case):
