@@ -1,7 +1,7 @@
 #!/bin/sh
 # Runs the proved program where it can't go on, and holds its exit status and what it wrote against what
 # docs/FORMATS.md says: words that are no command, an account that isn't there, no input, an input that can't be read, an output that takes nothing,
-# rows that can't be kept, a file that another run has, a disk that is full, rows that are damaged, and too little memory.
+# rows that can't be kept, a file that another run has, a disk that is full, rows and records that are damaged, and too little memory.
 #
 #     tests/statuses.sh
 top=$(cd "$(dirname "$0")/.." && pwd) || exit 1
@@ -76,9 +76,13 @@ LINES = ["roll 2024-03-01", "open a o 2024-03-01 5 1999 2499 2199 2999 2500 100"
 SHOWN = "show a 2024-03-01 owed 1250 credit 0 held 0\n"
 
 
-def apply(file, lines, **how):
-    done = subprocess.run([program, file, "apply"], input="".join(line + "\n" for line in lines), capture_output=True, text=True, **how)
+def run(file, command, lines, **how):
+    done = subprocess.run([program, file, *command.split()], input="".join(line + "\n" for line in lines), capture_output=True, text=True, **how)
     return done.returncode, done.stdout
+
+
+def apply(file, lines, **how):
+    return run(file, "apply", lines, **how)
 
 
 def expect(name, found, wanted):
@@ -94,22 +98,43 @@ def keep(file, rows):
     base.close()
 
 
-# rows as they are, out of turn, cut, twice, before what they stand on, and empty
+# the rows of each format that is read: as they are, out of turn, one of another format, cut, empty, twice, before what they
+# stand on, and from 2 on
+SPELLINGS = {"format 1": (ROLL, OPEN, CHARGE)}
 whole = os.path.join(room, "whole")
 expect("three lines", apply(whole, LINES), (0, "ok\nok 1\nok 2\n"))
 base = sqlite3.connect(whole)
 expect("three rows", base.execute("SELECT seq, body FROM kept ORDER BY seq").fetchall(), [(1, ROLL), (2, OPEN), (3, CHARGE)])
 base.close()
-for rows, wanted in (
-    ([(1, ROLL), (2, OPEN), (3, CHARGE)], (0, SHOWN)),
-    ([(1, ROLL), (2, OPEN), (4, CHARGE)], (8, "damaged 3\n")),
-    ([(1, ROLL), (2, OPEN), (3, CHARGE[:-1])], (8, "damaged 3\n")),
-    ([(1, ROLL), (2, OPEN), (3, OPEN)], (8, "damaged 3\n")),
-    ([(1, ROLL), (2, CHARGE), (3, OPEN)], (8, "damaged 2\n")),
-    ([(1, b""), (2, OPEN), (3, CHARGE)], (8, "damaged 1\n")),
+for spelling, (roll, opened, charge) in SPELLINGS.items():
+    for rows, wanted in (
+        ([(1, roll), (2, opened), (3, charge)], (0, SHOWN)),
+        ([(1, roll), (2, opened), (4, charge)], (8, "damaged 3\n")),
+        ([(2, roll), (3, opened), (4, charge)], (8, "damaged 1\n")),
+        ([(1, roll), (2, opened), (3, b"\x09" + charge[1:])], (8, "damaged 3\n")),
+        ([(1, b"\x09"), (2, opened), (3, charge)], (8, "damaged 1\n")),
+        ([(1, roll), (2, opened), (3, charge[:-1])], (8, "damaged 3\n")),
+        ([(1, roll), (2, opened), (3, charge + b"\x00")], (8, "damaged 3\n")),
+        ([(1, b""), (2, opened), (3, charge)], (8, "damaged 1\n")),
+        ([(1, roll), (2, opened), (3, charge), (4, b"")], (8, "damaged 4\n")),
+        ([(1, roll), (2, opened), (3, opened)], (8, "damaged 3\n")),
+        ([(1, roll), (2, opened), (3, charge), (4, charge)], (8, "damaged 4\n")),
+        ([(1, roll), (2, charge), (3, opened)], (8, "damaged 2\n")),
+    ):
+        keep(whole, rows)
+        expect(f"{spelling}, the rows {rows}", apply(whole, ["show a"]), wanted)
+
+# records of seven fields, without a channel in the header, and of a kind that isn't read
+HEADER = "account,key,kind,day,place,cents,minute,channel"
+CHARGED = "a,c1,charge,2024-03-01,purchase,1250,,"
+for records, wanted in (
+    ([HEADER, CHARGED], (0, "ok 2\n")),
+    ([HEADER, CHARGED[:-1], CHARGED], (1, "bad 2 8\nok 2\n")),
+    ([HEADER[: HEADER.rindex(",")], CHARGED], (1, "bad 1 8\nok 2\n")),
+    ([HEADER, CHARGED, "a,c2,fee,2024-03-01,purchase,1250,,"], (1, "ok 2\nbad 3 3\n")),
 ):
-    keep(whole, rows)
-    expect(f"the rows {rows}", apply(whole, ["show a"]), wanted)
+    keep(whole, [(1, ROLL), (2, OPEN)])
+    expect(f"the records {records}", run(whole, "import", records), wanted)
 
 
 # a disk that takes no more than a page of a file, too little for a row: it isn't kept, and is when the line comes again
