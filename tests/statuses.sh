@@ -64,7 +64,7 @@ for words in 'export nobody' 'statement nobody 1' 'restate nobody 1'; do
     fi
 done
 python3 - "$program" "$rows" <<'END' || exit 1
-import os, resource, shutil, signal, sqlite3, subprocess, sys
+import os, resource, shutil, signal, sqlite3, subprocess, sys, threading
 
 program, room = sys.argv[1:]
 ROLL, OPEN, CHARGE = map(bytes.fromhex, (
@@ -87,7 +87,7 @@ def apply(file, lines, **how):
 
 def expect(name, found, wanted):
     if found != wanted:
-        sys.exit(f"statuses: {name}: {found}, wanted {wanted}")
+        sys.exit(f"statuses: {name}: {str(found)[:500]}, wanted {str(wanted)[:500]}")
 
 
 def keep(file, rows):
@@ -138,26 +138,109 @@ for records, wanted in (
 
 
 # a disk that takes no more than a page of a file, too little for a row: it isn't kept, and is when the line comes again
-def full():
+def room_for(size):
+    """From now on no file takes a byte behind its first ones."""
     signal.signal(signal.SIGXFSZ, signal.SIG_IGN)
-    resource.setrlimit(resource.RLIMIT_FSIZE, (4096, 4096))
+    resource.setrlimit(resource.RLIMIT_FSIZE, (size, size))
 
 
 file = os.path.join(room, "full")
 expect("one line", apply(file, LINES[:1]), (0, "ok\n"))
-expect("a disk that is full", apply(file, ["show a"] + LINES[1:], preexec_fn=full), (5, "no 1 UnknownAccount\n"))
+expect("a disk that is full", apply(file, ["show a"] + LINES[1:], preexec_fn=lambda: room_for(4096)), (5, "no 1 UnknownAccount\n"))
 expect("the same lines with room", apply(file, LINES[1:] + ["show a"]), (0, "ok 1\nok 2\n" + SHOWN))
 
-# a second run doesn't get the file that one has, which goes on
-first = subprocess.Popen([program, file, "apply"], stdin=subprocess.PIPE, stdout=subprocess.PIPE, text=True, bufsize=1)
-first.stdin.write("show a\n")
-expect("a run that has a file", first.stdout.readline(), SHOWN)
+# a second run waits for the file that one has, and doesn't get it; the one that has it goes on
+def begun(file):
+    """A run that has the file."""
+    one = subprocess.Popen([program, file, "apply"], stdin=subprocess.PIPE, stdout=subprocess.PIPE, text=True, bufsize=1)
+    one.stdin.write("show a\n")
+    expect("a run that has a file", one.stdout.readline(), SHOWN)
+    return one
+
+
+first = begun(file)
 expect("a second run on its file", apply(file, ["charge a c2 2024-03-01 purchase 5"]), (5, ""))
 first.stdin.write("charge a c3 2024-03-01 purchase 5\n")
 expect("the run that has it, after that", first.stdout.readline(), "ok 3\n")
 first.stdin.close()
 expect("its end", first.wait(), 0)
 expect("the rows behind both", apply(file, ["charge a c2 2024-03-01 purchase 5"]), (0, "ok 4\n"))
+again = os.path.join(room, "again")
+apply(again, LINES)
+first = begun(again)
+threading.Timer(1, first.stdin.close).start()
+expect("a second run, where the first ends in time", apply(again, ["charge a c2 2024-03-01 purchase 5"]), (0, "ok 3\n"))
+expect("the first", first.wait(), 0)
+
+
+def held(file):
+    """What the file and its log hold, and who may use them."""
+    return [(name[len(file) :], os.stat(name).st_mode & 0o777, open(name, "rb").read()) for name in (file, file + "-wal") if os.path.exists(name)]
+
+
+def stays(file, before):
+    """Whether the file is as it was, and its log too, up to its last commit."""
+    now = held(file)
+    return len(now) == len(before) and all(left[:2] == was[:2] and left[2].startswith(was[2]) and (left[0] or left == was) for left, was in zip(now, before))
+
+
+def apart(name, *statements):
+    """A file whose rows, and what the statements make of them, stand in its log alone."""
+    file, copy = os.path.join(room, name), os.path.join(room, name + "-apart")
+    run(file, "apply", LINES)
+    base = sqlite3.connect(file)
+    for statement in ("PRAGMA journal_mode=wal", *statements):
+        base.execute(statement)
+    base.commit()
+    for end in ("", "-wal"):
+        shutil.copyfile(file + end, copy + end)
+    base.close()
+    return copy
+
+
+TELLING = "statement a 1", "restate a 1", "export a", "work"
+
+# a new file and its log are their owner's, whatever the mask, and are made by what carries out requests alone
+file = os.path.join(room, "new")
+expect("a new file", run(file, "apply", LINES, preexec_fn=lambda: os.umask(0))[0], 0)
+expect("the modes of a new file and its log", [(end, mode) for end, mode, _ in held(file)], [("", 0o600), ("-wal", 0o600)])
+file = os.path.join(room, "missing")
+for command in TELLING:
+    expect(f"{command}, without a file", run(file, command, []), (5, ""))
+    expect(f"{command}, whether a file was made", held(file), [])
+open(file, "w").close()
+for command in TELLING:
+    expect(f"{command}, of a file without a byte", run(file, command, []), (5, ""))
+    expect(f"{command}, what it left of a file without a byte", [(end, kept) for end, _, kept in held(file)], [("", b"")])
+expect("a file without a byte", apply(file, LINES), (0, "ok\nok 1\nok 2\n"))
+
+# a file that has lost its bytes, beside a log that was joined to it and one that wasn't, is refused and stays
+for name, copy in ("cut", os.path.join(room, "cut")), ("cut with rows in its log", apart("cut-too")):
+    if not os.path.exists(copy):
+        apply(copy, LINES)
+    os.truncate(copy, 0)
+    before = held(copy)
+    for command in ("apply", "import", *TELLING):
+        expect(f"{command}, of a file that was {name}", run(copy, command, []), (5, ""))
+        expect(f"{command}, whether a file that was {name} stays", stays(copy, before), True)
+
+# a file that is refused stays as it was, with a log whose rows aren't joined to it, and so does one that is only read
+for name, statements, wanted in (
+    ("damaged", ("DELETE FROM kept WHERE seq = 2",), (8, "damaged 2\n")),
+    ("another-table", ("CREATE TABLE other (a)",), (5, "")),
+    ("sound", (f"INSERT INTO kept VALUES (4, x'{CHARGE.hex().replace('6331', '6332')}')",), None),
+):
+    copy = apart(name, *statements)
+    before = held(copy)
+    for command in ("apply", *TELLING):
+        ended = run(copy, command, [])
+        expect(f"{command}, of a file that is {name}", ended if wanted else (ended[0] < 2, ""), wanted or (True, ""))
+        expect(f"{command}, whether a file that is {name} stays", stays(copy, before), True)
+
+# a run that only reads wants no room on the disk
+expect("work, without room", run(copy, "work", [], preexec_fn=lambda: room_for(0)), (0, ""))
+file = os.path.join(room, "new")
+expect("work, without room for more than there is", run(file, "work", [], preexec_fn=lambda: room_for(os.path.getsize(file + "-wal"))), (0, ""))
 END
 python3 - "$program" <<'END'
 import socket, subprocess, sys
