@@ -4,6 +4,14 @@
 
 #[cfg(test)]
 mod commands;
+#[cfg(test)]
+mod connections;
+#[cfg(test)]
+mod faults;
+#[cfg(test)]
+mod files;
+#[cfg(test)]
+mod network;
 mod stored;
 #[cfg(test)]
 mod stores;
