@@ -5,7 +5,7 @@ import threading
 import time
 from http.client import HTTPConnection, HTTPException
 
-from parts import SECONDS, ask
+from parts import PATIENCE, SECONDS, ask
 
 TERMS = {"purchase": 1999, "cash": 2499, "transfer": 2199, "penalty": 2999, "floor": 2500, "pct": 100}
 PLACES = ("purchase", "purchase", "cash", "transfer")
@@ -143,7 +143,7 @@ class Client(threading.Thread):
         self.answers.append((int(headers["Answered"]), method, path, text, status, answer))
 
     def until_answered(self, method, path, text):
-        deadline = time.monotonic() + SECONDS
+        deadline = time.monotonic() + PATIENCE
         while time.monotonic() < deadline:
             try:
                 self.link = self.link or HTTPConnection("127.0.0.1", self.month.door.port, timeout=SECONDS)
@@ -154,5 +154,5 @@ class Client(threading.Thread):
                 self.link.close()
                 self.link = None
             self.sent_again += 1
-            time.sleep(0.02)
-        raise RuntimeError(f"{method} {path} {text} isn't answered in {SECONDS} seconds")
+            time.sleep(0.2)
+        raise RuntimeError(f"{method} {path} {text} isn't answered in {PATIENCE} seconds")

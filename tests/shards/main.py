@@ -10,7 +10,7 @@ import time
 import tables
 from accounts import Client
 from hostile import Hostile
-from parts import SHARDS, Door, Ledger, Scripts, Way, ask, fail, free_ports, shard_of
+from parts import PATIENCE, SHARDS, Door, Ledger, Scripts, Way, ask, fail, free_ports, shard_of
 
 TOP = sys.argv[1]
 SEED = int(sys.argv[2]) if len(sys.argv) > 2 else random.randrange(10**6)
@@ -75,7 +75,7 @@ class Month:
         return sum(len(client.answers) for client in self.clients)
 
     def wait_for(self, answers):
-        deadline = time.monotonic() + 60
+        deadline = time.monotonic() + PATIENCE
         while self.answered() < answers:
             time.sleep(0.01)
             if time.monotonic() > deadline:
@@ -84,7 +84,7 @@ class Month:
     def wait_for_each(self):
         """Until no client waits for what it waits for now."""
         before = [len(client.answers) for client in self.clients]
-        deadline = time.monotonic() + 60
+        deadline = time.monotonic() + PATIENCE
         while any(len(client.answers) <= old + 1 for client, old in zip(self.clients, before)):
             self.answered()
             time.sleep(0.01)
@@ -144,7 +144,7 @@ class Month:
         self.wait_for(self.answered() + ANSWERS_A_DAY)
         self.over = True
         for client in self.clients:
-            client.join(60)
+            client.join(PATIENCE)
         self.answered()
 
     def answers(self):

@@ -11,7 +11,8 @@ import zlib
 
 SHARDS = 4
 COUNT = 1000000
-SECONDS = 70
+# what the door and the scripts may take for one answer; and what a busy machine may take for several
+SECONDS, PATIENCE = 70, 600
 NO_USER = {"    user haproxy\n    group haproxy\n": ""}
 
 
