@@ -1,7 +1,7 @@
 #!/bin/sh
 # Sends bytes that mean no good, 100 million of them: two fifths as request lines, two fifths as CSV, one fifth over connections. They are
 # random bytes, runs of one byte, and lines, records and requests of examples/ in which bytes are changed, doubled, cut and left out. Each
-# run has to end by itself with status 0 or 1 within a minute, with a reply for each line, and an answer or a cut for each connection. A
+# run has to end by itself with status 0 or 1 in a minute of the processor, with a reply for each line, and an answer or a cut for each connection. A
 # part of each kind is also given to the independent model of the rules, where that stands beside the repository: it has to reply the same.
 # It prints its seed, and takes how many bytes there are and the seed.
 #
@@ -13,6 +13,7 @@ import json
 import os
 import random
 import re
+import resource
 import socket
 import subprocess
 import sys
@@ -25,6 +26,7 @@ PIECE = 1_000_000  # bytes of a run of lines or records
 SAMPLE = 20_000  # bytes of a run that the model is given too
 EVERY = 5  # one run in so many has such a sample behind it
 CONNECTIONS = 500  # of a server
+SECONDS = 60  # of the processor, that a run may take
 ODD = b"\x00\t\r\n \"',:.-{}[]\\+0129azAZ_%/?#\x7f\x80\xc3\xa9\xed\xa0\x80\xff"
 FIELDS = {
     "roll": "day", "holiday": "day", "feerow": "day first repeat",
@@ -105,16 +107,17 @@ def bytes_like(parts, size):
     return bytes(out[:size])
 
 
+def limited():
+    resource.setrlimit(resource.RLIMIT_CPU, (SECONDS, SECONDS))
+
+
 def ran(command, data):
-    start = time.monotonic()
-    try:
-        done = subprocess.run([PROGRAM, "-", command], input=data, capture_output=True, timeout=60)
-    except subprocess.TimeoutExpired:
-        fail(f"{command} of {len(data)} bytes doesn't end")
+    start = resource.getrusage(resource.RUSAGE_CHILDREN).ru_utime
+    done = subprocess.run([PROGRAM, "-", command], input=data, capture_output=True, preexec_fn=limited)
     if done.returncode not in (0, 1) or done.stderr:
         keep(data)
         fail(f"{command} of {len(data)} bytes ends with {done.returncode} {done.stderr[:100]}")
-    return done.stdout, done.returncode, time.monotonic() - start
+    return done.stdout, done.returncode, resource.getrusage(resource.RUSAGE_CHILDREN).ru_utime - start
 
 
 def keep(data):
