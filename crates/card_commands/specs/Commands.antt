@@ -8,8 +8,8 @@ use Rattle.card_ports.specs.declared.source.SinkFault.{SinkFault}
 use Rattle.card_ports.specs.declared.source.SinkFault.TheVariants as fault
 use Rattle.card_commands.specs.declared.command.Command.{Command}
 use Rattle.card_commands.specs.declared.command.Command.TheVariants as command
-use Rattle.card_commands.specs.declared.end.End.{End}
-use Rattle.card_commands.specs.declared.end.End.TheVariants as end
+use Rattle.card_commands.specs.declared.stop.Stop.{Stop}
+use Rattle.card_commands.specs.declared.stop.Stop.TheVariants as stop
 use Rattle.card_commands.specs.declared.ended.Ended.{Ended}
 use Rattle.card_commands.specs.declared.ended.Ended.TheVariants as ended
 
@@ -128,12 +128,12 @@ IsOneOf n [] = ⊥
 IsOneOf n (m ∷ ms) = (n ≡ m) ⊎ IsOneOf n ms
 
 -- the end of a run that was ended early
-abbrev pub ended_by : End → Ended
-ended_by end.Source = ended.Source
-ended_by end.Sink = ended.Sink
-ended_by end.Keeper = ended.Keeper
-ended_by end.Memory = ended.Memory
-ended_by end.Endless = ended.Endless
+abbrev pub ended_by : Stop → Ended
+ended_by stop.Source = ended.Source
+ended_by stop.Sink = ended.Sink
+ended_by stop.Keeper = ended.Keeper
+ended_by stop.Memory = ended.Memory
+ended_by stop.Endless = ended.Endless
 
 -- the end of a call that a sink's fault ended
 abbrev pub ended_by_sink : SinkFault → Ended
@@ -141,7 +141,7 @@ ended_by_sink fault.Failed = ended.Sink
 ended_by_sink fault.Memory = ended.Memory
 
 -- the end of a run, where Ok says whether a line was refused
-abbrev pub ended_of : Result Bool End → Ended
+abbrev pub ended_of : Result Bool Stop → Ended
 ended_of (Ok false) = ended.Done
 ended_of (Ok true) = ended.Refused
 ended_of (Err e) = ended_by e

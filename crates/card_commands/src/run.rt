@@ -7,9 +7,9 @@ ghost use Rattle.card_commands.specs.Input.{lines};
 ghost use Rattle.card_commands.specs.Outside.{outside, Runs, HasCause};
 ghost use Rattle.card_commands.specs.Ran.{Ran, FellReading};
 
-use crate::end::End;
 use crate::ended::{Ended, ended_by, ended_of};
 use crate::progress::Progress;
+use crate::stop::Stop;
 use card_ports::{Failed, Keeper, Sink, Source};
 use std::alloc::Global;
 
@@ -25,7 +25,7 @@ fn read_piece<I: Source, O: Sink, K: Keeper>(
     input: &mut I,
     output: &mut O,
     keeper: &mut K,
-) -> Result<usize, End>
+) -> Result<usize, Stop>
     requires some { 0 < room }
     requires room { room ≤ 4096 }
     requires number { progress.old.number < 2 ^ 62 }
@@ -41,11 +41,11 @@ fn read_piece<I: Source, O: Sink, K: Keeper>(
     let piece = &mut chunk[..room];
     let n = match input.read(piece) {
         Ok(n) => n,
-        Err(Failed) => return Err(End::Source),
+        Err(Failed) => return Err(Stop::Source),
     };
     match progress.feed_bytes(alloc, &piece[..n], output, keeper) {
         Ok(()) => Ok(n),
-        Err(end) => Err(end),
+        Err(stop) => Err(stop),
     }
 }
 
@@ -70,7 +70,7 @@ pub fn run<I: Source, O: Sink, K: Keeper>(
         let room = (LIMIT - total).min(4096) as usize;
         let n = match read_piece(progress, alloc, room, input, output, keeper) {
             Ok(n) => n,
-            Err(end) => return ended_by(end),
+            Err(stop) => return ended_by(stop),
         };
         if n == 0 {
             return ended_of(progress.finish(alloc, output, keeper));

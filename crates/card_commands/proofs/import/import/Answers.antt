@@ -7,7 +7,7 @@ use Rattle.card_commands.proofs.import.import.Goals as goal
 pub returns-in-Err-clause-ran : goal.returns-in-Err-clause-ran
 returns-in-Err-clause-ran g c =
     let at = outside g.I.Source.left g.I.Source.faults g.O.Sink.taken g.O.Sink.faults g.K.Keeper.rows g.K.Keeper.faults in
-    (import_unread (at c.args.input.now c.args.output.now c.args.keeper.now) (at c.read_all.new.input c.args.output.now c.args.keeper.now) c.args.run.now.ledger c.in-Err.end c.ended_by.result c.ended_by.ensures refl c.in-Err.ensures.err).ran
+    (import_unread (at c.args.input.now c.args.output.now c.args.keeper.now) (at c.read_all.new.input c.args.output.now c.args.keeper.now) c.args.run.now.ledger c.in-Err.stop c.ended_by.result c.ended_by.ensures refl c.in-Err.ensures.err).ran
 
 pub returns-clause-ran : goal.returns-clause-ran
 returns-clause-ran g c =
