@@ -1,8 +1,8 @@
 #!/bin/sh
 # Holds the proved program against the independent model of the rules (audit/): 60 inputs of 250 generated lines over four
-# accounts, with rows in memory; then 40 such inputs over a file of rows, in three runs each, and 60 of CSV records that come twice,
-# and 60 as requests over HTTP, each with the open tasks, the entries of every account and the statements of every cycle
-# afterwards; then 10 demonstrations. It fails on the first difference.
+# accounts, with rows in memory; then 60 such inputs over a file of rows, in three runs each, and 60 of CSV records that come twice,
+# and 60 as requests over HTTP, each with the open tasks, the entries of every account and the statements of every cycle, with what
+# their balances come to where they are repaid, afterwards; then 10 demonstrations. It fails on the first difference.
 #
 #     tests/compare.sh [PROGRAM]
 top=$(cd "$(dirname "$0")/.." && pwd) || exit 1
@@ -19,7 +19,7 @@ import sys
 from audit.compare import compare
 from audit.demo import demo_text
 
-WAYS = {"memory": 60, "lines": 40, "csv": 60, "http": 60}
+WAYS = {"memory": 60, "lines": 60, "csv": 60, "http": 60}
 
 program = sys.argv[1]
 for way, count in WAYS.items():
@@ -29,7 +29,7 @@ for way, count in WAYS.items():
             sys.exit(f"compare: seed {seed} by {way} differs\n{found}")
     if way == "memory":
         print(f"compare: {count} inputs, the same replies and statuses", flush=True)
-print("compare: 40 inputs over a file of rows, 60 of CSV records that come twice and 60 over HTTP, the same replies, statuses, open tasks, entries and statements", flush=True)
+print("compare: 60 inputs over a file of rows, 60 of CSV records that come twice and 60 over HTTP, the same replies, statuses, open tasks, entries, statements and repayments", flush=True)
 for seed in range(1, 11):
     size = (seed * 99_999_999_999, seed, 60 // seed)
     found = subprocess.run([program, "-", "demo", *map(str, size)], stdin=subprocess.DEVNULL, capture_output=True, text=True)

@@ -18,10 +18,11 @@ expect() {
     fi
 }
 
-usage='usage: apply | import | statement ACCOUNT CYCLE | restate ACCOUNT CYCLE | export ACCOUNT | work | demo START ACCOUNTS CYCLES | serve PORT COUNT'
+usage='usage: apply | import | statement ACCOUNT CYCLE | restate ACCOUNT CYCLE | export ACCOUNT | work | demo START ACCOUNTS CYCLES | serve PORT COUNT | repay ACCOUNT CYCLE'
 for words in '' '-' '- apply now' '- Apply' '- --help' '- export' '- export -a' '- export a now' '- serve' '- serve 8080' '- serve 0 1' '- serve 65536 1' '- serve 08080 1' '- serve 8080 0' '- serve 8080 1000001' '- demo 1 20' '- demo 1 20 6 7' '- demo 1 1001 6' '- demo 1 20 61' '- demo 1 20 0' '- demo 01 20 6' '- demo -1 20 6' '- demo 1000000000000 1 1' \
     '- statement' '- statement a' '- statement a 0' '- statement a 01' '- statement a 1201' \
-    '- restate -a 1' '- restate a -1' '- restate a 1 now'; do
+    '- restate -a 1' '- restate a -1' '- restate a 1 now' \
+    '- repay' '- repay a' '- repay a 0' '- repay a 01' '- repay a 1201' '- repay -a 1' '- repay a 1 now'; do
     # shellcheck disable=SC2086
     "$program" $words <"$day" >"$written"
     expect "the words '$words'" $? 2
@@ -54,7 +55,7 @@ rows=$(mktemp -d) || exit 1
 trap 'rm -rf "$written" "$rows"' EXIT
 "$program" "$rows/kept" apply <"$day" >"$written"
 expect 'rows in a new file' $? 0
-for words in 'export nobody' 'statement nobody 1' 'restate nobody 1'; do
+for words in 'export nobody' 'statement nobody 1' 'restate nobody 1' 'repay nobody 1'; do
     # shellcheck disable=SC2086
     "$program" "$rows/kept" $words </dev/null >"$written"
     expect "$words, an account that is not there" $? 1

@@ -37,16 +37,19 @@ cycle_among (Some n) = if is_cycle n then Some n else None
 unfoldable pub cycle_of : List ℕ → Option ℕ
 cycle_of word = cycle_among (number_of word)
 
--- the command of a word, the name of the account that it is about, and a cycle of it
-abbrev pub command_of_number : List ℕ → List ℕ → ℕ → Option Command
-command_of_number word account cycle =
-    if bytes_eq word (codes "statement") then option_map (λ name. command.Statement name cycle) (name_of account)
-    else if bytes_eq word (codes "restate") then option_map (λ name. command.Restate name cycle) (name_of account)
+-- the command of a word about a cycle of an account with this name
+abbrev pub command_about : List ℕ → List ℕ → ℕ → Option Command
+command_about word name cycle =
+    if bytes_eq word (codes "statement") then Some (command.Statement name cycle)
+    else if bytes_eq word (codes "restate") then Some (command.Restate name cycle)
+    else if bytes_eq word (codes "repay") then Some (command.Repay name cycle)
     else None
 
-abbrev pub command_of_cycle : List ℕ → List ℕ → Option ℕ → Option Command
-command_of_cycle word account None = None
-command_of_cycle word account (Some cycle) = command_of_number word account cycle
+-- where both are there
+abbrev pub command_of_cycle : List ℕ → Option (List ℕ) → Option ℕ → Option Command
+command_of_cycle word name None = None
+command_of_cycle word None (Some cycle) = None
+command_of_cycle word (Some name) (Some cycle) = command_about word name cycle
 
 -- a number, where it is one of these
 abbrev pub within : ℕ → ℕ → Option ℕ → Option ℕ
@@ -67,7 +70,7 @@ server_of (Some port) (Some count) = Some (command.Serve port count)
 abbrev pub command_of_two : List ℕ → List ℕ → List ℕ → Option Command
 command_of_two word first second =
     if bytes_eq word (codes "serve") then server_of (number_between 1 65535 first) (number_between 1 1000000 second)
-    else command_of_cycle word first (cycle_of second)
+    else command_of_cycle word (name_of first) (cycle_of second)
 
 -- the demonstration of three numbers, where all are there and in range
 abbrev pub demonstration_of : Option ℕ → Option ℕ → Option ℕ → Option Demonstration
@@ -118,6 +121,7 @@ statuses_of (Some command.Import) = run_statuses
 statuses_of (Some (command.Export name)) = account_statuses
 statuses_of (Some (command.Statement name cycle)) = account_statuses
 statuses_of (Some (command.Restate name cycle)) = account_statuses
+statuses_of (Some (command.Repay name cycle)) = account_statuses
 statuses_of (Some command.Work) = 0 ∷ 4 ∷ 5 ∷ 6 ∷ 8 ∷ []
 statuses_of (Some (command.Serve port count)) = 0 ∷ 4 ∷ 5 ∷ 6 ∷ 7 ∷ 8 ∷ []
 statuses_of (Some (command.Demo d)) = 0 ∷ 4 ∷ 6 ∷ []

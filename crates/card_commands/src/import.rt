@@ -9,13 +9,12 @@ ghost use Rattle.card_commands.specs.Written.{sides};
 
 use crate::ended::{Ended, ended_by, ended_of};
 use crate::handle::Run;
+use crate::run::PIECE;
 use crate::stop::Stop;
 use card_events::NoMemory;
 use card_ports::{Failed, Keeper, Sink, Source};
 use card_text::Records;
 use std::alloc::Global;
-
-const PIECE: usize = 4096;
 
 const LIMIT: usize = 1 << 30;
 

@@ -13,7 +13,8 @@ use crate::stop::Stop;
 use card_ports::{Failed, Keeper, Sink, Source};
 use std::alloc::Global;
 
-const PIECE: usize = 4096;
+/// How many bytes are read at once, at most.
+pub const PIECE: usize = 4096;
 
 const LIMIT: u64 = 1 << 36;
 
@@ -67,7 +68,7 @@ pub fn run<I: Source, O: Sink, K: Keeper>(
 {
     let mut total = 0u64;
     while total < LIMIT {
-        let room = (LIMIT - total).min(4096) as usize;
+        let room = (LIMIT - total).min(PIECE as u64) as usize;
         let n = match read_piece(progress, alloc, room, input, output, keeper) {
             Ok(n) => n,
             Err(stop) => return ended_by(stop),
