@@ -4,6 +4,7 @@ import sys
 import time
 from dataclasses import dataclass, fields
 
+from .alone import Alone
 from .commands import Damaged, load
 from .days import day_text
 from .difference import first_difference
@@ -74,9 +75,9 @@ def same(what: str, model: str | None, other: bytes | None, side: str = "program
 class Audit:
     """The model of a ledger's rows beside the program over the same rows."""
 
-    def __init__(self, machine: Machine, program: Program, server: Server):
-        self.machine, self.program, self.server = machine, program, server
-        self.repays = "repay" in program.commands()
+    def __init__(self, machine: Machine, server: Server, alone: Alone | None = None):
+        """Repayments are asked of `alone`, and not at all without it."""
+        self.machine, self.server, self.alone = machine, server, alone
         work = server.get("/work")
         self.tasks: dict[str, list[bytes]] = {}
         for line in work.splitlines(keepends=True):
@@ -87,24 +88,26 @@ class Audit:
         """A view by its command's word, and by the program's answer to its path."""
         return same(what, view(self.machine, word, name, cycle), self.server.get(path))
 
-    def repayment(self, name: str, k: int) -> bool:
-        """The repayment lines of an issued statement, which have no path of their own."""
-        told, status = self.program.run(["repay", name, str(k)])
-        return same(f"account {name}, repayment of statement {k}",
-                         view(self.machine, "repay", name, k), None if status == 1 else told)
+    def repayments(self, name: str, issued: list[int]) -> int:
+        """The lines of `repay` of these statements, which have no path of their own."""
+        with self.alone.program(name) as program:
+            return sum(same(f"account {name}, repayment of statement {k}",
+                            view(self.machine, "repay", name, k),
+                            program.run(["repay", name, str(k)])[0]) for k in issued)
 
     def statements(self, name: str) -> Counted:
         """Both statements of every closed cycle, and none of the cycle behind them."""
-        found = Counted()
+        found, all_issued = Counted(), []
         for k in range(1, self.machine.closed_cycles(self.machine.accounts[name]) + 2):
             base = f"/accounts/{name}"
             issued = self.asked(f"account {name}, statement {k} as issued", "statement",
                                 f"{base}/statements/{k}", name, k)
-            found.issued += issued
+            all_issued += [k] if issued else []
             found.recomputed += self.asked(f"account {name}, cycle {k} as recomputed", "restate",
                                            f"{base}/cycles/{k}", name, k)
-            if issued and self.repays:
-                found.repayments += self.repayment(name, k)
+        found.issued = len(all_issued)
+        if self.alone and all_issued:
+            found.repayments = self.repayments(name, all_issued)
         return found
 
     def account(self, name: str) -> Counted:
@@ -165,6 +168,7 @@ def check(file: str, path: str, sent: list[str] = (), quiet: bool = False) -> st
         progress.say(f"{len(kept)} rows, {len(machine.accounts)} accounts, "
                      f"today {day_text(machine.today)}", at_once=True)
         counted = compare_sent(machine, statements)
+        alone = Alone(kept, path) if "repay" in program.commands() else None
         with Server(program) as server:
-            counted.add(Audit(machine, program, server).whole(progress))
+            counted.add(Audit(machine, server, alone).whole(progress))
         return counted.text()

@@ -48,6 +48,14 @@ def copied(path: str):
         yield copy
 
 
+def write(path: Path, bodies: list[bytes]) -> None:
+    """A new ledger's file of these rows."""
+    with contextlib.closing(sqlite3.connect(path)) as base:
+        base.execute("CREATE TABLE kept (seq INTEGER PRIMARY KEY, body BLOB NOT NULL) STRICT")
+        base.executemany("INSERT INTO kept VALUES (?, ?)", enumerate(bodies, start=1))
+        base.commit()
+
+
 def rows_of(copy: Path) -> list[tuple[int, bytes]]:
     """The kept rows of a copy by their numbers; none where it has no table."""
     try:

@@ -44,9 +44,6 @@ class Stub:
     def __init__(self, kept):
         self.machine = load(kept)
 
-    def commands(self) -> set[str]:
-        return {"apply"}
-
     def run(self, words, data=b""):
         return b"", 0
 
@@ -57,7 +54,7 @@ class Stub:
 
 def audited(kept, others) -> str:
     stub = Stub(others)
-    return Audit(load(kept), stub, stub).whole(Progress(quiet=True)).text()
+    return Audit(load(kept), stub).whole(Progress(quiet=True)).text()
 
 
 class Compared(unittest.TestCase):
@@ -89,7 +86,7 @@ class Compared(unittest.TestCase):
             true = stub.get
             stub.get = lambda p: true(p) if p != path else (true(p) or b"") + b"2024-09-09 a ACK 9\n"
             with self.assertRaises(Different) as found:
-                Audit(load(rows()), stub, stub).whole(Progress(quiet=True))
+                Audit(load(rows()), stub).whole(Progress(quiet=True))
             self.assertTrue(str(found.exception).startswith(name + ","), found.exception)
 
     def test_task_of_no_account(self):
@@ -97,7 +94,7 @@ class Compared(unittest.TestCase):
         true = stub.get
         stub.get = lambda p: true(p) if p != "/work" else true(p) + b"2099-12-31 z CREDIT 0\n"
         with self.assertRaises(Different) as found:
-            Audit(load(rows()), stub, stub).whole(Progress(quiet=True))
+            Audit(load(rows()), stub).whole(Progress(quiet=True))
         self.assertTrue(str(found.exception).startswith("open tasks of all accounts,"))
 
     def test_damaged(self):
