@@ -1,17 +1,14 @@
 """`check`: opens a ledger's file as billctl would, on a copy, and names the cause where that can't be."""
 
-import os
 import shutil
 import sqlite3
 
-from companion.opening import cause_of_form, cause_of_schema, copied, has_commits, rows_in, things_of
+from companion.opening import cause_of_form, cause_of_schema, copied, has_commits, rows_in, things_of, warn_of_room
 from companion.program import ask_of, call
 from companion.rows import NoSpelling, decode
 from companion.state import State, fold
 from companion.trouble import CANNOT_OPEN, DAMAGED, DONE, FOUND, Trouble, say
 
-# While a run keeps rows the log grows to some 4.3 MB.
-ROOM = 5_000_000
 FIRST_FINDINGS = 3
 
 
@@ -54,12 +51,6 @@ def row_told(copy, number):
         return f"it is `{decode(body).line()}`, which would be refused, or is a repeat"
     except NoSpelling as reason:
         return f"its bytes are no spelling of a request: {reason}"
-
-
-def warn_of_room(path):
-    free = shutil.disk_usage(os.path.dirname(os.path.realpath(path))).free
-    if free < ROOM:
-        say(f"check: the disk of {path} has {free:,} bytes left; a run that keeps rows wants {ROOM:,}, and ends with 5 without them")
 
 
 def require_sound(program, path, copy):

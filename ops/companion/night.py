@@ -12,7 +12,7 @@ from datetime import date, timedelta
 
 from companion import guards
 from companion.backups import backup, make_folder, put_text
-from companion.opening import require_openable
+from companion.opening import require_openable, warn_of_room
 from companion.looks import bill_lines
 from companion.program import ask_of
 from companion.run import send
@@ -95,6 +95,7 @@ class Night:
         sent = send(self.program, self.ledger, given, self.state)
         if sent.status not in (DONE, FOUND):
             require_openable(self.ledger)
+            warn_of_room(self.ledger)
             where = f"; {sent.unanswered}" if sent.unanswered else ""
             raise Trouble(f"{name}: billctl ended with {sent.status}: {ask_of(sent.status)}{where}", sent.status if sent.status > 0 else OWN_FILES)
         self.found = self.found or bool(sent.refused)

@@ -13,12 +13,15 @@ import tempfile
 import urllib.parse
 
 from companion import locks
-from companion.trouble import CANNOT_OPEN, DAMAGED, FOUND, OWN_FILES, Trouble
+from companion.trouble import CANNOT_OPEN, DAMAGED, FOUND, OWN_FILES, Trouble, say
 
 MAGIC = b"SQLite format 3\0"
 
 # A log's header and the header of its first frame: with fewer bytes it has no commits.
 FRAMES_BEGIN = 56
+
+# While a run keeps rows the log grows to some 4.3 MB.
+ROOM = 5_000_000
 
 TABLE = "CREATE TABLE kept (seq INTEGER PRIMARY KEY, body BLOB NOT NULL) STRICT"
 COLUMNS = [("seq", "INTEGER", 0, None, 1), ("body", "BLOB", 1, None, 0)]
@@ -104,6 +107,13 @@ def require_openable(path, wait=0):
     if cause:
         raise Trouble(cause, CANNOT_OPEN)
     locks.wait_for([real, real + "-wal"], wait)
+
+
+def warn_of_room(path):
+    """Says where the disk of a file has too little room for a run."""
+    free = shutil.disk_usage(os.path.dirname(os.path.realpath(path))).free
+    if free < ROOM:
+        say(f"the disk of {path} has {free:,} bytes left; a run that keeps rows wants {ROOM:,}, and ends with 5 without them")
 
 
 def has_commits(real):

@@ -7,7 +7,7 @@ from typing import List
 
 from companion import guards, reasons
 from companion.days import day_of
-from companion.opening import cause_of_name, log_of, require_openable
+from companion.opening import cause_of_name, log_of, require_openable, warn_of_room
 from companion.program import ask_of, feed
 from companion.requests import bad_line, bad_record
 from companion.state import State, read_on, read_state
@@ -109,6 +109,7 @@ def report(sent, given, path):
         say(f"billctl ended with {sent.status}: {ask_of(sent.status)}")
         if sent.status == CANNOT_OPEN:
             require_openable(path)
+            warn_of_room(path)
     elif sent.status == FOUND:
         say(f"status 1: {ask_of(FOUND)}")
 

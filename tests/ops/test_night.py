@@ -2,6 +2,7 @@
 
 import ctypes
 import fcntl
+import glob
 import os
 import resource
 import shutil
@@ -15,7 +16,6 @@ from common import PROGRAM, TOP, Case, ledger, start_ledger, start_program
 from issuer import FIRST, HEADER, Issuer
 
 DAYS = 31
-MODEL = os.path.join(os.path.dirname(TOP), "shared")
 BIG = 1500
 MUCH = 600
 PAGE = 4096
@@ -202,29 +202,33 @@ class Month(Nights):
         self.assertTrue(report.endswith(f"rows: {rows}\n"))
 
     def of_the_model(self):
-        """The month's statements and open tasks are those of the independent model, where it is there."""
-        if not os.path.isdir(os.path.join(MODEL, "oracle")):
-            print("ops: no model beside the repository; the month's statements are compared with nothing")
-            return
-        sys.path.insert(0, MODEL)
-        from oracle.lines import read_line
-        from oracle.machine import Machine
-        from oracle.statement import statement_text
-        from oracle.tasks import tasks_text
+        """The month's statements and open tasks, of each day, are those of the second computation; and so is the whole file."""
+        sys.path.insert(0, TOP)
+        from audit.lines import read_line
+        from audit.machine import Machine
+        from audit.statement_text import statement_text
+        from audit.tasks import tasks_text
         machine, issued, tasks = Machine(), {}, {}
         for line in ledger("rows", self.file)[1].splitlines():
-            request = read_line(line.encode(), machine.stage)
+            request = read_line(line.encode())
             if request.word == "roll":
                 tasks[machine.today] = tasks_text(machine.work())
             self.assertTrue(machine.apply(request).new, line)
             if request.word == "bill":
-                issued.setdefault(machine.today, {})[f"{request.account}-{request.cycle}.txt"] = machine.issued_statement(request.account, request.cycle)
+                text = statement_text(request.account, machine.issued_statement(request.account, request.cycle))
+                issued.setdefault(machine.today, {})[f"{request.account}-{request.cycle}.txt"] = text
         tasks[machine.today] = tasks_text(machine.work())
         self.assertGreater(sum(map(len, issued.values())), 50)
         for number in range(1, DAYS + 1):
-            self.of_the_day(FIRST + timedelta(days=number), issued, tasks, statement_text)
+            self.of_the_day(FIRST + timedelta(days=number), issued, tasks)
+        done = subprocess.run([sys.executable, "-m", "audit", self.file, "--program", PROGRAM, "--quiet", "--sent", *self.statement_files()],
+                              cwd=TOP, capture_output=True, text=True)
+        self.assertEqual(done.returncode, 0, done.stdout + done.stderr)
 
-    def of_the_day(self, day, issued, tasks, statement_text):
+    def statement_files(self):
+        return sorted(glob.glob(os.path.join(self.home, "statements", "*", "*-*.txt")))
+
+    def of_the_day(self, day, issued, tasks):
         folder = os.path.join(self.home, "statements", str(day))
         number = (day - FIRST.replace(year=1970, month=1, day=1)).days
         found = {}
@@ -232,7 +236,7 @@ class Month(Nights):
             with open(os.path.join(folder, name), encoding="ascii") as file:
                 found[name] = file.read()
         self.assertEqual(found.pop("work.txt"), tasks[number], day)
-        self.assertEqual(found, {name: statement_text(name.rpartition("-")[0], one) for name, one in issued.get(number, {}).items()}, day)
+        self.assertEqual(found, issued.get(number, {}), day)
 
 
 class Inbox(Nights):
