@@ -2,7 +2,7 @@
 # Kills runs over a file of rows, each at a random moment: of four kills two hit `apply`, one `import`, and one `serve` with four clients
 # at it. Each time the file then loads, every reply that was written whole has its row, at most one row more is there, and a stock SQLite
 # (Python's own) reads the same rows and finds the file sound. What was sent is then sent again, and gets its old numbers. It prints its
-# seed, and takes one, and how many kills there are (40).
+# seed, and takes one, and how many kills there are (60).
 #
 #     tests/durable.sh [SEED [KILLS]]
 top=$(cd "$(dirname "$0")/.." && pwd) || exit 1
@@ -22,7 +22,7 @@ import time
 
 PROGRAM = sys.argv[1]
 SEED = int(sys.argv[2]) if len(sys.argv) > 2 else random.randrange(10**6)
-KILLS = int(sys.argv[3]) if len(sys.argv) > 3 else 40
+KILLS = int(sys.argv[3]) if len(sys.argv) > 3 else 60
 ACCOUNTS = 10
 CHARGES = 390
 CLIENTS = 4
