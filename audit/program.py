@@ -1,12 +1,20 @@
 """The program: its commands, and what it answers over HTTP on this machine's loopback."""
 
+import contextlib
 import http.client
+import itertools
+import os
 import socket
 import subprocess
 import tempfile
 import time
 
 MOST_CONNECTIONS = 1_000_000
+PORT_TAKEN = 7  # the status of a program that couldn't listen
+PORTS_TRIED = 5
+# below the ports that a system gives to clients; the number of a process sets where it begins
+_FIRST_PORT, _PORTS, _STEP = 20_000, 12_000, 3_001
+_calls = itertools.count()
 
 
 class Failed(Exception):
@@ -14,8 +22,11 @@ class Failed(Exception):
 
 
 def free_port() -> int:
-    with socket.create_server(("127.0.0.1", 0)) as door:
-        return door.getsockname()[1]
+    """A port on which nothing listens, another one at each call and in each process."""
+    while True:
+        port = _FIRST_PORT + (os.getpid() + _STEP * next(_calls)) % _PORTS
+        with contextlib.suppress(OSError), socket.create_server(("127.0.0.1", port)):
+            return port
 
 
 class Program:
@@ -63,39 +74,43 @@ class Server:
 
     def _begin(self) -> None:
         """A run that can answer; the one before has answered all that it may."""
-        self.__exit__()
-        self.port, self.left = free_port(), MOST_CONNECTIONS
-        self.said = tempfile.TemporaryFile()
-        self.run = self.program.serve(self.port, self.left, self.said)
+        for _ in range(PORTS_TRIED):
+            self.__exit__()
+            self.port, self.left = free_port(), MOST_CONNECTIONS
+            self.said = tempfile.TemporaryFile()
+            self.run = self.program.serve(self.port, self.left, self.said)
+            if self._listens():
+                return
+            if self.run.returncode != PORT_TAKEN:
+                break
+        self.said.seek(0)
+        said = self.said.read().decode("utf-8", "replace").strip()
+        raise Failed(f"serve ends with status {self.run.returncode}: {said}")
 
-    def _connect(self) -> http.client.HTTPConnection:
-        """A connection; the first one waits until all rows are loaded."""
-        if self.left == 0:
-            self._begin()
+    def _link(self) -> contextlib.closing:
         self.left -= 1
-        while True:
-            link = http.client.HTTPConnection("127.0.0.1", self.port)
-            try:
+        return contextlib.closing(http.client.HTTPConnection("127.0.0.1", self.port))
+
+    def _listens(self) -> bool:
+        """Waits until all rows are loaded; False where the run ended before."""
+        while self.run.poll() is None:
+            with contextlib.suppress(ConnectionRefusedError), self._link() as link:
                 link.connect()
-                return link
-            except ConnectionRefusedError:
-                if self.run.poll() is not None:
-                    self.said.seek(0)
-                    said = self.said.read().decode("utf-8", "replace").strip()
-                    raise Failed(f"serve ends with status {self.run.returncode}: {said}") from None
-                time.sleep(0.02)
+                return True
+            time.sleep(0.02)
+        return False
 
     def get(self, path: str) -> bytes | None:
         """The body of 200, None for a 404."""
-        link = self._connect()
+        if self.left == 0:
+            self._begin()
         try:
-            link.request("GET", path)
-            answer = link.getresponse()
-            body = answer.read()
+            with self._link() as link:
+                link.request("GET", path)
+                answer = link.getresponse()
+                status, body = answer.status, answer.read()
         except (OSError, http.client.HTTPException) as error:
             raise Failed(f"GET {path}: {error}") from None
-        finally:
-            link.close()
-        if answer.status not in (200, 404):
-            raise Failed(f"GET {path} is answered {answer.status}: {body.decode('utf-8', 'replace')}")
-        return body if answer.status == 200 else None
+        if status not in (200, 404):
+            raise Failed(f"GET {path} is answered {status}: {body.decode('utf-8', 'replace')}")
+        return body if status == 200 else None
