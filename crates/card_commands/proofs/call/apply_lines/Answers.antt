@@ -18,4 +18,4 @@ returns-in-Ok g c =
 pub returns-in-Err : goal.returns-in-Err
 returns-in-Err g c =
     let at = outside g.I.Source.left g.I.Source.faults g.O.Sink.taken g.O.Sink.faults g.K.Keeper.rows g.K.Keeper.faults in
-    unloaded_outcome (at c.args.input.now c.args.output.now c.args.keeper.now) (at c.args.input.now c.load.new.output c.load.new.keeper) command.Apply c.in-Err.stoped tt refl refl c.in-Err.ensures.err
+    unloaded_outcome (at c.args.input.now c.args.output.now c.args.keeper.now) (at c.args.input.now c.load.new.output c.load.new.keeper) command.Apply c.in-Err.ended tt refl refl c.in-Err.ensures.err

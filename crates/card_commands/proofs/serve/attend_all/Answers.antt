@@ -11,7 +11,7 @@ pub loop-served-preserved : goal.loop-served-preserved
 loop-served-preserved g c = record { attended = has_more _ _ _ _ _ _ _ c.loop-served.invariant.attended c.in-Ok.ensures.ok; few = omega (arith, c.loop-served-test.true) }
 
 pub returns-in-Err : goal.returns-in-Err
-returns-in-Err g c = has_fallen _ _ _ _ _ _ c.loop-served.served c.args.count c.in-Err.stoped c.loop-served-test.true c.loop-served.invariant.attended c.in-Err.ensures.err
+returns-in-Err g c = has_fallen _ _ _ _ _ _ c.loop-served.served c.args.count c.in-Err.ended c.loop-served-test.true c.loop-served.invariant.attended c.in-Err.ensures.err
 
 pub returns : goal.returns
 returns g c =
