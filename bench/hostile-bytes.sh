@@ -2,7 +2,7 @@
 # Sends bytes that mean no good, 100 million of them: two fifths as request lines, two fifths as CSV, one fifth over connections. They are
 # random bytes, runs of one byte, and lines, records and requests of examples/ in which bytes are changed, doubled, cut and left out. Each
 # run has to end by itself with status 0 or 1 in a minute of the processor, with a reply for each line, and an answer or a cut for each connection. A
-# part of each kind is also given to the independent model of the rules, where that stands beside the repository: it has to reply the same.
+# part of each kind is also given to the independent model of the rules (audit/): it has to reply the same.
 # It prints its seed, and takes how many bytes there are and the seed.
 #
 #     bench/hostile-bytes.sh [BYTES [SEED]]
@@ -20,6 +20,11 @@ import sys
 import time
 
 TOP, PROGRAM = sys.argv[1:3]
+sys.path.insert(0, TOP)
+sys.dont_write_bytecode = True
+from audit.compare import Model, compare_http
+from audit.program import Program
+
 TOTAL = int(sys.argv[3]) if len(sys.argv) > 3 else 100_000_000
 SEED = int(sys.argv[4]) if len(sys.argv) > 4 else random.randrange(10**6)
 PIECE = 1_000_000  # bytes of a run of lines or records
@@ -41,14 +46,6 @@ FIELDS = {
 }
 
 rng = random.Random(SEED)
-model = None
-if os.path.isdir(os.path.join(TOP, "..", "shared", "oracle")):
-    sys.path.insert(0, os.path.join(TOP, "..", "shared"))
-    sys.dont_write_bytecode = True
-    from oracle import compare
-    from oracle.stages import Stage
-
-    model = lambda: compare.Model(Stage(12, True))
 
 
 def fail(text):
@@ -144,7 +141,7 @@ def by_records(size):
 def sampled(way, command):
     """The model's replies to a smaller run."""
     data, replies, _ = way(SAMPLE)
-    wanted, status = model().run([command], data)
+    wanted, status = Model().run([command], data)
     if replies != wanted:
         keep(data)
         fail(f"{command}: the model replies otherwise to hostile-bytes.found")
@@ -231,7 +228,7 @@ def by_connections(size):
 
 def sampled_connections():
     datas = [request() for _ in range(60)]
-    found = compare.compare_http(model(), compare.Other(PROGRAM, "-", Stage(12, True)), datas, 0)
+    found = compare_http(Model(), Program(PROGRAM, "-"), datas)
     if found:
         fail(found)
     return sum(map(len, datas))
@@ -248,7 +245,7 @@ def go(name, total, one, sample):
         else:
             sent += found
         runs += 1
-        if model and runs % EVERY == 1:
+        if runs % EVERY == 1:
             compared += sample()
     slow = f", the slowest in {slowest:.1f} s" if slowest else ""
     print(f"hostile-bytes: seed {SEED}: {sent} bytes by {name} in {runs} runs{slow}; {compared} more by the model too", flush=True)
