@@ -1,3 +1,4 @@
+use crate::commands::are_rows;
 use card_ports::{Body, Keeper, Row};
 use card_sqlite::SqliteKeeper;
 use std::alloc::Global;
@@ -29,14 +30,7 @@ fn gives(alloc: Global, keeper: &mut SqliteKeeper, bodies: &[&[u8]]) -> bool {
     let Ok(rows) = keeper.load(alloc) else {
         return false;
     };
-    let mut seq = 0u64;
-    for (row, body) in rows.iter().zip(bodies) {
-        seq = seq.saturating_add(1);
-        if row.seq != seq || row.body.bytes() != *body {
-            return false;
-        }
-    }
-    rows.len() == bodies.len()
+    are_rows(&rows, bodies)
 }
 
 fn adds(alloc: Global, keeper: &mut SqliteKeeper, row: &Row) -> bool {
