@@ -1,6 +1,5 @@
 // The steps of a desk: the account of the cases with its opening alone, four years on, when it takes a charge of today.
 ghost use Rattle.std.specs.Prelude.{◌≡◌, ◌+◌, ◌≤◌, true, Some, [], ◌∷◌, IfOk, OnOk};
-ghost use Rattle.card_cases.specs.Aged.{HasReachedNear, account, charged, first_day, first_rolls, later_rolls, ledger, lists_of, opened, rolls};
 ghost use Rattle.card_cases.specs.Alone.{no_rows};
 ghost use Rattle.card_book.specs.Stands.{steps_over};
 ghost use Rattle.card_desk.specs.Kept.{Fits};
@@ -11,6 +10,7 @@ ghost use Rattle.card_events.specs.Dated.{is_dated};
 ghost use Rattle.card_events.specs.Range.{last_request_day};
 ghost use Rattle.card_model.specs.Machine.{step};
 ghost use Rattle.card_replay.specs.Replays.{given_of};
+ghost use Rattle.card_cases.specs.Aged.{HasReachedNear, account, charged, first_day, first_rolls, later_rolls, ledger, lists_of, opened, rolls};
 
 use crate::account::opening;
 use crate::values::{day, name, num};

@@ -3,17 +3,7 @@
 #![tactic(auto)]
 
 #[cfg(test)]
-mod commands;
-#[cfg(test)]
-mod connections;
-#[cfg(test)]
-mod faults;
-#[cfg(test)]
-mod files;
-#[cfg(test)]
-mod network;
+mod cases;
 mod stored;
-#[cfg(test)]
-mod stores;
 
 pub use stored::billctl_over_store;

@@ -131,7 +131,9 @@ fn comes_to(alloc: Global, stage: usize, fails: &Fails, wanted: &[usize; 3]) -> 
     let [status, count, rows] = *wanted;
     let mut keeper = kept_before(alloc, stage, fails)?;
     let (ended, output) = ran(alloc, command, text, fails, &mut keeper)?;
-    let first = replies.get(..count).unwrap_or(&[]);
+    let Some(first) = replies.get(..count) else {
+        return Ok(false);
+    };
     if usize::from(ended) != status
         || !are_first(output.taken(), first)
         || keeper.rows().len() != rows

@@ -1,4 +1,4 @@
-use crate::commands::are_rows;
+use crate::cases::commands::are_rows;
 use card_ports::{Body, Keeper, Row};
 use card_sqlite::SqliteKeeper;
 use std::alloc::Global;
