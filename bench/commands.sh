@@ -1,8 +1,9 @@
 #!/bin/sh
 # Seconds of the built program's other commands, each the least of three: `import` of 200,000 records of charges, credits and
 # payments over 1,000 accounts beside `apply` of the same requests as lines; `export` of an account with 10,000 posts; `work`
-# over 10,000 accounts, each with a dispute and a refund asked for. Rows stand in a file; the time to load them alone is told
-# beside. The file lies in a disk of memory where there is one, so that no commit waits for a disk. It isn't part of the gate, and wants the built program.
+# over 10,000 accounts, each with a dispute and a refund asked for. Then milliseconds, the least of fifty: `repay` of the last
+# statement of an account of two years, and of one with 62 balances of ten million dollars, each at a rate of its own.
+# Rows stand in a file; the time to load them alone is told beside. The file lies in a disk of memory where there is one, so that no commit waits for a disk. It isn't part of the gate, and wants the built program.
 #
 #     bench/commands.sh
 top=$(cd "$(dirname "$0")/.." && pwd) || exit 1
@@ -97,10 +98,41 @@ def work_of_many():
     print(f"work 10000 accounts seconds {min(took)[0]:.2f} load {load:.2f} bytes {took[0][1]}", flush=True)
 
 
+def repay(name, lines, call):
+    rows = f"{ROOM}/{name}"
+    run(rows, "apply", text_of(lines))
+    took = min(run(rows, call)[0] for _ in range(50))
+    load = min(run(rows, "apply")[0] for _ in range(50))
+    print(f"repay of {name} milliseconds {took * 1000:.2f} load {load * 1000:.2f}", flush=True)
+
+
+def two_years():
+    yield f"roll {FIRST}"
+    yield f"open a o {FIRST} 5 1999 2499 2199 2999 2500 100"
+    for month in range(24):
+        day = datetime.date(2024 + (month + 2) // 12, (month + 2) % 12 + 1, 6)
+        yield f"roll {day}"
+        yield f"charge a c{month} {day - datetime.timedelta(days=5)} {('purchase', 'cash', 'transfer')[month % 3]} 40000"
+        yield f"bill a b{month} {month + 1}"
+        yield f"payment a p{month} {day} 600 online 15000"
+
+
+def many_balances():
+    yield f"roll {FIRST}"
+    yield f"open a o {FIRST} 5 1999 2499 2199 2999 1000000 10"
+    yield from (f"charge a {place} {FIRST} {place} 1000000000" for place in ("purchase", "cash", "transfer"))
+    yield from (f"plan a p{plan} {FIRST} promo {50 * plan + 1} 2026-03-05 2999" for plan in range(59))
+    yield from (f"charge a c{plan} {FIRST} plan:{plan + 5} 1000000000" for plan in range(59))
+    yield f"roll {FIRST + datetime.timedelta(days=5)}"
+    yield "bill a b 1"
+
+
 try:
     import_beside_apply()
     export_of_many()
     work_of_many()
+    repay("usual", two_years(), "repay a 24")
+    repay("many", many_balances(), "repay a 1")
 finally:
     shutil.rmtree(ROOM)
 END

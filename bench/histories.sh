@@ -1,33 +1,26 @@
 #!/bin/sh
-# Holds the built program against the independent model of the rules, where that stands beside the repository, on generated
-# histories of one account over fifteen years, with posts of all kinds and corrections of all ages: replies and statuses of the
-# lines in three runs over a file of rows, then the open tasks, the entries, and both statements of every cycle. It takes minutes a
-# history, so it isn't part of the gate; it wants the built program. It fails on the first difference.
+# Holds the built program against the independent model of the rules (audit/) on generated histories of one account over fifteen
+# years, with posts of all kinds and corrections of all ages: replies and statuses of the lines in three runs over a file of rows,
+# then the open tasks, the entries, and both statements of every cycle. It takes minutes a history, so it isn't part of the gate;
+# it wants the built program. It fails on the first difference.
 #
 #     bench/histories.sh [FIRST LAST]        the histories with these numbers; 1 to 20 where none are given
 top=$(cd "$(dirname "$0")/.." && pwd) || exit 1
-model="${MODEL:-$top/../shared}"
-if [ ! -d "$model/oracle" ]; then
-    echo "histories: no model beside the repository; nothing is compared"
-    exit 0
-fi
-cd "$model" || exit 1
+cd "$top" || exit 1
 if [ -d /dev/shm ]; then
     export TMPDIR=/dev/shm
 fi
-PYTHONDONTWRITEBYTECODE=1 PYTHONPATH="$top/tests" exec "${PYTHON:-python3}" - "${PROGRAM:-$top/crates/billctl/out/billctl}" "${1:-1}" "${2:-20}" <<'END_OF_PYTHON'
+PYTHONDONTWRITEBYTECODE=1 exec "${PYTHON:-python3}" - "${PROGRAM:-$top/crates/billctl/out/billctl}" "${1:-1}" "${2:-20}" <<'END_OF_PYTHON'
 import os
 import sys
 import tempfile
 import time
 
-import loaded_once  # the model carries out the rows of a keeper once
-from oracle import compare, generate
-from oracle.days import closing, cycle_of, day_text, due
-from oracle.stages import Stage
+from audit import compare, generate
+from audit.days import closing, cycle_of, day_text, due
+from audit.program import Program
 
 YEARS = 15
-STAGE = Stage(12, True)
 
 # as often as the model's own inputs have each kind, but for days that pass, which take fifteen years in some hundred lines
 generate.WEIGHTS = dict(
@@ -66,21 +59,20 @@ class Writer(generate.Writer):
         return self.lines
 
 
-def difference(program, folder, lines):
+def difference(path, folder, lines):
     """The first difference, None where there is none, and how many views were compared."""
-    model = compare.Model(STAGE)
-    other = compare.Other(program, os.path.join(folder, "rows.db"), STAGE)
-    found = compare.compare_lines(model, other, lines)
-    views = [] if found else compare.views(model)
+    model, program = compare.Model(), Program(path, os.path.join(folder, "rows.db"))
+    found = compare.compare_lines(model, program, lines, compare.RUNS)
+    views = [] if found else compare.views(model, program.commands())
     for words in views:
-        found = found or compare.first_difference(words, model.run(words, b""), other.run(words, b""), [])
+        found = found or compare.both(model, program, words)
     return found, len(views)
 
 
 program, first, last = sys.argv[1], int(sys.argv[2]), int(sys.argv[3])
 for seed in range(first, last + 1):
     start = time.monotonic()
-    lines = Writer(seed, 1, STAGE).history()
+    lines = Writer(seed, 1).history()
     with tempfile.TemporaryDirectory() as folder:
         found, views = difference(program, folder, lines)
     amends = sum(line.startswith("amend ") for line in lines)

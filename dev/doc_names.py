@@ -4,7 +4,8 @@
     dev/doc_names.py [FILE..]        README.md and docs/*.md where none are given
 
 Reads what stands between backticks. A word such as `card_book::Book::advance` has to be a function, type or module of that crate's
-src/, a word such as `Folds.antt: book` a definition in a file of that name, a path has to be there, from the top of the repository
+src/, a word such as `Folds.antt: book` a definition in a file of that name, one such as `fees.py: is_repeat` a function or class in a
+file of audit/, a path has to be there, from the top of the repository
 or below crates/, and a name alone, with an underscore or a capital, has to stand somewhere in the code. Other words are passed over. It prints each name that isn't found, with its line, and ends with 1 where there is one.
 Standard library alone; it proves nothing and needs no kit.
 """
@@ -40,7 +41,13 @@ def files_named(path):
 
 @functools.cache
 def all_names():
-    return set(re.findall(r"\w+", text_of(f"{TOP}/crates/*/src/**/*.rt") + text_of(f"{TOP}/crates/*/specs/*.antt")))
+    patterns = ("crates/*/src/**/*.rt", "crates/*/specs/*.antt", "audit/*.py")
+    return set(re.findall(r"\w+", "".join(text_of(f"{TOP}/{pattern}") for pattern in patterns)))
+
+
+def is_in_model(file, name):
+    """A function or a class of the second computation."""
+    return re.search(rf"^ *(?:def|class) {name}\b", text_of(f"{TOP}/audit/{file}"), re.M) is not None
 
 
 def is_there(word):
@@ -54,7 +61,10 @@ def is_there(word):
         texts = [open(name, encoding="utf-8").read() for name in files_named(found[1])]
         pattern = (ITEM if found[1].endswith(".rt") else DEFINITION).format(found[2])
         return any(found[2] is None or re.search(pattern, text, re.M) for text in texts)
-    if re.fullmatch(r"(?:card_\w+|crates|docs|tests|bench|dev|examples)(?:/[\w.-]+)+/?", word):
+    found = re.fullmatch(r"(\w+\.py): (\w+)", word)
+    if found:
+        return is_in_model(*found.groups())
+    if re.fullmatch(r"(?:card_\w+|crates|docs|tests|bench|dev|examples|audit|ops)(?:/[\w.-]+)+/?", word):
         return bool(files_named(word.rstrip("/")))
     if os.path.isdir(f"{TOP}/crates/{word}"):
         return True

@@ -318,6 +318,11 @@ JSON = "application/json"
 POST = b"POST /posts HTTP/1.1\r\n"
 ROLL = POST + b'Content-Length: 34\r\n\r\n{"kind":"roll","day":"2024-01-28"}'
 
+
+def posted(body):
+    return POST + b"Content-Length: %d\r\n\r\n%s" % (len(body), body)
+
+
 # Requests to an empty ledger with their whole answers. The ledger stays empty until the last of them.
 WHOLE = (
     (b"GET /work HTTP/1.1\r\n\r\n", whole("200 OK", TEXT, "")),
@@ -338,6 +343,11 @@ WHOLE = (
         POST + b'Content-Length: 49\r\n\r\n{"kind":"penalty","account":"a","key":"q","zz":1}',
         whole("422 Unprocessable Entity", JSON, '{"field":"zz"}'),
     ),
+    (posted(b"[" * 127 + b"]" * 127), whole("422 Unprocessable Entity", JSON, '{"field":"kind"}')),
+    (posted(b"[" * 128 + b"]" * 128), whole("400 Bad Request", JSON, "bad request\n")),
+    (posted(b'{"kind":"roll","day":' + b"[" * 127 + b"]" * 127 + b"}"), whole("400 Bad Request", JSON, "bad request\n")),
+    (posted(b'{"kind":"penalty","account":"a","key":1e400}'), whole("400 Bad Request", JSON, "bad request\n")),
+    (posted(b'{"kind":"roll","day":"\\ud800"}'), whole("400 Bad Request", JSON, "bad request\n")),
     *((ROLL[:count], b"") for count in range(len(ROLL))),
     (ROLL + b"GET", whole("200 OK", JSON, '{"ok":0}')),
 )

@@ -1,33 +1,53 @@
 #!/bin/sh
-# Kills `apply` over a file 50 times, each at a random moment. Each time the file then loads, every reply that was written
-# whole has its row, at most one row more is there, and a stock SQLite (Python's own) reads the same rows and finds the file
-# sound. The lines of the replies are then sent again, and get their old numbers. It prints its seed, and takes one.
+# Kills runs over a file of rows, each at a random moment: of four kills two hit `apply`, one `import`, and one `serve` with four clients
+# at it. Each time the file then loads, every reply that was written whole has its row, at most one row more is there, and a stock SQLite
+# (Python's own) reads the same rows and finds the file sound. What was sent is then sent again, and gets its old numbers. It prints its
+# seed, and takes one, and how many kills there are (60).
 #
-#     tests/durable.sh [SEED]
+#     tests/durable.sh [SEED [KILLS]]
 top=$(cd "$(dirname "$0")/.." && pwd) || exit 1
 exec python3 - "$top/crates/billctl/out/billctl" "$@" <<'END'
+import http.client
+import json
 import os
 import random
 import shutil
+import socket
 import sqlite3
 import subprocess
 import sys
 import tempfile
+import threading
 import time
 
 PROGRAM = sys.argv[1]
 SEED = int(sys.argv[2]) if len(sys.argv) > 2 else random.randrange(10**6)
-ROUNDS = 50
+KILLS = int(sys.argv[3]) if len(sys.argv) > 3 else 60
 ACCOUNTS = 10
-LINES = 400
+CHARGES = 390
+CLIENTS = 4
+HEADER = "account,key,kind,day,place,cents,minute,channel"
 
 
-def request_lines():
+def opening():
     yield "roll 2024-03-01"
     for account in range(ACCOUNTS):
         yield f"open a{account} o 2024-03-01 5 1999 2499 2199 2999 2500 100"
-    for number in range(LINES - ACCOUNTS - 1):
-        yield f"charge a{number % ACCOUNTS} c{number} 2024-03-01 purchase {100 + number}"
+
+
+def charges():
+    """Account, key and cents of each charge."""
+    for number in range(CHARGES):
+        yield f"a{number % ACCOUNTS}", f"c{number}", 100 + number
+
+
+OPENING = list(opening())
+LINES = [f"charge {account} {key} 2024-03-01 purchase {cents}" for account, key, cents in charges()]
+RECORDS = [f"{account},{key},charge,2024-03-01,purchase,{cents},," for account, key, cents in charges()]
+BODIES = [
+    json.dumps({"kind": "charge", "account": account, "key": key, "day": "2024-03-01", "place": "purchase", "cents": cents})
+    for account, key, cents in charges()
+]
 
 
 def fail(text):
@@ -35,25 +55,10 @@ def fail(text):
     sys.exit(1)
 
 
-def apply(file, lines):
+def run(file, command, lines):
     """Runs to the end: the status, and the replies."""
-    done = subprocess.run([PROGRAM, file, "apply"], input="".join(line + "\n" for line in lines), capture_output=True, text=True)
+    done = subprocess.run([PROGRAM, file, command], input="".join(line + "\n" for line in lines), capture_output=True, text=True)
     return done.returncode, done.stdout.splitlines()
-
-
-def killed(file, lines, work, after):
-    """Runs, and is killed after so many seconds: the replies that were written whole."""
-    requests = os.path.join(work, "requests")
-    replies = os.path.join(work, "replies")
-    with open(requests, "w") as out:
-        out.writelines(line + "\n" for line in lines)
-    with open(requests) as source, open(replies, "wb") as sink:
-        run = subprocess.Popen([PROGRAM, file, "apply"], stdin=source, stdout=sink)
-        time.sleep(after)
-        run.kill()
-        run.wait()
-    with open(replies) as written:
-        return [line[:-1] for line in written if line.endswith("\n")]
 
 
 def rows_of(file, work, replies):
@@ -78,39 +83,170 @@ def rows_of(file, work, replies):
     return rows
 
 
+def killed(file, command, lines, work, after):
+    """Runs, and is killed after so many seconds: the replies that were written whole."""
+    requests = os.path.join(work, "requests")
+    replies = os.path.join(work, "replies")
+    with open(requests, "w") as out:
+        out.writelines(line + "\n" for line in lines)
+    with open(requests) as source, open(replies, "wb") as sink:
+        started = subprocess.Popen([PROGRAM, file, command], stdin=source, stdout=sink)
+        time.sleep(after)
+        started.kill()
+        started.wait()
+    with open(replies) as written:
+        return [line[:-1] for line in written if line.endswith("\n")]
+
+
+class Whole:
+    """What runs that aren't killed come to, and how long they take."""
+
+    def __init__(self, work):
+        self.work = work
+        self.opened = os.path.join(work, "opened")
+        file = os.path.join(work, "whole")
+        start = time.monotonic()
+        status, self.replies = run(file, "apply", OPENING + LINES)
+        self.seconds = time.monotonic() - start
+        self.rows = rows_of(file, work, True)
+        if status != 0 or [seq for seq, _ in self.rows] != list(range(1, len(OPENING) + len(LINES) + 1)):
+            fail(f"a run that isn't killed ends with {status} and keeps {len(self.rows)} rows")
+        status, _ = run(self.opened, "apply", OPENING)
+        if status != 0 or rows_of(self.opened, work, True) != self.rows[: len(OPENING)]:
+            fail(f"the opening ends with {status}")
+
+    def begun(self, name):
+        """A file with the opening's rows."""
+        file = os.path.join(self.work, name)
+        shutil.copyfile(self.opened, file)
+        return file
+
+    def by_apply(self, name, after, is_finished):
+        file = os.path.join(self.work, name)
+        lines = OPENING + LINES
+        replies = killed(file, "apply", lines, self.work, after * self.seconds)
+        if replies != self.replies[: len(replies)]:
+            fail(f"{name}: the replies aren't those of a run that isn't killed")
+        rows = rows_of(file, self.work, replies)
+        self.at_most_one_more(name, len(replies), rows, self.rows)
+        # `roll` has no key, so it isn't sent again
+        status, again = run(file, "apply", lines[1 : len(replies)])
+        if status != 0 or again != self.replies[1 : len(replies)]:
+            fail(f"{name}: sent again, the lines end with {status}")
+        if rows and rows_of(file, self.work, replies) != rows:
+            fail(f"{name}: lines that were sent again changed the rows")
+        if is_finished:
+            status, again = run(file, "apply", lines[1:] if rows else lines)
+            if status != 0 or again != self.replies[1 if rows else 0 :] or rows_of(file, self.work, again) != self.rows:
+                fail(f"{name}: the file doesn't come to the same rows as one that was never killed")
+        return len(replies), len(rows) - len(replies)
+
+    def by_import(self, name, after, _):
+        file = self.begun(name)
+        records = [HEADER] + RECORDS
+        wanted = self.replies[len(OPENING) :]
+        replies = killed(file, "import", records, self.work, after * self.seconds)
+        if replies != wanted[: len(replies)]:
+            fail(f"{name}: the replies aren't those of an import that isn't killed")
+        rows = rows_of(file, self.work, True)
+        self.at_most_one_more(name, len(OPENING) + len(replies), rows, self.rows)
+        status, again = run(file, "import", records)
+        if status != 0 or again != wanted or rows_of(file, self.work, True) != self.rows:
+            fail(f"{name}: sent again, the import ends with {status}")
+        return len(replies), len(rows) - len(OPENING) - len(replies)
+
+    def by_serve(self, name, after, _):
+        file = self.begun(name)
+        answered = served(file, after * self.seconds)
+        rows = rows_of(file, self.work, True)
+        count = sum(map(len, answered))
+        if rows[: len(OPENING)] != self.rows[: len(OPENING)] or len(rows) - len(OPENING) not in (count, count + 1):
+            fail(f"{name}: {count} answers of 200 and {len(rows) - len(OPENING)} rows")
+        bodies = {body for _, body in self.rows}
+        kept = {body for _, body in rows}
+        if not kept <= bodies or len(kept) != len(rows):
+            fail(f"{name}: a row isn't that of a request")
+        for client in answered:
+            for number, answer in client:
+                if self.rows[len(OPENING) + number][1] not in kept:
+                    fail(f"{name}: the row of charge {number}, answered {answer}, isn't there")
+        # each client posts to accounts of its own, in order, so each charge has the number that it has by lines
+        status, again = run(file, "apply", LINES)
+        if status != 0 or again != self.replies[len(OPENING) :]:
+            fail(f"{name}: sent again as lines, the requests end with {status}")
+        if any(f"ok {json.loads(answer)['ok']}" != again[number] for client in answered for number, answer in client):
+            fail(f"{name}: sent again as lines, a request has another number")
+        return count, len(rows) - len(OPENING) - count
+
+    def at_most_one_more(self, name, count, rows, wanted):
+        if len(rows) not in (count, count + 1) or rows != wanted[: len(rows)]:
+            fail(f"{name}: {count} replies and {len(rows)} rows")
+
+
+def free_port():
+    with socket.socket() as free:
+        free.bind(("127.0.0.1", 0))
+        return free.getsockname()[1]
+
+
+def served(file, after):
+    """A server that is killed so many seconds after it first answers: what each client was answered 200, by the charge's place."""
+    port = free_port()
+    server = subprocess.Popen([PROGRAM, file, "serve", str(port), "1000000"], stdin=subprocess.DEVNULL, stdout=subprocess.DEVNULL)
+    answered = [[] for _ in range(CLIENTS)]
+    try:
+        for _ in range(400):
+            try:
+                socket.create_connection(("127.0.0.1", port), 10).close()
+                break
+            except ConnectionRefusedError:
+                time.sleep(0.02)
+        clients = [threading.Thread(target=post, args=(port, client, answered[client])) for client in range(CLIENTS)]
+        for client in clients:
+            client.start()
+        time.sleep(after)
+        server.kill()
+        server.wait()
+        for client in clients:
+            client.join(60)
+            if client.is_alive():
+                fail("a client hangs behind a server that was killed")
+    finally:
+        server.kill()
+    return answered
+
+
+def post(port, client, answered):
+    for number, body in enumerate(BODIES):
+        if number % ACCOUNTS % CLIENTS != client:
+            continue
+        try:
+            link = http.client.HTTPConnection("127.0.0.1", port, timeout=20)
+            link.request("POST", "/posts", body)
+            answer = link.getresponse()
+            text = answer.read()
+            link.close()
+        except (OSError, http.client.HTTPException):
+            return
+        if answer.status != 200:
+            return
+        answered.append((number, text))
+
+
 def main():
     rng = random.Random(SEED)
     work = tempfile.mkdtemp()
     try:
-        lines = list(request_lines())
-        whole = os.path.join(work, "whole")
-        start = time.monotonic()
-        status, expected = apply(whole, lines)
-        seconds = time.monotonic() - start
-        kept = rows_of(whole, work, expected)
-        if status != 0 or len(kept) != len(lines) or [seq for seq, _ in kept] != list(range(1, len(lines) + 1)):
-            fail(f"a run that isn't killed ends with {status} and keeps {len(kept)} rows for {len(lines)} lines")
-        more = cut = 0
-        for number in range(ROUNDS):
-            file = os.path.join(work, f"rows{number}")
-            replies = killed(file, lines, work, rng.uniform(0, seconds))
-            cut += 0 < len(replies) < len(lines)
-            if replies != expected[:len(replies)]:
-                fail(f"round {number}: the replies aren't those of a run that isn't killed")
-            rows = rows_of(file, work, replies)
-            if len(rows) not in (len(replies), len(replies) + 1) or rows != kept[:len(rows)]:
-                fail(f"round {number}: {len(replies)} replies and {len(rows)} rows")
-            more += len(rows) - len(replies)
-            # `roll` has no key, so it isn't sent again
-            status, again = apply(file, lines[1:len(replies)])
-            if status != 0 or again != expected[1:len(replies)]:
-                fail(f"round {number}: sent again, the lines end with {status}")
-            if rows and rows_of(file, work, replies) != rows:
-                fail(f"round {number}: lines that were sent again changed the rows")
-        status, again = apply(file, lines[1:] if rows else lines)
-        if status != 0 or again != expected[1 if rows else 0:] or rows_of(file, work, again) != kept:
-            fail("the last file doesn't come to the same rows as one that was never killed")
-        print(f"durable: seed {SEED}: {ROUNDS} kills, {cut} amid the replies, {more} with a row whose reply wasn't whole; no row is lost")
+        whole = Whole(work)
+        ways = whole.by_apply, whole.by_import, whole.by_apply, whole.by_serve
+        cut = more = 0
+        for number in range(KILLS):
+            replies, ahead = ways[number % len(ways)](f"rows{number}", rng.uniform(0, 1), number % 8 == 0)
+            cut += 0 < replies < CHARGES
+            more += ahead
+            for end in ("", "-wal"):
+                os.remove(os.path.join(work, f"rows{number}{end}"))
+        print(f"durable: seed {SEED}: {KILLS} kills, {cut} amid the replies, {more} with a row whose reply wasn't whole; no row is lost")
     finally:
         shutil.rmtree(work)
 

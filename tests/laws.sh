@@ -2,13 +2,11 @@
 # Holds what the proved program prints against four laws of the regulation (laws.py says what each asks of late fees, of the amounts
 # of penalty fees, of the excess of a payment, and of the day of credit). First over a short history, as it was printed and with
 # one entry of its export changed by hand: each change has to be found by the check that it is for, and by no other. Then over the
-# examples, and over 40 histories of 250 generated lines over four accounts, where the generator stands beside the repository;
-# where it doesn't, a line says so.
+# examples, and over 40 histories of 250 generated lines over four accounts.
 #
 #     tests/laws.sh
 top=$(cd "$(dirname "$0")/.." && pwd) || exit 1
 program="$top/crates/billctl/out/billctl"
-model="$top/../shared"
 export PYTHONDONTWRITEBYTECODE=1
 # files of rows in memory, where there is such a disk: no commit waits
 if [ -d /dev/shm ]; then
@@ -85,14 +83,10 @@ for input in "$top"/examples/*.txt; do
 done
 hold 10 "$room"/example-*
 echo "laws: the examples: $(cat "$room/said")"
-if [ ! -d "$model/oracle" ]; then
-    echo "laws: no generator beside the repository; no random histories"
-    exit 0
-fi
-cd "$model" || exit 1
+cd "$top" || exit 1
 seed=1
 while [ "$seed" -le 40 ]; do
-    python3 -m oracle.generate "$seed" 250 --accounts 4 --stage 12 >"$room/lines" || exit 1
+    python3 -m audit.generate "$seed" 250 --accounts 4 >"$room/lines" || exit 1
     print "random-$seed" <"$room/lines"
     seed=$((seed + 1))
 done

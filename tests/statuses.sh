@@ -1,7 +1,7 @@
 #!/bin/sh
 # Runs the proved program where it can't go on, and holds its exit status and what it wrote against what
 # docs/FORMATS.md says: words that are no command, an account that isn't there, no input, an input that can't be read, an output that takes nothing,
-# rows that can't be kept, a file that another run has, a disk that is full, rows that are damaged, and too little memory.
+# rows that can't be kept, a file that another run has, a disk that is full, rows and records that are damaged, and too little memory.
 #
 #     tests/statuses.sh
 top=$(cd "$(dirname "$0")/.." && pwd) || exit 1
@@ -18,10 +18,11 @@ expect() {
     fi
 }
 
-usage='usage: apply | import | statement ACCOUNT CYCLE | restate ACCOUNT CYCLE | export ACCOUNT | work | demo START ACCOUNTS CYCLES | serve PORT COUNT'
+usage='usage: apply | import | statement ACCOUNT CYCLE | restate ACCOUNT CYCLE | export ACCOUNT | work | demo START ACCOUNTS CYCLES | serve PORT COUNT | repay ACCOUNT CYCLE'
 for words in '' '-' '- apply now' '- Apply' '- --help' '- export' '- export -a' '- export a now' '- serve' '- serve 8080' '- serve 0 1' '- serve 65536 1' '- serve 08080 1' '- serve 8080 0' '- serve 8080 1000001' '- demo 1 20' '- demo 1 20 6 7' '- demo 1 1001 6' '- demo 1 20 61' '- demo 1 20 0' '- demo 01 20 6' '- demo -1 20 6' '- demo 1000000000000 1 1' \
     '- statement' '- statement a' '- statement a 0' '- statement a 01' '- statement a 1201' \
-    '- restate -a 1' '- restate a -1' '- restate a 1 now'; do
+    '- restate -a 1' '- restate a -1' '- restate a 1 now' \
+    '- repay' '- repay a' '- repay a 0' '- repay a 01' '- repay a 1201' '- repay -a 1' '- repay a 1 now'; do
     # shellcheck disable=SC2086
     "$program" $words <"$day" >"$written"
     expect "the words '$words'" $? 2
@@ -54,7 +55,7 @@ rows=$(mktemp -d) || exit 1
 trap 'rm -rf "$written" "$rows"' EXIT
 "$program" "$rows/kept" apply <"$day" >"$written"
 expect 'rows in a new file' $? 0
-for words in 'export nobody' 'statement nobody 1' 'restate nobody 1'; do
+for words in 'export nobody' 'statement nobody 1' 'restate nobody 1' 'repay nobody 1'; do
     # shellcheck disable=SC2086
     "$program" "$rows/kept" $words </dev/null >"$written"
     expect "$words, an account that is not there" $? 1
@@ -64,7 +65,7 @@ for words in 'export nobody' 'statement nobody 1' 'restate nobody 1'; do
     fi
 done
 python3 - "$program" "$rows" <<'END' || exit 1
-import os, resource, shutil, signal, sqlite3, subprocess, sys
+import os, resource, shutil, signal, sqlite3, subprocess, sys, threading
 
 program, room = sys.argv[1:]
 ROLL, OPEN, CHARGE = map(bytes.fromhex, (
@@ -82,14 +83,18 @@ LINES = ["roll 2024-03-01", "open a o 2024-03-01 5 1999 2499 2199 2999 2500 100"
 SHOWN = "show a 2024-03-01 owed 1250 credit 0 held 0\n"
 
 
-def apply(file, lines, **how):
-    done = subprocess.run([program, file, "apply"], input="".join(line + "\n" for line in lines), capture_output=True, text=True, **how)
+def run(file, command, lines, **how):
+    done = subprocess.run([program, file, *command.split()], input="".join(line + "\n" for line in lines), capture_output=True, text=True, **how)
     return done.returncode, done.stdout
+
+
+def apply(file, lines, **how):
+    return run(file, "apply", lines, **how)
 
 
 def expect(name, found, wanted):
     if found != wanted:
-        sys.exit(f"statuses: {name}: {found}, wanted {wanted}")
+        sys.exit(f"statuses: {name}: {str(found)[:500]}, wanted {str(wanted)[:500]}")
 
 
 def keep(file, rows):
@@ -100,47 +105,149 @@ def keep(file, rows):
     base.close()
 
 
-# rows as they are, out of turn, cut, twice, before what they stand on, and empty
+# the rows of each format that is read: as they are, out of turn, one of another format, cut, empty, twice, before what they
+# stand on, and from 2 on
+SPELLINGS = {"format 1": (OLD_ROLL, OLD_OPEN, OLD_CHARGE), "format 2": (ROLL, OPEN, CHARGE), "both formats": (OLD_ROLL, OPEN, OLD_CHARGE)}
 whole = os.path.join(room, "whole")
 expect("three lines", apply(whole, LINES), (0, "ok\nok 1\nok 2\n"))
 base = sqlite3.connect(whole)
 expect("three rows", base.execute("SELECT seq, body FROM kept ORDER BY seq").fetchall(), [(1, ROLL), (2, OPEN), (3, CHARGE)])
 base.close()
-for rows, wanted in (
-    ([(1, ROLL), (2, OPEN), (3, CHARGE)], (0, SHOWN)),
-    ([(1, OLD_ROLL), (2, OLD_OPEN), (3, OLD_CHARGE)], (0, SHOWN)),
-    ([(1, OLD_ROLL), (2, OPEN), (3, OLD_CHARGE)], (0, SHOWN)),
-    ([(1, ROLL), (2, OPEN), (4, CHARGE)], (8, "damaged 3\n")),
-    ([(1, ROLL), (2, OPEN), (3, CHARGE[:-1])], (8, "damaged 3\n")),
-    ([(1, ROLL), (2, OPEN), (3, OPEN)], (8, "damaged 3\n")),
-    ([(1, ROLL), (2, CHARGE), (3, OPEN)], (8, "damaged 2\n")),
-    ([(1, b""), (2, OPEN), (3, CHARGE)], (8, "damaged 1\n")),
+for spelling, (roll, opened, charge) in SPELLINGS.items():
+    for rows, wanted in (
+        ([(1, roll), (2, opened), (3, charge)], (0, SHOWN)),
+        ([(1, roll), (2, opened), (4, charge)], (8, "damaged 3\n")),
+        ([(2, roll), (3, opened), (4, charge)], (8, "damaged 1\n")),
+        ([(1, roll), (2, opened), (3, b"\x09" + charge[1:])], (8, "damaged 3\n")),
+        ([(1, b"\x09"), (2, opened), (3, charge)], (8, "damaged 1\n")),
+        ([(1, roll), (2, opened), (3, charge[:-1])], (8, "damaged 3\n")),
+        ([(1, roll), (2, opened), (3, charge + b"\x00")], (8, "damaged 3\n")),
+        ([(1, b""), (2, opened), (3, charge)], (8, "damaged 1\n")),
+        ([(1, roll), (2, opened), (3, charge), (4, b"")], (8, "damaged 4\n")),
+        ([(1, roll), (2, opened), (3, opened)], (8, "damaged 3\n")),
+        ([(1, roll), (2, opened), (3, charge), (4, charge)], (8, "damaged 4\n")),
+        ([(1, roll), (2, charge), (3, opened)], (8, "damaged 2\n")),
+    ):
+        keep(whole, rows)
+        expect(f"{spelling}, the rows {rows}", apply(whole, ["show a"]), wanted)
+
+# records of seven fields, without a channel in the header, and of a kind that isn't read
+HEADER = "account,key,kind,day,place,cents,minute,channel"
+CHARGED = "a,c1,charge,2024-03-01,purchase,1250,,"
+for records, wanted in (
+    ([HEADER, CHARGED], (0, "ok 2\n")),
+    ([HEADER, CHARGED[:-1], CHARGED], (1, "bad 2 8\nok 2\n")),
+    ([HEADER[: HEADER.rindex(",")], CHARGED], (1, "bad 1 8\nok 2\n")),
+    ([HEADER, CHARGED, "a,c2,fee,2024-03-01,purchase,1250,,"], (1, "ok 2\nbad 3 3\n")),
 ):
-    keep(whole, rows)
-    expect(f"the rows {rows}", apply(whole, ["show a"]), wanted)
+    keep(whole, [(1, ROLL), (2, OPEN)])
+    expect(f"the records {records}", run(whole, "import", records), wanted)
 
 
 # a disk that takes no more than a page of a file, too little for a row: it isn't kept, and is when the line comes again
-def full():
+def room_for(size):
+    """From now on no file takes a byte behind its first ones."""
     signal.signal(signal.SIGXFSZ, signal.SIG_IGN)
-    resource.setrlimit(resource.RLIMIT_FSIZE, (4096, 4096))
+    resource.setrlimit(resource.RLIMIT_FSIZE, (size, size))
 
 
 file = os.path.join(room, "full")
 expect("one line", apply(file, LINES[:1]), (0, "ok\n"))
-expect("a disk that is full", apply(file, ["show a"] + LINES[1:], preexec_fn=full), (5, "no 1 UnknownAccount\n"))
+expect("a disk that is full", apply(file, ["show a"] + LINES[1:], preexec_fn=lambda: room_for(4096)), (5, "no 1 UnknownAccount\n"))
 expect("the same lines with room", apply(file, LINES[1:] + ["show a"]), (0, "ok 1\nok 2\n" + SHOWN))
 
-# a second run doesn't get the file that one has, which goes on
-first = subprocess.Popen([program, file, "apply"], stdin=subprocess.PIPE, stdout=subprocess.PIPE, text=True, bufsize=1)
-first.stdin.write("show a\n")
-expect("a run that has a file", first.stdout.readline(), SHOWN)
+# a second run waits for the file that one has, and doesn't get it; the one that has it goes on
+def begun(file):
+    """A run that has the file."""
+    one = subprocess.Popen([program, file, "apply"], stdin=subprocess.PIPE, stdout=subprocess.PIPE, text=True, bufsize=1)
+    one.stdin.write("show a\n")
+    expect("a run that has a file", one.stdout.readline(), SHOWN)
+    return one
+
+
+first = begun(file)
 expect("a second run on its file", apply(file, ["charge a c2 2024-03-01 purchase 5"]), (5, ""))
 first.stdin.write("charge a c3 2024-03-01 purchase 5\n")
 expect("the run that has it, after that", first.stdout.readline(), "ok 3\n")
 first.stdin.close()
 expect("its end", first.wait(), 0)
 expect("the rows behind both", apply(file, ["charge a c2 2024-03-01 purchase 5"]), (0, "ok 4\n"))
+again = os.path.join(room, "again")
+apply(again, LINES)
+first = begun(again)
+threading.Timer(1, first.stdin.close).start()
+expect("a second run, where the first ends in time", apply(again, ["charge a c2 2024-03-01 purchase 5"]), (0, "ok 3\n"))
+expect("the first", first.wait(), 0)
+
+
+def held(file):
+    """What the file and its log hold, and who may use them."""
+    return [(name[len(file) :], os.stat(name).st_mode & 0o777, open(name, "rb").read()) for name in (file, file + "-wal") if os.path.exists(name)]
+
+
+def stays(file, before):
+    """Whether the file is as it was, and its log too, up to its last commit."""
+    now = held(file)
+    return len(now) == len(before) and all(left[:2] == was[:2] and left[2].startswith(was[2]) and (left[0] or left == was) for left, was in zip(now, before))
+
+
+def apart(name, *statements):
+    """A file whose rows, and what the statements make of them, stand in its log alone."""
+    file, copy = os.path.join(room, name), os.path.join(room, name + "-apart")
+    run(file, "apply", LINES)
+    base = sqlite3.connect(file)
+    for statement in ("PRAGMA journal_mode=wal", *statements):
+        base.execute(statement)
+    base.commit()
+    for end in ("", "-wal"):
+        shutil.copyfile(file + end, copy + end)
+    base.close()
+    return copy
+
+
+TELLING = "statement a 1", "restate a 1", "export a", "work"
+
+# a new file and its log are their owner's, whatever the mask, and are made by what carries out requests alone
+file = os.path.join(room, "new")
+expect("a new file", run(file, "apply", LINES, preexec_fn=lambda: os.umask(0))[0], 0)
+expect("the modes of a new file and its log", [(end, mode) for end, mode, _ in held(file)], [("", 0o600), ("-wal", 0o600)])
+file = os.path.join(room, "missing")
+for command in TELLING:
+    expect(f"{command}, without a file", run(file, command, []), (5, ""))
+    expect(f"{command}, whether a file was made", held(file), [])
+open(file, "w").close()
+for command in TELLING:
+    expect(f"{command}, of a file without a byte", run(file, command, []), (5, ""))
+    expect(f"{command}, what it left of a file without a byte", [(end, kept) for end, _, kept in held(file)], [("", b"")])
+expect("a file without a byte", apply(file, LINES), (0, "ok\nok 1\nok 2\n"))
+
+# a file that has lost its bytes, beside a log that was joined to it and one that wasn't, is refused and stays
+for name, copy in ("cut", os.path.join(room, "cut")), ("cut with rows in its log", apart("cut-too")):
+    if not os.path.exists(copy):
+        apply(copy, LINES)
+    os.truncate(copy, 0)
+    before = held(copy)
+    for command in ("apply", "import", *TELLING):
+        expect(f"{command}, of a file that was {name}", run(copy, command, []), (5, ""))
+        expect(f"{command}, whether a file that was {name} stays", stays(copy, before), True)
+
+# a file that is refused stays as it was, with a log whose rows aren't joined to it, and so does one that is only read
+for name, statements, wanted in (
+    ("damaged", ("DELETE FROM kept WHERE seq = 2",), (8, "damaged 2\n")),
+    ("another-table", ("CREATE TABLE other (a)",), (5, "")),
+    ("sound", (f"INSERT INTO kept VALUES (4, x'{CHARGE.hex().replace('6331', '6332')}')",), None),
+):
+    copy = apart(name, *statements)
+    before = held(copy)
+    for command in ("apply", *TELLING):
+        ended = run(copy, command, [])
+        expect(f"{command}, of a file that is {name}", ended if wanted else (ended[0] < 2, ""), wanted or (True, ""))
+        expect(f"{command}, whether a file that is {name} stays", stays(copy, before), True)
+
+# a run that only reads wants no room on the disk
+expect("work, without room", run(copy, "work", [], preexec_fn=lambda: room_for(0)), (0, ""))
+file = os.path.join(room, "new")
+expect("work, without room for more than there is", run(file, "work", [], preexec_fn=lambda: room_for(os.path.getsize(file + "-wal"))), (0, ""))
 END
 python3 - "$program" <<'END'
 import socket, subprocess, sys

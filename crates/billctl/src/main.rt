@@ -7,7 +7,7 @@ use card_events::NoMemory;
 use card_ports::{Asking, Keeper, Lent, MemoryKeeper, Replies, StdSink, StdSource, TcpDoor};
 use card_sqlite::SqliteKeeper;
 use std::cell::RefCell;
-use std::io::{self, Write};
+use std::io::{self, ErrorKind, Write};
 use std::mem::forget;
 use std::process::ExitCode;
 
@@ -22,7 +22,7 @@ const OUTPUT_FAILED: u8 = 4;
 const NO_MEMORY: u8 = 6;
 
 // The first word, which says where the rows are kept, and the words behind it. An empty list and words that aren't text give
-// no words, and no words are no command.
+// no words, and no words are no command. Where memory is wanted for them, the run ends with that.
 struct Words {
     place: Option<String>,
     command: Vec<String>,
@@ -30,11 +30,15 @@ struct Words {
 
 fn read_words(rt: &HostRuntime) -> Result<Words, NoMemory> {
     let mut command = Vec::new(rt.alloc());
-    let Ok(mut args) = std::env::args(rt) else {
-        return Ok(Words {
-            place: None,
-            command,
-        });
+    let mut args = match std::env::args(rt) {
+        Ok(args) => args,
+        Err(error) if error.kind() == ErrorKind::OutOfMemory => return Err(NoMemory),
+        Err(_) => {
+            return Ok(Words {
+                place: None,
+                command,
+            });
+        }
     };
     let _ = args.next();
     let place = args.next();
@@ -83,10 +87,25 @@ fn over_memory(rt: &HostRuntime, words: &Vec<String>) -> u8 {
     status
 }
 
+// Whether the command carries out requests. The others only tell of a ledger, which has to be there.
+fn carries_out(words: &Vec<String>) -> bool {
+    match words.first() {
+        Some(word) => {
+            let word = word.as_str();
+            word == "apply" || word == "import" || word == "serve"
+        }
+        None => false,
+    }
+}
+
 // Rows in a file: a row is kept before its reply is written, and no reply waits. What was answered stands in the file and its
 // log, also where the close that joins them fails.
 fn over_file(rt: &HostRuntime, path: String, words: &Vec<String>) -> u8 {
-    let mut keeper = SqliteKeeper::new(rt, path);
+    let mut keeper = if carries_out(words) {
+        SqliteKeeper::new(rt, path)
+    } else {
+        SqliteKeeper::of_file(rt, path)
+    };
     let status = over(rt, words, 0, &mut keeper);
     let _ = keeper.close();
     status

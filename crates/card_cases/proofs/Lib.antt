@@ -1,2 +1,3 @@
+mod Aged
 mod Alone
 mod Reached

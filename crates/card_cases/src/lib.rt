@@ -6,6 +6,8 @@
 #[cfg(test)]
 mod account;
 #[cfg(test)]
+mod desks;
+#[cfg(test)]
 mod forms;
 #[cfg(test)]
 mod posts;

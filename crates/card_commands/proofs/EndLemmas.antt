@@ -13,8 +13,8 @@ use Rattle.card_commands.specs.Ran.{Finished, HeldAt, StoppedAt, Ran, FellReadin
 use Rattle.card_commands.specs.Run.{text_of, rows_kept}
 use Rattle.card_ports.specs.Written.{TookFront}
 use Rattle.card_commands.specs.Written.{TookBetween, Did, DidPart, SameCounts, FellIn}
-use Rattle.card_commands.specs.declared.end.End.{End}
-use Rattle.card_commands.specs.declared.end.End.TheVariants as end
+use Rattle.card_commands.specs.declared.stop.Stop.{Stop}
+use Rattle.card_commands.specs.declared.stop.Stop.TheVariants as stop
 use Rattle.card_commands.specs.declared.ended.Ended.{Ended}
 use Rattle.card_commands.specs.declared.ended.Ended.TheVariants as ended
 use Rattle.card_text.specs.declared.item.Item.{Item}
@@ -67,17 +67,17 @@ stopped old new s bytes at =
     )
 
 -- a run that was ended early
-fell_run : {I K : Type 0} (old new : Outside I K) (s : State) (e : End) → FellReading old new (new_run s) e → Runs old new lines s (ended_by e)
-fell_run old new s end.Source fell = record { bytes = fell.bytes; read = fell.read; stands = wrote old new s fell.bytes fell.did }
-fell_run old new s end.Sink fell = let some = stopped old new s fell.bytes fell.did in record { bytes = fell.bytes; read = fell.read; stands = (some.0, inl some.1, some.2) }
-fell_run old new s end.Keeper fell = let some = held old new s fell.bytes fell.did in record { bytes = fell.bytes; read = fell.read; stands = (some.0, inl some.1, some.2) }
-fell_run old new s end.Memory fell = let some = stopped old new s fell.bytes fell.did in record { bytes = fell.bytes; read = fell.read; stands = (some.0, inl some.1, some.2) }
-fell_run old new s end.Endless fell = absurd fell.did
+fell_run : {I K : Type 0} (old new : Outside I K) (s : State) (e : Stop) → FellReading old new (new_run s) e → Runs old new lines s (ended_by e)
+fell_run old new s stop.Source fell = record { bytes = fell.bytes; read = fell.read; stands = wrote old new s fell.bytes fell.did }
+fell_run old new s stop.Sink fell = let some = stopped old new s fell.bytes fell.did in record { bytes = fell.bytes; read = fell.read; stands = (some.0, inl some.1, some.2) }
+fell_run old new s stop.Keeper fell = let some = held old new s fell.bytes fell.did in record { bytes = fell.bytes; read = fell.read; stands = (some.0, inl some.1, some.2) }
+fell_run old new s stop.Memory fell = let some = stopped old new s fell.bytes fell.did in record { bytes = fell.bytes; read = fell.read; stands = (some.0, inl some.1, some.2) }
+fell_run old new s stop.Endless fell = absurd fell.did
 
-pub fell_end : {I K : Type 0} (old new : Outside I K) (s : State) (e : End) (x : Ended) → x ≡ ended_by e → FellReading old new (new_run s) e → Runs old new lines s x
+pub fell_end : {I K : Type 0} (old new : Outside I K) (s : State) (e : Stop) (x : Ended) → x ≡ ended_by e → FellReading old new (new_run s) e → Runs old new lines s x
 fell_end old new s e x is fell = subst (λ (y : Ended). Runs old new lines s y) (sym is) (fell_run old new s e fell)
 
-pub fell_end_cause : {I K : Type 0} (old new : Outside I K) (s : State) (e : End) (x : Ended) → x ≡ ended_by e → FellReading old new (new_run s) e → HasCause old new x
+pub fell_end_cause : {I K : Type 0} (old new : Outside I K) (s : State) (e : Stop) (x : Ended) → x ≡ ended_by e → FellReading old new (new_run s) e → HasCause old new x
 fell_end_cause old new s e x is fell = subst (λ (y : Ended). HasCause old new y) (sym is) fell.cause
 
 -- ---- the input was read to its end: what was done of its last line
@@ -153,26 +153,26 @@ stopped_end old mid new s q n ran same ends (inr part) = record {
   stands = (all_items ran.bytes, inr (at_end mid new same ends, all_first (all_items ran.bytes)), stopped_last old mid new s q n ran part);
 }
 
-fell_last : {I K : Type 0} (old mid new : Outside I K) (s : State) (q : Progress) (n : ℕ) (e : End) → Ran old mid (new_run s) q n → SameSource mid new → IsAtEnd mid.left
+fell_last : {I K : Type 0} (old mid new : Outside I K) (s : State) (q : Progress) (n : ℕ) (e : Stop) → Ran old mid (new_run s) q n → SameSource mid new → IsAtEnd mid.left
     → FellIn (sides_of mid) (sides_of new) (end_text q) (end_rows q) e → Runs old new lines s (ended_by e)
-fell_last old mid new s q n end.Source ran same ends fell = absurd fell.cause
-fell_last old mid new s q n end.Sink ran same ends fell = stopped_end old mid new s q n ran same ends fell.did
-fell_last old mid new s q n end.Keeper ran same ends fell = record {
+fell_last old mid new s q n stop.Source ran same ends fell = absurd fell.cause
+fell_last old mid new s q n stop.Sink ran same ends fell = stopped_end old mid new s q n ran same ends fell.did
+fell_last old mid new s q n stop.Keeper ran same ends fell = record {
   bytes = ran.bytes;
   read = read_on old mid new (new_run s) q n ran same;
   stands = (ended_items ran.bytes, inl (all_first (ended_items ran.bytes)), held_end old mid new s q n ran fell.did);
 }
-fell_last old mid new s q n end.Memory ran same ends fell = stopped_end old mid new s q n ran same ends fell.did
-fell_last old mid new s q n end.Endless ran same ends fell = absurd fell.cause
+fell_last old mid new s q n stop.Memory ran same ends fell = stopped_end old mid new s q n ran same ends fell.did
+fell_last old mid new s q n stop.Endless ran same ends fell = absurd fell.cause
 
 -- its last line was handled, or ended it
-ended_run_of : {I K : Type 0} (old mid new : Outside I K) (s : State) (q : Progress) (n : ℕ) (r : Result Bool End) → Ran old mid (new_run s) q n → SameSource mid new → IsAtEnd mid.left
+ended_run_of : {I K : Type 0} (old mid new : Outside I K) (s : State) (q : Progress) (n : ℕ) (r : Result Bool Stop) → Ran old mid (new_run s) q n → SameSource mid new → IsAtEnd mid.left
     → IfOk r (Finished (sides_of mid) (sides_of new) q) → IfErr r (FellIn (sides_of mid) (sides_of new) (end_text q) (end_rows q)) → Runs old new lines s (ended_of r)
 ended_run_of old mid new s q n (Ok false) ran same ends ok err = whole_run old mid new s q n false ran same ends ok
 ended_run_of old mid new s q n (Ok true) ran same ends ok err = whole_run old mid new s q n true ran same ends ok
 ended_run_of old mid new s q n (Err e) ran same ends ok err = fell_last old mid new s q n e ran same ends err
 
-pub ended_run : {I K : Type 0} (old mid new : Outside I K) (s : State) (q : Progress) (n : ℕ) (r : Result Bool End) (e : Ended) → e ≡ ended_of r → Ran old mid (new_run s) q n → SameSource mid new → IsAtEnd mid.left
+pub ended_run : {I K : Type 0} (old mid new : Outside I K) (s : State) (q : Progress) (n : ℕ) (r : Result Bool Stop) (e : Ended) → e ≡ ended_of r → Ran old mid (new_run s) q n → SameSource mid new → IsAtEnd mid.left
     → IfOk r (Finished (sides_of mid) (sides_of new) q) → IfErr r (FellIn (sides_of mid) (sides_of new) (end_text q) (end_rows q)) → Runs old new lines s e
 ended_run old mid new s q n r e is ran same ends ok err = subst (λ (y : Ended). Runs old new lines s y) (sym is) (ended_run_of old mid new s q n r ran same ends ok err)
 
@@ -181,14 +181,14 @@ ended_run old mid new s q n r e is ran same ends ok err = subst (λ (y : Ended).
 unfailed_then : {I K : Type 0} (old mid new : Outside I K) (s : State) (q : Progress) (n : ℕ) → Ran old mid (new_run s) q n → SameSource mid new → SameCounts (sides_of mid) (sides_of new) → Unfailed old new
 unfailed_then old mid new s q n ran same counts = record { source = same.count ∙ ran.source_count; sides = counts_then (sides_of old) (sides_of mid) (sides_of new) ran.fed.counts counts }
 
-ended_cause_of : {I K : Type 0} (old mid new : Outside I K) (s : State) (q : Progress) (n : ℕ) (r : Result Bool End) → Ran old mid (new_run s) q n → SameSource mid new
+ended_cause_of : {I K : Type 0} (old mid new : Outside I K) (s : State) (q : Progress) (n : ℕ) (r : Result Bool Stop) → Ran old mid (new_run s) q n → SameSource mid new
     → IfOk r (Finished (sides_of mid) (sides_of new) q) → IfErr r (FellIn (sides_of mid) (sides_of new) (end_text q) (end_rows q)) → HasCause old new (ended_of r)
 unfolding HasCause
 ended_cause_of old mid new s q n (Ok false) ran same ok err = unfailed_then old mid new s q n ran same ok.counts
 ended_cause_of old mid new s q n (Ok true) ran same ok err = unfailed_then old mid new s q n ran same ok.counts
 ended_cause_of old mid new s q n (Err e) ran same ok err = cause_after old mid new e ran.source_count ran.fed.counts (cause_of mid new e same.count err.cause)
 
-pub ended_cause : {I K : Type 0} (old mid new : Outside I K) (s : State) (q : Progress) (n : ℕ) (r : Result Bool End) (e : Ended) → e ≡ ended_of r → Ran old mid (new_run s) q n → SameSource mid new
+pub ended_cause : {I K : Type 0} (old mid new : Outside I K) (s : State) (q : Progress) (n : ℕ) (r : Result Bool Stop) (e : Ended) → e ≡ ended_of r → Ran old mid (new_run s) q n → SameSource mid new
     → IfOk r (Finished (sides_of mid) (sides_of new) q) → IfErr r (FellIn (sides_of mid) (sides_of new) (end_text q) (end_rows q)) → HasCause old new e
 ended_cause old mid new s q n r e is ran same ok err = subst (λ (y : Ended). HasCause old new y) (sym is) (ended_cause_of old mid new s q n r ran same ok err)
 

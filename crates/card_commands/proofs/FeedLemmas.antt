@@ -15,8 +15,8 @@ use Rattle.card_commands.specs.Input.{ended_line}
 use Rattle.card_commands.specs.Outside.{Outside, HasCause, sides_of}
 use Rattle.card_commands.specs.Ran.{Handled, Fed, HeldAt, StoppedAt, DidAt, FellAt, Ran, FellReading}
 use Rattle.card_commands.specs.Written.{Sides, Did, DidPart, SameCounts, Failed, FellIn}
-use Rattle.card_commands.specs.declared.end.End.{End}
-use Rattle.card_commands.specs.declared.end.End.TheVariants as end
+use Rattle.card_commands.specs.declared.stop.Stop.{Stop}
+use Rattle.card_commands.specs.declared.stop.Stop.TheVariants as stop
 use Rattle.card_text.specs.declared.item.Item.{Item}
 use Rattle.card_commands.proofs.LineLemmas.{feed_lf, text_lf, rows_lf}
 use Rattle.card_commands.proofs.RowLemmas.{AddsRows-nil, AddsRows-trans}
@@ -147,15 +147,15 @@ stopped_line a b p x item (inr part) =
     (ap (λ (y : Item). answer_text p.ledger y) item ∙ sym (text_lf p 10 refl)) (ap (λ (y : Item). item_rows p.ledger y) item ∙ sym (rows_lf p 10 refl)) part)
 
 -- a line feed, whose line ended the run
-pub fell_line_feed : (a b : Sides) (p : Progress) (x : Item) (e : End) → x ≡ next_item p (ended_line p.line) → FellIn a b (answer_text p.ledger x) (item_rows p.ledger x) e → FellAt a b p (10 ∷ []) e
-fell_line_feed a b p x end.Source item fell = absurd fell.cause
-fell_line_feed a b p x end.Sink item fell = record { did = stopped_line a b p x item fell.did; cause = fell.cause }
-fell_line_feed a b p x end.Keeper item fell = record { did = held_first a b p (10 ∷ []) fell.did; cause = fell.cause }
-fell_line_feed a b p x end.Memory item fell = record { did = stopped_line a b p x item fell.did; cause = fell.cause }
-fell_line_feed a b p x end.Endless item fell = absurd fell.cause
+pub fell_line_feed : (a b : Sides) (p : Progress) (x : Item) (e : Stop) → x ≡ next_item p (ended_line p.line) → FellIn a b (answer_text p.ledger x) (item_rows p.ledger x) e → FellAt a b p (10 ∷ []) e
+fell_line_feed a b p x stop.Source item fell = absurd fell.cause
+fell_line_feed a b p x stop.Sink item fell = record { did = stopped_line a b p x item fell.did; cause = fell.cause }
+fell_line_feed a b p x stop.Keeper item fell = record { did = held_first a b p (10 ∷ []) fell.did; cause = fell.cause }
+fell_line_feed a b p x stop.Memory item fell = record { did = stopped_line a b p x item fell.did; cause = fell.cause }
+fell_line_feed a b p x stop.Endless item fell = absurd fell.cause
 
 -- memory was wanted before anything was done
-pub fell_first : (a : Sides) (p : Progress) (bytes : List ℕ) → FellAt a a p bytes end.Memory
+pub fell_first : (a : Sides) (p : Progress) (bytes : List ℕ) → FellAt a a p bytes stop.Memory
 fell_first a p bytes = record { did = stopped_first a a p bytes (did_none a); cause = counts_refl a }
 
 -- ---- bytes were handled, and then one ended the run
@@ -209,18 +209,18 @@ stopped_after a b c p q xs ys fed stop = record {
 }
 
 -- bytes were handled, and then one ended the run
-did_after : (a b c : Sides) (p q : Progress) (xs ys : List ℕ) (e : End) → Fed a b p xs q → DidAt b c q ys e → DidAt a c p (xs ++ ys) e
-did_after a b c p q xs ys end.Source fed did =
+did_after : (a b c : Sides) (p q : Progress) (xs ys : List ℕ) (e : Stop) → Fed a b p xs q → DidAt b c q ys e → DidAt a c p (xs ++ ys) e
+did_after a b c p q xs ys stop.Source fed did =
     did_same a c _ (text_all p (xs ++ ys)) _ (rows_all p (xs ++ ys))
     (ap (λ (s : Progress). text_all p xs ++ text_all s ys) fed.progress ∙ sym (text_all-append p xs ys))
     (ap (λ (s : Progress). rows_all p xs ++ rows_all s ys) fed.progress ∙ sym (rows_all-append p xs ys))
     (did_then a b c (text_all p xs) (text_all q ys) (rows_all p xs) (rows_all q ys) fed.did did)
-did_after a b c p q xs ys end.Sink fed did = stopped_after a b c p q xs ys fed did
-did_after a b c p q xs ys end.Keeper fed did = held_after a b c p q xs ys fed did
-did_after a b c p q xs ys end.Memory fed did = stopped_after a b c p q xs ys fed did
-did_after a b c p q xs ys end.Endless fed did = absurd did
+did_after a b c p q xs ys stop.Sink fed did = stopped_after a b c p q xs ys fed did
+did_after a b c p q xs ys stop.Keeper fed did = held_after a b c p q xs ys fed did
+did_after a b c p q xs ys stop.Memory fed did = stopped_after a b c p q xs ys fed did
+did_after a b c p q xs ys stop.Endless fed did = absurd did
 
-pub fell_then : (a b c : Sides) (p q : Progress) (xs ys : List ℕ) (e : End) → Fed a b p xs q → FellAt b c q ys e → FellAt a c p (xs ++ ys) e
+pub fell_then : (a b c : Sides) (p q : Progress) (xs ys : List ℕ) (e : Stop) → Fed a b p xs q → FellAt b c q ys e → FellAt a c p (xs ++ ys) e
 fell_then a b c p q xs ys e fed fell = record { did = did_after a b c p q xs ys e fed fell.did; cause = failed_after a b c e fed.counts fell.cause }
 
 -- ---- with the source
@@ -247,7 +247,7 @@ kept_is_consumed (Some x) None k = absurd k
 kept_is_consumed (Some x) (Some y) k = sym k
 
 -- the source failed
-pub source_fell : {I K : Type 0} (a b : Outside I K) (p : Progress) → Keeps a.left b.left → Rose a.source_faults b.source_faults → b.taken ≡ a.taken → b.rows ≡ a.rows → FellReading a b p end.Source
+pub source_fell : {I K : Type 0} (a b : Outside I K) (p : Progress) → Keeps a.left b.left → Rose a.source_faults b.source_faults → b.taken ≡ a.taken → b.rows ≡ a.rows → FellReading a b p stop.Source
 unfolding HasCause
 source_fell a b p kept rose taken rows = record {
   bytes = [];
@@ -260,29 +260,29 @@ source_fell a b p kept rose taken rows = record {
 }
 
 -- what failed of the sink and the keeper, where the source didn't
-pub cause_of : {I K : Type 0} (a b : Outside I K) (e : End) → b.source_faults ≡ a.source_faults → Failed (sides_of a) (sides_of b) e → HasCause a b (ended_by e)
+pub cause_of : {I K : Type 0} (a b : Outside I K) (e : Stop) → b.source_faults ≡ a.source_faults → Failed (sides_of a) (sides_of b) e → HasCause a b (ended_by e)
 unfolding HasCause
-cause_of a b end.Source same failed = absurd failed
-cause_of a b end.Sink same failed = failed.rose
-cause_of a b end.Keeper same failed = failed.rose
-cause_of a b end.Memory same failed = record { source = same; sides = failed }
-cause_of a b end.Endless same failed = absurd failed
+cause_of a b stop.Source same failed = absurd failed
+cause_of a b stop.Sink same failed = failed.rose
+cause_of a b stop.Keeper same failed = failed.rose
+cause_of a b stop.Memory same failed = record { source = same; sides = failed }
+cause_of a b stop.Endless same failed = absurd failed
 
 -- bytes that were read ended the run
-pub fell_reading : {I K : Type 0} (a b : Outside I K) (p : Progress) (bytes : List ℕ) (e : End) → FellAt (sides_of a) (sides_of b) p bytes e → b.source_faults ≡ a.source_faults → Consumes a.left b.left bytes
+pub fell_reading : {I K : Type 0} (a b : Outside I K) (p : Progress) (bytes : List ℕ) (e : Stop) → FellAt (sides_of a) (sides_of b) p bytes e → b.source_faults ≡ a.source_faults → Consumes a.left b.left bytes
     → FellReading a b p e
 fell_reading a b p bytes e fell same read = record { bytes = bytes; read = read; did = fell.did; cause = cause_of a b e same fell.cause }
 
-pub cause_after : {I K : Type 0} (a b c : Outside I K) (e : End) → b.source_faults ≡ a.source_faults → SameCounts (sides_of a) (sides_of b) → HasCause b c (ended_by e) → HasCause a c (ended_by e)
+pub cause_after : {I K : Type 0} (a b c : Outside I K) (e : Stop) → b.source_faults ≡ a.source_faults → SameCounts (sides_of a) (sides_of b) → HasCause b c (ended_by e) → HasCause a c (ended_by e)
 unfolding HasCause
-cause_after a b c end.Source source same cause = subst (λ (n : ℕ). Rose n c.source_faults) source cause
-cause_after a b c end.Sink source same cause = subst (λ (n : ℕ). Rose n c.sink_faults) same.sink cause
-cause_after a b c end.Keeper source same cause = subst (λ (n : ℕ). Rose n c.keeper_faults) same.keeper cause
-cause_after a b c end.Memory source same cause = record { source = cause.source ∙ source; sides = counts_then (sides_of a) (sides_of b) (sides_of c) same cause.sides }
-cause_after a b c end.Endless source same cause = record { source = cause.source ∙ source; sides = counts_then (sides_of a) (sides_of b) (sides_of c) same cause.sides }
+cause_after a b c stop.Source source same cause = subst (λ (n : ℕ). Rose n c.source_faults) source cause
+cause_after a b c stop.Sink source same cause = subst (λ (n : ℕ). Rose n c.sink_faults) same.sink cause
+cause_after a b c stop.Keeper source same cause = subst (λ (n : ℕ). Rose n c.keeper_faults) same.keeper cause
+cause_after a b c stop.Memory source same cause = record { source = cause.source ∙ source; sides = counts_then (sides_of a) (sides_of b) (sides_of c) same cause.sides }
+cause_after a b c stop.Endless source same cause = record { source = cause.source ∙ source; sides = counts_then (sides_of a) (sides_of b) (sides_of c) same cause.sides }
 
 -- a run went on, and then it ended
-pub ran_fell : {I K : Type 0} (a b c : Outside I K) (p q : Progress) (n : ℕ) (e : End) → Ran a b p q n → FellReading b c q e → FellReading a c p e
+pub ran_fell : {I K : Type 0} (a b c : Outside I K) (p q : Progress) (n : ℕ) (e : Stop) → Ran a b p q n → FellReading b c q e → FellReading a c p e
 ran_fell a b c p q n e ran fell = record {
   bytes = ran.bytes ++ fell.bytes;
   read = Consumes-trans a.left b.left c.left ran.bytes fell.bytes ran.read fell.read;

@@ -18,8 +18,8 @@ use Rattle.card_commands.specs.Outside.{Outside, AreFirst, Runs, HasCause, sides
 use Rattle.card_commands.specs.Ran.{Handled}
 use Rattle.card_commands.specs.Run.{after, text_of, rows_kept, any_refused}
 use Rattle.card_commands.specs.Written.{Sides, Did, DidPart, SameCounts, FellIn}
-use Rattle.card_commands.specs.declared.end.End.{End}
-use Rattle.card_commands.specs.declared.end.End.TheVariants as end
+use Rattle.card_commands.specs.declared.stop.Stop.{Stop}
+use Rattle.card_commands.specs.declared.stop.Stop.TheVariants as stop
 use Rattle.card_commands.specs.declared.ended.Ended.{Ended}
 use Rattle.card_commands.proofs.ApplyLemmas.{text_of-append, rows_kept-append, any_refused-append, or_assoc, or_false, OneMore, low_front, none_more}
 use Rattle.card_commands.proofs.FeedLemmas.{cause_of}
@@ -29,13 +29,13 @@ use Rattle.card_commands.proofs.SideLemmas.{front_trans, took_whole, took_part, 
 -- ---- reading
 
 -- bytes were read before, and then no more came
-pub fell_later : (a b c : SourceSide) (before : List ℕ) (e : End) → HasTaken a b before → FellInPiece b c e → FellTaking a c e
-fell_later a b c before end.Source one two =
+pub fell_later : (a b c : SourceSide) (before : List ℕ) (e : Stop) → HasTaken a b before → FellInPiece b c e → FellTaking a c e
+fell_later a b c before stop.Source one two =
     record { bytes = before ++ two.bytes; read = Consumes-trans a.left b.left c.left before two.bytes one.read two.read; cause = subst (λ (n : ℕ). Rose n c.faults) one.count two.cause }
-fell_later a b c before end.Memory one two = record { bytes = before ++ two.bytes; read = Consumes-trans a.left b.left c.left before two.bytes one.read two.read; cause = two.cause ∙ one.count }
-fell_later a b c before end.Sink one two = absurd two.cause
-fell_later a b c before end.Keeper one two = absurd two.cause
-fell_later a b c before end.Endless one two = absurd two.cause
+fell_later a b c before stop.Memory one two = record { bytes = before ++ two.bytes; read = Consumes-trans a.left b.left c.left before two.bytes one.read two.read; cause = two.cause ∙ one.count }
+fell_later a b c before stop.Sink one two = absurd two.cause
+fell_later a b c before stop.Keeper one two = absurd two.cause
+fell_later a b c before stop.Endless one two = absurd two.cause
 
 -- ---- handling
 
@@ -86,11 +86,11 @@ front_whole : (a b : Sides) (s : State) (done : List Item) → Did a b (text_of 
 front_whole a b s done did = record { took = took_whole a.sink.taken b.sink.taken b.sink.taken _ _ did.written (Appends-nil b.sink.taken) (low_front s done done (none_more done)); kept = did.kept }
 
 -- memory was wanted between two items
-pub fell_between : (a b : Sides) (p q : Run) (all done left : List Item) → all ≡ done ++ left → HandledAll a b p done q → FellAmong a b p.ledger all end.Memory
+pub fell_between : (a b : Sides) (p q : Run) (all done left : List Item) → all ≡ done ++ left → HandledAll a b p done q → FellAmong a b p.ledger all stop.Memory
 fell_between a b p q all done left parts handled = record { items = done; first = (left, parts); did = front_whole a b p.ledger done handled.did; cause = handled.counts }
 
 -- memory was wanted before any
-pub fell_before : (a : Sides) (s : State) (all : List Item) → FellAmong a a s all end.Memory
+pub fell_before : (a : Sides) (s : State) (all : List Item) → FellAmong a a s all stop.Memory
 fell_before a s all = record { items = []; first = (all, refl); did = front_whole a a s [] (did_none a); cause = counts_refl a }
 
 -- nothing was done of the item that ended the run
@@ -115,24 +115,24 @@ did_part a b c p q done x one part =
           (AddsRows-trans a.keeper.rows b.keeper.rows c.keeper.rows _ _ one.did.kept part.kept);
     }
 
-fell_some : (a b c : Sides) (p q : Run) (all done left : List Item) (x : Item) (e : End) → all ≡ done ++ left → Some x ≡ slice_get left 0 → HandledAll a b p done q
+fell_some : (a b c : Sides) (p q : Run) (all done left : List Item) (x : Item) (e : Stop) → all ≡ done ++ left → Some x ≡ slice_get left 0 → HandledAll a b p done q
     → Did b c [] [] ⊎ DidPart b c (answer_text q.ledger x) (item_rows q.ledger x) → (items : List Item) × AreFirst items all × DidFront a c p.ledger items
 fell_some a b c p q all done left x e parts first one (inl none) = (done, (left, parts), front_whole a c p.ledger done (did_nothing a b c p q done one none))
 fell_some a b c p q all done left x e parts first one (inr part) = (done ++ x ∷ [], (drop 1 left, left_more all done left x parts first), did_part a b c p q done x one part)
 
 -- an item ended the run
-pub fell_item : (a b c : Sides) (p q : Run) (all done left : List Item) (x : Item) (e : End) → all ≡ done ++ left → Some x ≡ slice_get left 0 → HandledAll a b p done q → FellIn b c (answer_text q.ledger x) (item_rows q.ledger x) e
+pub fell_item : (a b c : Sides) (p q : Run) (all done left : List Item) (x : Item) (e : Stop) → all ≡ done ++ left → Some x ≡ slice_get left 0 → HandledAll a b p done q → FellIn b c (answer_text q.ledger x) (item_rows q.ledger x) e
     → FellAmong a c p.ledger all e
-fell_item a b c p q all done left x end.Source parts first one fell = absurd fell.cause
-fell_item a b c p q all done left x end.Sink parts first one fell =
-    let some = fell_some a b c p q all done left x end.Sink parts first one fell.did in
-    record { items = some.0; first = some.1; did = some.2; cause = failed_after a b c end.Sink one.counts fell.cause }
-fell_item a b c p q all done left x end.Keeper parts first one fell =
-    record { items = done; first = (left, parts); did = did_nothing a b c p q done one fell.did; cause = failed_after a b c end.Keeper one.counts fell.cause }
-fell_item a b c p q all done left x end.Memory parts first one fell =
-    let some = fell_some a b c p q all done left x end.Memory parts first one fell.did in
-    record { items = some.0; first = some.1; did = some.2; cause = failed_after a b c end.Memory one.counts fell.cause }
-fell_item a b c p q all done left x end.Endless parts first one fell = absurd fell.cause
+fell_item a b c p q all done left x stop.Source parts first one fell = absurd fell.cause
+fell_item a b c p q all done left x stop.Sink parts first one fell =
+    let some = fell_some a b c p q all done left x stop.Sink parts first one fell.did in
+    record { items = some.0; first = some.1; did = some.2; cause = failed_after a b c stop.Sink one.counts fell.cause }
+fell_item a b c p q all done left x stop.Keeper parts first one fell =
+    record { items = done; first = (left, parts); did = did_nothing a b c p q done one fell.did; cause = failed_after a b c stop.Keeper one.counts fell.cause }
+fell_item a b c p q all done left x stop.Memory parts first one fell =
+    let some = fell_some a b c p q all done left x stop.Memory parts first one fell.did in
+    record { items = some.0; first = some.1; did = some.2; cause = failed_after a b c stop.Memory one.counts fell.cause }
+fell_item a b c p q all done left x stop.Endless parts first one fell = absurd fell.cause
 
 -- ---- the whole run
 
@@ -143,22 +143,22 @@ wrote_none old new s same = subst (λ (x : Sides). Did (sides_of old) x [] []) (
 same_counts : {I K : Type 0} (old new : Outside I K) → sides_of new ≡ sides_of old → SameCounts (sides_of old) (sides_of new)
 same_counts old new same = subst (λ (x : Sides). SameCounts (sides_of old) x) (sym same) (counts_refl (sides_of old))
 
-unread_run : {I K : Type 0} (old new : Outside I K) (s : State) (e : End) → sides_of new ≡ sides_of old → FellTaking (source_of old) (source_of new) e → Runs old new records s (ended_by e)
-unread_run old new s end.Source same fell = let none = wrote_none old new s same in record { bytes = fell.bytes; read = fell.read; stands = (none.written, none.kept) }
-unread_run old new s end.Sink same fell = absurd fell.cause
-unread_run old new s end.Keeper same fell = absurd fell.cause
-unread_run old new s end.Memory same fell =
+unread_run : {I K : Type 0} (old new : Outside I K) (s : State) (e : Stop) → sides_of new ≡ sides_of old → FellTaking (source_of old) (source_of new) e → Runs old new records s (ended_by e)
+unread_run old new s stop.Source same fell = let none = wrote_none old new s same in record { bytes = fell.bytes; read = fell.read; stands = (none.written, none.kept) }
+unread_run old new s stop.Sink same fell = absurd fell.cause
+unread_run old new s stop.Keeper same fell = absurd fell.cause
+unread_run old new s stop.Memory same fell =
     let none = front_whole (sides_of old) (sides_of new) s [] (wrote_none old new s same) in
     record { bytes = fell.bytes; read = fell.read; stands = ([], inl ([], refl), (none.took, none.kept)) }
-unread_run old new s end.Endless same fell = let none = wrote_none old new s same in record { bytes = fell.bytes; read = fell.read; stands = (fell.cause.0, (none.written, none.kept)) }
+unread_run old new s stop.Endless same fell = let none = wrote_none old new s same in record { bytes = fell.bytes; read = fell.read; stands = (fell.cause.0, (none.written, none.kept)) }
 
-unread_cause : {I K : Type 0} (old new : Outside I K) (e : End) → sides_of new ≡ sides_of old → FellTaking (source_of old) (source_of new) e → HasCause old new (ended_by e)
+unread_cause : {I K : Type 0} (old new : Outside I K) (e : Stop) → sides_of new ≡ sides_of old → FellTaking (source_of old) (source_of new) e → HasCause old new (ended_by e)
 unfolding HasCause
-unread_cause old new end.Source same fell = fell.cause
-unread_cause old new end.Sink same fell = absurd fell.cause
-unread_cause old new end.Keeper same fell = absurd fell.cause
-unread_cause old new end.Memory same fell = record { source = fell.cause; sides = same_counts old new same }
-unread_cause old new end.Endless same fell = record { source = fell.cause.1; sides = same_counts old new same }
+unread_cause old new stop.Source same fell = fell.cause
+unread_cause old new stop.Sink same fell = absurd fell.cause
+unread_cause old new stop.Keeper same fell = absurd fell.cause
+unread_cause old new stop.Memory same fell = record { source = fell.cause; sides = same_counts old new same }
+unread_cause old new stop.Endless same fell = record { source = fell.cause.1; sides = same_counts old new same }
 
 -- the end of an import, and its cause
 pub record Imports {I K : Type 0} (old new : Outside I K) (s : State) (e : Ended) : Type 0 where
@@ -166,18 +166,18 @@ pub record Imports {I K : Type 0} (old new : Outside I K) (s : State) (e : Ended
   pub cause : HasCause old new e
 
 -- the input wasn't read to its end
-pub import_unread : {I K : Type 0} (old new : Outside I K) (s : State) (e : End) (x : Ended) → x ≡ ended_by e → sides_of new ≡ sides_of old → FellTaking (source_of old) (source_of new) e → Imports old new s x
+pub import_unread : {I K : Type 0} (old new : Outside I K) (s : State) (e : Stop) (x : Ended) → x ≡ ended_by e → sides_of new ≡ sides_of old → FellTaking (source_of old) (source_of new) e → Imports old new s x
 import_unread old new s e x is same fell = subst (Imports old new s) (sym is) (record { ran = unread_run old new s e same fell; cause = unread_cause old new e same fell })
 
-fell_run : {I K : Type 0} (old new : Outside I K) (s : State) (bytes : List ℕ) (e : End) → TookAllLeft (source_of old) (source_of new) bytes → FellAmong (sides_of old) (sides_of new) s (items_of_bytes bytes) e → Runs old new records s (ended_by e)
-fell_run old new s bytes end.Source took fell = absurd fell.cause
-fell_run old new s bytes end.Sink took fell = record { bytes = bytes; read = took.taken.read; stands = (fell.items, inr (took.ends, fell.first), (fell.did.took, fell.did.kept)) }
-fell_run old new s bytes end.Keeper took fell = record { bytes = bytes; read = took.taken.read; stands = (fell.items, inr (took.ends, fell.first), (fell.did.written, fell.did.kept)) }
-fell_run old new s bytes end.Memory took fell = record { bytes = bytes; read = took.taken.read; stands = (fell.items, inr (took.ends, fell.first), (fell.did.took, fell.did.kept)) }
-fell_run old new s bytes end.Endless took fell = absurd fell.cause
+fell_run : {I K : Type 0} (old new : Outside I K) (s : State) (bytes : List ℕ) (e : Stop) → TookAllLeft (source_of old) (source_of new) bytes → FellAmong (sides_of old) (sides_of new) s (items_of_bytes bytes) e → Runs old new records s (ended_by e)
+fell_run old new s bytes stop.Source took fell = absurd fell.cause
+fell_run old new s bytes stop.Sink took fell = record { bytes = bytes; read = took.taken.read; stands = (fell.items, inr (took.ends, fell.first), (fell.did.took, fell.did.kept)) }
+fell_run old new s bytes stop.Keeper took fell = record { bytes = bytes; read = took.taken.read; stands = (fell.items, inr (took.ends, fell.first), (fell.did.written, fell.did.kept)) }
+fell_run old new s bytes stop.Memory took fell = record { bytes = bytes; read = took.taken.read; stands = (fell.items, inr (took.ends, fell.first), (fell.did.took, fell.did.kept)) }
+fell_run old new s bytes stop.Endless took fell = absurd fell.cause
 
 -- a record ended the run
-pub import_fell : {I K : Type 0} (old new : Outside I K) (s : State) (bytes : List ℕ) (e : End) (x : Ended) → x ≡ ended_by e → TookAllLeft (source_of old) (source_of new) bytes
+pub import_fell : {I K : Type 0} (old new : Outside I K) (s : State) (bytes : List ℕ) (e : Stop) (x : Ended) → x ≡ ended_by e → TookAllLeft (source_of old) (source_of new) bytes
     → FellAmong (sides_of old) (sides_of new) s (items_of_bytes bytes) e → Imports old new s x
 import_fell old new s bytes e x is took fell =
     subst (Imports old new s) (sym is) (record { ran = fell_run old new s bytes e took fell; cause = cause_of old new e took.taken.count fell.cause })

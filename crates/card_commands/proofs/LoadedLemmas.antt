@@ -7,15 +7,16 @@ use Rattle.card_daily.specs.declared.track.Statement.{Statement}
 use Rattle.card_demo.specs.Demonstrations.{Demonstration}
 use Rattle.card_demo.specs.Summary.{demo_text}
 use Rattle.card_desk.specs.Views.{issued, listed, restated, seen, stated}
-use Rattle.card_http.specs.Told.{entries_told, statement_told, text_of_statement, told}
+use Rattle.card_http.specs.Told.{entries_told, repaid, repayment_told, statement_told, text_of_statement, told}
 use Rattle.card_desk.specs.declared.view.Ask.TheVariants as ask
 use Rattle.card_ports.specs.Rows.{KeepsRows}
 use Rattle.card_model.specs.Machine.{State, lists_of}
 use Rattle.card_model.specs.Refusals.{Lists}
 use Rattle.card_model.specs.Work.{present_in}
 use Rattle.card_ports.specs.Counts.{Rose}
+use Rattle.card_text.specs.Repayment.{repayment_text}
 use Rattle.card_commands.specs.Input.{Cut, lines, records}
-use Rattle.card_commands.specs.Outside.{Outside, Outcome, Runs, HasCause, Unfailed, Loads, Views, Ends, sides_of, lists_issued, lists_restated, lists_text, entries_text, issued_text, restated_text, work_text}
+use Rattle.card_commands.specs.Outside.{Outside, Outcome, Runs, HasCause, Unfailed, Loads, Views, Ends, sides_of, lists_issued, lists_repaid, lists_restated, lists_text, entries_text, issued_text, repaid_text, restated_text, work_text}
 use Rattle.card_commands.specs.Views.{GaveLedger, GaveNone, Loaded, NotLoaded, SidesFailed, Tells, Told, Viewed}
 use Rattle.card_ports.specs.Written.{SinkSide}
 use Rattle.card_commands.specs.Written.{KeeperSide, Sides}
@@ -113,6 +114,7 @@ LoadsRows (command.Export name) = Unit {0}
 LoadsRows command.Work = Unit {0}
 LoadsRows (command.Statement name cycle) = Unit {0}
 LoadsRows (command.Restate name cycle) = Unit {0}
+LoadsRows (command.Repay name cycle) = Unit {0}
 LoadsRows (command.Demo d) = ⊥
 LoadsRows (command.Serve port count) = Unit {0}
 
@@ -124,6 +126,7 @@ unloaded_ends old new (command.Export name) e loads same none = ((same, none.row
 unloaded_ends old new command.Work e loads same none = ((same, none.rows), inl ((same, none.rows), none.ends))
 unloaded_ends old new (command.Statement name cycle) e loads same none = ((same, none.rows), inl ((same, none.rows), none.ends))
 unloaded_ends old new (command.Restate name cycle) e loads same none = ((same, none.rows), inl ((same, none.rows), none.ends))
+unloaded_ends old new (command.Repay name cycle) e loads same none = ((same, none.rows), inl ((same, none.rows), none.ends))
 unloaded_ends old new (command.Demo d) e loads same none = absurd loads
 unloaded_ends old new (command.Serve port count) e loads same none = ((same, none.rows), none.ends)
 
@@ -147,6 +150,7 @@ untouched_outcome old (Some (command.Export name)) = unloaded_memory old (comman
 untouched_outcome old (Some command.Work) = unloaded_memory old command.Work tt
 untouched_outcome old (Some (command.Statement name cycle)) = unloaded_memory old (command.Statement name cycle) tt
 untouched_outcome old (Some (command.Restate name cycle)) = unloaded_memory old (command.Restate name cycle) tt
+untouched_outcome old (Some (command.Repay name cycle)) = unloaded_memory old (command.Repay name cycle) tt
 untouched_outcome old (Some (command.Serve port count)) = unloaded_memory old (command.Serve port count) tt
 untouched_outcome old (Some (command.Demo d)) = record {
   ends = (refl, (refl, keeps_same old.rows), record { bytes = []; taken = Appends-nil old.taken; front = front_none _ });
@@ -248,6 +252,27 @@ unfolding Ends
 restate_outcome old new name cycle e same count by =
     let text = restated_text name cycle in
     let viewed = viewed_same (sides_of old) (sides_of new) (λ s. told s (ask.Restated name cycle)) text e (restate_is name cycle) by in
+    record { ends = viewed_loads old new text e same viewed.rows viewed.ends; cause = viewed_cause old new text e count viewed }
+
+-- what the balances of a statement come to
+stated_repaid : (o : Option Statement) → repayment_told (stated o) ≡ option_map (λ s. repayment_text s.sheet) o
+stated_repaid None = refl
+stated_repaid (Some s) = refl
+
+issued_repaid : (cycle : ℕ) (lists : Option Lists) → repayment_told (issued cycle lists) ≡ lists_repaid cycle lists
+issued_repaid cycle None = refl
+issued_repaid cycle (Some lists) = stated_repaid (issued_statement cycle lists.issued)
+
+repaid_is : (name : List ℕ) (cycle : ℕ) (s : State) → repaid s (ask.Issued name cycle) ≡ repaid_text name cycle s
+unfolding seen repaid repaid_text
+repaid_is name cycle s = issued_repaid cycle (lists_of name s.accounts)
+
+pub repay_outcome : {I K : Type 0} (old new : Outside I K) (name : List ℕ) (cycle : ℕ) (e : Ended) → new.input ≡ old.input → new.source_faults ≡ old.source_faults
+    → Viewed (sides_of old) (sides_of new) (λ s. repaid s (ask.Issued name cycle)) e → Outcome old new (Some (command.Repay name cycle)) e
+unfolding Ends
+repay_outcome old new name cycle e same count by =
+    let text = repaid_text name cycle in
+    let viewed = viewed_same (sides_of old) (sides_of new) (λ s. repaid s (ask.Issued name cycle)) text e (repaid_is name cycle) by in
     record { ends = viewed_loads old new text e same viewed.rows viewed.ends; cause = viewed_cause old new text e count viewed }
 
 -- ---- the text of a demonstration

@@ -9,7 +9,7 @@ use Rattle.card_commands.specs.Input.{ended_line}
 use Rattle.card_commands.specs.Answers.{answer_text, item_rows}
 use Rattle.card_commands.specs.Ran.{Handled, Fed, FellAt}
 use Rattle.card_commands.specs.Written.{Sides, FellIn}
-use Rattle.card_commands.specs.declared.end.End.{End}
+use Rattle.card_commands.specs.declared.stop.Stop.{Stop}
 use Rattle.card_text.specs.declared.item.Item.{Item}
 use Rattle.card_commands.proofs.LineLemmas.{feed_other, text_other, rows_other}
 use Rattle.card_commands.proofs.SideLemmas.{did_none, did_same, counts_refl}
@@ -105,7 +105,7 @@ fed_line a b p run x next none fits is done =
     (fed_line_feed a b (with_run p run) x next [] (item_behind p run x is) done refl)
 
 -- the same, where its line ended the run over the bytes
-fell_line : (a b : Sides) (p : Progress) (run : List ℕ) (x : Item) (e : End) → HasNoLineFeed run → Fits a.keeper.rows p.ledger → x ≡ next_item p (ended_line (p.line ++ run)) → FellIn a b (answer_text p.ledger x) (item_rows p.ledger x) e
+fell_line : (a b : Sides) (p : Progress) (run : List ℕ) (x : Item) (e : Stop) → HasNoLineFeed run → Fits a.keeper.rows p.ledger → x ≡ next_item p (ended_line (p.line ++ run)) → FellIn a b (answer_text p.ledger x) (item_rows p.ledger x) e
     → FellAt a b p (run ++ 10 ∷ []) e
 fell_line a b p run x e none fits is fell =
     fell_then a a b p (with_run p run) run (10 ∷ []) e (fed_run a p (with_run p run) run none refl fits)
@@ -119,7 +119,7 @@ fed_line_of a b p q run x next none fits taken is done =
     → Fed a b p (run ++ 10 ∷ []) (record { ledger = next.ledger; number = o.number + 1; refused = next.refused; line = o.line }))
     (sym taken) (λ item handled. fed_line a b p run x next none fits item handled) is done
 
-pub fell_line_of : (a b : Sides) (p q : Progress) (run : List ℕ) (x : Item) (e : End) → HasNoLineFeed run → Fits a.keeper.rows p.ledger → q ≡ record p { line = [] } → x ≡ next_item q (ended_line (p.line ++ run))
+pub fell_line_of : (a b : Sides) (p q : Progress) (run : List ℕ) (x : Item) (e : Stop) → HasNoLineFeed run → Fits a.keeper.rows p.ledger → q ≡ record p { line = [] } → x ≡ next_item q (ended_line (p.line ++ run))
     → FellIn a b (answer_text q.ledger x) (item_rows q.ledger x) e → FellAt a b p (run ++ 10 ∷ []) e
 fell_line_of a b p q run x e none fits taken is fell =
     subst (λ (o : Progress). x ≡ next_item o (ended_line (p.line ++ run)) → FellIn a b (answer_text o.ledger x) (item_rows o.ledger x) e → FellAt a b p (run ++ 10 ∷ []) e)
@@ -154,7 +154,7 @@ fed_on a b c p q r bytes m n one two =
     subst (λ (l : List ℕ). Fed a c p l r) (ap (λ (l : List ℕ). take m bytes ++ take n l) (take_rest bytes m) ∙ sym (take-add m n bytes))
     (fed_then a b c p q r (take m bytes) (take n (rest_of bytes m)) one two)
 
-pub fell_on : (a b c : Sides) (p q : Progress) (bytes : List ℕ) (m : ℕ) (e : End) → Fed a b p (take m bytes) q → FellAt b c q (rest_of bytes m) e → FellAt a c p bytes e
+pub fell_on : (a b c : Sides) (p q : Progress) (bytes : List ℕ) (m : ℕ) (e : Stop) → Fed a b p (take m bytes) q → FellAt b c q (rest_of bytes m) e → FellAt a c p bytes e
 fell_on a b c p q bytes m e fed fell =
     subst (λ (l : List ℕ). FellAt a c p l e) (ap (λ (l : List ℕ). take m bytes ++ l) (take_rest bytes m) ∙ take-append-drop m bytes)
     (fell_then a b c p q (take m bytes) (rest_of bytes m) e fed fell)

@@ -93,5 +93,6 @@ quiet never old new (command.Export name) e outcome is = quiet_view never old ne
 quiet never old new command.Work e outcome is = quiet_view never old new _ e outcome.ends outcome.cause is.0 is.1
 quiet never old new (command.Statement name cycle) e outcome is = quiet_view never old new _ e outcome.ends outcome.cause is.0 is.1
 quiet never old new (command.Restate name cycle) e outcome is = quiet_view never old new _ e outcome.ends outcome.cause is.0 is.1
+quiet never old new (command.Repay name cycle) e outcome is = quiet_view never old new _ e outcome.ends outcome.cause is.0 is.1
 quiet never old new (command.Demo d) e outcome is = quiet_text old new _ e outcome.ends.2 outcome.cause is
 quiet never old new (command.Serve port count) e outcome is = quiet_load never old new e outcome.ends.1 outcome.cause is.0 is.1

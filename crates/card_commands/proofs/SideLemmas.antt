@@ -10,8 +10,8 @@ use Rattle.card_ports.specs.declared.source.SinkFault.{SinkFault}
 use Rattle.card_ports.specs.declared.source.SinkFault.TheVariants as fault
 use Rattle.card_ports.specs.Written.{SinkSide, TookFront, TookAll, TookPart, SinkFailed}
 use Rattle.card_commands.specs.Written.{Sides, TookBetween, Did, DidPart, SameCounts, Failed}
-use Rattle.card_commands.specs.declared.end.End.{End}
-use Rattle.card_commands.specs.declared.end.End.TheVariants as end
+use Rattle.card_commands.specs.declared.stop.Stop.{Stop}
+use Rattle.card_commands.specs.declared.stop.Stop.TheVariants as stop
 use Rattle.card_commands.proofs.RowLemmas.{AddsRows-trans, AddsRows-nil}
 
 -- ---- fronts of texts
@@ -96,9 +96,9 @@ counts_refl a = record { sink = refl; keeper = refl }
 pub counts_then : (a b c : Sides) → SameCounts a b → SameCounts b c → SameCounts a c
 counts_then a b c one two = record { sink = two.sink ∙ one.sink; keeper = two.keeper ∙ one.keeper }
 
-pub failed_after : (a b c : Sides) (e : End) → SameCounts a b → Failed b c e → Failed a c e
-failed_after a b c end.Sink same failed = record { rose = subst (λ (n : ℕ). Rose n c.sink.faults) same.sink failed.rose; keeper = failed.keeper ∙ same.keeper }
-failed_after a b c end.Keeper same failed = record { rose = subst (λ (n : ℕ). Rose n c.keeper.faults) same.keeper failed.rose; sink = failed.sink ∙ same.sink }
-failed_after a b c end.Memory same failed = counts_then a b c same failed
-failed_after a b c end.Source same failed = absurd failed
-failed_after a b c end.Endless same failed = absurd failed
+pub failed_after : (a b c : Sides) (e : Stop) → SameCounts a b → Failed b c e → Failed a c e
+failed_after a b c stop.Sink same failed = record { rose = subst (λ (n : ℕ). Rose n c.sink.faults) same.sink failed.rose; keeper = failed.keeper ∙ same.keeper }
+failed_after a b c stop.Keeper same failed = record { rose = subst (λ (n : ℕ). Rose n c.keeper.faults) same.keeper failed.rose; sink = failed.sink ∙ same.sink }
+failed_after a b c stop.Memory same failed = counts_then a b c same failed
+failed_after a b c stop.Source same failed = absurd failed
+failed_after a b c stop.Endless same failed = absurd failed

@@ -3,7 +3,7 @@ use Rattle.std.proofs.Common.{ℕ, inl, inr, List, [], ◌∷◌, refl, Option, 
 use Rattle.card_model.specs.Machine.{State}
 use Rattle.card_commands.specs.Commands.{status_of, statuses_of, account_statuses, run_statuses, IsOneOf}
 use Rattle.card_commands.specs.Input.{Cut, lines, records}
-use Rattle.card_commands.specs.Outside.{Outside, Runs, NoCommand, Loads, Ends, sides_of, entries_text, issued_text, restated_text, work_text}
+use Rattle.card_commands.specs.Outside.{Outside, Runs, NoCommand, Loads, Ends, sides_of, entries_text, issued_text, repaid_text, restated_text, work_text}
 use Rattle.card_commands.specs.Views.{NotLoaded, Tells}
 use Rattle.card_commands.specs.Written.{Sides}
 use Rattle.card_commands.specs.declared.command.Command.{Command}
@@ -132,5 +132,6 @@ ends_status old new (Some (command.Export name)) e ends = account_view_status ol
 ends_status old new (Some command.Work) e ends = work_status old new e ends.1
 ends_status old new (Some (command.Statement name cycle)) e ends = account_view_status old new (issued_text name cycle) e ends.1
 ends_status old new (Some (command.Restate name cycle)) e ends = account_view_status old new (restated_text name cycle) e ends.1
+ends_status old new (Some (command.Repay name cycle)) e ends = account_view_status old new (repaid_text name cycle) e ends.1
 ends_status old new (Some (command.Demo d)) e ends = demo_status old.taken new.taken e _ ends.2
 ends_status old new (Some (command.Serve port count)) e ends = among_server port count (status_of e) (not_loaded_status (sides_of old) (sides_of new) e ends.1)

@@ -77,6 +77,7 @@ served_status old new (Some (command.Export name)) e by = absurd by
 served_status old new (Some command.Work) e by = absurd by
 served_status old new (Some (command.Statement name cycle)) e by = absurd by
 served_status old new (Some (command.Restate name cycle)) e by = absurd by
+served_status old new (Some (command.Repay name cycle)) e by = absurd by
 served_status old new (Some (command.Demo d)) e by = absurd by
 served_status old new (Some (command.Serve port count)) e by = server_status _ port count by.ran.ledger (parties_of old) (parties_of new) e by.ran.ran.ends
 
@@ -108,6 +109,7 @@ calm_served old new (command.Export name) e by calm = absurd by
 calm_served old new command.Work e by calm = absurd by
 calm_served old new (command.Statement name cycle) e by calm = absurd by
 calm_served old new (command.Restate name cycle) e by calm = absurd by
+calm_served old new (command.Repay name cycle) e by calm = absurd by
 calm_served old new (command.Demo d) e by calm = absurd by
 calm_served old new (command.Serve port count) e by calm = calm_server old new port count by.ran.ledger e by.ran.ran.ends by.ran.ran.cause calm calm.quiet.0
 

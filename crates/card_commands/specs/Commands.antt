@@ -8,8 +8,8 @@ use Rattle.card_ports.specs.declared.source.SinkFault.{SinkFault}
 use Rattle.card_ports.specs.declared.source.SinkFault.TheVariants as fault
 use Rattle.card_commands.specs.declared.command.Command.{Command}
 use Rattle.card_commands.specs.declared.command.Command.TheVariants as command
-use Rattle.card_commands.specs.declared.end.End.{End}
-use Rattle.card_commands.specs.declared.end.End.TheVariants as end
+use Rattle.card_commands.specs.declared.stop.Stop.{Stop}
+use Rattle.card_commands.specs.declared.stop.Stop.TheVariants as stop
 use Rattle.card_commands.specs.declared.ended.Ended.{Ended}
 use Rattle.card_commands.specs.declared.ended.Ended.TheVariants as ended
 
@@ -37,16 +37,19 @@ cycle_among (Some n) = if is_cycle n then Some n else None
 unfoldable pub cycle_of : List ℕ → Option ℕ
 cycle_of word = cycle_among (number_of word)
 
--- the command of a word, the name of the account that it is about, and a cycle of it
-abbrev pub command_of_number : List ℕ → List ℕ → ℕ → Option Command
-command_of_number word account cycle =
-    if bytes_eq word (codes "statement") then option_map (λ name. command.Statement name cycle) (name_of account)
-    else if bytes_eq word (codes "restate") then option_map (λ name. command.Restate name cycle) (name_of account)
+-- the command of a word about a cycle of an account with this name
+abbrev pub command_about : List ℕ → List ℕ → ℕ → Option Command
+command_about word name cycle =
+    if bytes_eq word (codes "statement") then Some (command.Statement name cycle)
+    else if bytes_eq word (codes "restate") then Some (command.Restate name cycle)
+    else if bytes_eq word (codes "repay") then Some (command.Repay name cycle)
     else None
 
-abbrev pub command_of_cycle : List ℕ → List ℕ → Option ℕ → Option Command
-command_of_cycle word account None = None
-command_of_cycle word account (Some cycle) = command_of_number word account cycle
+-- where both are there
+abbrev pub command_of_cycle : List ℕ → Option (List ℕ) → Option ℕ → Option Command
+command_of_cycle word name None = None
+command_of_cycle word None (Some cycle) = None
+command_of_cycle word (Some name) (Some cycle) = command_about word name cycle
 
 -- a number, where it is one of these
 abbrev pub within : ℕ → ℕ → Option ℕ → Option ℕ
@@ -67,7 +70,7 @@ server_of (Some port) (Some count) = Some (command.Serve port count)
 abbrev pub command_of_two : List ℕ → List ℕ → List ℕ → Option Command
 command_of_two word first second =
     if bytes_eq word (codes "serve") then server_of (number_between 1 65535 first) (number_between 1 1000000 second)
-    else command_of_cycle word first (cycle_of second)
+    else command_of_cycle word (name_of first) (cycle_of second)
 
 -- the demonstration of three numbers, where all are there and in range
 abbrev pub demonstration_of : Option ℕ → Option ℕ → Option ℕ → Option Demonstration
@@ -118,6 +121,7 @@ statuses_of (Some command.Import) = run_statuses
 statuses_of (Some (command.Export name)) = account_statuses
 statuses_of (Some (command.Statement name cycle)) = account_statuses
 statuses_of (Some (command.Restate name cycle)) = account_statuses
+statuses_of (Some (command.Repay name cycle)) = account_statuses
 statuses_of (Some command.Work) = 0 ∷ 4 ∷ 5 ∷ 6 ∷ 8 ∷ []
 statuses_of (Some (command.Serve port count)) = 0 ∷ 4 ∷ 5 ∷ 6 ∷ 7 ∷ 8 ∷ []
 statuses_of (Some (command.Demo d)) = 0 ∷ 4 ∷ 6 ∷ []
@@ -128,12 +132,12 @@ IsOneOf n [] = ⊥
 IsOneOf n (m ∷ ms) = (n ≡ m) ⊎ IsOneOf n ms
 
 -- the end of a run that was ended early
-abbrev pub ended_by : End → Ended
-ended_by end.Source = ended.Source
-ended_by end.Sink = ended.Sink
-ended_by end.Keeper = ended.Keeper
-ended_by end.Memory = ended.Memory
-ended_by end.Endless = ended.Endless
+abbrev pub ended_by : Stop → Ended
+ended_by stop.Source = ended.Source
+ended_by stop.Sink = ended.Sink
+ended_by stop.Keeper = ended.Keeper
+ended_by stop.Memory = ended.Memory
+ended_by stop.Endless = ended.Endless
 
 -- the end of a call that a sink's fault ended
 abbrev pub ended_by_sink : SinkFault → Ended
@@ -141,7 +145,7 @@ ended_by_sink fault.Failed = ended.Sink
 ended_by_sink fault.Memory = ended.Memory
 
 -- the end of a run, where Ok says whether a line was refused
-abbrev pub ended_of : Result Bool End → Ended
+abbrev pub ended_of : Result Bool Stop → Ended
 ended_of (Ok false) = ended.Done
 ended_of (Ok true) = ended.Refused
 ended_of (Err e) = ended_by e

@@ -11,8 +11,8 @@ use Rattle.card_commands.specs.Input.{records}
 use Rattle.card_commands.specs.Outside.{Outside, AreFirst, but_last}
 use Rattle.card_commands.specs.Run.{after, text_of, rows_kept, any_refused}
 use Rattle.card_commands.specs.Written.{Sides, TookBetween, Did, SameCounts, Failed}
-use Rattle.card_commands.specs.declared.end.End.{End}
-use Rattle.card_commands.specs.declared.end.End.TheVariants as end
+use Rattle.card_commands.specs.declared.stop.Stop.{Stop}
+use Rattle.card_commands.specs.declared.stop.Stop.TheVariants as stop
 
 -- ---- reading
 
@@ -48,24 +48,24 @@ pub record TookAllLeft (old new : SourceSide) (bytes : List ℕ) : Type 0 where
   pub ends : IsAtEnd new.left
 
 -- why a piece is the last
-abbrev pub PieceEnded : SourceSide → SourceSide → End → Type 0
-PieceEnded old new end.Source = Rose old.faults new.faults
-PieceEnded old new end.Memory = new.faults ≡ old.faults
+abbrev pub PieceEnded : SourceSide → SourceSide → Stop → Type 0
+PieceEnded old new stop.Source = Rose old.faults new.faults
+PieceEnded old new stop.Memory = new.faults ≡ old.faults
 PieceEnded old new _ = ⊥
 
 -- bytes of a piece were read, or none
-pub record FellInPiece (old new : SourceSide) (e : End) : Type 0 where
+pub record FellInPiece (old new : SourceSide) (e : Stop) : Type 0 where
   pub bytes : List ℕ
   pub read : Consumes old.left new.left bytes
   pub cause : PieceEnded old new e
 
 -- why these bytes are not all
-abbrev pub SourceEnded : SourceSide → SourceSide → List ℕ → End → Type 0
-SourceEnded old new bytes end.Endless = (length bytes ≡ records.limit) × (new.faults ≡ old.faults)
+abbrev pub SourceEnded : SourceSide → SourceSide → List ℕ → Stop → Type 0
+SourceEnded old new bytes stop.Endless = (length bytes ≡ records.limit) × (new.faults ≡ old.faults)
 SourceEnded old new bytes e = PieceEnded old new e
 
 -- bytes were read, and no end came
-pub record FellTaking (old new : SourceSide) (e : End) : Type 0 where
+pub record FellTaking (old new : SourceSide) (e : Stop) : Type 0 where
   pub bytes : List ℕ
   pub read : Consumes old.left new.left bytes
   pub cause : SourceEnded old new bytes e
@@ -86,14 +86,14 @@ pub record DidFront (old new : Sides) (s : State) (items : List Item) : Type 0 w
   pub kept : AddsRows old.keeper.rows new.keeper.rows (rows_kept s items)
 
 -- what was done of the items of a run that was ended
-abbrev pub DidFirst : Sides → Sides → State → List Item → End → Type 0
-DidFirst old new s items end.Keeper = Did old new (text_of s items) (rows_kept s items)
-DidFirst old new s items end.Sink = DidFront old new s items
-DidFirst old new s items end.Memory = DidFront old new s items
+abbrev pub DidFirst : Sides → Sides → State → List Item → Stop → Type 0
+DidFirst old new s items stop.Keeper = Did old new (text_of s items) (rows_kept s items)
+DidFirst old new s items stop.Sink = DidFront old new s items
+DidFirst old new s items stop.Memory = DidFront old new s items
 DidFirst old new s items _ = ⊥
 
 -- the first of all items were handled, and then the run ended
-pub record FellAmong (old new : Sides) (s : State) (all : List Item) (e : End) : Type 0 where
+pub record FellAmong (old new : Sides) (s : State) (all : List Item) (e : Stop) : Type 0 where
   pub items : List Item
   pub first : AreFirst items all
   pub did : DidFirst old new s items e

@@ -8,6 +8,7 @@ use Rattle.card_model.specs.Refusals.{Lists, book_today}
 use Rattle.card_model.specs.Work.{present_in, work}
 use Rattle.card_rates.specs.Segments.{account_segments}
 use Rattle.card_text.specs.Export.{export_text}
+use Rattle.card_text.specs.Repayment.{repayment_text}
 use Rattle.card_text.specs.Tasks.{tasks_text}
 use Rattle.card_ports.specs.Rows.{AddsRows, KeepsRows}
 use Rattle.card_ports.specs.declared.row.Row.{Row}
@@ -88,6 +89,15 @@ lists_restated name cycle s (Some lists) = option_map (text_of_statement name) (
 unfoldable pub restated_text : List ℕ → ℕ → State → Option (List ℕ)
 restated_text name cycle s = lists_restated name cycle s (lists_of name s.accounts)
 
+-- what the balances of the issued statement of a cycle come to where they are repaid, of an account that has these lists
+abbrev pub lists_repaid : ℕ → Option Lists → Option (List ℕ)
+lists_repaid cycle None = None
+lists_repaid cycle (Some lists) = option_map (λ s. repayment_text s.sheet) (issued_statement cycle lists.issued)
+
+-- the same of the account with this name
+unfoldable pub repaid_text : List ℕ → ℕ → State → Option (List ℕ)
+repaid_text name cycle s = lists_repaid cycle (lists_of name s.accounts)
+
 -- the text of the open tasks of all accounts
 unfoldable pub work_text : State → Option (List ℕ)
 work_text s = Some (tasks_text (work s))
@@ -154,6 +164,7 @@ module _ {I K : Type 0} (old new : Outside I K) where
   Ends (Some command.Work) e = Views work_text e
   Ends (Some (command.Statement name cycle)) e = Views (issued_text name cycle) e
   Ends (Some (command.Restate name cycle)) e = Views (restated_text name cycle) e
+  Ends (Some (command.Repay name cycle)) e = Views (repaid_text name cycle) e
   Ends (Some (command.Demo d)) e = (new.keeper ≡ old.keeper) × Untouched × Tells old.taken new.taken e (Some (demo_text d.start d.accounts d.cycles))
   Ends (Some (command.Serve port count)) e = Untouched × NotLoaded (sides_of old) (sides_of new) e
 

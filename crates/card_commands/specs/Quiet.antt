@@ -36,5 +36,6 @@ IsQuiet old new (command.Export name) = NothingFailed old new × HasSoundRows ol
 IsQuiet old new command.Work = NothingFailed old new × HasSoundRows old
 IsQuiet old new (command.Statement name cycle) = NothingFailed old new × HasSoundRows old
 IsQuiet old new (command.Restate name cycle) = NothingFailed old new × HasSoundRows old
+IsQuiet old new (command.Repay name cycle) = NothingFailed old new × HasSoundRows old
 IsQuiet old new (command.Demo d) = NothingFailed old new
 IsQuiet old new (command.Serve port count) = NothingFailed old new × HasSoundRows old

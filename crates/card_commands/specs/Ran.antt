@@ -7,8 +7,8 @@ use Rattle.card_commands.specs.Commands.{ended_by}
 use Rattle.card_commands.specs.Feed.{Run, Progress, after_item, feed_all, text_all, rows_all, end_text, end_rows, end_refused}
 use Rattle.card_commands.specs.Outside.{Outside, HasCause, sides_of}
 use Rattle.card_commands.specs.Written.{Sides, TookBetween, Did, SameCounts, Failed, FellIn}
-use Rattle.card_commands.specs.declared.end.End.{End}
-use Rattle.card_commands.specs.declared.end.End.TheVariants as end
+use Rattle.card_commands.specs.declared.stop.Stop.{Stop}
+use Rattle.card_commands.specs.declared.stop.Stop.TheVariants as stop
 use Rattle.card_text.specs.declared.item.Item.{Item}
 use Rattle.card_ports.specs.Rows.{AddsRows}
 
@@ -20,7 +20,7 @@ pub record Handled (old new : Sides) (r : Run) (x : Item) (next : Run) : Type 0 
   pub fits : Fits new.keeper.rows next.ledger
 
 -- an item ended the run
-abbrev pub FellOn : Sides → Sides → Run → Item → End → Type 0
+abbrev pub FellOn : Sides → Sides → Run → Item → Stop → Type 0
 FellOn old new r x e = FellIn old new (answer_text r.ledger x) (item_rows r.ledger x) e
 
 -- bytes were handled: what is written for them was, and their rows were kept
@@ -51,15 +51,15 @@ pub record StoppedAt (old new : Sides) (p : Progress) (bytes : List ℕ) : Type 
   pub kept : AddsRows old.keeper.rows new.keeper.rows (rows_all p (take count bytes))
 
 -- what was done of bytes that were read when the run ended
-abbrev pub DidAt : Sides → Sides → Progress → List ℕ → End → Type 0
-DidAt old new p bytes end.Source = Did old new (text_all p bytes) (rows_all p bytes)
-DidAt old new p bytes end.Keeper = HeldAt old new p bytes
-DidAt old new p bytes end.Sink = StoppedAt old new p bytes
-DidAt old new p bytes end.Memory = StoppedAt old new p bytes
-DidAt old new p bytes end.Endless = ⊥
+abbrev pub DidAt : Sides → Sides → Progress → List ℕ → Stop → Type 0
+DidAt old new p bytes stop.Source = Did old new (text_all p bytes) (rows_all p bytes)
+DidAt old new p bytes stop.Keeper = HeldAt old new p bytes
+DidAt old new p bytes stop.Sink = StoppedAt old new p bytes
+DidAt old new p bytes stop.Memory = StoppedAt old new p bytes
+DidAt old new p bytes stop.Endless = ⊥
 
 -- one of these bytes ended the run
-pub record FellAt (old new : Sides) (p : Progress) (bytes : List ℕ) (e : End) : Type 0 where
+pub record FellAt (old new : Sides) (p : Progress) (bytes : List ℕ) (e : Stop) : Type 0 where
   pub did : DidAt old new p bytes e
   pub cause : Failed old new e
 
@@ -74,7 +74,7 @@ pub record Ran {I K : Type 0} (old new : Outside I K) (p q : Progress) (count : 
   pub fed : Fed (sides_of old) (sides_of new) p bytes q
 
 -- bytes were read, and then the run ended
-pub record FellReading {I K : Type 0} (old new : Outside I K) (p : Progress) (e : End) : Type 0 where
+pub record FellReading {I K : Type 0} (old new : Outside I K) (p : Progress) (e : Stop) : Type 0 where
   pub bytes : List ℕ
   pub read : Consumes old.left new.left bytes
   pub did : DidAt (sides_of old) (sides_of new) p bytes e

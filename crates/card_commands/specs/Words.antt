@@ -8,11 +8,7 @@ use Rattle.card_ports.specs.Counts.{Rose}
 use Rattle.card_ports.specs.Written.{TookFront}
 
 unfoldable pub usage_line : List ℕ
-usage_line = codes "usage: apply | import | statement ACCOUNT CYCLE | restate ACCOUNT CYCLE | export ACCOUNT | work | demo START ACCOUNTS CYCLES | serve PORT COUNT" ++ 10 ∷ []
-
--- what is said where what is asked for isn't there
-unfoldable pub none_line : List ℕ
-none_line = codes "none" ++ 10 ∷ []
+usage_line = codes "usage: apply | import | statement ACCOUNT CYCLE | restate ACCOUNT CYCLE | export ACCOUNT | work | demo START ACCOUNTS CYCLES | serve PORT COUNT | repay ACCOUNT CYCLE" ++ 10 ∷ []
 
 -- what is said where row n is the first that is damaged
 unfoldable pub damaged_line : ℕ → List ℕ

@@ -6,8 +6,8 @@ use Rattle.card_ports.specs.declared.row.Row.{Row}
 use Rattle.card_ports.specs.Bytes.{IsFront}
 use Rattle.card_ports.specs.Counts.{Rose}
 use Rattle.card_ports.specs.Written.{SinkSide, TookFront, sink_side}
-use Rattle.card_commands.specs.declared.end.End.{End}
-use Rattle.card_commands.specs.declared.end.End.TheVariants as end
+use Rattle.card_commands.specs.declared.stop.Stop.{Stop}
+use Rattle.card_commands.specs.declared.stop.Stop.TheVariants as stop
 
 -- a keeper: its rows, and how often it failed
 pub record KeeperSide : Type 0 where
@@ -59,19 +59,19 @@ pub record KeeperRose (old new : Sides) : Type 0 where
   pub rose : Rose old.keeper.faults new.keeper.faults
   pub sink : new.sink.faults ≡ old.sink.faults
 
-abbrev pub Failed : Sides → Sides → End → Type 0
-Failed old new end.Sink = SinkRose old new
-Failed old new end.Keeper = KeeperRose old new
-Failed old new end.Memory = SameCounts old new
-Failed old new end.Source = ⊥
-Failed old new end.Endless = ⊥
+abbrev pub Failed : Sides → Sides → Stop → Type 0
+Failed old new stop.Sink = SinkRose old new
+Failed old new stop.Keeper = KeeperRose old new
+Failed old new stop.Memory = SameCounts old new
+Failed old new stop.Source = ⊥
+Failed old new stop.Endless = ⊥
 
 -- what was done of an item that ended the run: nothing, or all but that of its text a front was written
-abbrev pub DidSome : Sides → Sides → List ℕ → List Row → End → Type 0
-DidSome old new text rows end.Keeper = Did old new [] []
+abbrev pub DidSome : Sides → Sides → List ℕ → List Row → Stop → Type 0
+DidSome old new text rows stop.Keeper = Did old new [] []
 DidSome old new text rows e = Did old new [] [] ⊎ DidPart old new text rows
 
 -- an item with this text and these rows ended the run
-pub record FellIn (old new : Sides) (text : List ℕ) (rows : List Row) (e : End) : Type 0 where
+pub record FellIn (old new : Sides) (text : List ℕ) (rows : List Row) (e : Stop) : Type 0 where
   pub did : DidSome old new text rows e
   pub cause : Failed old new e

@@ -18,20 +18,20 @@ use crate::load::load;
 use crate::progress::Progress;
 use crate::run::run;
 use crate::serve::serve;
-use crate::tell::tell;
+use crate::tell::{tell, tell_repayment};
 use card_desk::Ask;
 use card_events::NoMemory;
 use card_ports::{Door, Keeper, Sink, SinkFault, Source, write_all};
 use std::alloc::Global;
 
 const USAGE: &str =
-    "usage: apply | import | statement ACCOUNT CYCLE | restate ACCOUNT CYCLE | export ACCOUNT | work | demo START ACCOUNTS CYCLES | serve PORT COUNT\n";
+    "usage: apply | import | statement ACCOUNT CYCLE | restate ACCOUNT CYCLE | export ACCOUNT | work | demo START ACCOUNTS CYCLES | serve PORT COUNT | repay ACCOUNT CYCLE\n";
 
 /// Does what the words say, and answers the exit status. Each command but `demo` begins with the ledger that the kept rows
 /// give. `apply` reads request lines from the input and writes one reply for each to the output, `import` does so with records
 /// of CSV; each newly accepted request is kept as one row. `statement` and `restate` write the statement of an account's cycle
-/// as it was issued, and as the book of today has it; `export` and `work` write the entries of an account, and the open tasks
-/// of all. `demo` writes what generated requests come to over a ledger of their own, and leaves source and keeper alone.
+/// as it was issued, and as the book of today has it, and `repay` what the balances of the issued one come to where they are
+/// repaid; `export` and `work` write the entries of an account, and the open tasks of all. `demo` writes what generated requests come to over a ledger of their own, and leaves source and keeper alone.
 /// `serve` listens on a port, answers one request of HTTP on each of so many connections, and writes a line for each when it is
 /// closed: the status of its answer, `cut` where the request ended inside or the connection failed, or `memory`.
 ///
@@ -102,6 +102,9 @@ fn carry_out<I: Source, O: Sink, K: Keeper, D: Door>(
         Command::Work => tell(alloc, &Ask::Work, output, keeper),
         Command::Statement(name, cycle) => tell(alloc, &Ask::Issued(name, cycle), output, keeper),
         Command::Restate(name, cycle) => tell(alloc, &Ask::Restated(name, cycle), output, keeper),
+        Command::Repay(name, cycle) => {
+            tell_repayment(alloc, &Ask::Issued(name, cycle), output, keeper)
+        }
         Command::Demo(size) => demo(alloc, &size, output),
         Command::Serve { port, count } => { serve_ledger(alloc, port, count, output, keeper, door) }
     }

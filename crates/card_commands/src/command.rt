@@ -25,6 +25,8 @@ pub enum Command {
     Statement(Name, Num),
     /// Writes it as the book of today has it.
     Restate(Name, Num),
+    /// Writes what its balances come to where they are repaid, as it was issued.
+    Repay(Name, Num),
     /// Writes what generated requests come to over a ledger of their own.
     Demo(Demonstration),
     /// Answers requests over HTTP: the port to listen on, and how many connections are attended to.
@@ -85,58 +87,37 @@ fn cycle_of(word: &str) -> Option<Num>
     }
 }
 
-// The statement of a cycle of an account with this name, where it is a name.
-#[tactic(auto, unfolding(card_lines::specs::Forms::name_of))]
-fn statement_of(alloc: Global, account: &str, cycle: Num) -> Result<Option<Command>, NoMemory>
-    ensures { IfOk result (λ command. command ≡ option_map (λ name. Command.Statement name cycle) (name_of account.now)) }
-{
-    match Name::read(alloc, account.as_bytes()) {
-        Ok(Some(name)) => Ok(Some(Command::Statement(name, cycle))),
-        Ok(None) => Ok(None),
-        Err(NoMemory) => Err(NoMemory),
-    }
-}
-
-// The same as the book of today has it.
-#[tactic(auto, unfolding(card_lines::specs::Forms::name_of))]
-fn restate_of(alloc: Global, account: &str, cycle: Num) -> Result<Option<Command>, NoMemory>
-    ensures { IfOk result (λ command. command ≡ option_map (λ name. Command.Restate name cycle) (name_of account.now)) }
-{
-    match Name::read(alloc, account.as_bytes()) {
-        Ok(Some(name)) => Ok(Some(Command::Restate(name, cycle))),
-        Ok(None) => Ok(None),
-        Err(NoMemory) => Err(NoMemory),
-    }
-}
-
-fn command_of_number(
-    alloc: Global,
-    word: &str,
-    account: &str,
-    cycle: Num,
-) -> Result<Option<Command>, NoMemory>
-    ensures { IfOk result (λ command. command ≡ spec.command_of_number word.now account.now cycle) }
+// The command of a word about a cycle of an account.
+fn command_about(word: &str, name: Name, cycle: Num) -> Option<Command>
+    ensures { result ≡ spec.command_about word.now name cycle }
 {
     if word == "statement" {
-        statement_of(alloc, account, cycle)
+        Some(Command::Statement(name, cycle))
     } else if word == "restate" {
-        restate_of(alloc, account, cycle)
+        Some(Command::Restate(name, cycle))
+    } else if word == "repay" {
+        Some(Command::Repay(name, cycle))
     } else {
-        Ok(None)
+        None
     }
 }
 
+#[tactic(auto, unfolding(card_lines::specs::Forms::name_of))]
 fn command_of_cycle(
     alloc: Global,
     word: &str,
     account: &str,
     cycle: &str,
 ) -> Result<Option<Command>, NoMemory>
-    ensures { IfOk result (λ command. command ≡ spec.command_of_cycle word.now account.now (spec.cycle_of cycle.now)) }
+    ensures { IfOk result (λ command. command ≡ spec.command_of_cycle word.now (name_of account.now) (spec.cycle_of cycle.now)) }
 {
-    match cycle_of(cycle) {
-        Some(cycle) => command_of_number(alloc, word, account, cycle),
-        None => Ok(None),
+    let Some(cycle) = cycle_of(cycle) else {
+        return Ok(None);
+    };
+    match Name::read(alloc, account.as_bytes()) {
+        Ok(Some(name)) => Ok(command_about(word, name, cycle)),
+        Ok(None) => Ok(None),
+        Err(NoMemory) => Err(NoMemory),
     }
 }
 

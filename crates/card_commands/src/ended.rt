@@ -2,7 +2,7 @@
 ghost use Rattle.std.specs.Prelude.{◌≡◌};
 ghost use Rattle.card_commands.specs.Commands as spec;
 
-use crate::end::End;
+use crate::stop::Stop;
 use card_ports::SinkFault;
 
 /// How a call ends.
@@ -49,15 +49,15 @@ pub fn status_of(ended: Ended) -> u8
 }
 
 /// The end of a run that was ended early.
-pub fn ended_by(end: End) -> Ended
-    ensures { result ≡ spec.ended_by end }
+pub fn ended_by(stop: Stop) -> Ended
+    ensures { result ≡ spec.ended_by stop }
 {
-    match end {
-        End::Source => Ended::Source,
-        End::Sink => Ended::Sink,
-        End::Keeper => Ended::Keeper,
-        End::Memory => Ended::Memory,
-        End::Endless => Ended::Endless,
+    match stop {
+        Stop::Source => Ended::Source,
+        Stop::Sink => Ended::Sink,
+        Stop::Keeper => Ended::Keeper,
+        Stop::Memory => Ended::Memory,
+        Stop::Endless => Ended::Endless,
     }
 }
 
@@ -72,12 +72,12 @@ pub fn ended_by_sink(fault: SinkFault) -> Ended
 }
 
 /// The end of a run, where Ok says whether a line was refused.
-pub fn ended_of(run: Result<bool, End>) -> Ended
+pub fn ended_of(run: Result<bool, Stop>) -> Ended
     ensures { result ≡ spec.ended_of run }
 {
     match run {
         Ok(false) => Ended::Done,
         Ok(true) => Ended::Refused,
-        Err(end) => ended_by(end),
+        Err(stop) => ended_by(stop),
     }
 }

@@ -2,7 +2,7 @@
 ghost use Rattle.std.specs.Prelude.{◌≡◌, ◌||◌};
 
 use crate::answer::{answer, carry_out};
-use crate::end::End;
+use crate::stop::Stop;
 use card_desk::{Desk, Fault};
 use card_events::NoMemory;
 use card_ports::{Keeper, Sink, SinkFault, write_all};
@@ -75,7 +75,7 @@ impl Run {
         item: &Item,
         output: &mut O,
         keeper: &mut K,
-    ) -> Result<(), End>
+    ) -> Result<(), Stop>
         requires dated { IsDatedItem item.now }
         requires fits { Fits (K.rows keeper.old) self.old.ledger }
         ensures ok { let at = sides O.taken O.faults K.rows K.faults in
@@ -85,17 +85,17 @@ impl Run {
     {
         let reply = match carry_out(alloc, &mut self.desk, keeper, item) {
             Ok(reply) => reply,
-            Err(Fault::Keeper) => return Err(End::Keeper),
-            Err(Fault::Memory) => return Err(End::Memory),
+            Err(Fault::Keeper) => return Err(Stop::Keeper),
+            Err(Fault::Memory) => return Err(Stop::Memory),
         };
         let (text, refused) = match answer(alloc, &mut self.desk, item, &reply) {
             Ok(answer) => answer,
-            Err(NoMemory) => return Err(End::Memory),
+            Err(NoMemory) => return Err(Stop::Memory),
         };
         match self.tell(&text, refused, output) {
             Ok(()) => Ok(()),
-            Err(SinkFault::Failed) => Err(End::Sink),
-            Err(SinkFault::Memory) => Err(End::Memory),
+            Err(SinkFault::Failed) => Err(Stop::Sink),
+            Err(SinkFault::Memory) => Err(Stop::Memory),
         }
     }
 }

@@ -7,20 +7,19 @@ ghost use Rattle.card_commands.specs.Input.{records};
 ghost use Rattle.card_commands.specs.Outside.{outside, Runs, HasCause};
 ghost use Rattle.card_commands.specs.Written.{sides};
 
-use crate::end::End;
 use crate::ended::{Ended, ended_by, ended_of};
 use crate::handle::Run;
+use crate::run::PIECE;
+use crate::stop::Stop;
 use card_events::NoMemory;
 use card_ports::{Failed, Keeper, Sink, Source};
 use card_text::Records;
 use std::alloc::Global;
 
-const PIECE: usize = 4096;
-
 const LIMIT: usize = 1 << 30;
 
 // Reads a piece, and puts it behind the bytes. 0 is the end.
-fn read_more<I: Source>(bytes: &mut Vec<u8>, room: usize, input: &mut I) -> Result<usize, End>
+fn read_more<I: Source>(bytes: &mut Vec<u8>, room: usize, input: &mut I) -> Result<usize, Stop>
     requires some { 0 < room }
     requires room { room ≤ 4096 }
     ensures within { IfOk result (λ n. n ≤ room) }
@@ -31,16 +30,16 @@ fn read_more<I: Source>(bytes: &mut Vec<u8>, room: usize, input: &mut I) -> Resu
     let piece = &mut chunk[..room];
     let n = match input.read(piece) {
         Ok(n) => n,
-        Err(Failed) => return Err(End::Source),
+        Err(Failed) => return Err(Stop::Source),
     };
     match bytes.extend_from_slice(&piece[..n]) {
         Ok(()) => Ok(n),
-        Err(_) => Err(End::Memory),
+        Err(_) => Err(Stop::Memory),
     }
 }
 
 // Reads the input to its end.
-fn read_all<I: Source>(alloc: Global, input: &mut I) -> Result<Vec<u8>, End>
+fn read_all<I: Source>(alloc: Global, input: &mut I) -> Result<Vec<u8>, Stop>
     ensures ok { let at = source_side I.left I.faults in IfOk result (λ bytes. TookAllLeft (at input.old) (at input.new) bytes.items) }
     ensures err { let at = source_side I.left I.faults in IfErr result (FellTaking (at input.old) (at input.new)) }
 {
@@ -49,13 +48,13 @@ fn read_all<I: Source>(alloc: Global, input: &mut I) -> Result<Vec<u8>, End>
         let room = (LIMIT - bytes.len()).min(PIECE);
         let n = match read_more(&mut bytes, room, input) {
             Ok(n) => n,
-            Err(end) => return Err(end),
+            Err(stop) => return Err(stop),
         };
         if n == 0 {
             return Ok(bytes);
         }
     }
-    Err(End::Endless)
+    Err(Stop::Endless)
 }
 
 // Handles the item of each record, in order.
@@ -65,7 +64,7 @@ fn handle_records<O: Sink, K: Keeper>(
     bytes: &[u8],
     output: &mut O,
     keeper: &mut K,
-) -> Result<(), End>
+) -> Result<(), Stop>
     requires fits { Fits (K.rows keeper.old) run.old.ledger }
     ensures ok { let at = sides O.taken O.faults K.rows K.faults in
         OnOk result (HandledAll (at output.old keeper.old) (at output.new keeper.new) run.old (items_of_bytes bytes.now) run.new) }
@@ -74,17 +73,17 @@ fn handle_records<O: Sink, K: Keeper>(
 {
     let mut records = match Records::of(alloc, bytes) {
         Ok(records) => records,
-        Err(NoMemory) => return Err(End::Memory),
+        Err(NoMemory) => return Err(Stop::Memory),
     };
     loop {
         let item = match records.next_item(alloc) {
             Ok(Some(item)) => item,
             Ok(None) => return Ok(()),
-            Err(NoMemory) => return Err(End::Memory),
+            Err(NoMemory) => return Err(Stop::Memory),
         };
         match run.handle(alloc, &item, output, keeper) {
             Ok(()) => {}
-            Err(end) => return Err(end),
+            Err(stop) => return Err(stop),
         }
     }
 }
@@ -107,10 +106,10 @@ pub fn import<I: Source, O: Sink, K: Keeper>(
 {
     let bytes = match read_all(alloc, input) {
         Ok(bytes) => bytes,
-        Err(end) => return ended_by(end),
+        Err(stop) => return ended_by(stop),
     };
     match handle_records(run, alloc, &bytes, output, keeper) {
         Ok(()) => ended_of(Ok(run.is_refused())),
-        Err(end) => ended_by(end),
+        Err(stop) => ended_by(stop),
     }
 }

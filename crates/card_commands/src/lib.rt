@@ -6,7 +6,6 @@ mod answer;
 mod call;
 mod command;
 mod demo;
-mod end;
 mod ended;
 mod handle;
 mod import;
@@ -16,6 +15,7 @@ mod load;
 mod progress;
 mod run;
 mod serve;
+mod stop;
 mod tell;
 
 pub use call::billctl;

@@ -4,9 +4,9 @@ ghost use Rattle.std.specs.Str.Lines.{strip_carriage_return};
 ghost use Rattle.card_lines.specs.Lines.{IsDatedLine};
 ghost use Rattle.card_commands.specs.Input.{ended_line};
 
-use crate::end::End;
 use crate::handle::Run;
 use crate::item::item_of;
+use crate::stop::Stop;
 use card_desk::Desk;
 use card_events::NoMemory;
 use card_lines::{Line, read_line};
@@ -116,7 +116,7 @@ impl Progress {
         run: &[u8],
         output: &mut O,
         keeper: &mut K,
-    ) -> Result<(), End>
+    ) -> Result<(), Stop>
         requires run { HasNoLineFeed run.now }
         requires number { self.old.number < 2 ^ 63 }
         requires fits { Fits (K.rows keeper.old) self.old.ledger }
@@ -127,7 +127,7 @@ impl Progress {
     {
         let line = match self.take_line(alloc, run) {
             Ok(line) => line,
-            Err(NoMemory) => return Err(End::Memory),
+            Err(NoMemory) => return Err(Stop::Memory),
         };
         let item = item_of(self.number + 1, line);
         match self.run.handle(alloc, &item, output, keeper) {
@@ -135,7 +135,7 @@ impl Progress {
                 self.number += 1;
                 Ok(())
             }
-            Err(end) => Err(end),
+            Err(stop) => Err(stop),
         }
     }
 
@@ -146,7 +146,7 @@ impl Progress {
         bytes: &[u8],
         output: &mut O,
         keeper: &mut K,
-    ) -> Result<usize, End>
+    ) -> Result<usize, Stop>
         requires some { 0 < length bytes.now }
         requires number { self.old.number < 2 ^ 63 }
         requires fits { Fits (K.rows keeper.old) self.old.ledger }
@@ -160,11 +160,11 @@ impl Progress {
         match memchr(b'\n', bytes) {
             Some(n) => match self.end_line(alloc, &bytes[..n], output, keeper) {
                 Ok(()) => Ok(n + 1),
-                Err(end) => Err(end),
+                Err(stop) => Err(stop),
             },
             None => match self.keep(bytes) {
                 Ok(()) => Ok(bytes.len()),
-                Err(NoMemory) => Err(End::Memory),
+                Err(NoMemory) => Err(Stop::Memory),
             },
         }
     }
@@ -177,7 +177,7 @@ impl Progress {
         bytes: &[u8],
         output: &mut O,
         keeper: &mut K,
-    ) -> Result<(), End>
+    ) -> Result<(), Stop>
         requires number { self.old.number + length bytes.now < 2 ^ 63 }
         requires fits { Fits (K.rows keeper.old) self.old.ledger }
         ensures ok { let at = sides O.taken O.faults K.rows K.faults in
@@ -189,7 +189,7 @@ impl Progress {
         while fed < bytes.len() {
             match self.feed_line(alloc, &bytes[fed..], output, keeper) {
                 Ok(n) => fed += n,
-                Err(end) => return Err(end),
+                Err(stop) => return Err(stop),
             }
         }
         Ok(())
@@ -202,7 +202,7 @@ impl Progress {
         alloc: Global,
         output: &mut O,
         keeper: &mut K,
-    ) -> Result<bool, End>
+    ) -> Result<bool, Stop>
         requires number { self.old.number < 2 ^ 63 }
         requires fits { Fits (K.rows keeper.old) self.old.ledger }
         ensures ok { let at = sides O.taken O.faults K.rows K.faults in
@@ -215,12 +215,12 @@ impl Progress {
         }
         let line = match read_line(alloc, &self.line) {
             Ok(line) => line,
-            Err(NoMemory) => return Err(End::Memory),
+            Err(NoMemory) => return Err(Stop::Memory),
         };
         let item = item_of(self.number + 1, line);
         match self.run.handle(alloc, &item, output, keeper) {
             Ok(()) => Ok(self.run.is_refused()),
-            Err(end) => Err(end),
+            Err(stop) => Err(stop),
         }
     }
 }

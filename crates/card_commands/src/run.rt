@@ -7,13 +7,14 @@ ghost use Rattle.card_commands.specs.Input.{lines};
 ghost use Rattle.card_commands.specs.Outside.{outside, Runs, HasCause};
 ghost use Rattle.card_commands.specs.Ran.{Ran, FellReading};
 
-use crate::end::End;
 use crate::ended::{Ended, ended_by, ended_of};
 use crate::progress::Progress;
+use crate::stop::Stop;
 use card_ports::{Failed, Keeper, Sink, Source};
 use std::alloc::Global;
 
-const PIECE: usize = 4096;
+/// How many bytes are read at once, at most.
+pub const PIECE: usize = 4096;
 
 const LIMIT: u64 = 1 << 36;
 
@@ -25,7 +26,7 @@ fn read_piece<I: Source, O: Sink, K: Keeper>(
     input: &mut I,
     output: &mut O,
     keeper: &mut K,
-) -> Result<usize, End>
+) -> Result<usize, Stop>
     requires some { 0 < room }
     requires room { room ≤ 4096 }
     requires number { progress.old.number < 2 ^ 62 }
@@ -41,11 +42,11 @@ fn read_piece<I: Source, O: Sink, K: Keeper>(
     let piece = &mut chunk[..room];
     let n = match input.read(piece) {
         Ok(n) => n,
-        Err(Failed) => return Err(End::Source),
+        Err(Failed) => return Err(Stop::Source),
     };
     match progress.feed_bytes(alloc, &piece[..n], output, keeper) {
         Ok(()) => Ok(n),
-        Err(end) => Err(end),
+        Err(stop) => Err(stop),
     }
 }
 
@@ -67,10 +68,10 @@ pub fn run<I: Source, O: Sink, K: Keeper>(
 {
     let mut total = 0u64;
     while total < LIMIT {
-        let room = (LIMIT - total).min(4096) as usize;
+        let room = (LIMIT - total).min(PIECE as u64) as usize;
         let n = match read_piece(progress, alloc, room, input, output, keeper) {
             Ok(n) => n,
-            Err(end) => return ended_by(end),
+            Err(stop) => return ended_by(stop),
         };
         if n == 0 {
             return ended_of(progress.finish(alloc, output, keeper));

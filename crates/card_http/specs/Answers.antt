@@ -4,6 +4,7 @@ use Rattle.std.specs.Option.{unwrap_or}
 use Rattle.http.specs.StatusCode.{reason_phrase}
 use Rattle.card_events.specs.declared.reply.Reply.{Reply}
 use Rattle.card_events.specs.declared.reply.Reply.TheVariants as reply
+use Rattle.card_text.specs.Absent.{none_line}
 use Rattle.card_wire.specs.Answers.{ok_text, refused_text}
 use Rattle.card_wire.specs.declared.wanted.Early.{Early}
 use Rattle.card_wire.specs.declared.wanted.Early.TheVariants as early
@@ -62,7 +63,7 @@ early_status early.TooLarge = status.TooLarge
 -- and its text
 abbrev pub early_text : Early → List ℕ
 early_text early.BadRequest = codes "bad request\n"
-early_text early.NotFound = codes "none\n"
+early_text early.NotFound = none_line
 early_text early.BadMethod = codes "bad method\n"
 early_text early.TooLarge = codes "body too large\n"
 

@@ -9,6 +9,7 @@ use Rattle.card_desk.specs.declared.view.View.TheVariants as view
 use Rattle.card_lines.specs.Replies.{show_text}
 use Rattle.card_model.specs.Machine.{State}
 use Rattle.card_text.specs.Export.{export_text}
+use Rattle.card_text.specs.Repayment.{repayment_text}
 use Rattle.card_text.specs.Statements.{statement_text}
 use Rattle.card_text.specs.Tasks.{tasks_text}
 
@@ -36,6 +37,11 @@ abbrev pub work_told : View → Option (List ℕ)
 work_told (view.Work tasks) = Some (tasks_text tasks)
 work_told _ = None
 
+-- what the balances of a statement come to where they are repaid, where the statement is there
+abbrev pub repayment_told : View → Option (List ℕ)
+repayment_told (view.Statement s) = Some (repayment_text s.sheet)
+repayment_told _ = None
+
 -- the text of the answer to what is asked; None: it isn't there
 abbrev pub view_told : Ask → View → Option (List ℕ)
 view_told (ask.Show account) v = show_told account v
@@ -47,3 +53,7 @@ view_told ask.Work v = work_told v
 -- the text of what is asked of this ledger
 unfoldable pub told : State → Ask → Option (List ℕ)
 told s a = view_told a (seen s a)
+
+-- what the statement that is asked of this ledger comes to where it is repaid; None: it isn't there
+unfoldable pub repaid : State → Ask → Option (List ℕ)
+repaid s a = repayment_told (seen s a)

@@ -5,6 +5,7 @@ ghost use Rattle.card_http.specs.Answers as spec;
 
 use crate::status::Status;
 use card_events::{NoMemory, Reply};
+use card_text::none_line;
 use card_wire::{Early, ok_text, refused_text};
 use std::alloc::Global;
 
@@ -79,7 +80,7 @@ pub fn early_text(early: Early) -> &'static str
 {
     match early {
         Early::BadRequest => "bad request\n",
-        Early::NotFound => "none\n",
+        Early::NotFound => none_line(),
         Early::BadMethod => "bad method\n",
         Early::TooLarge => "body too large\n",
     }

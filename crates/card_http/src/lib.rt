@@ -16,4 +16,4 @@ pub use outcome::Outcome;
 pub use served::Served;
 pub use serving::serve_one;
 pub use status::Status;
-pub use texts::{told_text, view_text};
+pub use texts::{repaid_text, told_text, view_text};

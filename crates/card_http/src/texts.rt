@@ -6,7 +6,7 @@ ghost use Rattle.card_http.specs.Told as spec;
 use card_desk::{Ask, Desk, View, uncounted};
 use card_events::{Name, NoMemory};
 use card_lines::show_text;
-use card_text::{export_text, statement_text, tasks_text};
+use card_text::{export_text, repayment_text, statement_text, tasks_text};
 use std::alloc::Global;
 
 /// The text of the answer to what is asked: the line of `show`, a statement, the entries as CSV, or the open tasks. None: the
@@ -31,6 +31,19 @@ pub fn told_text(alloc: Global, desk: &mut Desk, ask: &Ask) -> Result<Option<Str
 {
     match uncounted::see(alloc, desk, ask) {
         Ok(view) => view_text(alloc, ask, &view),
+        Err(NoMemory) => Err(NoMemory),
+    }
+}
+
+/// What the balances of the statement that is asked of the desk come to where they are repaid (12 CFR 1026.7(b)(12)). The desk's
+/// state stays. None: the account or the statement isn't there, or no statement is asked for. No route tells it.
+#[tactic(auto, unfolding(crate::specs::Told::repaid))]
+pub fn repaid_text(alloc: Global, desk: &mut Desk, ask: &Ask) -> Result<Option<String>, NoMemory>
+    ensures state { desk.new.state ≡ desk.old.state }
+    ensures text { IfOk result (λ text. option_map string_bytes text ≡ spec.repaid desk.old.state ask.now) }
+{
+    match uncounted::see(alloc, desk, ask) {
+        Ok(view) => repayment_told(alloc, &view),
         Err(NoMemory) => Err(NoMemory),
     }
 }
@@ -91,5 +104,18 @@ fn work_told(alloc: Global, view: &View) -> Result<Option<String>, NoMemory>
         View::Show { .. } => Ok(None),
         View::Statement(_) => Ok(None),
         View::Entries(_) => Ok(None),
+    }
+}
+
+fn repayment_told(alloc: Global, view: &View) -> Result<Option<String>, NoMemory>
+    ensures { IfOk result (λ text. option_map string_bytes text ≡ spec.repayment_told view.now) }
+{
+    match view {
+        View::Statement(statement) => Ok(Some(repayment_text(alloc, &statement.sheet)?)),
+        View::NoAccount => Ok(None),
+        View::NoStatement => Ok(None),
+        View::Show { .. } => Ok(None),
+        View::Entries(_) => Ok(None),
+        View::Work(_) => Ok(None),
     }
 }

@@ -4,6 +4,7 @@ ghost use Rattle.card_sqlite.specs.Connected.{conn_of, connected, Between};
 
 use crate::StoreKeeper;
 use crate::fault::fault_of;
+use crate::opening::{Missing, open};
 use crate::store::{close, counted};
 use card_ports::{Keeper, KeeperFault, Row};
 use sqlite::{Alter, Connection, Error, File, FileStore};
@@ -15,26 +16,32 @@ type Store<D> = StoreKeeper<FileStore<D>>;
 
 type Made<S> = Result<Option<Connection<S>>, Error>;
 
-/// Rows in the table `kept` of a SQLite file, which is opened at the first call and made where it is missing. It tells no rows:
-/// what a file held before it was opened isn't known. Each call is one of a `StoreKeeper` over the file, whose clauses say what
-/// it gives and leaves.
+/// Rows in the table `kept` of a SQLite file, which is opened at the first call. It tells no rows: what a file held before it was
+/// opened isn't known. Each call is one of a `StoreKeeper` over the file, whose clauses say what it gives and leaves.
 ///
 /// Beside the faults of a `StoreKeeper`, `Failed`, which is counted, comes where the file can't be opened: its folder isn't
-/// there, it may not be read and written, another handle has it, or it is no sound SQLite database. The file is then as it
-/// was, though an empty log may lie beside it.
+/// there, it may not be read and written, another process has it for five seconds, or it is no sound SQLite database. The file
+/// is then as it was, though an empty log may lie beside it.
 #[derive(Drop)]
 pub struct SqliteKeeper {
     rt: HostRuntime,
     path: String,
+    missing: Missing,
     store: Option<Store<File>>,
+    was_written: bool,
     faults: u64,
 }
 
 // A connection to the file, where none was made before.
-fn connect(store: &Option<Store<File>>, rt: &HostRuntime, path: &str) -> Made<FileStore<File>> {
+fn connect(
+    store: &Option<Store<File>>,
+    rt: &HostRuntime,
+    path: &str,
+    missing: Missing,
+) -> Made<FileStore<File>> {
     match store {
         Some(_) => Ok(None),
-        None => match Connection::open(rt, path) {
+        None => match open(rt, path, missing) {
             Ok(conn) => Ok(Some(conn)),
             Err(error) => Err(error),
         },
@@ -117,41 +124,57 @@ fn answer_on<D: Disk + Drop>(
     answer_over(store, made, alloc, more)
 }
 
-fn answer_from(
-    store: &mut Option<Store<File>>,
-    rt: &HostRuntime,
-    path: &str,
-    alloc: Global,
-    more: Option<&[Row]>,
-) -> Result<Vec<Row>, KeeperFault> {
-    let made = connect(store, rt, path);
-    answer_on(store, made, alloc, more)
-}
-
 impl SqliteKeeper {
-    /// A keeper over the file at the path, which isn't opened yet, with no fault counted.
+    /// A keeper over the file at the path, which isn't opened yet, with no fault counted. Where there is none, the first call
+    /// makes one that its owner alone reads and writes.
     pub fn new(rt: &HostRuntime, path: String) -> SqliteKeeper
+        ensures { result.faults ≡ 0 }
+    {
+        SqliteKeeper::with(rt, path, Missing::IsMade)
+    }
+
+    /// The same over a file that is there: the first call fails where there is none, and where it holds no byte.
+    pub fn of_file(rt: &HostRuntime, path: String) -> SqliteKeeper
+        ensures { result.faults ≡ 0 }
+    {
+        SqliteKeeper::with(rt, path, Missing::IsRefused)
+    }
+
+    fn with(rt: &HostRuntime, path: String, missing: Missing) -> SqliteKeeper
         ensures { result.faults ≡ 0 }
     {
         SqliteKeeper {
             rt: *rt,
             path,
+            missing,
             store: None,
+            was_written: false,
             faults: 0,
         }
     }
 
-    /// Copies the log into the file and closes both. Where that fails, every row stands in the file and its log.
+    // Opens the file where that isn't done yet, and adds the rows, where some are handed on. Else gives the rows that are kept.
+    fn answer(&mut self, alloc: Global, more: Option<&[Row]>) -> Result<Vec<Row>, KeeperFault>
+        ensures { self.new.faults ≡ self.old.faults }
+    {
+        let made = connect(&self.store, &self.rt, self.path.as_str(), self.missing);
+        answer_on(&mut self.store, made, alloc, more)
+    }
+
+    /// Where rows were to be added, copies the log into the file, and closes both; where that fails, every row stands in the
+    /// file and its log. Else closes both as they are.
     pub fn close(self) -> Result<(), KeeperFault> {
         let SqliteKeeper {
             rt: _,
             path: _,
+            missing: _,
             store,
+            was_written,
             faults: _,
         } = self;
         match store {
-            None => Ok(()),
-            Some(store) => close(store),
+            Some(store) if was_written => close(store),
+            _ => Ok(()),
         }
     }
 }
@@ -164,20 +187,15 @@ impl Keeper for SqliteKeeper {
     ghost faults = { λ k. k.faults };
 
     fn load(&mut self, alloc: Global) -> Result<Vec<Row>, KeeperFault> {
-        match answer_from(&mut self.store, &self.rt, self.path.as_str(), alloc, None) {
+        match self.answer(alloc, None) {
             Ok(rows) => Ok(rows),
             Err(fault) => Err(counted(&mut self.faults, fault)),
         }
     }
 
     fn append(&mut self, alloc: Global, more: &[Row]) -> Result<(), KeeperFault> {
-        match answer_from(
-            &mut self.store,
-            &self.rt,
-            self.path.as_str(),
-            alloc,
-            Some(more),
-        ) {
+        self.was_written = true;
+        match self.answer(alloc, Some(more)) {
             Ok(_) => Ok(()),
             Err(fault) => Err(counted(&mut self.faults, fault)),
         }

@@ -8,6 +8,7 @@ mod fits;
 mod keeper;
 pub mod laws;
 mod load;
+mod opening;
 mod store;
 mod told;
 

@@ -3,9 +3,7 @@
 #![tactic(auto)]
 
 #[cfg(test)]
-mod commands;
+mod cases;
 mod stored;
-#[cfg(test)]
-mod stores;
 
 pub use stored::billctl_over_store;

@@ -4,3 +4,4 @@ mod DatedLemmas
 mod RecordLemmas
 mod ItemLemmas
 mod HeaderLemmas
+mod Repaid

@@ -1,7 +1,9 @@
+pub mod Absent
 pub mod Tasks
 pub mod Export
 pub mod Records
 pub mod Statements
+pub mod Repayment
 pub mod Items
 pub mod Kinds
 pub mod Columns

@@ -1,6 +1,8 @@
-//! Texts: lines of requests and replies, open tasks, statements, and the entries of an account as CSV; and the records of CSV.
+//! Texts: lines of requests and replies, open tasks, statements and their repayment, and the entries of an account as CSV; and the
+//! records of CSV.
 #![tactic(auto)]
 
+mod absent;
 mod columns;
 mod export;
 mod header;
@@ -11,9 +13,11 @@ mod reading;
 mod record;
 mod record_columns;
 mod records;
+mod repayment;
 mod statement;
 mod tasks;
 
+pub use absent::none_line;
 pub use card_lines::{
     Line, PostKind, RefusalValue, Word, bad_text, read_category, read_channel, read_day,
     read_finding, read_line, read_number, read_place, read_plan_kind, read_word, refusal_name,
@@ -23,5 +27,6 @@ pub use export::export_text;
 pub use item::Item;
 pub use record::import_record;
 pub use records::Records;
+pub use repayment::repayment_text;
 pub use statement::statement_text;
 pub use tasks::tasks_text;

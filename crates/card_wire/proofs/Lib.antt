@@ -1,6 +1,7 @@
 pub mod HeadLemmas
 pub mod LinkLemmas
 mod NamedLemmas
+mod PlaceLemmas
 mod RowLemmas
 mod RouteLemmas
 mod TakenLemmas

@@ -1,5 +1,5 @@
 -- The route that a router of the six routes finds is that of the path.
-use Rattle.std.proofs.Common.{◌≡◌, ◌≢◌, ◌⊎◌, inl, inr, ℕ, zero, suc, ◌<◌, Bool, true, false, cond, ltb, ◌==◌, ◌&&◌, List, [], ◌∷◌, ◌++◌, length, get_or, Option, None, Some, option_and_then, codes, refl, ap, sym, ◌∙◌, subst, arith}
+use Rattle.std.proofs.Common.{◌≡◌, ◌≢◌, ◌⊎◌, inl, inr, ℕ, zero, suc, ◌<◌, Bool, true, false, cond, ltb, ◌==◌, ◌&&◌, List, [], ◌∷◌, ◌++◌, length, Option, None, Some, option_and_then, codes, refl, ap, sym, ◌∙◌, subst, arith}
 use Rattle.std.proofs.lemmas.Bool.Decides.{nat_tests}
 use mathlib.Core.Bool.{true≢false}
 use Rattle.std.specs.List.{onto_first}
@@ -7,14 +7,10 @@ use Rattle.std.specs.Str.{bytes_eq}
 use Rattle.std.specs.Cmp.Lexicographic.{bytes_decides}
 use Rattle.card_lines.specs.Forms.{number_of, is_decimal}
 use Rattle.card_wire.specs.Routes.{account_of, below_account, numbered, behind_slash, of_account, alone, rooted, parts, route_of}
-use Rattle.card_wire.specs.Taken.{six_routes, posts_route, account_route, statement_route, cycle_route, entries_route, work_route}
-use Rattle.card_wire.specs.declared.routes.Place.{Place}
 use Rattle.matchit.specs.Level.{IsText}
-use Rattle.matchit.specs.Router.{RouteOf, rename, map_key}
 use Rattle.matchit.specs.Rows.{Rows, prepend, ends}
 use Rattle.matchit.specs.Seek.{first, has_slash, or_else, seek}
 use Rattle.matchit.proofs.SeekLemmas.{first-prefix}
-use Rattle.matchit.proofs.RenameLemmas.{first-rename}
 use Rattle.card_wire.proofs.RowLemmas.{six, differ, rows_below, rows_behind, behind_part, slash_no, root_first, account_first, word_slash, word_none, word_whole, word_beyond, last_param, last_stop, param_nothing, account_last, account_none, account_more, has_slash_cut}
 
 -- ---- the first part of a path

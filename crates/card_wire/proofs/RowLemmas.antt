@@ -1,12 +1,12 @@
 -- What a router finds whose rows begin with literals.
-use Rattle.std.proofs.Common.{◌≡◌, ◌≢◌, inl, inr, ◌⊎◌, ℕ, zero, suc, ◌+◌, ◌-◌, ◌<◌, Bool, true, false, cond, ltb, ◌==◌, ◌&&◌, nat_eq, List, [], ◌∷◌, ◌++◌, length, drop, take, Option, None, Some, codes, refl, ap, sym, ◌∙◌, subst, arith, append-nil}
+use Rattle.std.proofs.Common.{◌≡◌, ◌≢◌, ℕ, zero, suc, ◌-◌, ◌<◌, Bool, true, false, cond, ltb, ◌==◌, ◌&&◌, nat_eq, List, [], ◌∷◌, ◌++◌, length, drop, Option, None, Some, codes, refl, ap, sym, ◌∙◌, subst, arith, append-nil}
 use Rattle.std.proofs.lemmas.List.{length-append}
 use lib.Seq.{drop_at}
 use Rattle.std.proofs.lemmas.Bool.Decides.{nat_tests}
 use Rattle.std.specs.List.{starts_with}
 use Rattle.std.specs.Str.{bytes_eq}
-use Rattle.matchit.specs.Rows.{Rows, Seen, prepend, ends, rows_of, rows}
-use Rattle.matchit.specs.Seek.{own, step, or_else, seek, first, param_step, has_slash, after_param, segment, longest_suffix, better}
+use Rattle.matchit.specs.Rows.{Rows, Seen, prepend, ends, rows_of}
+use Rattle.matchit.specs.Seek.{step, or_else, seek, first, param_step, has_slash, after_param, segment, longest_suffix, better}
 use Rattle.matchit.specs.Level.{IsText, AllSegment, AreSuffixes}
 use Rattle.matchit.proofs.SeekLemmas.{own-append, own-prepend, step-append, step-hit, step-miss, or_else-none, prepend-nil, param_step-empty, seek-empty, first-prefix}
 use Rattle.matchit.proofs.LongestLemmas.{longest-kid}

@@ -1,5 +1,5 @@
 -- What a router of the six routes takes from a path.
-use Rattle.std.proofs.Common.{◌≡◌, ◌⊎◌, inl, inr, ℕ, zero, suc, ◌+◌, ◌-◌, ◌<◌, ◌≤◌, Bool, true, false, cond, ltb, leb, ◌==◌, ◌&&◌, List, [], ◌∷◌, ◌++◌, length, take, drop, get_or, Option, None, Some, option_and_then, option_map, codes, refl, ap, sym, ◌∙◌, subst, arith, append-nil, append_assoc}
+use Rattle.std.proofs.Common.{◌≡◌, ℕ, zero, suc, ◌+◌, ◌-◌, ◌<◌, ◌≤◌, true, false, ltb, leb, List, [], ◌∷◌, ◌++◌, length, take, drop, get_or, Option, None, Some, option_and_then, option_map, codes, refl, ap, sym, ◌∙◌, subst, arith, append-nil, append_assoc}
 use Rattle.std.proofs.lemmas.Bool.Decides.{nat_tests}
 use Rattle.std.proofs.lemmas.List.{length-append, drop_at, take_at, get_or_at}
 use Rattle.std.proofs.lemmas.Str.{IsCharBoundary-after_ascii, IsCharBoundary-before_ascii, IsUtf8-drop, IsUtf8-take}
@@ -8,7 +8,6 @@ use Rattle.std.specs.Prelude.{IsUtf8}
 use Rattle.card_lines.specs.Forms.{number_of}
 use Rattle.card_wire.specs.Routes.{account_of, below_account, behind_slash, numbered, of_account, alone, rooted, parts, route_of}
 use Rattle.card_wire.specs.Taken.{account_pattern, placed_route, six_routes, posts_route, account_route, statement_route, cycle_route, entries_route, work_route}
-use Rattle.card_wire.specs.declared.route.Route.{Route}
 use Rattle.card_wire.specs.declared.route.Route.TheVariants as route
 use Rattle.card_wire.specs.declared.routes.Place.{Place}
 use Rattle.card_wire.specs.declared.routes.Place.TheVariants as place
@@ -18,7 +17,7 @@ use Rattle.matchit.specs.Router.{RouteOf, rename, map_key}
 use Rattle.matchit.specs.Rows.{RowsOf}
 use Rattle.matchit.proofs.RenameLemmas.{first-rename}
 use Rattle.std.specs.Option.{unwrap_or}
-use Rattle.matchit.specs.Seek.{first, segment, has_slash}
+use Rattle.matchit.specs.Seek.{first, has_slash}
 use Rattle.card_wire.proofs.RowLemmas.{six, segment_cut}
 use Rattle.card_wire.proofs.RouteLemmas.{IsAt, at_is, IsPart, literal, all_low, parts_last, parts_cut}
 

@@ -1,5 +1,6 @@
 pub mod Links
 pub mod Heads
+pub mod Places
 pub mod Framing
 pub mod Routes
 pub mod Taken

@@ -1,10 +1,13 @@
 // The head of a request, byte by byte.
-ghost use Rattle.std.specs.Prelude.{◌≡◌, [], IfOk, IfErr};
+ghost use Rattle.std.specs.Prelude.{◌≡◌, [], ◌∷◌, ◌++◌, List, ℕ, IfOk, IfErr};
 ghost use Rattle.card_ports.specs.Visits.{wire};
-ghost use Rattle.card_wire.specs.Heads.{Before, EndsHead, Parses, Pending};
+ghost use Rattle.card_wire.specs.Heads.{Before, EndsHead, IsPendingBefore, Parses, Pending};
 ghost use Rattle.card_wire.specs.Links.{Read, Stopped};
+ghost use Rattle.card_wire.specs.Places.{EndsLine, IsAt, IsSoFar};
+ghost use Rattle.httparse.specs.declared.spans.HeaderSpan.{HeaderSpan};
 
 use crate::byte::read_byte;
+use crate::place::{Place, follow, is_followed};
 use crate::stop::Stop;
 use arrayvec::ArrayVec;
 use card_ports::Link;
@@ -28,6 +31,14 @@ pub enum HeadEnd {
     Long,
 }
 
+/// How far a head is.
+enum Progress {
+    /// It ended so.
+    Ended(HeadEnd),
+    /// More bytes are wanted, and the next one belongs there.
+    Wanted(Place),
+}
+
 /// Reads a head (RFC 9112), and no byte behind it. A head that can't become one is refused at the first byte that shows it.
 pub fn read_head<C: Link>(
     link: &mut C,
@@ -41,16 +52,64 @@ pub fn read_head<C: Link>(
     ensures err { let at = wire C.Source.left C.Sink.taken C.Source.faults in IfErr result (Stopped (at link.old) (at link.new) got.new.items) }
     ensures pending { IfErr result (λ _. Pending got.new.items) }
 {
+    let mut place = Place::Blank;
     loop {
-        match parse(got.as_slice(), fields) {
-            Some(end) => return Ok(end),
-            None => {}
-        }
+        let next = match examine(place, got, fields) {
+            Progress::Ended(end) => return Ok(end),
+            Progress::Wanted(next) => next,
+        };
         if got.is_full() {
             return Ok(HeadEnd::Long);
         }
         let byte = read_byte(link)?;
         got.push(byte);
+        place = follow(next, byte);
+    }
+}
+
+// How far a head is that these bytes begin. Where their end is followed, no head ends and nothing is wrong; else they are parsed.
+fn examine(
+    place: Place,
+    got: &mut ArrayVec<u8, HEAD_LIMIT>,
+    fields: &mut [HeaderSpan; FIELD_LIMIT],
+) -> Progress
+    requires before { IsPendingBefore got.old.items }
+    requires at { IsAt place got.old.items }
+    ensures kept { got.new.items ≡ got.old.items }
+    ensures far { IsSoFar got.new.items fields.new result }
+{
+    if is_followed(place) {
+        return Progress::Wanted(place);
+    }
+    match parse(got.as_slice(), fields) {
+        Some(end) => Progress::Ended(end),
+        None => Progress::Wanted(behind_line(got, fields)),
+    }
+}
+
+// At the start of a header line, where a line ended and an empty one behind it would end the head; else it isn't followed.
+fn behind_line(got: &mut ArrayVec<u8, HEAD_LIMIT>, fields: &mut [HeaderSpan; FIELD_LIMIT]) -> Place
+    requires pending { Pending got.old.items }
+    requires before { IsPendingBefore got.old.items }
+    ensures at { IsAt result got.new.items }
+    ensures kept { got.new.items ≡ got.old.items }
+{
+    if got.is_full() || !got.as_slice().ends_with(b"\n".as_slice()) {
+        return Place::Elsewhere;
+    }
+    got.push(b'\n');
+    let end = parse(got.as_slice(), fields);
+    got.pop();
+    line_or_elsewhere(end)
+}
+
+// Where bytes end that are pending and end with LF, by what a parse of them and one more LF gives.
+fn line_or_elsewhere(end: Option<HeadEnd>) -> Place
+    ensures { (got : List ℕ) (spans : List HeaderSpan) → EndsLine got spans → Parses (got ++ 10 ∷ []) spans end → IsAt result got }
+{
+    match end {
+        Some(HeadEnd::Whole(_)) => Place::Line,
+        _ => Place::Elsewhere,
     }
 }
 

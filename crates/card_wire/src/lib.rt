@@ -12,6 +12,7 @@ mod head;
 mod heading;
 mod json_body;
 mod path;
+mod place;
 mod route;
 mod routes;
 mod sending;

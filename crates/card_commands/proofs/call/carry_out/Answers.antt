@@ -2,7 +2,7 @@ use Rattle.std.proofs.Common.{Some, refl, sym, subst}
 use Rattle.card_commands.specs.declared.command.Command.{Command}
 use Rattle.card_commands.specs.World.{Comes, world}
 use Rattle.card_ports.specs.Written.{sink_side}
-use Rattle.card_commands.proofs.LoadedLemmas.{demo_outcome, export_outcome, restate_outcome, statement_outcome, work_outcome}
+use Rattle.card_commands.proofs.LoadedLemmas.{demo_outcome, export_outcome, repay_outcome, restate_outcome, statement_outcome, work_outcome}
 use Rattle.card_commands.proofs.WorldLemmas.{server_comes, without_door}
 use Rattle.card_commands.proofs.call.carry_out.Goals as goal
 
@@ -64,3 +64,11 @@ returns-in-Restate g c =
     let new = at c.args.input.now c.tell-in-Restate.new.output c.tell-in-Restate.new.keeper c.args.door.now in
     subst (λ (x : Command). Comes old new (Some x) c.tell-in-Restate.result) (sym c.in-Restate.is)
     (without_door old new _ c.tell-in-Restate.result refl (restate_outcome _ _ c.in-Restate.name c.in-Restate.cycle c.tell-in-Restate.result refl refl c.tell-in-Restate.ensures))
+
+pub returns-in-Repay : goal.returns-in-Repay
+returns-in-Repay g c =
+    let at = world g.I.Source.left g.I.Source.faults g.O.Sink.taken g.O.Sink.faults g.K.Keeper.rows g.K.Keeper.faults g.D.Door.visits g.D.Door.faults in
+    let old = at c.args.input.now c.args.output.now c.args.keeper.now c.args.door.now in
+    let new = at c.args.input.now c.tell_repayment.new.output c.tell_repayment.new.keeper c.args.door.now in
+    subst (λ (x : Command). Comes old new (Some x) c.tell_repayment.result) (sym c.in-Repay.is)
+    (without_door old new _ c.tell_repayment.result refl (repay_outcome _ _ c.in-Repay.name c.in-Repay.cycle c.tell_repayment.result refl refl c.tell_repayment.ensures))

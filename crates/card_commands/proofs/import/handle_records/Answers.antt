@@ -14,7 +14,7 @@ returns-in-Err-next_item-clause-err g c = fell_between _ _ c.args.run.now c.loop
 pub returns-in-Err-handle-clause-err : goal.returns-in-Err-handle-clause-err
 returns-in-Err-handle-clause-err g c =
     let first : Some c.in-Ok-Some.item ≡ slice_get c.loop-item.records 0 = cc (c.in-Ok-Some.ensures.item, c.in-Ok-Some.field-0-is) in
-    fell_item _ _ _ c.args.run.now c.loop-item.run _ c.loop-item.invariant.done c.loop-item.records c.in-Ok-Some.item c.in-Err-handle.end c.loop-item.invariant.parts first c.loop-item.invariant.handled c.in-Err-handle.ensures.err
+    fell_item _ _ _ c.args.run.now c.loop-item.run _ c.loop-item.invariant.done c.loop-item.records c.in-Ok-Some.item c.in-Err-handle.stop c.loop-item.invariant.parts first c.loop-item.invariant.handled c.in-Err-handle.ensures.err
 
 pub loop-item-preserved : goal.loop-item-preserved
 loop-item-preserved g c =

@@ -17,10 +17,10 @@ loop-total-preserved g c = record {
 }
 
 pub returns-in-Err-clause-ran : goal.returns-in-Err-clause-ran
-returns-in-Err-clause-ran g c = fell_end _ _ c.args.progress.now.ledger c.in-Err.end _ c.ended_by.ensures (ran_fell _ _ _ _ _ _ _ c.loop-total.invariant.ran c.in-Err.ensures.err)
+returns-in-Err-clause-ran g c = fell_end _ _ c.args.progress.now.ledger c.in-Err.stop _ c.ended_by.ensures (ran_fell _ _ _ _ _ _ _ c.loop-total.invariant.ran c.in-Err.ensures.err)
 
 pub returns-in-Err-clause-cause : goal.returns-in-Err-clause-cause
-returns-in-Err-clause-cause g c = fell_end_cause _ _ c.args.progress.now.ledger c.in-Err.end _ c.ended_by.ensures (ran_fell _ _ _ _ _ _ _ c.loop-total.invariant.ran c.in-Err.ensures.err)
+returns-in-Err-clause-cause g c = fell_end_cause _ _ c.args.progress.now.ledger c.in-Err.stop _ c.ended_by.ensures (ran_fell _ _ _ _ _ _ _ c.loop-total.invariant.ran c.in-Err.ensures.err)
 
 pub returns-then-n-eq0-clause-ran : goal.returns-then-n-eq0-clause-ran
 returns-then-n-eq0-clause-ran g c =

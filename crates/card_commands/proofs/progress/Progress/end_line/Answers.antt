@@ -16,4 +16,4 @@ returns-in-Ok-handle-clause-ok g c =
 pub returns-in-Err-handle-clause-err : goal.returns-in-Err-handle-clause-err
 returns-in-Err-handle-clause-err g c =
     let item = c.item_of-item.ensures.item ∙ ap (λ (l : Line). item_of (c.self.inside.number + 1) l) c.in-Ok.ensures.line in
-    fell_line_of _ _ c.args.self.now _ c.args.run.now _ c.in-Err-handle.end c.requires.run c.requires.fits (c.self.view_is ∙ c.in-Ok.ensures.taken) item c.in-Err-handle.ensures.err
+    fell_line_of _ _ c.args.self.now _ c.args.run.now _ c.in-Err-handle.stop c.requires.run c.requires.fits (c.self.view_is ∙ c.in-Ok.ensures.taken) item c.in-Err-handle.ensures.err

@@ -13,4 +13,4 @@ loop-fed-preserved g c = record {
 }
 
 pub returns-in-Err-clause-err : goal.returns-in-Err-clause-err
-returns-in-Err-clause-err g c = fell_on _ _ _ c.args.self.now c.loop-fed.self c.args.bytes.now c.loop-fed.fed c.in-Err.end c.loop-fed.invariant.done c.in-Err.ensures.err
+returns-in-Err-clause-err g c = fell_on _ _ _ c.args.self.now c.loop-fed.self c.args.bytes.now c.loop-fed.fed c.in-Err.stop c.loop-fed.invariant.done c.in-Err.ensures.err

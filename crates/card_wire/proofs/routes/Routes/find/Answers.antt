@@ -1,9 +1,9 @@
-use Rattle.std.proofs.Common.{◌≡◌, ℕ, List, Some, None, ap, sym, ◌∙◌, subst, arith}
+use Rattle.std.proofs.Common.{ℕ, List, ap, sym, ◌∙◌, subst, arith}
 use Rattle.matchit.specs.Params.{AllText, walk}
 use Rattle.matchit.specs.Router.{RouteOf}
 use Rattle.matchit.specs.Rows.{RowsOf}
 use Rattle.matchit.specs.Seek.{first}
-use Rattle.card_wire.specs.Taken.{placed_route, six_routes, taken}
+use Rattle.card_wire.specs.Taken.{placed_route}
 use Rattle.card_wire.specs.declared.routes.Place.{Place}
 use Rattle.card_wire.proofs.TakenLemmas.{found_gives, missing_none, text_of}
 use Rattle.card_wire.proofs.routes.Routes.find.Goals as goal

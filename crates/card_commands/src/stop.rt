@@ -1,6 +1,6 @@
-/// Why a run ends before its input does.
+/// Why a run stops before its input ends.
 #[derive(Clone, Copy)]
-pub enum End {
+pub enum Stop {
     /// The source failed.
     Source,
     /// The sink failed.

@@ -46,7 +46,7 @@ fn replies(
 }
 
 // Whether these rows have these bodies, and are numbered from 1.
-fn are_rows(rows: &[Row], bodies: &[&[u8]]) -> bool {
+pub(crate) fn are_rows(rows: &[Row], bodies: &[&[u8]]) -> bool {
     let mut seq = 0u64;
     for (row, body) in rows.iter().zip(bodies) {
         seq = seq.saturating_add(1);

@@ -1,0 +1,1 @@
+"""A second computation of the ledger: see README.md."""

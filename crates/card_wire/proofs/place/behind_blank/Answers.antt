@@ -1,0 +1,5 @@
+use Rattle.card_wire.proofs.PlaceLemmas.{behind_lf}
+use Rattle.card_wire.proofs.place.behind_blank.Goals as goal
+
+pub returns-then-byte-eq10 : goal.returns-then-byte-eq10
+returns-then-byte-eq10 c = λ got at. behind_lf got c.args.byte c.if-byte-eq10.true at

@@ -1,0 +1,228 @@
+#!/usr/bin/env python3
+"""Refuses the built program memory, one growth at a time, over a first path, an import that is sent twice, an account with corrections
+and two disputes, with the rows in a file and in memory.
+
+Each run goes over rows that were kept before it, and its n-th growth is refused, for n = 1, 2, .. until a run meets no refusal. Each time
+the status has to be 6, or, where memory was wanted for the close alone, 0 with all replies and all rows; what was written has to be a front of what a run with memory writes; the rows in the file have to be those of the
+lines whose replies stand whole, or of one line more; and the same input, sent again with memory from its first line without a whole
+reply, has to give the rest of the replies and of the rows. It prints how many growths were refused.
+
+A growth is a call of malloc, calloc, realloc or posix_memalign by the program; a small library, which this script compiles with `cc` and
+has the system load before the C library, counts them. It is no part of the gate, and takes some minutes."""
+import argparse
+import os
+import shutil
+import sqlite3
+import subprocess
+import sys
+import tempfile
+
+TOP = os.path.dirname(os.path.dirname(os.path.abspath(__file__)))
+SHIM = r"""
+#define _GNU_SOURCE
+#include <dlfcn.h>
+#include <errno.h>
+#include <stdio.h>
+#include <stdlib.h>
+extern void *__libc_malloc(size_t), *__libc_calloc(size_t, size_t), *__libc_realloc(void *, size_t), *__libc_memalign(size_t, size_t);
+static unsigned long made, refused;
+static int begun;
+__attribute__((constructor)) static void begin(void) {
+    const char *at = getenv("REFUSED_GROWTH");
+    refused = at ? strtoul(at, 0, 10) : 0;
+    begun = 1;
+}
+__attribute__((destructor)) static void end(void) {
+    const char *to = getenv("GROWTHS");
+    unsigned long all = made;
+    begun = 0;
+    FILE *file = to ? fopen(to, "w") : 0;
+    if (file) { fprintf(file, "%lu", all); fclose(file); }
+}
+static int refuse(void) { return begun && ++made == refused; }
+void *malloc(size_t n) { if (refuse()) { errno = ENOMEM; return 0; } return __libc_malloc(n); }
+void *calloc(size_t n, size_t m) { if (refuse()) { errno = ENOMEM; return 0; } return __libc_calloc(n, m); }
+void *realloc(void *p, size_t n) { if (refuse()) { errno = ENOMEM; return 0; } return __libc_realloc(p, n); }
+int posix_memalign(void **p, size_t a, size_t n) { if (refuse()) return ENOMEM; *p = __libc_memalign(a, n); return *p ? 0 : ENOMEM; }
+void *aligned_alloc(size_t a, size_t n) { if (refuse()) { errno = ENOMEM; return 0; } return __libc_memalign(a, n); }
+"""
+CORRECTED = 175  # the lines of examples/worked-days.txt up to the third correction of a charge
+
+
+def example(name):
+    with open(os.path.join(TOP, "examples", name), encoding="ascii") as file:
+        return file.read()
+
+
+def fail(text):
+    sys.exit(f"refused_memory: {text}")
+
+
+class Path:
+    """A command over rows that were kept before it."""
+
+    def __init__(self, name, before, command, text):
+        self.name, self.before, self.command, self.text = name, before, command, text
+
+    def rest(self, replies):
+        """The input behind these replies."""
+        lines = self.text.splitlines(keepends=True)
+        if self.command == "import":
+            return self.text
+        return "".join(lines[replies:])
+
+
+def paths():
+    records = example("month/records.csv")
+    return (
+        Path("a first path", "", "apply", example("two-cycles.txt")),
+        Path("an import", example("month/opening.txt"), "import", records),
+        Path("the import, sent again", None, "import", records),
+        Path("accounts with corrections", "", "apply", "".join(example("worked-days.txt").splitlines(keepends=True)[:CORRECTED])),
+        Path("two disputes", "", "apply", example("two-disputes.txt")),
+    )
+
+
+def main():
+    words = argparse.ArgumentParser(description=__doc__, formatter_class=argparse.RawDescriptionHelpFormatter)
+    words.add_argument("--program", default=os.path.join(TOP, "crates/billctl/out/billctl"))
+    program = words.parse_args().program
+    work = tempfile.mkdtemp(dir="/dev/shm" if os.path.isdir("/dev/shm") else None)
+    try:
+        sweep(program, work)
+    finally:
+        shutil.rmtree(work)
+
+
+def run(program, file, command, text, work, refused=None):
+    env = dict(os.environ)
+    growths = os.path.join(work, "growths")
+    if refused is not None:
+        env.update(LD_PRELOAD=os.path.join(work, "refuse.so"), REFUSED_GROWTH=str(refused), GROWTHS=growths)
+    done = subprocess.run([program, file, command], input=text.encode(), capture_output=True, env=env, timeout=60)
+    count = 0
+    if refused is not None:
+        with open(growths) as told:
+            count = int(told.read())
+    return done.returncode, done.stdout, count
+
+
+def rows_of(file):
+    if not os.path.exists(file) or os.path.getsize(file) == 0:
+        return []
+    base = sqlite3.connect(file)
+    try:
+        return base.execute("SELECT seq, body FROM kept ORDER BY seq").fetchall()
+    except sqlite3.OperationalError:
+        return []
+    finally:
+        base.close()
+
+
+def copied(file, to):
+    for end in ("", "-wal"):
+        if os.path.exists(to + end):
+            os.remove(to + end)
+        if os.path.exists(file + end):
+            shutil.copyfile(file + end, to + end)
+
+
+def rows_after(program, before, path, work):
+    """The replies of the whole input, and how many rows are kept after each of them."""
+    file = os.path.join(work, "counted")
+    copied(before, file)
+    _, whole, _ = run(program, file, path.command, path.text, work)
+    replies = whole.splitlines(keepends=True)
+    rows = rows_of(file)
+    counts = [len(rows_of(before))]
+    fresh = {row for row in rows[counts[0]:]}
+    taken = counts[0]
+    for reply in replies:
+        new = (reply == b"ok\n" or reply.startswith(b"ok ")) and fresh and taken < len(rows)
+        if path.name == "the import, sent again":
+            new = False
+        taken += bool(new)
+        counts.append(taken)
+    if counts[-1] != len(rows):
+        fail(f"{path.name}: {counts[-1]} replies that keep a row, and {len(rows)} rows")
+    return replies, rows, counts
+
+
+def one(program, before, path, work, refused, replies, rows, counts):
+    """A run of which one growth is refused: whether it met the refusal."""
+    file = os.path.join(work, "rows")
+    copied(before, file)
+    status, written, made = run(program, file, path.command, path.text, work, refused)
+    whole = b"".join(replies)
+    if made < refused:
+        if written != whole or rows_of(file) != rows:
+            fail(f"{path.name}: a run without a refusal gives something else")
+        return False
+    if status == 0 and written == whole and rows_of(file) == rows:
+        return True
+    if status != 6:
+        fail(f"{path.name}: growth {refused} of {made} is refused, and the status is {status}")
+    if not whole.startswith(written):
+        fail(f"{path.name}: growth {refused} is refused, and the replies aren't a front of the others")
+    told = written.count(b"\n")
+    kept = rows_of(file)
+    allowed = {counts[told], counts[min(told + 1, len(replies))]}
+    if len(kept) not in allowed or kept != rows[: len(kept)]:
+        fail(f"{path.name}: growth {refused} is refused, with {told} replies and {len(kept)} rows, wanted {sorted(allowed)}")
+    again(program, file, path, work, refused, replies, rows, told, len(kept) > counts[told])
+    return True
+
+
+def again(program, file, path, work, refused, replies, rows, told, ahead):
+    """The rest, with memory. A shared request whose row stands without its reply has no key, so it isn't sent again."""
+    shared = path.command == "apply" and ahead and replies[told] == b"ok\n"
+    first = told + 1 if shared else told
+    status, written, _ = run(program, file, path.command, path.rest(first), work)
+    wanted = b"".join(replies if path.command == "import" else replies[first:])
+    if written != wanted or rows_of(file) != rows:
+        fail(f"{path.name}: growth {refused} was refused; sent again, the rest gives status {status} and something else")
+
+
+def in_memory(program, path, work, refused, whole):
+    text = path.text
+    status, written, made = run(program, "-", path.command, text, work, refused)
+    if made < refused:
+        return False
+    if status != 6 or not whole.startswith(written):
+        fail(f"{path.name}, rows in memory: growth {refused} is refused, and the status is {status}")
+    return True
+
+
+def sweep(program, work):
+    source = os.path.join(work, "refuse.c")
+    with open(source, "w") as out:
+        out.write(SHIM)
+    subprocess.run(["cc", "-O1", "-shared", "-fPIC", "-fno-builtin", "-o", os.path.join(work, "refuse.so"), source], check=True)
+    before = os.path.join(work, "before")
+    total = 0
+    for path in paths():
+        if path.before is not None:
+            for end in ("", "-wal"):
+                if os.path.exists(before + end):
+                    os.remove(before + end)
+            if path.before:
+                run(program, before, "apply", path.before, work)
+        replies, rows, counts = rows_after(program, before, path, work)
+        refused = 0
+        while one(program, before, path, work, refused + 1, replies, rows, counts):
+            refused += 1
+        print(f"{path.name}: {refused} growths refused over a file of rows", flush=True)
+        total += refused
+        if path.before == "":
+            held = 0
+            _, whole, _ = run(program, "-", path.command, path.text, work)
+            while in_memory(program, path, work, held + 1, whole):
+                held += 1
+            print(f"{path.name}: {held} growths refused with rows in memory", flush=True)
+            total += held
+        if path.command == "import":
+            run(program, before, path.command, path.text, work)
+    print(f"refused_memory: {total} growths were refused; no row is lost or made up")
+
+
+main()
