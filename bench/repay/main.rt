@@ -25,12 +25,13 @@ fn balances(alloc: Global, count: u64, cents: u64) -> Result<Vec<Owing>, NoMemor
     Ok(owing)
 }
 
-// What a call answers, in cents, so that none is left out.
+// What a call answers in all, in cents, or 1 where something is owed for ever, so that no call is left out.
 fn answered(rt: &HostRuntime, owing: &[Owing], floor: i64, call: Call) -> i64 {
     match call {
         Call::AtMinimum => match at_minimum(rt.alloc(), owing, floor, 100) {
             Ok(Some(told)) => told.total,
-            _ => 0,
+            Ok(None) => 1,
+            Err(NoMemory) => 0,
         },
         Call::In36 => match in_36(rt.alloc(), owing) {
             Ok(told) => told.total,
@@ -48,7 +49,7 @@ fn micros(rt: &HostRuntime, owing: &[Owing], floor: i64, call: Call) -> io::Resu
             sum = sum.wrapping_add(answered(rt, owing, floor, call));
         }
         let took = start.elapsed(rt)?.as_micros() / u128::from(TIMES);
-        if sum != 0 && took < least {
+        if sum > 0 && took < least {
             least = took;
         }
     }
