@@ -112,7 +112,7 @@ def _read_header(fields: list[bytes]) -> BadRecord | None:
 
 
 def import_record(row: int, fields: list[bytes]) -> Request | BadRecord | None:
-    """The request of a record; None for a good header, which is row 1 alone."""
+    """The request of a record; None for a good header, which only the first row is."""
     if row == 1:
         return _read_header(fields)
     kind = fields[2] if len(fields) > 2 else None

@@ -1,7 +1,7 @@
 #!/bin/sh
 # Microseconds of the two calls of `card_repay`, each the least of three runs of twenty: for 64 balances of ten million million
-# dollars in all, the most that they take, for three of 400.00, and for one of 1,000.00. bench/repay/main.rt is built over the two
-# crates that it wants, without a proof, as `rt try` builds. It isn't part of the gate, and wants `rt`.
+# dollars in all, the most that they take, for three of 400.00, and for one of 1,000.00. bench/repay/timer.txt, a program of Rattle, is built over the two
+# crates that it wants, without a proof (dev/unproved.py). It isn't part of the gate, and wants `rt`.
 #
 #     bench/repay.sh
 top=$(cd "$(dirname "$0")/.." && pwd) || exit 1
@@ -17,6 +17,5 @@ for name in card_events card_repay; do
     done
 done
 echo "timer: card_events card_repay" >>"$room/crates.txt"
-cp "$top/bench/repay/main.rt" "$room/crates/timer/src/" || exit 1
-cd "$room/crates/timer" || exit 1
-rt try 2>&1 | grep -E ' us|error'
+cp "$top/bench/repay/timer.txt" "$room/crates/timer/src/main.rt" || exit 1
+python3 "$top/dev/unproved.py" --top "$room" timer "$room/timer" && "$room/timer"

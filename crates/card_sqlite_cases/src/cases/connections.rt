@@ -1,3 +1,6 @@
+ghost use Rattle.std.specs.Prelude.{All, IfOk};
+ghost use Rattle.card_ports.specs.Forms.{IsFresh};
+
 use card_commands::billctl;
 use card_ports::{FailingKeeper, MemoryDoor, MemoryLink, MemorySink, MemorySource};
 use std::alloc::Global;
@@ -49,9 +52,21 @@ fn one(alloc: Global, call: u64) -> Result<Vec<u64>, Fail> {
     Ok(calls)
 }
 
-fn link(alloc: Global, bytes: &[u8], call: u64) -> Result<MemoryLink, Fail> {
+fn link(alloc: Global, bytes: &[u8], call: u64) -> Result<MemoryLink, Fail>
+    ensures { IfOk result (λ link. IsFresh link) }
+{
     let bytes = Vec::from_slice(alloc, bytes)?;
     Ok(MemoryLink::new(alloc, bytes, one(alloc, call)?))
+}
+
+// Both connections.
+fn both(alloc: Global, fails: &Fails) -> Result<Vec<MemoryLink>, Fail>
+    ensures { IfOk result (λ links. All IsFresh links.items) }
+{
+    let mut links = Vec::new(alloc);
+    links.push(link(alloc, ROLL, fails.first)?)?;
+    links.push(link(alloc, WORK, fails.second)?)?;
+    Ok(links)
 }
 
 // What a server leaves.
@@ -68,9 +83,7 @@ fn served(alloc: Global, fails: &Fails) -> Result<Left, Fail> {
     for &word in &WORDS {
         words.push(String::from_str(alloc, word)?)?;
     }
-    let mut links = Vec::new(alloc);
-    links.push(link(alloc, ROLL, fails.first)?)?;
-    links.push(link(alloc, WORK, fails.second)?)?;
+    let links = both(alloc, fails)?;
     let mut input = MemorySource::new(Vec::new(alloc), Vec::new(alloc));
     let mut output = MemorySink::new(alloc, one(alloc, fails.sink)?);
     let mut keeper = FailingKeeper::new(alloc, one(alloc, fails.keeper)?);
