@@ -3,6 +3,7 @@ use Rattle.std.proofs.Common.{◌≡◌, ℕ, Bool, true, false, ◌&&◌, cond,
 use Rattle.card_events.specs.Dated.{is_request_day, is_dated_post, is_dated_shared, is_dated}
 use Rattle.card_events.specs.declared.post.Post.{Post}
 use Rattle.card_events.specs.declared.request.Request.{Request}
+use Rattle.card_events.specs.declared.post.Terms.{Terms}
 use Rattle.card_events.specs.Civil.{is_date, day_at}
 use Rattle.card_lines.specs.declared.line.Line.{Line}
 use Rattle.card_lines.specs.declared.line.Line.TheVariants as line
