@@ -33,18 +33,21 @@ anchor-stays old g p from h = ap anchor_of h.history ∙ same-anchor old.history
 pub terms-stay : (old g : Given) (p : Post) (from : ℕ) → IsOneMore old g p from → terms_of g.history ≡ terms_of old.history
 terms-stay old g p from h = ap terms_of h.history ∙ same-terms old.history h.kept (some-posts old.history h.sound_before.opening)
 
-pub continues-before : (old g : Given) (p : Post) (from : ℕ) → IsOneMore old g p from → (day : ℕ) → day < from → Continues old g (Some day)
-continues-before old g p from h day l =
-    let some = some-posts old.history h.sound_before.opening in
-    let more : List Kept = old.history ++ h.kept ∷ [] in
+pub continues-first : (old g : Given) (k : Kept) (from day : ℕ) → 1 ≤ length old.history → g.history ≡ old.history ++ k ∷ [] → g.issued ≡ old.issued → g.shared ≡ old.shared
+    → IsFirstChange from (corrected (anchor_of old.history) old.shared.holidays old.history) (corrected (anchor_of g.history) g.shared.holidays g.history) → day < from → Continues old g (Some day)
+continues-first old g k from day some history issued shared change l =
+    let more : List Kept = old.history ++ k ∷ [] in
     let a = anchor_of old.history in
     let new : corrected (anchor_of g.history) g.shared.holidays g.history ≡ corrected a old.shared.holidays more =
-    ap (λ (s : SharedRows). corrected (anchor_of g.history) s.holidays g.history) h.shared
-    ∙ (ap (λ hs. corrected (anchor_of hs) old.shared.holidays hs) h.history ∙ ap (λ (b : Anchor). corrected b old.shared.holidays more) (same-anchor old.history h.kept some)) in
-    let first = subst (IsFirstChange from (corrected a old.shared.holidays old.history)) new h.first in
-    let agree = later_changes_agree old.history h.kept old.shared from day some first l in
-    let there = subst (λ hs. HistoriesAgree day old.shared old.shared old.history hs) (sym h.history) agree in
-    agreement_goes_on old g day h.issued (subst (λ (s : SharedRows). HistoriesAgree day old.shared s old.history g.history) (sym h.shared) there)
+    ap (λ (s : SharedRows). corrected (anchor_of g.history) s.holidays g.history) shared
+    ∙ (ap (λ hs. corrected (anchor_of hs) old.shared.holidays hs) history ∙ ap (λ (b : Anchor). corrected b old.shared.holidays more) (same-anchor old.history k some)) in
+    let first = subst (IsFirstChange from (corrected a old.shared.holidays old.history)) new change in
+    let agree = later_changes_agree old.history k old.shared from day some first l in
+    let there = subst (λ hs. HistoriesAgree day old.shared old.shared old.history hs) (sym history) agree in
+    agreement_goes_on old g day issued (subst (λ (s : SharedRows). HistoriesAgree day old.shared s old.history g.history) (sym shared) there)
+
+pub continues-before : (old g : Given) (p : Post) (from : ℕ) → IsOneMore old g p from → (day : ℕ) → day < from → Continues old g (Some day)
+continues-before old g p from h day l = continues-first old g h.kept from day (some-posts old.history h.sound_before.opening) h.history h.issued h.shared h.first l
 
 -- a Book at the end of such a day stands on, where the post sets no rate
 pub plain-stands : (old g : Given) (p : Post) (from day : ℕ) (b : Summary) (t : Track) → IsOneMore old g p from → sets_rates p ≡ false → b.day ≡ Some day → day < from → StandsFor old b t → StandsFor g b t

@@ -119,11 +119,11 @@ lists-are shared today key p c l h issued =
     ap (λ k. lists_by (l.posts ++ k ∷ []) (l.issued ++ issued_as c.issued)) (kept-same (length l.posts + 1) c key today p h)
     ∙ ap (λ rows. lists_by (l.posts ++ kept_as (length l.posts + 1) key today p ∷ []) (l.issued ++ rows)) issued
 
-record Accepts (n : ℕ) (l : Lists) : Type 0 where
+pub record Accepts (n : ℕ) (l : Lists) : Type 0 where
   pub timely : AreTimely (anchor_of l.posts).opened l.posts
   pub last : last_accepted l.posts ≤ n
 
-accepts : (shared : SharedRows) (today : ℕ) (key : List ℕ) (p : Post) (r : Replay) → IsReplay shared r → MayReach today r → IsReceived (anchor_of r.lists.posts).opened today p
+pub accepts : (shared : SharedRows) (today : ℕ) (key : List ℕ) (p : Post) (r : Replay) → IsReplay shared r → MayReach today r → IsReceived (anchor_of r.lists.posts).opened today p
     → Accepts today (accepted (present_of today shared r.lists) key p)
 unfolding accepted
 accepts shared today key p r h may came =

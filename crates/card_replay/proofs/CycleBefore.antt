@@ -36,7 +36,7 @@ among-more c first n (suc d) =
     subst (λ m. closings_among c first n ≤ closings_among c first m) (sym same)
     (no-less (closings_among c first n) (closings_among c first (d + n)) (cond (day_of_month (first + (d + n)) == c) 1 0) (among-more c first n d))
 
-later-cycle : (a : Anchor) (x y : ℕ) → x ≤ y → cycle_of a x ≤ cycle_of a y
+pub later-cycle : (a : Anchor) (x y : ℕ) → x ≤ y → cycle_of a x ≤ cycle_of a y
 unfolding cycle_of
 later-cycle a x y l =
     let n = x - a.opened in

@@ -76,22 +76,27 @@ may-rewind shared today key p r from h more l =
     }
 
 -- ---- the account with a post whose first changed day is told
+pub first-with : (shared : SharedRows) (today : ℕ) (key : List ℕ) (p : Post) (r : Replay) (from : ℕ) → IsReplay shared r → IsFirstWith shared.holidays today p (posted_of r) from
+    → IsFirstChange from (corrected (anchor_of r.lists.posts) shared.holidays r.lists.posts) (corrected (anchor_of (with_post r.lists key today p shared).history) shared.holidays (with_post r.lists key today p shared).history)
+first-with shared today key p r from h first =
+    let posts = r.lists.posts in
+    let k = kept_as (length posts + 1) key today p in
+    let same = same-anchor posts k (some-posts posts h.sound.opening) in
+    subst (λ (a : Anchor). IsFirstChange from (corrected (anchor_of posts) shared.holidays posts) (corrected a shared.holidays (posts ++ k ∷ []))) (sym same)
+    (subst (λ cs. IsFirstChange from cs (corrected (anchor_of posts) shared.holidays (posts ++ k ∷ []))) h.corrected (first key))
+
 pub more-told : (shared : SharedRows) (today : ℕ) (key : List ℕ) (p : Post) (r : Replay) (from : ℕ) → MayPrepare shared today key p r → IsFirstWith shared.holidays today p (posted_of r) from
     → IsOneMore (given_of r.lists shared) (with_post r.lists key today p shared) p from
 more-told shared today key p r from h first =
-    let posts = r.lists.posts in
-    let k = kept_as (length posts + 1) key today p in
-    let same = same-anchor posts k (some-posts posts h.replay.sound.opening) in
     record {
-      kept = k;
+      kept = kept_as (length r.lists.posts + 1) key today p;
       post = refl;
       history = refl;
       issued = refl;
       shared = refl;
       sound_before = h.replay.sound;
       sound = subst IsSound (with-post shared today key p r.lists h.read) h.sound;
-      first = subst (λ (a : Anchor). IsFirstChange from (corrected (anchor_of posts) shared.holidays posts) (corrected a shared.holidays (posts ++ k ∷ []))) (sym same)
-          (subst (λ cs. IsFirstChange from cs (corrected (anchor_of posts) shared.holidays (posts ++ k ∷ []))) h.replay.corrected (first key));
+      first = first-with shared today key p r from h.replay first;
     }
 
 -- before it, where it isn't after the day reached, and behind which closing it lies

@@ -18,3 +18,5 @@ pub mod Grown
 pub mod Reached
 pub mod Drafting
 pub mod Eves
+pub mod EntryDays
+pub mod Standing

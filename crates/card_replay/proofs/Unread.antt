@@ -38,7 +38,7 @@ continues-plain today shared lists key p x none unread =
     agreement_goes_on (given_of lists shared) (given_of (accepted (present_of today shared lists) key p) shared) x (ap (λ rows. lists.issued ++ rows) none ∙ append-nil lists.issued)
     (unfolded_posts_agree lists.posts (kept_as (length lists.posts + 1) key today p) shared x unread)
 
-continues-unread : (today : ℕ) (shared : SharedRows) (lists : Lists) (key : List ℕ) (p : Post) (x : ℕ) → is_unread p ≡ true → x ≤ today
+pub continues-unread : (today : ℕ) (shared : SharedRows) (lists : Lists) (key : List ℕ) (p : Post) (x : ℕ) → is_unread p ≡ true → x ≤ today
     → Continues (given_of lists shared) (given_of (accepted (present_of today shared lists) key p) shared) (Some x)
 unfolding accepted book_today
 continues-unread today shared lists key (post.Bill cycle) x u l = bills_go_on (given_of lists shared) (length lists.posts + 1) key today cycle x (issued_sheet_of (present_of today shared lists)) l

@@ -5,3 +5,4 @@ pub mod Rewinds
 pub mod Replays
 pub mod Steps
 pub mod Needs
+pub mod Standing

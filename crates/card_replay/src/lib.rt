@@ -4,6 +4,7 @@
 mod change;
 mod eve;
 mod folding;
+mod foretold;
 mod issuing;
 pub mod laws;
 mod past;

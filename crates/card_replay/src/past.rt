@@ -67,8 +67,8 @@ fn accrued_up_to(accrued: &[Accruing], cycle: u32) -> usize
     count
 }
 
-// How many entries there were at the closing of a cycle, 0 before the first.
-fn entries_up_to(past: &Past, cycle: u32) -> usize
+/// How many entries there were at the closing of a cycle, 0 before the first.
+pub fn entries_up_to(past: &Past, cycle: u32) -> usize
     requires { cycle ≤ length past.now.track.cycles.items }
     ensures none { cycle ≡ 0 → result ≡ 0 }
     ensures some { (d : Cycle) → 1 ≤ cycle → result ≡ (slice_index_or past.now.track.cycles.items (cycle - 1) d).entries }

@@ -7,14 +7,16 @@ ghost use Rattle.card_replay.specs.Replays.{FoldsOn, IsFolding};
 use crate::change::{Change, IssuedIfAny, TakenBack, TakenBackIfAny};
 use crate::eve::Eve;
 use crate::folding::{first_book, fold_on};
+use crate::foretold::{earlier, may_come};
 use crate::issuing::{closed_number, issued_by, push_issued};
-use crate::past::{Past, cut, ends_of, nothing};
+use crate::past::{Past, cut, ends_of, entries_up_to, nothing};
 use crate::rewinding::{cycles_before, go_back, is_unread, needs_today, rewind_if_reached};
 use crate::statement::statement_at;
 use crate::taking::take_if_any;
 use card_book::{Book, Folded, Inputs, Issued, Statement};
-use card_events::{Day, Name, NoMemory, Num, Post, Steps};
+use card_events::{Day, Name, NoMemory, Num, POST_LIMIT, Post, Steps};
 use card_fees::SharedRows;
+use card_model::Entry;
 use card_posts::Posts;
 use std::alloc::Global;
 use std::marker::Model;
@@ -74,7 +76,7 @@ fn reach<L: Ledger>(
 }
 
 impl Replay {
-    ghost use Rattle.std.specs.Prelude.{◌≡◌, ◌+◌, ◌≤◌, ◌<◌, ◌++◌, ℕ, [], ◌∷◌, true, false, length, None, IfOk, OnOk, OnErr, ◌⊎◌};
+    ghost use Rattle.std.specs.Prelude.{◌≡◌, ◌+◌, ◌≤◌, ◌<◌, ◌++◌, ℕ, [], ◌∷◌, true, false, length, None, IfOk, IfSome, OnOk, OnErr, ◌⊎◌};
     ghost use Rattle.card_events.specs.Billing.{IsCloseDay};
     ghost use Rattle.card_events.specs.Range.{last_calendar_day, last_request_day};
     ghost use Rattle.card_events.specs.Dated.{is_dated_post};
@@ -93,6 +95,7 @@ impl Replay {
     ghost use Rattle.card_replay.specs.Changes.{IsChangeOf, IsCommitted, IsPrepared, IsReadyFor, IsRewoundBy, MayPrepare, issued_as};
     ghost use Rattle.card_posts.specs.Draft.{IsFirstWith};
     ghost use Rattle.card_replay.specs.Replays.{IsReplay, IsToday, MayReach, SameLists, given_of, opened_lists, posted_of, present_of};
+    ghost use Rattle.card_replay.specs.Standing.{AreStanding, IsForetold};
     ghost use Rattle.card_replay.specs.Steps.{AreFewToPrepare, IsNear, steps_to};
 
     /// The account that a post opens today, folded to the end of today. What every run leaves holds of its lists.
@@ -445,6 +448,44 @@ impl Replay {
         ensures { result.now ≡ self.now.lists.issued }
     {
         &self.issued
+    }
+
+    /// What is recorded of the account up to the day last reached.
+    pub fn recorded(&self) -> &[Entry]
+        ensures { result.now ≡ self.now.folding.past.track.entries.items }
+    {
+        &self.past.track.entries
+    }
+
+    // The first day that a post changes, where that is told without entering it, for a post that may be accepted today.
+    fn foretold(&self, post: &Post, today: Day, shared: &SharedRows) -> Option<Day>
+        requires replay { IsReplay shared.now self.now }
+        requires reach { MayReach today self.now }
+        ensures { IfSome result (IsForetold shared.now today post.now self.now) }
+    {
+        let count = self.posts.len();
+        if count < POST_LIMIT && may_come(post, self.posts.anchor().opened, today, count) {
+            self.posts.first_change(today, post, shared.calendar())
+        } else {
+            None
+        }
+    }
+
+    /// How many of the first entries that are recorded stay if the account takes a post today, whatever it is then taken back to: those up
+    /// to the last closing, by the day last reached, before the first day that the post changes. They are 0 where that day isn't told
+    /// without entering the post, or where the post would be refused by what it names or gives. It takes no memory.
+    pub fn standing(&self, post: &Post, today: Day, shared: &SharedRows) -> usize
+        requires replay { IsReplay shared.now self.now }
+        requires reach { MayReach today self.now }
+        ensures { AreStanding result today shared.now post.now self.now }
+    {
+        match self.foretold(post, today, shared) {
+            Some(from) => {
+                let day = earlier(from, self.reached);
+                entries_up_to(&self.past, cycles_before(&self.posts.anchor(), day))
+            }
+            None => 0,
+        }
     }
 
     /// The day last reached.
