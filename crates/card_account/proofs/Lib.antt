@@ -7,3 +7,4 @@ pub mod NamingLemmas
 pub mod Runs
 pub mod Telling
 pub mod Told
+pub mod Recorded

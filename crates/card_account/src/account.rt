@@ -13,6 +13,7 @@ use card_book::{Folded, Present, Statement};
 use card_disputes::Task;
 use card_events::{Day, Name, NoMemory, Num, Post, Refusal, Steps};
 use card_fees::SharedRows;
+use card_model::Entry;
 use card_replay::{Change, Replay};
 use std::alloc::Global;
 use std::marker::Model;
@@ -53,6 +54,7 @@ impl Account {
     ghost use Rattle.card_reasons.specs.Reasons.{reads_book};
     ghost use Rattle.card_replay.specs.Changes.{IsChangeOf, IsPrepared};
     ghost use Rattle.card_replay.specs.Replays.{IsToday, given_of, opened_lists, present_of};
+    ghost use Rattle.card_replay.specs.Standing.{AreStanding};
     ghost use Rattle.card_replay.specs.Steps.{AreFewToPrepare};
 
     /// The account that this post begins today, folded to the end of today. What every run leaves holds of its lists.
@@ -81,6 +83,30 @@ impl Account {
         })
     }
 
+    /// Its name.
+    pub fn name(&self) -> &Name
+        ensures { result.now ≡ self.now.named.name }
+    {
+        &self.name
+    }
+
+    /// What is recorded of it up to the day last reached.
+    pub fn recorded(&self) -> &[Entry]
+        ensures { result.now ≡ self.now.folding.past.track.entries.items }
+    {
+        self.replay.recorded()
+    }
+
+    /// How many of the first entries that are recorded of it stay if it takes a post today, whatever it is then taken back to: those up to
+    /// the last closing, by the day last reached, before the first day that the post changes, or none where that day isn't told
+    /// beforehand. It takes no memory.
+    pub fn standing(&self, post: &Post, today: Day, shared: &SharedRows) -> usize
+        requires { IsAccount today shared.now self.now }
+        ensures { AreStanding result today shared.now post.now (replay_of self.now) }
+    {
+        self.replay.standing(post, today, shared)
+    }
+
     // It as it is judged and shown today.
     fn present<'a>(&'a self, today: Day, shared: &'a SharedRows) -> Present<'a>
         requires { IsAccount today shared.now self.now }
@@ -97,8 +123,8 @@ impl Account {
         self.replay.folded(today, shared)
     }
 
-    // Folds it to the end of today.
-    fn to_day<L: Ledger>(
+    /// Folds it to the end of today.
+    pub fn to_day<L: Ledger>(
         &mut self,
         alloc: Global,
         today: Day,
