@@ -49,6 +49,7 @@ use Rattle.card_model.specs.Sheets.{issued_sheet_of, sheet_in, sheet_of}
 use Rattle.card_model.specs.declared.entry.Entry.{Entry}
 use Rattle.card_model.specs.declared.segment.Segment.{Segment}
 use Rattle.card_posts.specs.Posted.{opens}
+use Rattle.card_posts.specs.Stored.{AreTimely}
 use Rattle.card_posts.proofs.Holidays.{same-corrected}
 use Rattle.card_rows.specs.Held.{are_terms, is_day, is_number, is_place, is_post, is_request, is_shared}
 use Rattle.card_rates.specs.Segments.{account_segments}
@@ -155,13 +156,18 @@ alike_at places common count today rows accounts i d desk low =
       index = desk.index_rows;
     }
 
--- so are any lists that a run leaves
+-- so are any lists whose days are those of requests
+pub alike_timely : (today : ℕ) (lists : Lists) (common rows : SharedRows) → AreTimely (anchor_of lists.posts).opened lists.posts → AreSameHolidays common.holidays rows.holidays → common.fees ≡ rows.fees
+    → common.index ≡ rows.index → AreAlike today lists common rows
+alike_timely today lists common rows timely holidays table index =
+    let listed : corrected (anchor_of lists.posts) common.holidays lists.posts ≡ corrected (anchor_of lists.posts) rows.holidays lists.posts =
+    same-corrected (anchor_of lists.posts) common.holidays rows.holidays lists.posts timely (λ x l. holidays x) in
+    record { posts = listed; books = one_book lists today common rows listed table index; fees = table; index = index }
+
+-- and those that a run leaves
 pub alike_run : (s : State) (lists : Lists) (common : SharedRows) → AreRunning s lists → AreSameHolidays common.holidays (shared_rows s.shared).holidays → common.fees ≡ (shared_rows s.shared).fees
     → common.index ≡ (shared_rows s.shared).index → AreAlike s.today lists common (shared_rows s.shared)
-alike_run s lists common one holidays table index =
-    let listed : corrected (anchor_of lists.posts) common.holidays lists.posts ≡ corrected (anchor_of lists.posts) (shared_rows s.shared).holidays lists.posts =
-    same-corrected (anchor_of lists.posts) common.holidays (shared_rows s.shared).holidays lists.posts one.timely (λ x l. holidays x) in
-    record { posts = listed; books = one_book lists s.today common (shared_rows s.shared) listed table index; fees = table; index = index }
+alike_run s lists common one holidays table index = alike_timely s.today lists common (shared_rows s.shared) one.timely holidays table index
 
 pub same_reason_at : (places : List (List ℕ × ℕ)) (common : SharedRows) (count today : ℕ) (rows : List Shared) (accounts : List OpenAccount) (i : ℕ) (d : OpenAccount) (p : Post)
     → IsDesk places common count today rows accounts → i < length accounts

@@ -9,7 +9,7 @@ use Rattle.card_book.specs.StepCounts.{breaks_from, breaks_with}
 use Rattle.card_book.specs.Stands.{steps_over}
 use Rattle.card_posts.specs.Change.{IsFirstChange}
 use Rattle.card_desk.proofs.FoldLemmas.{alike_at}
-use Rattle.card_desk.specs.Desks.{IsDesk, OpenDesk, named_all, reached_all, state_of}
+use Rattle.card_desk.specs.Desks.{IsDesk, OpenDesk, named_all, open_desk, reached_all, state_of}
 use Rattle.card_desk.specs.Steps.{AreFewOn, AreFewToApply, AreFewToKeep, AreFewToOpen, AreFewToPost, AreFewToTell, ReachedLists, breaks_left, most_for_all, reached_at, reached_of, reached_there, steps_at, steps_left}
 use Rattle.card_desk.specs.Places.{place_from}
 use Rattle.card_events.specs.History.{CorrectedPost, anchor_of, corrected, opening_in}
@@ -92,7 +92,7 @@ few_same today old new a b reached before after one two few = λ from is.
 -- ---- the account at a place
 -- what it has and has reached
 pub there_is : (rows : List Shared) (today : ℕ) (accounts : List OpenAccount) (i : ℕ) (b : OpenAccount) → i < length accounts → b ≡ get_or accounts i b
-    → reached_there (record { state = state_of today rows accounts; reached = reached_all accounts }) i ≡ record { lists = b.named.lists; reached = b.folding.reached }
+    → reached_there (open_desk today rows accounts) i ≡ record { lists = b.named.lists; reached = b.folding.reached }
 there_is rows today accounts i b low is =
     let none : NamedAccount = record { name = []; lists = record { posts = []; issued = [] } } in
     let named : get_or (named_all accounts) i none ≡ b.named = get_or-map (λ (x : OpenAccount). x.named) accounts i b none low ∙ ap (λ (x : OpenAccount). x.named) (sym is) in
@@ -101,7 +101,7 @@ there_is rows today accounts i b low is =
 
 -- the steps that are left on it are those of the desk's state
 pub steps_there : (places : List (List ℕ × ℕ)) (common : SharedRows) (count today : ℕ) (rows : List Shared) (accounts : List OpenAccount) (i : ℕ) (b : OpenAccount) (d : OpenDesk)
-    → IsDesk places common count today rows accounts → record { state = state_of today rows accounts; reached = reached_all accounts } ≡ d → i < length accounts → b ≡ get_or accounts i b
+    → IsDesk places common count today rows accounts → open_desk today rows accounts ≡ d → i < length accounts → b ≡ get_or accounts i b
     → steps_of today common b ≡ steps_at d i
 steps_there places common count today rows accounts i b d desk view low is =
     let alike = subst (λ (x : OpenAccount). AreAlike today x.named.lists common (shared_rows rows)) (sym is) (alike_at places common count today rows accounts i b desk low) in
@@ -113,8 +113,8 @@ spend : (before after x y u v : ℕ) → after + x ≤ before + y → x ≡ u �
 spend before after x y u v l e f = omega (arith, l, e, f)
 
 pub spent_there : (places : List (List ℕ × ℕ)) (common : SharedRows) (count today : ℕ) (rows : List Shared) (accounts : List OpenAccount) (i : ℕ) (a b : OpenAccount) (d new : OpenDesk) (before after : ℕ)
-    → IsDesk places common count today rows accounts → IsDesk places common count today rows (set accounts i a) → record { state = state_of today rows accounts; reached = reached_all accounts } ≡ d
-    → record { state = state_of today rows (set accounts i a); reached = reached_all (set accounts i a) } ≡ new → i < length accounts → b ≡ get_or accounts i b
+    → IsDesk places common count today rows accounts → IsDesk places common count today rows (set accounts i a) → open_desk today rows accounts ≡ d
+    → open_desk today rows (set accounts i a) ≡ new → i < length accounts → b ≡ get_or accounts i b
     → after + steps_of today common a ≤ before + steps_of today common b → after + steps_at new i ≤ before + steps_at d i
 spent_there places common count today rows accounts i a b d new before after desk next view made low is l =
     let here : i < length (set accounts i a) = omega (arith, low, length-set accounts i a) in
@@ -148,11 +148,11 @@ each-left s f (x ∷ xs) h =
     sums a b c d u v e f l m = omega (arith, e, f, l, m)
 
 pub few_for_all : (places : List (List ℕ × ℕ)) (common : SharedRows) (count today : ℕ) (rows : List Shared) (accounts : List OpenAccount) (d : OpenDesk) (before after : ℕ)
-    → IsDesk places common count today rows accounts → record { state = state_of today rows accounts; reached = reached_all accounts } ≡ d
+    → IsDesk places common count today rows accounts → open_desk today rows accounts ≡ d
     → after ≤ before + sum_by (steps_of today common) accounts → after ≤ before + most_for_all d
 few_for_all places common count today rows accounts d before after desk view l =
     subst (λ (x : OpenDesk). after ≤ before + most_for_all x) view
-    (within before after (sum_by (steps_of today common) accounts) (most_for_all (record { state = state_of today rows accounts; reached = reached_all accounts })) l
+    (within before after (sum_by (steps_of today common) accounts) (most_for_all (open_desk today rows accounts)) l
     (each-left (state_of today rows accounts) (steps_of today common) accounts (λ i e low. each i e low)))
   where
     within : (before after x y : ℕ) → after ≤ before + x → x ≤ y → after ≤ before + y

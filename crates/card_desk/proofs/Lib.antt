@@ -20,3 +20,6 @@ pub mod WorkLemmas
 pub mod MapLemmas
 pub mod Moves
 pub mod MixedRows
+pub mod Recording
+pub mod Entries
+pub mod Standing

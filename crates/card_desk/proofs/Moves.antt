@@ -11,7 +11,7 @@ use Rattle.card_account.specs.Runs.{AreRunning}
 use Rattle.card_account.proofs.Told.{on-any, on-any-err}
 use Rattle.card_desk.proofs.FoldLemmas.{account_at, alike_at, alike_run}
 use Rattle.card_desk.proofs.Left.{same_first, there_is}
-use Rattle.card_desk.specs.Desks.{IsDesk, OpenDesk, reached_all, state_of}
+use Rattle.card_desk.specs.Desks.{IsDesk, OpenDesk, open_desk, reached_all, state_of}
 use Rattle.card_desk.specs.Places.{place_from}
 use Rattle.card_desk.specs.Reached.{AllMove, IsDayAfter, MovesBy, MovesByOpen, MovesNamed, MovesOn, MovesToApply, MovesToTell, NoneMoves, OneMoves, OneReaches, OneStays, day_there}
 use Rattle.card_desk.specs.Steps.{ReachedLists, reached_there}
@@ -54,15 +54,11 @@ near-same : (today : ℕ) (old new : Lists) (a b : SharedRows) (before after : �
 near-same today old new a b before after one two h = record { near = λ from is. h.near from (same_first today old new a b from one two is); last = h.last }
 
 -- ---- one account
--- a desk by its parts
-abbrev pub desk_of : ℕ → List Shared → List OpenAccount → OpenDesk
-desk_of today rows accounts = record { state = state_of today rows accounts; reached = reached_all accounts }
-
 day-is : (accounts : List OpenAccount) (i : ℕ) (b : OpenAccount) → i < length accounts → b ≡ get_or accounts i b → get_or (reached_all accounts) i 0 ≡ b.folding.reached
 day-is accounts i b low is = get_or-map (λ (x : OpenAccount). x.folding.reached) accounts i b 0 low ∙ ap (λ (x : OpenAccount). x.folding.reached) (sym is)
 
-one-moves : (rows : List Shared) (today : ℕ) (accounts : List OpenAccount) (i : ℕ) (a : OpenAccount) (d : OpenDesk) (Holds : ℕ → Type 0) → desk_of today rows accounts ≡ d → i < length accounts → Holds a.folding.reached
-    → OneMoves i Holds d (desk_of today rows (set accounts i a))
+one-moves : (rows : List Shared) (today : ℕ) (accounts : List OpenAccount) (i : ℕ) (a : OpenAccount) (d : OpenDesk) (Holds : ℕ → Type 0) → open_desk today rows accounts ≡ d → i < length accounts → Holds a.folding.reached
+    → OneMoves i Holds d (open_desk today rows (set accounts i a))
 one-moves rows today accounts i a d Holds view low h =
     let here : i < length (set accounts i a) = omega (arith, low, length-set accounts i a) in
     let after : get_or (reached_all (set accounts i a)) i 0 ≡ a.folding.reached = day-is (set accounts i a) i a here (sym (get_or-set_same accounts i a a low)) in
@@ -73,8 +69,8 @@ one-moves rows today accounts i a d Holds view low h =
 
 -- it was told of
 pub told-moves : (places : List (List ℕ × ℕ)) (common : SharedRows) (count today : ℕ) (rows : List Shared) (accounts : List OpenAccount) (i : ℕ) (a b : OpenAccount) (d : OpenDesk)
-    → IsDesk places common count today rows accounts → desk_of today rows accounts ≡ d → i < length accounts → b ≡ get_or accounts i b → IsTold today common b a
-    → OneStays (Some i) d (desk_of today rows (set accounts i a))
+    → IsDesk places common count today rows accounts → open_desk today rows accounts ≡ d → i < length accounts → b ≡ get_or accounts i b → IsTold today common b a
+    → OneStays (Some i) d (open_desk today rows (set accounts i a))
 told-moves places common count today rows accounts i a b d desk view low is told =
     let stays = stays-told today common b a (account_at places common count today rows accounts i b desk low is) told in
     let here = subst (λ (n : ℕ). StaysOrIsToday today n a.folding.reached) (sym (day-is accounts i b low is)) stays in
@@ -82,11 +78,11 @@ told-moves places common count today rows accounts i a b d desk view low is told
     (subst (λ (x : OpenDesk). StaysOrIsToday x.state.today (day_there x i) a.folding.reached) view here)
 
 pub tells-moves : {T E : Type 0} (result : Result T E) (places : List (List ℕ × ℕ)) (common : SharedRows) (count today : ℕ) (rows : List Shared) (accounts : List OpenAccount) (i : ℕ) (a b : OpenAccount) (d : OpenDesk)
-    → IsDesk places common count today rows accounts → desk_of today rows accounts ≡ d → i < length accounts → b ≡ get_or accounts i b → IsTold today common b a → OnOk result (HasTold today common b a)
-    → MovesToTell (Some i) result d (desk_of today rows (set accounts i a))
+    → IsDesk places common count today rows accounts → open_desk today rows accounts ≡ d → i < length accounts → b ≡ get_or accounts i b → IsTold today common b a → OnOk result (HasTold today common b a)
+    → MovesToTell (Some i) result d (open_desk today rows (set accounts i a))
 tells-moves result places common count today rows accounts i a b d desk view low is told has = record {
   answered = on_ok_weaker result (λ (h : HasTold today common b a). one-moves rows today accounts i a d (λ day. day ≡ d.state.today) view low (h.reached ∙ ap (λ (x : OpenDesk). x.state.today) view)) has;
-  wanting = on-any-err result (OneStays (Some i) d (desk_of today rows (set accounts i a))) (told-moves places common count today rows accounts i a b d desk view low is told);
+  wanting = on-any-err result (OneStays (Some i) d (open_desk today rows (set accounts i a))) (told-moves places common count today rows accounts i a b d desk view low is told);
 }
 
 -- by its name
@@ -121,10 +117,10 @@ each-stays today common (x ∷ xs) (y ∷ ys) stand count h (suc i) low =
     each-stays today common xs ys (All-tail (IsAccount today common) x xs stand) (omega (arith, count)) (λ k d l. h (suc k) d (omega (arith, l))) i (omega (arith, low))
 
 pub all-move : {T E : Type 0} (result : Result T E) (places : List (List ℕ × ℕ)) (common : SharedRows) (count today : ℕ) (rows : List Shared) (xs ys : List OpenAccount) (d : OpenDesk)
-    → IsDesk places common count today rows xs → desk_of today rows xs ≡ d → AreTold today common xs ys → OnOk result (All (λ (a : OpenAccount). a.folding.reached ≡ today) ys)
-    → AllMove result d (desk_of today rows ys)
+    → IsDesk places common count today rows xs → open_desk today rows xs ≡ d → AreTold today common xs ys → OnOk result (All (λ (a : OpenAccount). a.folding.reached ≡ today) ys)
+    → AllMove result d (open_desk today rows ys)
 all-move result places common count today rows xs ys d desk view told has =
-    let new = desk_of today rows ys in
+    let new = open_desk today rows ys in
     subst (λ (x : OpenDesk). AllMove result x new) view (record {
       answered = on_ok_weaker result (all-days today ys) has;
       count = length-map ys (λ (x : OpenAccount). x.folding.reached) ∙ (told.count ∙ sym (length-map xs (λ (x : OpenAccount). x.folding.reached)));
@@ -156,13 +152,13 @@ repeated-moves d new i o n is h = subst (λ (x : Outcome). MovesBy (Some i) x d 
 
 -- accepted: it was told of, and then took the post
 pub posted-moves : (places : List (List ℕ × ℕ)) (common : SharedRows) (count today : ℕ) (rows : List Shared) (accounts : List OpenAccount) (i : ℕ) (a x b : OpenAccount) (d : OpenDesk) (name key : List ℕ) (p : Post)
-    → IsDesk places common count today rows accounts → desk_of today rows accounts ≡ d → i < length accounts → b ≡ get_or accounts i b
+    → IsDesk places common count today rows accounts → open_desk today rows accounts ≡ d → i < length accounts → b ≡ get_or accounts i b
     → outcome_in (state_of today rows accounts) name key p ≡ Accepts a.named.lists → AreRunning (state_of today rows accounts) a.named.lists → IsTold today common b x
     → StaysNear today common x.named.lists a.named.lists x.folding.reached a.folding.reached
-    → MovesBy (Some i) (outcome_in d.state name key p) d (desk_of today rows (set accounts i a))
+    → MovesBy (Some i) (outcome_in d.state name key p) d (open_desk today rows (set accounts i a))
 posted-moves places common count today rows accounts i a x b d name key p desk view low is accepts running told near =
     let s = state_of today rows accounts in
-    let here = desk_of today rows accounts in
+    let here = open_desk today rows accounts in
     let new = a.named.lists in
     let stays = stays-told today common b x (account_at places common count today rows accounts i b desk low is) told in
     let own = subst (λ (n : NamedAccount). StaysNear today common n.lists new x.folding.reached a.folding.reached) told.named near in
@@ -213,10 +209,10 @@ judged-moves result d mid new name key p i l state accepts judged kept = record 
     }
 
 -- ---- an account that is opened
-pub opened-moves : (rows : List Shared) (today : ℕ) (accounts list : List OpenAccount) (made : OpenAccount) (d : OpenDesk) (o : Outcome) (l : Lists) → desk_of today rows accounts ≡ d → list ≡ accounts ++ made ∷ []
-    → made.folding.reached ≡ today → o ≡ Accepts l → MovesBy None o d (desk_of today rows list)
+pub opened-moves : (rows : List Shared) (today : ℕ) (accounts list : List OpenAccount) (made : OpenAccount) (d : OpenDesk) (o : Outcome) (l : Lists) → open_desk today rows accounts ≡ d → list ≡ accounts ++ made ∷ []
+    → made.folding.reached ≡ today → o ≡ Accepts l → MovesBy None o d (open_desk today rows list)
 opened-moves rows today accounts list made d o l view is reached accepts =
-    let new = desk_of today rows list in
+    let new = open_desk today rows list in
     let grown : reached_all list ≡ reached_all accounts ++ made.folding.reached ∷ [] = ap reached_all is ∙ map-append (λ (x : OpenAccount). x.folding.reached) accounts (made ∷ []) in
     subst (λ (x : Outcome). MovesByOpen x d new) (sym accepts)
     (grown ∙ (ap (λ (n : ℕ). reached_all accounts ++ n ∷ []) reached ∙ ap (λ (x : OpenDesk). x.reached ++ x.state.today ∷ []) view))

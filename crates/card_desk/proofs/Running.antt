@@ -12,7 +12,7 @@ use Rattle.card_desk.proofs.KeptLemmas.{opened_is, posted_is, run_on}
 use Rattle.card_desk.proofs.Left.{few_to_keep, few_to_open, there_is}
 use Rattle.card_desk.proofs.OutcomeLemmas.{open_accepted, opening_reason}
 use Rattle.card_desk.proofs.PlaceLemmas.{no_place}
-use Rattle.card_desk.specs.Desks.{IsDesk, IsRun, OpenDesk, named_all, now_of, reached_all, state_of}
+use Rattle.card_desk.specs.Desks.{IsDesk, IsRun, OpenDesk, named_all, now_of, open_desk, state_of}
 use Rattle.card_desk.specs.Places.{IsPlace, place_from}
 use Rattle.card_desk.specs.Steps.{AreFewToKeep, AreFewToOpen, ReachedLists, reached_at}
 use Rattle.card_events.specs.History.{opening_in}
@@ -100,7 +100,7 @@ posted_in places common count today rows accounts i b name key p desk taken plac
 
 -- its steps
 pub few_posted : (places : List (List ℕ × ℕ)) (common : SharedRows) (count today : ℕ) (rows : List Shared) (accounts : List OpenAccount) (i : ℕ) (b : OpenAccount) (d : OpenDesk) (name key : List ℕ) (p : Post) (before after : ℕ)
-    → IsDesk places common count today rows accounts → record { state = state_of today rows accounts; reached = reached_all accounts } ≡ d → i < length accounts → b ≡ get_or accounts i b
+    → IsDesk places common count today rows accounts → open_desk today rows accounts ≡ d → i < length accounts → b ≡ get_or accounts i b
     → outcome_in (state_of today rows accounts) name key p ≡ Accepts (accepted (present_of today common b.named.lists) key p) → AreRunning (state_of today rows accounts) (accepted (present_of today common b.named.lists) key p)
     → AreFewToPrepare today common b.named.lists b.folding.reached key p before after → AreFewToKeep d.state (reached_at d (Some i)) (outcome_in d.state name key p) before after
 few_posted places common count today rows accounts i b d name key p before after desk view low is accepts one few =
@@ -108,5 +108,5 @@ few_posted places common count today rows accounts i b d name key p before after
     let here : ReachedLists = record { lists = b.named.lists; reached = b.folding.reached } in
     let alike = subst (λ (x : OpenAccount). AreAlike today x.named.lists common (shared_rows rows)) (sym is) (alike_at places common count today rows accounts i b desk low) in
     subst (λ (x : OpenDesk). AreFewToKeep x.state (reached_at x (Some i)) (outcome_in x.state name key p) before after) view
-    (few_to_keep (record { state = s; reached = reached_all accounts }) i (outcome_in s name key p) here (accepted (present_of today common b.named.lists) key p) common before after
+    (few_to_keep (open_desk today rows accounts) i (outcome_in s name key p) here (accepted (present_of today common b.named.lists) key p) common before after
     (there_is rows today accounts i b low is) accepts alike (alike_run s (accepted (present_of today common b.named.lists) key p) common one desk.holidays desk.table desk.index_rows) few)

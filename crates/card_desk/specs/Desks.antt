@@ -12,6 +12,7 @@ use Rattle.card_events.specs.SharedRows.{SharedRows, shared_rows}
 use Rattle.card_events.specs.declared.request.Request.{Request}
 use Rattle.card_events.specs.declared.request.Shared.{Shared}
 use Rattle.card_model.specs.Machine.{NamedAccount, State, run}
+use Rattle.card_model.specs.declared.entry.Entry.{Entry}
 use Rattle.card_model.specs.Refusals.{Lists, Present}
 
 -- the accounts as the machine has them
@@ -22,14 +23,24 @@ named_all accounts = map (λ a. a.named) accounts
 abbrev pub state_of : ℕ → List Shared → List OpenAccount → State
 state_of today rows accounts = record { today = today; shared = rows; accounts = named_all accounts }
 
--- a desk, as clauses see it: its state, and the day last reached of each account, in the order of their opening
+-- a desk, as clauses see it: its state; and the day last reached of each account and what is recorded of it up to then, in the order
+-- of their opening
 pub record OpenDesk : Type 0 where
   pub state : State
   pub reached : List ℕ
+  pub recorded : List (List Entry)
 
 -- the days that accounts have reached
 abbrev pub reached_all : List OpenAccount → List ℕ
 reached_all accounts = map (λ a. a.folding.reached) accounts
+
+-- what is recorded of them
+abbrev pub recorded_all : List OpenAccount → List (List Entry)
+recorded_all accounts = map (λ a. a.folding.past.track.entries.items) accounts
+
+-- the desk that these are
+abbrev pub open_desk : ℕ → List Shared → List OpenAccount → OpenDesk
+open_desk today rows accounts = record { state = state_of today rows accounts; reached = reached_all accounts; recorded = recorded_all accounts }
 
 -- what an account with these lists is judged and shown by, in a state
 abbrev pub now_of : State → Lists → Present

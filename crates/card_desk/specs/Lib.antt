@@ -9,3 +9,4 @@ pub mod Shares
 pub mod Steps
 pub mod Views
 pub mod IndexPlaces
+pub mod Recorded

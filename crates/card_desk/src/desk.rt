@@ -11,10 +11,12 @@ use crate::row::row_of;
 use crate::share::{load, loaded, rolled, shared_reason};
 use crate::{Ask, Fault, View};
 use card_account::{
-    Account, EntryList, Owing, Statement, Tasks, Verdict, is_open, open_reason, work_today,
+    Account, EntryList, Owing, Statement, Tasks, Verdict, is_open, open_reason, reach_today,
+    work_today,
 };
 use card_events::{Day, Name, NoMemory, Num, Post, Refusal, Reply, Request, Shared, Steps};
 use card_fees::SharedRows;
+use card_model::Entry;
 use card_ports::{Keeper, Row};
 use std::alloc::Global;
 use std::marker::Model;
@@ -33,19 +35,22 @@ pub struct Desk {
 }
 
 impl Model for Desk {
-    ghost use Rattle.card_desk.specs.Desks.{IsDesk, OpenDesk, reached_all, state_of};
+    ghost use Rattle.card_desk.specs.Desks.{IsDesk, OpenDesk, open_desk};
 
     ghost Value = { OpenDesk };
 
-    ghost view = { λ d. record { state = state_of d.today d.shared.items d.accounts.items; reached = reached_all d.accounts.items } };
+    ghost view = { λ d. open_desk d.today d.shared.items d.accounts.items };
 
     ghost invariant = { λ d. IsDesk d.index d.common d.count d.today d.shared.items d.accounts.items };
 }
 
 impl Desk {
-    ghost use Rattle.std.specs.Prelude.{◌≡◌, ◌≤◌, ◌<◌, ◌+◌, ◌++◌, [], ◌∷◌, true, Some, None, length, IfOk, OnOk, OnErr, IsErrOf};
+    ghost use Rattle.std.specs.Prelude.{◌≡◌, ◌≤◌, ◌<◌, ◌+◌, ◌^◌, ◌++◌, List, [], ◌∷◌, true, Some, None, length, slice_get, slice_index_or, IfOk, IfSome, OnOk, OnErr, IsErrOf};
+    ghost use Rattle.std.specs.List.{All};
+    ghost use Rattle.std.specs.Option.{option_map};
+    ghost use Rattle.card_model.specs.declared.entry.Entry.{Entry};
     ghost use Rattle.card_replay.specs.Replays.{present_of};
-    ghost use Rattle.card_desk.specs.Steps.{AreFewOn, AreFewToApply, AreFewToKeep, AreFewToOpen, AreFewToSee, AreFewToTell, most_for_all, reached_at, reached_of, steps_at};
+    ghost use Rattle.card_desk.specs.Steps.{AreFewOn, AreFewToApply, AreFewToKeep, AreFewToOpen, AreFewToSee, AreFewToTell, most_for_all, reached_at, reached_of, reached_there, steps_at};
     ghost use Rattle.card_account.specs.Accounts.{owing_in, restated_statement};
     ghost use Rattle.card_account.specs.Entries.{entries_today};
     ghost use Rattle.card_account.specs.Verdicts.{verdict_of};
@@ -67,12 +72,14 @@ impl Desk {
     ghost use Rattle.card_desk.specs.Kept.{Fits, accepted_count};
     ghost use Rattle.card_desk.specs.Places.{IsPlace, place_from};
     ghost use Rattle.card_desk.specs.Reached.{AllMove, MovesNamed, MovesOn, MovesToApply, MovesToSee, MovesToTell, NoneMoves, OneStays};
+    ghost use Rattle.card_desk.specs.Recorded.{AppliedStays, ChangesAt, MayChange, MayGrow, SeenStays, AreStanding, all_entries, entries_there};
     ghost use Rattle.card_desk.specs.Views.{issued, listed, restated, seen, shown};
 
     /// 2011-01-01 for today, and nothing else.
     pub fn new(alloc: Global) -> Desk
         ensures state { result.state ≡ start }
         ensures reached { result.reached ≡ [] }
+        ensures recorded { result.recorded ≡ [] }
     {
         Desk {
             today: Day::first(),
@@ -98,6 +105,83 @@ impl Desk {
         self.count
     }
 
+    /// How many accounts there are. Where all have reached today, what is recorded of them is all that the state has.
+    pub fn accounts(&self) -> u32
+        ensures value { result ≡ length self.now.state.accounts }
+        ensures recorded { result ≡ length self.now.recorded }
+        ensures few { result ≤ 1_000_000 }
+        ensures today { All (λ day. day ≡ self.now.state.today) self.now.reached → self.now.recorded ≡ all_entries self.now.state }
+    {
+        self.accounts.len() as u32
+    }
+
+    /// The place of an account in the order of opening, from 0 on. None comes exactly where it isn't there.
+    pub fn place_of(&self, account: &Name) -> Option<usize>
+        ensures value { result ≡ place_from account.now 0 self.now.state.accounts }
+        ensures within { IfSome result (λ at. at < length self.now.recorded) }
+    {
+        match self.index.find(account.bytes()) {
+            Some(at) => Some(at as usize),
+            None => None,
+        }
+    }
+
+    /// The name of the account at a place in the order of opening. None comes exactly where there are no more accounts than that.
+    pub fn name_at(&self, place: u32) -> Option<&Name>
+        ensures { option_copied result ≡ option_map (λ a. a.name) (slice_get self.now.state.accounts place) }
+    {
+        match self.accounts.get(place as usize) {
+            Some(account) => Some(account.name()),
+            None => None,
+        }
+    }
+
+    /// What is recorded of the account at a place in the order of opening: its entries up to the end of the day that it has reached,
+    /// which isn't after today.
+    pub fn recorded(&self, place: usize) -> &[Entry]
+        requires { place < length self.now.recorded }
+        ensures value { (d : List Entry) → result.now ≡ slice_index_or self.now.recorded place d }
+        ensures entries { result.now ≡ entries_there self.now place }
+        ensures reached { (reached_there self.now place).reached ≤ self.now.state.today }
+        ensures few { length result.now < 2 ^ 32 }
+    {
+        self.accounts[place].recorded()
+    }
+
+    /// What is recorded of an account. None comes exactly where it isn't there.
+    pub fn entries_of(&self, account: &Name) -> Option<&[Entry]>
+        ensures { option_copied result ≡ option_map (entries_there self.now) (place_from account.now 0 self.now.state.accounts) }
+    {
+        match self.place_of(account) {
+            Some(at) => Some(self.recorded(at)),
+            None => None,
+        }
+    }
+
+    /// How many of the first entries that are recorded of the account at a place stay if it takes a post today, whatever it is then taken
+    /// back to: those up to the last closing, by the day last reached, before the first day that the post changes, or none where that
+    /// day isn't told beforehand. It takes no memory.
+    pub fn standing(&self, place: usize, post: &Post) -> usize
+        requires { place < length self.now.recorded }
+        ensures { AreStanding result place post.now self.now }
+    {
+        self.accounts[place].standing(post, self.today, &self.common)
+    }
+
+    /// Folds all accounts to the end of today. After want of memory some have reached it and others haven't. It takes at most one step
+    /// more for each account than there are break days from the day last reached to today.
+    pub fn reach_all<L: Ledger>(
+        &mut self,
+        alloc: Global,
+        steps: &mut Steps<L>,
+    ) -> Result<(), NoMemory>
+        ensures state { self.new.state ≡ self.old.state }
+        ensures reached { AllMove result self.old self.new }
+        ensures most { steps.new ≤ steps.old + most_for_all self.old }
+    {
+        reach_today(alloc, &mut self.accounts, self.today, &self.common, steps)
+    }
+
     // The row of the next accepted request.
     fn next_row(&self, alloc: Global, request: &Request) -> Result<Row, NoMemory>
         requires { is_dated request.now ≡ true }
@@ -120,6 +204,7 @@ impl Desk {
         requires no_reason { shared_reason self.old.state.today (has_accounts self.old.state) shared.now ≡ None }
         ensures carried { Carried (K.rows keeper.old) (K.rows keeper.new) (K.faults keeper.old) (K.faults keeper.new) self.old.state request.now self.new.state result }
         ensures reached { NoneMoves self.old self.new }
+        ensures recorded { self.new.recorded ≡ self.old.recorded }
     {
         let row = self.next_row(alloc, request)?;
         self.shared.reserve(1)?;
@@ -144,6 +229,7 @@ impl Desk {
         requires asked { IsAsked (K.rows keeper.old) self.old.state request.now }
         ensures carried { Carried (K.rows keeper.old) (K.rows keeper.new) (K.faults keeper.old) (K.faults keeper.new) self.old.state request.now self.new.state result }
         ensures reached { NoneMoves self.old self.new }
+        ensures recorded { self.new.recorded ≡ self.old.recorded }
     {
         match shared_reason(self.today, self.accounts.len(), shared) {
             Some(refusal) => Ok(Reply::Refused(refusal)),
@@ -172,6 +258,7 @@ impl Desk {
         ensures carried { Carried (K.rows keeper.old) (K.rows keeper.new) (K.faults keeper.old) (K.faults keeper.new) self.old.state request.now self.new.state result }
         ensures reached { MovesOn None (outcome_in self.old.state account.now key.now post.now) result self.old self.new }
         ensures most { AreFewToOpen self.old.state post.now (outcome_in self.old.state account.now key.now post.now) steps.old steps.new }
+        ensures recorded { MayGrow self.old.recorded self.new.recorded }
     {
         let row = self.next_row(alloc, request)?;
         let name = account.copy(alloc)?;
@@ -210,6 +297,7 @@ impl Desk {
         ensures carried { Carried (K.rows keeper.old) (K.rows keeper.new) (K.faults keeper.old) (K.faults keeper.new) self.old.state request.now self.new.state result }
         ensures reached { MovesOn None (outcome_in self.old.state account.now key.now post.now) result self.old self.new }
         ensures most { AreFewToOpen self.old.state post.now (outcome_in self.old.state account.now key.now post.now) steps.old steps.new }
+        ensures recorded { MayGrow self.old.recorded self.new.recorded }
     {
         if !is_open(post) {
             return Ok(Reply::Refused(Refusal::UnknownAccount));
@@ -240,6 +328,7 @@ impl Desk {
         ensures carried { Carried (K.rows keeper.old) (K.rows keeper.new) (K.faults keeper.old) (K.faults keeper.new) self.old.state request.now self.new.state result }
         ensures reached { MovesOn (Some at) (outcome_in self.old.state account.now key.now post.now) result self.old self.new }
         ensures most { AreFewToKeep self.old.state (reached_at self.old (Some at)) (outcome_in self.old.state account.now key.now post.now) steps.old steps.new }
+        ensures recorded { ChangesAt at self.old.recorded self.new.recorded }
     {
         let row = self.next_row(alloc, request)?;
         let key = key.copy(alloc)?;
@@ -266,6 +355,7 @@ impl Desk {
         ensures value { IfOk result (λ v. (d : NamedAccount) → v ≡ verdict_of (at_key (now_at self.old.state at d) key.now post.now (with_key key.now (now_at self.old.state at d).lists.posts))) }
         ensures reached { OneStays (Some at) self.old self.new }
         ensures most { steps.new ≤ steps.old + steps_at self.old at }
+        ensures recorded { ChangesAt at self.old.recorded self.new.recorded }
         ensures spent { OnOk result (steps.new + steps_at self.new at ≤ steps.old + steps_at self.old at) }
     {
         let account = &mut self.accounts[at];
@@ -290,6 +380,7 @@ impl Desk {
         ensures carried { Carried (K.rows keeper.old) (K.rows keeper.new) (K.faults keeper.old) (K.faults keeper.new) self.old.state request.now self.new.state result }
         ensures reached { MovesOn (Some at) (outcome_in self.old.state account.now key.now post.now) result self.old self.new }
         ensures most { AreFewOn self.old.state post.now (reached_at self.old (Some at)) (outcome_in self.old.state account.now key.now post.now) steps.old steps.new }
+        ensures recorded { ChangesAt at self.old.recorded self.new.recorded }
     {
         match self.judge_at(alloc, at, key, post, steps) {
             Ok(Verdict::Refused(refusal)) => Ok(Reply::Refused(refusal)),
@@ -317,6 +408,7 @@ impl Desk {
         ensures carried { Carried (K.rows keeper.old) (K.rows keeper.new) (K.faults keeper.old) (K.faults keeper.new) self.old.state request.now self.new.state result }
         ensures reached { MovesToApply request.now result self.old self.new }
         ensures most { AreFewToApply self.old request.now steps.old steps.new }
+        ensures recorded { AppliedStays self.old request.now self.new }
     {
         match self.index.find(account.bytes()) {
             Some(at) => {
@@ -343,7 +435,7 @@ impl Desk {
     /// the opening day on. A shared request takes none.
     ///
     /// `Keeper`: the keeper failed, which alone raises its count. `Memory`: memory was wanted and isn't there.
-    #[tactic(auto, using(crate::proofs::Apart::apart_of_step), unfolding(crate::specs::Reached::MovesToApply, crate::specs::Steps::AreFewToApply))]
+    #[tactic(auto, using(crate::proofs::Apart::apart_of_step), unfolding(crate::specs::Reached::MovesToApply, crate::specs::Recorded::AppliedStays, crate::specs::Steps::AreFewToApply))]
     pub fn apply<K: Keeper, L: Ledger>(
         &mut self,
         alloc: Global,
@@ -361,6 +453,7 @@ impl Desk {
         ensures counts { IsCounted Fault.Keeper Fault.Memory (K.faults keeper.old) (K.faults keeper.new) result }
         ensures reached { MovesToApply request.now result self.old self.new }
         ensures most { AreFewToApply self.old request.now steps.old steps.new }
+        ensures recorded { AppliedStays self.old request.now self.new }
     {
         match request {
             Request::Shared(shared) => self.share(alloc, keeper, request, shared),
@@ -382,6 +475,7 @@ impl Desk {
         ensures value { IfOk result (λ x. (d : NamedAccount) → x ≡ owing_in (book_today (now_at self.old.state at d))) }
         ensures reached { MovesToTell (Some at) result self.old self.new }
         ensures most { steps.new ≤ steps.old + steps_at self.old at }
+        ensures recorded { ChangesAt at self.old.recorded self.new.recorded }
     {
         let account = &mut self.accounts[at];
         account.show(alloc, self.today, &self.common, steps)
@@ -400,6 +494,7 @@ impl Desk {
         ensures value { IfOk result (λ x. (d : NamedAccount) → x ≡ restated_statement (now_at self.old.state at d) cycle) }
         ensures reached { MovesToTell (Some at) result self.old self.new }
         ensures most { steps.new ≤ steps.old + steps_at self.old at }
+        ensures recorded { ChangesAt at self.old.recorded self.new.recorded }
     {
         let account = &mut self.accounts[at];
         account.restated(alloc, self.today, cycle, &self.common, steps)
@@ -417,6 +512,7 @@ impl Desk {
         ensures value { IfOk result (λ x. (d : NamedAccount) → x ≡ entries_today (now_at self.old.state at d)) }
         ensures reached { MovesToTell (Some at) result self.old self.new }
         ensures most { steps.new ≤ steps.old + steps_at self.old at }
+        ensures recorded { ChangesAt at self.old.recorded self.new.recorded }
     {
         let account = &mut self.accounts[at];
         account.entries(alloc, self.today, &self.common, steps)
@@ -433,6 +529,7 @@ impl Desk {
         ensures view { IfOk result (λ view. view ≡ shown self.old.state (lists_of account.now self.old.state.accounts)) }
         ensures reached { MovesNamed account.now result self.old self.new }
         ensures most { AreFewToTell self.old.state (reached_of account.now self.old) steps.old steps.new }
+        ensures recorded { MayChange (place_from account.now 0 self.old.state.accounts) self.old.recorded self.new.recorded }
     {
         let today = self.today();
         match self.index.find(account.bytes()) {
@@ -470,6 +567,7 @@ impl Desk {
         ensures view { IfOk result (λ view. view ≡ restated self.old.state cycle (lists_of account.now self.old.state.accounts)) }
         ensures reached { MovesNamed account.now result self.old self.new }
         ensures most { AreFewToTell self.old.state (reached_of account.now self.old) steps.old steps.new }
+        ensures recorded { MayChange (place_from account.now 0 self.old.state.accounts) self.old.recorded self.new.recorded }
     {
         match self.index.find(account.bytes()) {
             None => Ok(View::NoAccount),
@@ -491,6 +589,7 @@ impl Desk {
         ensures view { IfOk result (λ view. view ≡ listed self.old.state (lists_of account.now self.old.state.accounts)) }
         ensures reached { MovesNamed account.now result self.old self.new }
         ensures most { AreFewToTell self.old.state (reached_of account.now self.old) steps.old steps.new }
+        ensures recorded { MayChange (place_from account.now 0 self.old.state.accounts) self.old.recorded self.new.recorded }
     {
         match self.index.find(account.bytes()) {
             None => Ok(View::NoAccount),
@@ -529,7 +628,7 @@ impl Desk {
     /// The answer to what is asked, or want of memory. The state stays; the accounts that the answer is of reach today, and after want
     /// of memory some may have. It takes at most one step more than there are break days from the day last reached to today, none
     /// where the account isn't there or for what was issued, and for `Work` at most the sum of these over all accounts.
-    #[tactic(auto, unfolding(crate::specs::Reached::MovesToSee, crate::specs::Views::seen, crate::specs::Steps::AreFewToSee))]
+    #[tactic(auto, unfolding(crate::specs::Reached::MovesToSee, crate::specs::Recorded::SeenStays, crate::specs::Views::seen, crate::specs::Steps::AreFewToSee))]
     pub fn see<L: Ledger>(
         &mut self,
         alloc: Global,
@@ -540,6 +639,7 @@ impl Desk {
         ensures view { IfOk result (λ view. view ≡ seen self.old.state ask.now) }
         ensures reached { MovesToSee ask.now result self.old self.new }
         ensures most { AreFewToSee self.old ask.now steps.old steps.new }
+        ensures recorded { SeenStays self.old ask.now self.new }
     {
         match ask {
             Ask::Show(account) => self.show(alloc, account, steps),

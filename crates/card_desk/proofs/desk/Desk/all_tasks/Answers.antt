@@ -7,10 +7,10 @@ use Rattle.card_account.specs.Works.{work_of}
 use Rattle.card_desk.proofs.DeskLemmas.{state_by}
 use Rattle.card_desk.proofs.Left.{few_for_all}
 use Rattle.card_desk.proofs.WorkLemmas.{work-is, worked_desk, worked_state}
-use Rattle.card_desk.specs.Desks.{IsDesk, state_of}
+use Rattle.card_desk.specs.Desks.{IsDesk, open_desk, state_of}
 use Rattle.card_model.specs.Work.{work}
 use Rattle.card_model.specs.declared.task.Task.{Task}
-use Rattle.card_desk.proofs.Moves.{all-move, desk_of}
+use Rattle.card_desk.proofs.Moves.{all-move}
 use Rattle.card_desk.specs.Reached.{AllMove}
 use Rattle.card_desk.proofs.desk.Desk.all_tasks.Goals as goal
 
@@ -56,5 +56,5 @@ returns-clause-reached g c =
     let told = subst (λ (xs : List OpenAccount). AreTold d.today d.common xs c.work_today.new.accounts) c.deref_mut.ensures.value c.work_today.ensures.told in
     let count = told.count in
     let items = with_items_is d.accounts c.work_today.new.accounts (omega (arith, count, d.accounts.ok.0)) in
-    subst (λ (xs : List OpenAccount). AllMove c.work_today.result c.args.self.now (desk_of d.today d.shared.items xs)) (sym items)
+    subst (λ (xs : List OpenAccount). AllMove c.work_today.result c.args.self.now (open_desk d.today d.shared.items xs)) (sym items)
     (all-move c.work_today.result d.index d.common d.count d.today d.shared.items d.accounts.items c.work_today.new.accounts c.args.self.now c.self.invariant c.self.view_is told c.work_today.ensures.today)

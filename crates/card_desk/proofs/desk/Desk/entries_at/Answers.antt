@@ -9,6 +9,7 @@ use Rattle.card_model.specs.Machine.{NamedAccount}
 use Rattle.card_replay.specs.Replays.{present_of}
 use Rattle.card_desk.specs.Desks.{now_at}
 use Rattle.card_desk.proofs.Moves.{tells-moves}
+use Rattle.card_desk.proofs.Recording.{changed_at}
 use Rattle.card_desk.proofs.desk.Desk.entries_at.Goals as goal
 
 pub entries-requires : goal.entries-requires
@@ -79,3 +80,8 @@ returns-clause-reached g c =
     let is = c.index_mut-account.ensures.value in
     tells-moves c.entries.result d.index d.common d.count d.today d.shared.items items c.args.at c.entries.new.self b c.args.self.now c.self.invariant c.self.view_is (low_in d.shared.items d.today items s c.args.at state c.requires.place) is
     c.entries.ensures.told c.entries.ensures.today
+
+pub returns-clause-recorded : goal.returns-clause-recorded
+returns-clause-recorded g c =
+    let d = c.self.inside in
+    changed_at d.today d.shared.items d.accounts.items c.args.at c.entries.new.self c.args.self.now c.self.view_is

@@ -7,11 +7,12 @@ use Rattle.card_desk.proofs.DeskLemmas.{state_by}
 use Rattle.card_desk.proofs.FoldLemmas.{account_at}
 use Rattle.card_desk.proofs.Left.{spent_there, steps_there}
 use Rattle.card_desk.proofs.Reading.{low_in, told_desk, told_state, verdict_read}
-use Rattle.card_desk.specs.Desks.{OpenDesk, now_at, reached_all, state_of}
+use Rattle.card_desk.specs.Desks.{OpenDesk, now_at, open_desk}
 use Rattle.card_events.specs.Keys.{with_key}
 use Rattle.card_model.specs.Machine.{NamedAccount, at_key}
 use Rattle.card_replay.specs.Replays.{present_of}
 use Rattle.card_desk.proofs.Moves.{told-moves}
+use Rattle.card_desk.proofs.Recording.{changed_at}
 use Rattle.card_desk.proofs.desk.Desk.judge_at.Goals as goal
 
 pub judge-requires-clause-account : goal.judge-requires-clause-account
@@ -86,7 +87,7 @@ returns-clause-spent g c =
     let a = c.judge.new.self in
     let low = low_in d.shared.items d.today items s c.args.at state c.requires.place in
     let after = told_desk d.index d.common d.count d.today d.shared.items items c.args.at a b s c.self.invariant state c.requires.place is c.judge.ensures.told in
-    let new : OpenDesk = record { state = state_of d.today d.shared.items (set items c.args.at a); reached = reached_all (set items c.args.at a) } in
+    let new : OpenDesk = open_desk d.today d.shared.items (set items c.args.at a) in
     on_ok_weaker c.judge.result
     (λ (l : c.judge.new.steps + steps_of d.today d.common a ≤ c.args.steps.now + steps_of d.today d.common b).
     spent_there d.index d.common d.count d.today d.shared.items items c.args.at a b c.args.self.now new c.args.steps.now c.judge.new.steps c.self.invariant after c.self.view_is refl low is l) c.judge.ensures.spent
@@ -100,3 +101,8 @@ returns-clause-reached g c =
     let state = state_by _ _ c.self.view_is in
     let is = c.index_mut-account.ensures.value in
     told-moves d.index d.common d.count d.today d.shared.items items c.args.at c.judge.new.self b c.args.self.now c.self.invariant c.self.view_is (low_in d.shared.items d.today items s c.args.at state c.requires.place) is c.judge.ensures.told
+
+pub returns-clause-recorded : goal.returns-clause-recorded
+returns-clause-recorded g c =
+    let d = c.self.inside in
+    changed_at d.today d.shared.items d.accounts.items c.args.at c.judge.new.self c.args.self.now c.self.view_is

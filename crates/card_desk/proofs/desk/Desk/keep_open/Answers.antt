@@ -23,6 +23,9 @@ use Rattle.card_desk.proofs.StepLemmas.{goes_on, kept, post_accepted, wanted_mem
 use Rattle.card_rows.specs.Held.{is_request}
 use Rattle.card_desk.proofs.Moves.{done-moves, failed-moves, opened-moves}
 use Rattle.card_desk.specs.Desks.{OpenDesk, reached_all}
+use Rattle.card_desk.proofs.Recording.{grown_by}
+use Rattle.card_desk.specs.Desks.{recorded_all}
+use Rattle.card_desk.specs.Recorded.{MayGrow}
 use Rattle.card_desk.proofs.desk.Desk.keep_open.Goals as goal
 
 pub keep_row-requires : goal.keep_row-requires
@@ -207,3 +210,10 @@ returns-in-Ok-clause-reached g c =
     let outcome = open_accepted s c.args.account.now key p (no_place c.args.account.now 0 s.accounts c.requires.absent).0 c.requires.open c.requires.no_reason in
     done-moves _ None _ _ _
     (opened-moves d.shared.items d.today d.accounts.items c.push_account.new.list.items c.in_ok-made.made c.args.self.now (outcome_in s c.args.account.now key p) l c.self.view_is items c.in_ok-made.ensures.today outcome)
+
+pub returns-in-Ok-clause-recorded : goal.returns-in-Ok-clause-recorded
+returns-in-Ok-clause-recorded g c =
+    let d = c.self.inside in
+    let made = c.in_ok-made.made in
+    let items : c.push_account.new.list.items ≡ d.accounts.items ++ made ∷ [] = c.push_account.ensures ∙ ap (λ l. l ++ made ∷ []) c.in_ok-reserve.ensures.items in
+    subst (λ (xs : List OpenAccount). MayGrow c.args.self.now.recorded (recorded_all xs)) (sym items) (grown_by d.today d.shared.items d.accounts.items made c.args.self.now c.self.view_is)

@@ -31,6 +31,7 @@ use Rattle.card_rows.specs.Held.{is_request}
 use Rattle.card_account.specs.Reached.{StaysNear}
 use Rattle.card_account.specs.Runs.{AreRunning}
 use Rattle.card_desk.proofs.Moves.{done-moves, failed-moves, none-moves, posted-moves, told-moves}
+use Rattle.card_desk.proofs.Recording.{changed_at, unchanged}
 use Rattle.card_desk.proofs.desk.Desk.keep_post.Goals as goal
 
 pub keep_row-requires : goal.keep_row-requires
@@ -409,3 +410,25 @@ returns-clause-reached g c =
     done-moves _ (Some at) _ _ _
     (posted-moves d.index d.common d.count d.today d.shared.items items at a x b c.args.self.now name key p c.self.invariant c.self.view_is low is (outcome ∙ ap (λ (l : Lists). Accepts l) (sym lists))
     (subst (AreRunning (state_of d.today d.shared.items items)) (sym lists) one) c.prepare.ensures.told near)
+
+-- ---- what is recorded
+pub returns-in_err-row-clause-recorded : goal.returns-in_err-row-clause-recorded
+returns-in_err-row-clause-recorded g c = unchanged c.args.at c.args.self.now.recorded
+
+pub returns-in_err-key-clause-recorded : goal.returns-in_err-key-clause-recorded
+returns-in_err-key-clause-recorded g c = unchanged c.args.at c.args.self.now.recorded
+
+pub returns-in_err-change-clause-recorded : goal.returns-in_err-change-clause-recorded
+returns-in_err-change-clause-recorded g c =
+    let d = c.self.inside in
+    changed_at d.today d.shared.items d.accounts.items c.args.at c.prepare.new.self c.args.self.now c.self.view_is
+
+pub returns-in_err-keep_row-clause-recorded : goal.returns-in_err-keep_row-clause-recorded
+returns-in_err-keep_row-clause-recorded g c =
+    let d = c.self.inside in
+    changed_at d.today d.shared.items d.accounts.items c.args.at c.prepare.new.self c.args.self.now c.self.view_is
+
+pub returns-clause-recorded : goal.returns-clause-recorded
+returns-clause-recorded g c =
+    let d = c.self.inside in
+    changed_at d.today d.shared.items d.accounts.items c.args.at c.commit-number.new.self c.args.self.now c.self.view_is

@@ -1,4 +1,4 @@
-use Rattle.std.proofs.Common.{None, Some, ap, subst, sym, ◌∙◌}
+use Rattle.std.proofs.Common.{◌≡◌, ℕ, None, Option, Some, ap, subst, sym, ◌∙◌}
 use Rattle.card_model.specs.Machine.{State}
 use Rattle.card_desk.specs.Desks.{named_all}
 use Rattle.card_desk.specs.Places.{IsPlace, place_from}
@@ -8,6 +8,7 @@ use Rattle.card_desk.specs.Steps.{AreFewToApply}
 use Rattle.card_events.specs.declared.request.Request.{Request}
 use Rattle.card_desk.proofs.Moves.{named-applied}
 use Rattle.card_desk.specs.Reached.{MovesToApply}
+use Rattle.card_desk.specs.Recorded.{AppliedStays, StaysBut}
 use Rattle.card_desk.proofs.desk.Desk.post.Goals as goal
 
 pub post_known-requires-clause-place : goal.post_known-requires-clause-place
@@ -47,3 +48,20 @@ returns-in-None-clause-reached g c =
     ∙ found_none c.self.inside.index (named_all c.self.inside.accounts.items) c.args.account.now c.bytes.result.now c.self.invariant.index c.bytes.ensures.value c.in-None.ensures in
     subst (λ (r : Request). MovesToApply r c.post_unknown.result c.args.self.now c.post_unknown.new.self) (sym c.requires.request)
     (named-applied c.post_unknown.result c.args.self.now c.post_unknown.new.self c.args.account.now c.args.key.now c.args.post.now None absent c.post_unknown.ensures.reached)
+
+-- ---- what is recorded
+pub returns-in-Some-clause-recorded : goal.returns-in-Some-clause-recorded
+unfolding AppliedStays
+returns-in-Some-clause-recorded g c =
+    let there : place_from c.args.account.now 0 c.args.self.now.state.accounts ≡ Some c.in-Some.at = ap (λ (s : State). place_from c.args.account.now 0 s.accounts) (sym (state_by _ _ c.self.view_is))
+    ∙ placed_at c.self.inside.index (named_all c.self.inside.accounts.items) c.args.account.now c.bytes.result.now c.in-Some.at c.self.invariant.index c.bytes.ensures.value c.in-Some.ensures in
+    subst (λ (r : Request). AppliedStays c.args.self.now r c.post_known.new.self) (sym c.requires.request)
+    (subst (λ (o : Option ℕ). StaysBut o c.args.self.now.recorded c.post_known.new.self.recorded) (sym there) c.post_known.ensures.recorded)
+
+pub returns-in-None-clause-recorded : goal.returns-in-None-clause-recorded
+unfolding AppliedStays
+returns-in-None-clause-recorded g c =
+    let absent : place_from c.args.account.now 0 c.args.self.now.state.accounts ≡ None = ap (λ (s : State). place_from c.args.account.now 0 s.accounts) (sym (state_by _ _ c.self.view_is))
+    ∙ found_none c.self.inside.index (named_all c.self.inside.accounts.items) c.args.account.now c.bytes.result.now c.self.invariant.index c.bytes.ensures.value c.in-None.ensures in
+    subst (λ (r : Request). AppliedStays c.args.self.now r c.post_unknown.new.self) (sym c.requires.request)
+    (subst (λ (o : Option ℕ). StaysBut o c.args.self.now.recorded c.post_unknown.new.self.recorded) (sym absent) c.post_unknown.ensures.recorded)

@@ -16,6 +16,7 @@ use Rattle.card_desk.proofs.Left.{few_judged, few_left}
 use Rattle.card_desk.proofs.OutcomeLemmas.{new_at_key, none_against}
 use Rattle.card_desk.proofs.StepLemmas.{answered, out_of_memory, post_refused, post_repeated, refused_by, repeated_by}
 use Rattle.card_desk.proofs.Moves.{done-moves, judged-moves, refused-moves, repeated-moves}
+use Rattle.card_desk.proofs.Recording.{changed_twice}
 use Rattle.card_desk.proofs.desk.Desk.post_known.Goals as goal
 
 -- what stands for no account
@@ -151,3 +152,7 @@ returns-in-Ok-New-clause-reached g c =
 
 pub returns-in-Err-clause-reached : goal.returns-in-Err-clause-reached
 returns-in-Err-clause-reached g c = record { done = tt; failed = c.judge_at.ensures.reached }
+
+pub returns-in-Ok-New-clause-recorded : goal.returns-in-Ok-New-clause-recorded
+returns-in-Ok-New-clause-recorded g c =
+    changed_twice c.args.at c.args.self.now.recorded c.judge_at.new.self.recorded c.keep_post.new.self.recorded c.judge_at.ensures.recorded c.keep_post.ensures.recorded
