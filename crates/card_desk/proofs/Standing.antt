@@ -45,7 +45,7 @@ standing_by places common count today rows accounts i b n p desk low is h =
           let same : replay.lists_after today common key p (replay_of b) ≡ lists = same_accepted today old common (shared_rows rows) key p one ∙ sym taken_here in
           let all = accepts common today key p (replay_of b) account.replay account.reach (h.received (omega arith)) in
           let timely = subst (λ (l : Lists). AreTimely (anchor_of l.posts).opened l.posts) same all.timely in
-          let two = alike_timely today lists common (shared_rows rows) timely desk.holidays desk.table in
+          let two = alike_timely today lists common (shared_rows rows) timely desk.holidays desk.table desk.index_rows in
           let nearby : IsNear common old lists b.folding.reached day = λ from first. near_here.near from (same_first today old lists (shared_rows rows) common from (alike-back today old common (shared_rows rows) one) (alike-back today lists common (shared_rows rows) two) first) in
           let stays = h.stay key day (subst (λ (l : Lists). IsNear common old l b.folding.reached day) (sym same) nearby) in
           ap (λ (x : Book). take (suc n) x.entries) (sym (one_book lists day common (shared_rows rows) two.posts two.fees))
