@@ -1,0 +1,9 @@
+pub mod Cells
+pub mod Entered
+pub mod Ranges
+pub mod Changed
+pub mod Applied
+pub mod Fronts
+pub mod Sides
+pub mod Balanced
+pub mod Together

@@ -1,0 +1,180 @@
+ghost use Rattle.std.specs.Prelude.{◌≡◌, ◌≤◌, drop, length};
+ghost use Rattle.card_trial.specs.Totals.{AreNothing, AreTotals};
+
+use crate::totals::Totals;
+use card_desk::{Desk, Fault, View};
+use card_events::{Name, NoMemory, Reply, Request, Steps};
+use card_model::Entry;
+use card_ports::Keeper;
+use std::alloc::Global;
+use std::marker::Model;
+use std::sync::ledger::Ledger;
+
+/// A desk with its totals: of all entries of all accounts, as far as each was reached.
+#[derive(Drop)]
+pub struct LedgerDesk {
+    desk: Desk,
+    totals: Totals,
+}
+
+impl Model for LedgerDesk {
+    ghost use Rattle.card_trial.specs.Totals.{AreTotals, OpenLedger};
+
+    ghost Value = { OpenLedger };
+
+    ghost view = { λ l. record { desk = l.desk; totals = l.totals } };
+
+    ghost invariant = { λ l. AreTotals l.desk.recorded l.totals };
+}
+
+// The entries but for so many of the first.
+fn behind(entries: &[Entry], count: usize) -> &[Entry]
+    requires { count ≤ length entries.now }
+    ensures { result.now ≡ drop count entries.now }
+{
+    &entries[count..]
+}
+
+// Enters what is recorded of all accounts.
+fn fill(desk: &Desk, totals: &mut Totals)
+    requires { AreNothing totals.old }
+    ensures { AreTotals desk.now.recorded totals.new }
+{
+    let count = desk.accounts();
+    for place in 0..count {
+        totals.put_in(desk.recorded(place as usize));
+    }
+}
+
+impl LedgerDesk {
+    ghost use Rattle.std.specs.Prelude.{◌≡◌, ◌<◌, ◌≤◌, ◌+◌, true, length, IfOk, OnOk, OnErr};
+    ghost use Rattle.std.specs.List.{All};
+    ghost use Rattle.card_events.specs.Dated.{is_dated};
+    ghost use Rattle.card_ports.specs.Rows.{KeepsRows, SameRowsTold};
+    ghost use Rattle.card_model.specs.Machine.{lists_of};
+    ghost use Rattle.card_desk.specs.Apart.{IsApart};
+    ghost use Rattle.card_desk.specs.Applied.{IsCounted};
+    ghost use Rattle.card_desk.specs.Applied as applied;
+    ghost use Rattle.card_desk.specs.Desks.{OpenDesk};
+    ghost use Rattle.card_desk.specs.Kept.{Fits};
+    ghost use Rattle.card_desk.specs.Places.{place_from};
+    ghost use Rattle.card_desk.specs.Reached.{AllMove, MovesNamed, MovesToApply};
+    ghost use Rattle.card_desk.specs.Recorded.{AppliedStays, MayChange, all_entries};
+    ghost use Rattle.card_desk.specs.Steps.{AreFewToApply, AreFewToTell, most_for_all, reached_of};
+    ghost use Rattle.card_desk.specs.Views.{shown};
+    ghost use Rattle.card_trial.specs.Totals.{AreTotals};
+
+    /// Takes the desk.
+    pub fn of(alloc: Global, desk: Desk) -> Result<LedgerDesk, NoMemory>
+        ensures { IfOk result (λ l. l.desk ≡ desk) }
+    {
+        let mut totals = Totals::new(alloc)?;
+        fill(&desk, &mut totals);
+        Ok(LedgerDesk { desk, totals })
+    }
+
+    /// The desk inside.
+    pub fn desk(&self) -> &Desk
+        ensures { result.now ≡ self.now.desk }
+    {
+        &self.desk
+    }
+
+    /// The totals, which are those of all that is recorded; and, where all accounts are at today, those of all that the ledger has.
+    pub fn totals(&self) -> &Totals
+        ensures value { result.now ≡ self.now.totals }
+        ensures all { AreTotals self.now.desk.recorded self.now.totals }
+        ensures today { All (λ day. day ≡ self.now.desk.state.today) self.now.desk.reached → AreTotals (all_entries self.now.desk.state) self.now.totals }
+    {
+        let _count = self.desk.accounts();
+        &self.totals
+    }
+
+    /// One step of the machine, as `Desk::apply` takes it. Of the account that the request names, what a post may change is taken out
+    /// of the totals before, and what is recorded of it then is entered, whatever comes of the request: a refusal or a fault may have
+    /// folded the account on. It reads no other account's entries, and of these those behind the last closing before the first day
+    /// that the post changes, or all of them where that day isn't told beforehand.
+    pub fn apply<K: Keeper, L: Ledger>(
+        &mut self,
+        alloc: Global,
+        keeper: &mut K,
+        request: &Request,
+        steps: &mut Steps<L>,
+    ) -> Result<Reply, Fault>
+        requires dated { is_dated request.now ≡ true }
+        requires fits { Fits (K.rows keeper.old) self.old.desk.state }
+        ensures ok { IfOk result (applied.Steps (K.rows keeper.old) (K.rows keeper.new) self.old.desk.state request.now self.new.desk.state) }
+        ensures apart { IfOk result (IsApart self.old.desk.state request.now self.new.desk.state) }
+        ensures err { OnErr result (self.new.desk.state ≡ self.old.desk.state) }
+        ensures rows_stay { OnErr result (KeepsRows (K.rows keeper.old) (K.rows keeper.new)) }
+        ensures told { SameRowsTold (K.rows keeper.old) (K.rows keeper.new) }
+        ensures counts { IsCounted Fault.Keeper Fault.Memory (K.faults keeper.old) (K.faults keeper.new) result }
+        ensures reached { MovesToApply request.now result self.old.desk self.new.desk }
+        ensures most { AreFewToApply self.old.desk request.now steps.old steps.new }
+        ensures recorded { AppliedStays self.old.desk request.now self.new.desk }
+    {
+        match request {
+            Request::Shared(_) => self.desk.apply(alloc, keeper, request, steps),
+            Request::Post { account, post, .. } => match self.desk.place_of(account) {
+                Some(at) => {
+                    let _few = self.desk.accounts();
+                    let standing = self.desk.standing(at, post);
+                    self.totals
+                        .take_out(behind(self.desk.recorded(at), standing));
+                    let result = self.desk.apply(alloc, keeper, request, steps);
+                    self.totals.put_in(behind(self.desk.recorded(at), standing));
+                    result
+                }
+                None => {
+                    let before = self.desk.accounts();
+                    let result = self.desk.apply(alloc, keeper, request, steps);
+                    if self.desk.accounts() > before {
+                        self.totals.put_in(self.desk.recorded(before as usize));
+                    }
+                    result
+                }
+            },
+        }
+    }
+
+    /// What is owed on an account today, as `Desk::show` tells it.
+    pub fn show<L: Ledger>(
+        &mut self,
+        alloc: Global,
+        account: &Name,
+        steps: &mut Steps<L>,
+    ) -> Result<View, NoMemory>
+        ensures state { self.new.desk.state ≡ self.old.desk.state }
+        ensures view { IfOk result (λ view. view ≡ shown self.old.desk.state (lists_of account.now self.old.desk.state.accounts)) }
+        ensures reached { MovesNamed account.now result self.old.desk self.new.desk }
+        ensures most { AreFewToTell self.old.desk.state (reached_of account.now self.old.desk) steps.old steps.new }
+        ensures recorded { MayChange (place_from account.now 0 self.old.desk.state.accounts) self.old.desk.recorded self.new.desk.recorded }
+    {
+        match self.desk.place_of(account) {
+            Some(at) => {
+                let _few = self.desk.accounts();
+                let entered = self.desk.recorded(at).len();
+                let result = self.desk.show(alloc, account, steps);
+                self.totals.put_in(behind(self.desk.recorded(at), entered));
+                result
+            }
+            None => self.desk.show(alloc, account, steps),
+        }
+    }
+
+    /// Brings every account to today. After want of memory some may be there and others not.
+    pub fn to_today<L: Ledger>(
+        &mut self,
+        alloc: Global,
+        steps: &mut Steps<L>,
+    ) -> Result<(), NoMemory>
+        ensures state { self.new.desk.state ≡ self.old.desk.state }
+        ensures reached { AllMove result self.old.desk self.new.desk }
+        ensures most { steps.new ≤ steps.old + most_for_all self.old.desk }
+    {
+        let result = self.desk.reach_all(alloc, steps);
+        self.totals.clear();
+        fill(&self.desk, &mut self.totals);
+        result
+    }
+}

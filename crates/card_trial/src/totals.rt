@@ -1,0 +1,80 @@
+use crate::side::Side;
+use crate::sums::Sums;
+use card_events::{Day, NoMemory};
+use card_model::{Entry, EntryKind};
+use std::alloc::Global;
+use std::marker::Model;
+
+/// The debits and the credits of each kind by days, over all accounts.
+#[derive(Drop)]
+pub struct Totals {
+    debits: Sums,
+    credits: Sums,
+}
+
+impl Model for Totals {
+    ghost use Rattle.card_trial.specs.Totals.{BothSums};
+
+    ghost Value = { BothSums };
+
+    ghost view = { λ t. record { debits = t.debits; credits = t.credits } };
+}
+
+impl Totals {
+    ghost use Rattle.std.specs.Prelude.{◌≡◌, ◌+◌, ◌*◌, ◌<◌, ◌≤◌, ◌^◌, ℕ, List, pos, length, IfOk};
+    ghost use Rattle.card_model.specs.declared.entry.Entry.{Entry};
+    ghost use Rattle.card_trial.specs.Sums.{all_between};
+    ghost use Rattle.card_trial.specs.Totals.{AreEntered, AreEnough, AreNothing, AreTotals, HaveRoom, IsTakenOut};
+
+    /// Nothing.
+    pub fn new(alloc: Global) -> Result<Totals, NoMemory>
+        ensures { IfOk result AreNothing }
+    {
+        Ok(Totals {
+            debits: Sums::new(alloc)?,
+            credits: Sums::new(alloc)?,
+        })
+    }
+
+    /// All of it is taken out.
+    pub fn clear(&mut self)
+        ensures { AreNothing self.new }
+    {
+        self.debits.clear();
+        self.credits.clear();
+    }
+
+    /// Enters entries.
+    pub fn put_in(&mut self, entries: &[Entry])
+        requires { HaveRoom (length entries.now) self.old }
+        ensures { AreEntered entries.now self.old self.new }
+    {
+        self.debits.put_in(Side::Debits, entries);
+        self.credits.put_in(Side::Credits, entries);
+    }
+
+    /// Takes entries out, which were entered.
+    pub fn take_out(&mut self, entries: &[Entry])
+        requires { AreEnough entries.now self.old }
+        ensures { IsTakenOut entries.now self.old self.new }
+    {
+        self.debits.take_out(Side::Debits, entries);
+        self.credits.take_out(Side::Credits, entries);
+    }
+
+    /// The debits of a kind from one day to another.
+    pub fn debits(&self, from: Day, to: Day, kind: EntryKind) -> i128
+        requires { from ≤ to }
+        ensures { (lists : List (List Entry)) → AreTotals lists self.now → result ≡ pos (all_between Side.Debits from to kind lists) }
+    {
+        self.debits.between(from, to, kind)
+    }
+
+    /// The credits.
+    pub fn credits(&self, from: Day, to: Day, kind: EntryKind) -> i128
+        requires { from ≤ to }
+        ensures { (lists : List (List Entry)) → AreTotals lists self.now → result ≡ pos (all_between Side.Credits from to kind lists) }
+    {
+        self.credits.between(from, to, kind)
+    }
+}

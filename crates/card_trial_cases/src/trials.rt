@@ -1,0 +1,223 @@
+ghost use Rattle.card_events.specs.Blanks.{IsBlankOf};
+
+use crate::keeper::Untold;
+use card_desk::Desk;
+use card_events::{Day, Reply, Request, Steps};
+use card_lines::{Line, read_day, read_line};
+use card_model::EntryKind;
+use card_trial::LedgerDesk;
+use std::alloc::Global;
+use std::marker::Brand;
+use std::process::Abort;
+use std::sync::ledger::{Blank, Ledger};
+use std::test::Fail;
+
+// Lines of requests and questions, and what a kind comes to then, from one day to another: its debits and its credits, in cents.
+struct Case {
+    lines: &'static [&'static [u8]],
+    first: &'static [u8],
+    last: &'static [u8],
+    kind: EntryKind,
+    debits: i128,
+    credits: i128,
+}
+
+// A charge.
+static CHARGED: [Case; 2] = [
+    Case {
+        lines: &[
+            b"roll 2024-03-01",
+            b"open a o 2024-03-01 5 1999 2499 2199 2999 2500 100",
+            b"charge a c1 2024-03-01 purchase 1250",
+            b"show a",
+        ],
+        first: b"2024-03-01",
+        last: b"2024-03-01",
+        kind: EntryKind::Charge,
+        debits: 1_250,
+        credits: 0,
+    },
+    Case {
+        lines: &[],
+        first: b"2011-01-01",
+        last: b"2024-02-29",
+        kind: EntryKind::Charge,
+        debits: 0,
+        credits: 0,
+    },
+];
+
+// A dispute, and its resolution in full, which takes the charge back from its own day on.
+static DISPUTED: [Case; 3] = [
+    Case {
+        lines: &[
+            b"roll 2024-02-16",
+            b"open d o 2024-01-16 15 1999 2499 2199 2999 2500 100",
+            b"charge d c1 2024-02-01 purchase 5000",
+            b"bill d b1 1",
+            b"roll 2024-04-17",
+            b"dispute d x1 2024-04-16 2 5000",
+        ],
+        first: b"2024-04-16",
+        last: b"2024-04-16",
+        kind: EntryKind::Hold,
+        debits: 5_000,
+        credits: 5_000,
+    },
+    Case {
+        lines: &[b"show d"],
+        first: b"2011-01-01",
+        last: b"2024-04-17",
+        kind: EntryKind::Interest,
+        debits: 165,
+        credits: 0,
+    },
+    Case {
+        lines: &[b"resolve d y1 2024-04-17 4 5000"],
+        first: b"2024-04-16",
+        last: b"2024-04-16",
+        kind: EntryKind::Hold,
+        debits: 0,
+        credits: 0,
+    },
+];
+
+// A charge of an earlier cycle that is corrected, and then moved to a later day, with the interest on it.
+static CORRECTED: [Case; 4] = [
+    Case {
+        lines: &[
+            b"feerow 2011-01-02 3000 4100",
+            b"roll 2024-01-10",
+            b"open a o 2024-01-06 5 1999 2499 2199 2999 2500 100",
+            b"charge a c1 2024-01-10 cash 50000",
+            b"roll 2024-02-10",
+            b"charge a c2 2024-02-08 purchase 1000",
+        ],
+        first: b"2024-01-10",
+        last: b"2024-02-05",
+        kind: EntryKind::Interest,
+        debits: 924,
+        credits: 0,
+    },
+    Case {
+        lines: &[b"amend a m1 2 2024-01-10 20000"],
+        first: b"2024-01-10",
+        last: b"2024-02-05",
+        kind: EntryKind::Interest,
+        debits: 370,
+        credits: 0,
+    },
+    Case {
+        lines: &[],
+        first: b"2024-01-10",
+        last: b"2024-01-10",
+        kind: EntryKind::Charge,
+        debits: 20_000,
+        credits: 0,
+    },
+    Case {
+        lines: &[b"amend a m2 2 2024-01-12 20000"],
+        first: b"2024-01-10",
+        last: b"2024-01-10",
+        kind: EntryKind::Charge,
+        debits: 0,
+        credits: 0,
+    },
+];
+
+fn day(rt: &impl Abort, text: &[u8]) -> Day {
+    read_day(text).expect(rt, "a day")
+}
+
+// Carries out a request, which is accepted.
+fn accept<L: Ledger>(
+    rt: &impl Abort,
+    alloc: Global,
+    ledger: &mut LedgerDesk,
+    request: &Request,
+    steps: &mut Steps<L>,
+) {
+    assert!(rt; request.is_dated());
+    let mut keeper = Untold {};
+    let accepted = match ledger.apply(alloc, &mut keeper, request, steps) {
+        Ok(Reply::Done | Reply::Accepted(_)) => true,
+        _ => false,
+    };
+    assert!(rt; accepted);
+}
+
+// Carries out a line.
+fn carry_out<L: Ledger>(
+    rt: &impl Abort,
+    alloc: Global,
+    ledger: &mut LedgerDesk,
+    line: &[u8],
+    steps: &mut Steps<L>,
+) -> Result<(), Fail> {
+    match read_line(alloc, line)? {
+        Line::Request(request) => accept(rt, alloc, ledger, &request, steps),
+        Line::Show(account) => {
+            let _view = ledger.show(alloc, &account, steps)?;
+        }
+        Line::Bad(_) => assert!(rt; false),
+    }
+    Ok(())
+}
+
+// Whether the totals are those of a case, between its days.
+fn are_of(rt: &impl Abort, ledger: &LedgerDesk, case: &Case) -> bool {
+    let first = day(rt, case.first);
+    let last = day(rt, case.last);
+    assert!(rt; first <= last);
+    let totals = ledger.totals();
+    totals.debits(first, last, case.kind) == case.debits
+        && totals.credits(first, last, case.kind) == case.credits
+}
+
+// Carries out the lines of a case, and brings all accounts to today.
+fn run_case<L: Ledger>(
+    rt: &impl Abort,
+    alloc: Global,
+    ledger: &mut LedgerDesk,
+    case: &Case,
+    steps: &mut Steps<L>,
+) -> Result<(), Fail> {
+    for line in case.lines {
+        carry_out(rt, alloc, ledger, line, steps)?;
+    }
+    ledger.to_today(alloc, steps)?;
+    Ok(())
+}
+
+// Each case goes on from the one before it.
+fn run_cases<L: Ledger>(
+    rt: &impl Abort,
+    alloc: Global,
+    cases: &[Case],
+    blank: Blank,
+) -> Result<(), Fail>
+    requires own { IsBlankOf L.name L.parts blank.name blank.parts }
+{
+    let mut steps = Steps::<L>::new(blank);
+    let mut ledger = LedgerDesk::of(alloc, Desk::new(alloc))?;
+    for case in cases {
+        run_case(rt, alloc, &mut ledger, case, &mut steps)?;
+        assert!(rt; are_of(rt, &ledger, case));
+    }
+    Ok(())
+}
+
+#[test]
+fn a_charge(rt: HostRuntime) -> Result<(), Fail> {
+    run_cases::<Brand>(&rt, rt.alloc(), &CHARGED, Blank::new(1))
+}
+
+#[test]
+fn a_dispute(rt: HostRuntime) -> Result<(), Fail> {
+    run_cases::<Brand>(&rt, rt.alloc(), &DISPUTED, Blank::new(1))
+}
+
+#[test]
+fn a_correction(rt: HostRuntime) -> Result<(), Fail> {
+    run_cases::<Brand>(&rt, rt.alloc(), &CORRECTED, Blank::new(1))
+}
