@@ -7,7 +7,7 @@ use Rattle.card_ports.specs.Bytes.{IsFront}
 use Rattle.card_lines.specs.declared.line.Line.{Line}
 use Rattle.card_lines.specs.Lines.{line_of}
 use Rattle.card_commands.specs.Input.{first_part, other_parts, unended, ended_line, ended_lines, last_line, ended_items, all_items}
-use Rattle.card_commands.specs.Feed.{Progress, next_item, feed_all, text_all, rows_all, new_run, end_text, end_rows, end_refused}
+use Rattle.card_commands.specs.Feed.{Progress, next_item, feed_all, text_all, rows_all, new_run, end_text, end_rows, end_refused, end_ledger}
 use Rattle.card_commands.specs.Answers.{next, answer_text, is_refused, item_rows}
 use Rattle.card_commands.specs.Items.{item_of, numbered}
 use Rattle.card_text.specs.declared.item.Item.{Item}
@@ -22,6 +22,10 @@ text_of-append s (x ∷ xs) ys = ap (λ t. answer_text s x ++ t) (text_of-append
 pub rows_kept-append : (s : State) (xs ys : List Item) → rows_kept s (xs ++ ys) ≡ rows_kept s xs ++ rows_kept (after s xs) ys
 rows_kept-append s [] ys = refl
 rows_kept-append s (x ∷ xs) ys = ap (λ t. item_rows s x ++ t) (rows_kept-append (next s x) xs ys) ∙ sym (append_assoc (item_rows s x) (rows_kept (next s x) xs) (rows_kept (after (next s x) xs) ys))
+
+pub after-append : (s : State) (xs ys : List Item) → after s (xs ++ ys) ≡ after (after s xs) ys
+after-append s [] ys = refl
+after-append s (x ∷ xs) ys = after-append (next s x) xs ys
 
 numbered-append : (n : ℕ) (xs ys : List Line) → numbered n (xs ++ ys) ≡ numbered n xs ++ numbered (n + length xs) ys
 numbered-append n [] ys = ap (λ (k : ℕ). numbered k ys) (omega arith)
@@ -63,6 +67,11 @@ end_refused_is : (p : Progress) (line : List ℕ) → p.line ≡ line → end_re
 unfolding end_refused
 end_refused_is p [] is = rw is (sym (or_false p.refused))
 end_refused_is p (b ∷ line) is = let some : eqb (length (b ∷ line)) 0 ≡ false = ne_eqb _ _ (λ (e : length (b ∷ line) ≡ 0). omega arith) in rw (is, some) (ap (λ c. p.refused || c) (sym (or_false (is_refused p.ledger (next_item p (line_of (b ∷ line)))))))
+
+end_ledger_is : (p : Progress) (line : List ℕ) → p.line ≡ line → end_ledger p ≡ after p.ledger (last_item p line)
+unfolding end_ledger
+end_ledger_is p [] is = rw is refl
+end_ledger_is p (b ∷ line) is = let some : eqb (length (b ∷ line)) 0 ≡ false = ne_eqb _ _ (λ (e : length (b ∷ line) ≡ 0). omega arith) in rw (is, some) refl
 
 lines_are : (bs : List ℕ) → map ended_line (cut [] bs) ≡ ended_lines bs
 lines_are bs = ap (map ended_line) (sym (cut_is [] bs))
@@ -131,6 +140,12 @@ whole_refused s bs =
     let first : q.refused ≡ any_refused s (ended_items bs) = (fed (new_run s) [] bs refl).refused ∙ ap (any_refused s) (items_are bs) in
     last ∙ ap (λ b. b || any_refused q.ledger rest) first ∙ ap (λ t. any_refused s (ended_items bs) || any_refused t rest) (ledger_is s bs)
     ∙ sym (any_refused-append s (ended_items bs) rest) ∙ ap (any_refused s) (sym (all_are bs))
+
+pub whole_ledger : (s : State) (bs : List ℕ) → end_ledger (feed_all (new_run s) bs) ≡ after s (all_items bs)
+whole_ledger s bs =
+    let q = feed_all (new_run s) bs in
+    end_ledger_is q _ (fed (new_run s) [] bs refl).line ∙ ap (after q.ledger) (rest_is s bs) ∙ ap (λ t. after t (rest_of bs)) (ledger_is s bs)
+    ∙ sym (after-append s (ended_items bs) (rest_of bs)) ∙ ap (after s) (sym (all_are bs))
 
 -- ---- the first lines of an input
 

@@ -3,7 +3,7 @@ use Rattle.std.proofs.Common.{◌≡◌, ℕ, List, [], ◌∷◌, ◌++◌, sym
 use Rattle.std.specs.Prelude.{codes, IfErr, OnOk, IsErrAnd}
 use Rattle.std.specs.Fmt.{decimal}
 use Rattle.card_ports.specs.declared.source.SinkFault.{SinkFault}
-use Rattle.card_commands.specs.Words.{damaged_line}
+use Rattle.card_commands.specs.Said.{damaged_line}
 use Rattle.card_ports.specs.Written.{SinkSide, TookAll, TookPart}
 use Rattle.card_commands.proofs.SideLemmas.{all_then, part_then, part_first}
 

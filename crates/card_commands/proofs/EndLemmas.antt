@@ -5,10 +5,10 @@ use Rattle.std.specs.Prelude.{IfOk, IfErr}
 use Rattle.card_ports.specs.Rows.{AddsRows}
 use Rattle.card_model.specs.Machine.{State}
 use Rattle.card_ports.specs.Bytes.{IsFront}
-use Rattle.card_commands.specs.Commands.{ended_by, ended_of}
-use Rattle.card_commands.specs.Feed.{Progress, feed_all, text_all, rows_all, new_run, end_text, end_rows, end_refused}
+use Rattle.card_commands.specs.Statuses.{ended_by, ended_of}
+use Rattle.card_commands.specs.Feed.{Progress, feed_all, text_all, rows_all, new_run, end_text, end_rows, end_refused, end_ledger}
 use Rattle.card_commands.specs.Input.{ended_items, all_items, lines}
-use Rattle.card_commands.specs.Outside.{Outside, ReadFirst, ReadAll, Wrote, WroteFront, Runs, HasCause, Unfailed, but_last, sides_of, AreFirst}
+use Rattle.card_commands.specs.Outside.{Outside, ReadFirst, ReadAllTo, Wrote, WroteFront, Runs, RunsTo, HasCause, Unfailed, but_last, sides_of, AreFirst}
 use Rattle.card_commands.specs.Ran.{Finished, HeldAt, StoppedAt, Ran, FellReading}
 use Rattle.card_commands.specs.Run.{text_of, rows_kept}
 use Rattle.card_ports.specs.Written.{TookFront}
@@ -18,7 +18,7 @@ use Rattle.card_commands.specs.declared.stop.Stop.TheVariants as stop
 use Rattle.card_commands.specs.declared.ended.Ended.{Ended}
 use Rattle.card_commands.specs.declared.ended.Ended.TheVariants as ended
 use Rattle.card_text.specs.declared.item.Item.{Item}
-use Rattle.card_commands.proofs.ApplyLemmas.{text_is, rows_are, whole_text, whole_rows, whole_refused, first_items, all_first, OneMore, one_byte, low_front, last_more, none_more}
+use Rattle.card_commands.proofs.ApplyLemmas.{text_is, rows_are, whole_text, whole_rows, whole_refused, whole_ledger, first_items, all_first, OneMore, one_byte, low_front, last_more, none_more}
 use Rattle.card_commands.proofs.FeedLemmas.{cause_of, cause_after}
 use Rattle.card_commands.proofs.RowLemmas.{AddsRows-trans}
 use Rattle.card_commands.proofs.SideLemmas.{front_trans, front_refl, took_whole, took_part, did_then, counts_then}
@@ -67,15 +67,15 @@ stopped old new s bytes at =
     )
 
 -- a run that was ended early
-fell_run : {I K : Type 0} (old new : Outside I K) (s : State) (e : Stop) → FellReading old new (new_run s) e → Runs old new lines s (ended_by e)
-fell_run old new s stop.Source fell = record { bytes = fell.bytes; read = fell.read; stands = wrote old new s fell.bytes fell.did }
-fell_run old new s stop.Sink fell = let some = stopped old new s fell.bytes fell.did in record { bytes = fell.bytes; read = fell.read; stands = (some.0, inl some.1, some.2) }
-fell_run old new s stop.Keeper fell = let some = held old new s fell.bytes fell.did in record { bytes = fell.bytes; read = fell.read; stands = (some.0, inl some.1, some.2) }
-fell_run old new s stop.Memory fell = let some = stopped old new s fell.bytes fell.did in record { bytes = fell.bytes; read = fell.read; stands = (some.0, inl some.1, some.2) }
-fell_run old new s stop.Endless fell = absurd fell.did
+fell_run : {I K : Type 0} (old new : Outside I K) (s t : State) (e : Stop) → FellReading old new (new_run s) e → RunsTo old new lines s t (ended_by e)
+fell_run old new s t stop.Source fell = record { bytes = fell.bytes; read = fell.read; stands = wrote old new s fell.bytes fell.did }
+fell_run old new s t stop.Sink fell = let some = stopped old new s fell.bytes fell.did in record { bytes = fell.bytes; read = fell.read; stands = (some.0, inl some.1, some.2) }
+fell_run old new s t stop.Keeper fell = let some = held old new s fell.bytes fell.did in record { bytes = fell.bytes; read = fell.read; stands = (some.0, inl some.1, some.2) }
+fell_run old new s t stop.Memory fell = let some = stopped old new s fell.bytes fell.did in record { bytes = fell.bytes; read = fell.read; stands = (some.0, inl some.1, some.2) }
+fell_run old new s t stop.Endless fell = absurd fell.did
 
-pub fell_end : {I K : Type 0} (old new : Outside I K) (s : State) (e : Stop) (x : Ended) → x ≡ ended_by e → FellReading old new (new_run s) e → Runs old new lines s x
-fell_end old new s e x is fell = subst (λ (y : Ended). Runs old new lines s y) (sym is) (fell_run old new s e fell)
+pub fell_end : {I K : Type 0} (old new : Outside I K) (s t : State) (e : Stop) (x : Ended) → x ≡ ended_by e → FellReading old new (new_run s) e → RunsTo old new lines s t x
+fell_end old new s t e x is fell = subst (λ (y : Ended). RunsTo old new lines s t y) (sym is) (fell_run old new s t e fell)
 
 pub fell_end_cause : {I K : Type 0} (old new : Outside I K) (s : State) (e : Stop) (x : Ended) → x ≡ ended_by e → FellReading old new (new_run s) e → HasCause old new x
 fell_end_cause old new s e x is fell = subst (λ (y : Ended). HasCause old new y) (sym is) fell.cause
@@ -93,9 +93,9 @@ read_on old mid new p q n ran same = subst (λ (x : Option (List ℕ)). Consumes
 at_end : {I K : Type 0} (mid new : Outside I K) → SameSource mid new → IsAtEnd mid.left → IsAtEnd new.left
 at_end mid new same ends = subst IsAtEnd (sym same.left) ends
 
-whole_run : {I K : Type 0} (old mid new : Outside I K) (s : State) (q : Progress) (n : ℕ) (refused : Bool) → Ran old mid (new_run s) q n → SameSource mid new → IsAtEnd mid.left → Finished (sides_of mid) (sides_of new) q refused
-    → ReadAll old new lines s refused
-whole_run old mid new s q n refused ran same ends last =
+whole_run : {I K : Type 0} (old mid new : Outside I K) (s t : State) (q : Progress) (n : ℕ) (refused : Bool) → Ran old mid (new_run s) q n → SameSource mid new → IsAtEnd mid.left → Finished (sides_of mid) (sides_of new) q t refused
+    → ReadAllTo old new lines s t refused
+whole_run old mid new s t q n refused ran same ends last =
     let bytes = ran.bytes in
     let did = did_then (sides_of old) (sides_of mid) (sides_of new) _ _ _ _ ran.fed.did last.did in
     record {
@@ -108,6 +108,7 @@ whole_run old mid new s q n refused ran same ends last =
           subst (AddsRows old.rows new.rows) (ap (λ r. rows_all (new_run s) bytes ++ end_rows r) ran.fed.progress ∙ whole_rows s bytes) did.kept,
         ),
         sym (last.refused_is ∙ ap end_refused ran.fed.progress ∙ whole_refused s bytes),
+        last.ledger_is ∙ ap end_ledger ran.fed.progress ∙ whole_ledger s bytes,
       );
     }
 
@@ -153,45 +154,58 @@ stopped_end old mid new s q n ran same ends (inr part) = record {
   stands = (all_items ran.bytes, inr (at_end mid new same ends, all_first (all_items ran.bytes)), stopped_last old mid new s q n ran part);
 }
 
-fell_last : {I K : Type 0} (old mid new : Outside I K) (s : State) (q : Progress) (n : ℕ) (e : Stop) → Ran old mid (new_run s) q n → SameSource mid new → IsAtEnd mid.left
-    → FellIn (sides_of mid) (sides_of new) (end_text q) (end_rows q) e → Runs old new lines s (ended_by e)
-fell_last old mid new s q n stop.Source ran same ends fell = absurd fell.cause
-fell_last old mid new s q n stop.Sink ran same ends fell = stopped_end old mid new s q n ran same ends fell.did
-fell_last old mid new s q n stop.Keeper ran same ends fell = record {
+fell_last : {I K : Type 0} (old mid new : Outside I K) (s t : State) (q : Progress) (n : ℕ) (e : Stop) → Ran old mid (new_run s) q n → SameSource mid new → IsAtEnd mid.left
+    → FellIn (sides_of mid) (sides_of new) (end_text q) (end_rows q) e → RunsTo old new lines s t (ended_by e)
+fell_last old mid new s t q n stop.Source ran same ends fell = absurd fell.cause
+fell_last old mid new s t q n stop.Sink ran same ends fell = stopped_end old mid new s q n ran same ends fell.did
+fell_last old mid new s t q n stop.Keeper ran same ends fell = record {
   bytes = ran.bytes;
   read = read_on old mid new (new_run s) q n ran same;
   stands = (ended_items ran.bytes, inl (all_first (ended_items ran.bytes)), held_end old mid new s q n ran fell.did);
 }
-fell_last old mid new s q n stop.Memory ran same ends fell = stopped_end old mid new s q n ran same ends fell.did
-fell_last old mid new s q n stop.Endless ran same ends fell = absurd fell.cause
+fell_last old mid new s t q n stop.Memory ran same ends fell = stopped_end old mid new s q n ran same ends fell.did
+fell_last old mid new s t q n stop.Endless ran same ends fell = absurd fell.cause
 
 -- its last line was handled, or ended it
-ended_run_of : {I K : Type 0} (old mid new : Outside I K) (s : State) (q : Progress) (n : ℕ) (r : Result Bool Stop) → Ran old mid (new_run s) q n → SameSource mid new → IsAtEnd mid.left
-    → IfOk r (Finished (sides_of mid) (sides_of new) q) → IfErr r (FellIn (sides_of mid) (sides_of new) (end_text q) (end_rows q)) → Runs old new lines s (ended_of r)
-ended_run_of old mid new s q n (Ok false) ran same ends ok err = whole_run old mid new s q n false ran same ends ok
-ended_run_of old mid new s q n (Ok true) ran same ends ok err = whole_run old mid new s q n true ran same ends ok
-ended_run_of old mid new s q n (Err e) ran same ends ok err = fell_last old mid new s q n e ran same ends err
+ended_run_of : {I K : Type 0} (old mid new : Outside I K) (s t : State) (q : Progress) (n : ℕ) (r : Result Bool Stop) → Ran old mid (new_run s) q n → SameSource mid new → IsAtEnd mid.left
+    → IfOk r (Finished (sides_of mid) (sides_of new) q t) → IfErr r (FellIn (sides_of mid) (sides_of new) (end_text q) (end_rows q)) → RunsTo old new lines s t (ended_of r)
+ended_run_of old mid new s t q n (Ok false) ran same ends ok err = whole_run old mid new s t q n false ran same ends ok
+ended_run_of old mid new s t q n (Ok true) ran same ends ok err = whole_run old mid new s t q n true ran same ends ok
+ended_run_of old mid new s t q n (Err e) ran same ends ok err = fell_last old mid new s t q n e ran same ends err
 
-pub ended_run : {I K : Type 0} (old mid new : Outside I K) (s : State) (q : Progress) (n : ℕ) (r : Result Bool Stop) (e : Ended) → e ≡ ended_of r → Ran old mid (new_run s) q n → SameSource mid new → IsAtEnd mid.left
-    → IfOk r (Finished (sides_of mid) (sides_of new) q) → IfErr r (FellIn (sides_of mid) (sides_of new) (end_text q) (end_rows q)) → Runs old new lines s e
-ended_run old mid new s q n r e is ran same ends ok err = subst (λ (y : Ended). Runs old new lines s y) (sym is) (ended_run_of old mid new s q n r ran same ends ok err)
+pub ended_run : {I K : Type 0} (old mid new : Outside I K) (s t : State) (q : Progress) (n : ℕ) (r : Result Bool Stop) (e : Ended) → e ≡ ended_of r → Ran old mid (new_run s) q n → SameSource mid new → IsAtEnd mid.left
+    → IfOk r (Finished (sides_of mid) (sides_of new) q t) → IfErr r (FellIn (sides_of mid) (sides_of new) (end_text q) (end_rows q)) → RunsTo old new lines s t e
+ended_run old mid new s t q n r e is ran same ends ok err = subst (λ (y : Ended). RunsTo old new lines s t y) (sym is) (ended_run_of old mid new s t q n r ran same ends ok err)
 
 -- ---- what failed
 
 unfailed_then : {I K : Type 0} (old mid new : Outside I K) (s : State) (q : Progress) (n : ℕ) → Ran old mid (new_run s) q n → SameSource mid new → SameCounts (sides_of mid) (sides_of new) → Unfailed old new
 unfailed_then old mid new s q n ran same counts = record { source = same.count ∙ ran.source_count; sides = counts_then (sides_of old) (sides_of mid) (sides_of new) ran.fed.counts counts }
 
-ended_cause_of : {I K : Type 0} (old mid new : Outside I K) (s : State) (q : Progress) (n : ℕ) (r : Result Bool Stop) → Ran old mid (new_run s) q n → SameSource mid new
-    → IfOk r (Finished (sides_of mid) (sides_of new) q) → IfErr r (FellIn (sides_of mid) (sides_of new) (end_text q) (end_rows q)) → HasCause old new (ended_of r)
+ended_cause_of : {I K : Type 0} (old mid new : Outside I K) (s t : State) (q : Progress) (n : ℕ) (r : Result Bool Stop) → Ran old mid (new_run s) q n → SameSource mid new
+    → IfOk r (Finished (sides_of mid) (sides_of new) q t) → IfErr r (FellIn (sides_of mid) (sides_of new) (end_text q) (end_rows q)) → HasCause old new (ended_of r)
 unfolding HasCause
-ended_cause_of old mid new s q n (Ok false) ran same ok err = unfailed_then old mid new s q n ran same ok.counts
-ended_cause_of old mid new s q n (Ok true) ran same ok err = unfailed_then old mid new s q n ran same ok.counts
-ended_cause_of old mid new s q n (Err e) ran same ok err = cause_after old mid new e ran.source_count ran.fed.counts (cause_of mid new e same.count err.cause)
+ended_cause_of old mid new s t q n (Ok false) ran same ok err = unfailed_then old mid new s q n ran same ok.counts
+ended_cause_of old mid new s t q n (Ok true) ran same ok err = unfailed_then old mid new s q n ran same ok.counts
+ended_cause_of old mid new s t q n (Err e) ran same ok err = cause_after old mid new e ran.source_count ran.fed.counts (cause_of mid new e same.count err.cause)
 
-pub ended_cause : {I K : Type 0} (old mid new : Outside I K) (s : State) (q : Progress) (n : ℕ) (r : Result Bool Stop) (e : Ended) → e ≡ ended_of r → Ran old mid (new_run s) q n → SameSource mid new
-    → IfOk r (Finished (sides_of mid) (sides_of new) q) → IfErr r (FellIn (sides_of mid) (sides_of new) (end_text q) (end_rows q)) → HasCause old new e
-ended_cause old mid new s q n r e is ran same ok err = subst (λ (y : Ended). HasCause old new y) (sym is) (ended_cause_of old mid new s q n r ran same ok err)
+pub ended_cause : {I K : Type 0} (old mid new : Outside I K) (s t : State) (q : Progress) (n : ℕ) (r : Result Bool Stop) (e : Ended) → e ≡ ended_of r → Ran old mid (new_run s) q n → SameSource mid new
+    → IfOk r (Finished (sides_of mid) (sides_of new) q t) → IfErr r (FellIn (sides_of mid) (sides_of new) (end_text q) (end_rows q)) → HasCause old new e
+ended_cause old mid new s t q n r e is ran same ok err = subst (λ (y : Ended). HasCause old new y) (sym is) (ended_cause_of old mid new s t q n r ran same ok err)
 
 pub endless_cause : {I K : Type 0} (old new : Outside I K) (s : State) (q : Progress) (n : ℕ) → Ran old new (new_run s) q n → HasCause old new ended.Endless
 unfolding HasCause
 endless_cause old new s q n ran = record { source = ran.source_count; sides = ran.fed.counts }
+
+-- ---- a run, whatever its ledger
+pub runs_of : {I K : Type 0} (old new : Outside I K) (s t : State) (e : Ended) → RunsTo old new lines s t e → Runs old new lines s e
+runs_of old new s t ended.Done ran = record { bytes = ran.bytes; read = ran.read; stands = (ran.stands.0, ran.stands.1, ran.stands.2) }
+runs_of old new s t ended.Refused ran = record { bytes = ran.bytes; read = ran.read; stands = (ran.stands.0, ran.stands.1, ran.stands.2) }
+runs_of old new s t ended.Usage ran = ran
+runs_of old new s t ended.Source ran = ran
+runs_of old new s t ended.Sink ran = ran
+runs_of old new s t ended.Keeper ran = ran
+runs_of old new s t ended.Memory ran = ran
+runs_of old new s t ended.Door ran = ran
+runs_of old new s t ended.Damaged ran = ran
+runs_of old new s t ended.Endless ran = ran

@@ -9,7 +9,7 @@ use Rattle.card_ports.specs.declared.row.Row.{Row}
 use Rattle.card_ports.specs.Bytes.{IsFront}
 use Rattle.card_ports.specs.Counts.{Rose}
 use Rattle.card_commands.specs.Answers.{answer_text, item_rows}
-use Rattle.card_commands.specs.Commands.{ended_by}
+use Rattle.card_commands.specs.Statuses.{ended_by}
 use Rattle.card_commands.specs.Feed.{Run, Progress, after_item, next_item, feed, feed_text, feed_rows, feed_all, text_all, rows_all, line_done, line_text, line_kept}
 use Rattle.card_commands.specs.Input.{ended_line}
 use Rattle.card_commands.specs.Outside.{Outside, HasCause, sides_of}

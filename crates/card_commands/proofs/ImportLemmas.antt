@@ -10,7 +10,7 @@ use Rattle.card_ports.specs.declared.row.Row.{Row}
 use Rattle.card_ports.specs.Bytes.{IsFront}
 use Rattle.card_ports.specs.Counts.{Rose}
 use Rattle.card_commands.specs.Answers.{next, answer_text, is_refused, item_rows}
-use Rattle.card_commands.specs.Commands.{ended_by, ended_of}
+use Rattle.card_commands.specs.Statuses.{ended_by, ended_of}
 use Rattle.card_commands.specs.Feed.{Run}
 use Rattle.card_commands.specs.Imported.{SourceSide, source_of, HasTaken, TookMore, TookAllLeft, FellInPiece, FellTaking, HandledAll, DidFront, FellAmong}
 use Rattle.card_commands.specs.Input.{records}
@@ -21,7 +21,7 @@ use Rattle.card_commands.specs.Written.{Sides, Did, DidPart, SameCounts, FellIn}
 use Rattle.card_commands.specs.declared.stop.Stop.{Stop}
 use Rattle.card_commands.specs.declared.stop.Stop.TheVariants as stop
 use Rattle.card_commands.specs.declared.ended.Ended.{Ended}
-use Rattle.card_commands.proofs.ApplyLemmas.{text_of-append, rows_kept-append, any_refused-append, or_assoc, or_false, OneMore, low_front, none_more}
+use Rattle.card_commands.proofs.ApplyLemmas.{after-append, text_of-append, rows_kept-append, any_refused-append, or_assoc, or_false, OneMore, low_front, none_more}
 use Rattle.card_commands.proofs.FeedLemmas.{cause_of}
 use Rattle.card_commands.proofs.RowLemmas.{AddsRows-trans}
 use Rattle.card_commands.proofs.SideLemmas.{front_trans, took_whole, took_part, did_none, did_then, did_same, counts_refl, counts_then, failed_after}
@@ -38,10 +38,6 @@ fell_later a b c before stop.Keeper one two = absurd two.cause
 fell_later a b c before stop.Endless one two = absurd two.cause
 
 -- ---- handling
-
-after-append : (s : State) (xs ys : List Item) → after s (xs ++ ys) ≡ after (after s xs) ys
-after-append s [] ys = refl
-after-append s (x ∷ xs) ys = after-append (next s x) xs ys
 
 pub handled_none : (a : Sides) (r : Run) → Fits a.keeper.rows r.ledger → HandledAll a a r [] r
 handled_none a r fits = record { ledger = refl; refused = sym (or_false r.refused); did = did_none a; counts = counts_refl a; fits = fits }

@@ -6,6 +6,7 @@ pub mod FeedLemmas
 pub mod PieceLemmas
 pub mod ApplyLemmas
 pub mod EndLemmas
+pub mod TrialLemmas
 pub mod LoadedLemmas
 pub mod StatusLemmas
 pub mod ImportLemmas

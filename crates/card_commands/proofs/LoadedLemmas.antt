@@ -1,5 +1,5 @@
 -- What a command comes to from the ledger that the kept rows gave.
-use Rattle.std.proofs.Common.{◌≡◌, ℕ, ◌⊎◌, inl, inr, List, [], refl, ◌∙◌, subst, Option, None, Some}
+use Rattle.std.proofs.Common.{◌≡◌, ℕ, Bool, true, false, ◌⊎◌, inl, inr, List, [], refl, ◌∙◌, subst, Option, None, Some}
 use Rattle.std.proofs.KnownBytes.{Appends-nil}
 use Rattle.std.specs.Option.{option_map}
 use Rattle.card_account.specs.Accounts.{issued_statement, restated_statement}
@@ -16,12 +16,12 @@ use Rattle.card_model.specs.Work.{present_in}
 use Rattle.card_ports.specs.Counts.{Rose}
 use Rattle.card_text.specs.Repayment.{repayment_text}
 use Rattle.card_commands.specs.Input.{Cut, lines, records}
-use Rattle.card_commands.specs.Outside.{Outside, Outcome, Runs, HasCause, Unfailed, Loads, Views, Ends, sides_of, lists_issued, lists_repaid, lists_restated, lists_text, entries_text, issued_text, repaid_text, restated_text, work_text}
+use Rattle.card_commands.specs.Outside.{Outside, Outcome, Runs, TriedAll, TriedFront, Tries, HasCause, Unfailed, Loads, Views, Ends, sides_of, lists_issued, lists_repaid, lists_restated, lists_text, entries_text, issued_text, repaid_text, restated_text, work_text}
 use Rattle.card_commands.specs.Views.{GaveLedger, GaveNone, Loaded, NotLoaded, SidesFailed, Tells, Told, Viewed}
 use Rattle.card_ports.specs.Written.{SinkSide}
 use Rattle.card_commands.specs.Written.{KeeperSide, Sides}
-use Rattle.card_commands.specs.declared.command.Command.{Command}
-use Rattle.card_commands.specs.declared.command.Command.TheVariants as command
+use Rattle.card_words.specs.declared.command.Command.{Command}
+use Rattle.card_words.specs.declared.command.Command.TheVariants as command
 use Rattle.card_commands.specs.declared.ended.Ended.{Ended}
 use Rattle.card_commands.specs.declared.ended.Ended.TheVariants as ended
 use Rattle.card_commands.proofs.RowLemmas.{keeps_same, kept_then}
@@ -91,6 +91,43 @@ pub import_outcome : {I K : Type 0} (old new : Outside I K) (k : K) (at : Sides)
 unfolding Ends
 import_outcome old new k at s e gave ran = let both = loaded old new k at records s e gave ran in record { ends = both.0; cause = both.1 }
 
+-- with a trial balance behind it
+loaded_all : {I K : Type 0} (old new : Outside I K) (k : K) (at : Sides) (from to : ℕ) (s : State) (refused : Bool) → KeepsRows old.rows at.keeper.rows → TriedAll (reloaded old k (same_sink old at)) new from to s refused → TriedAll old new from to s refused
+loaded_all old new k at from to s refused keeps tried =
+    record { bytes = tried.bytes; read = tried.read; stands = (tried.stands.0, tried.stands.1, kept_then old.rows at.keeper.rows new.rows _ keeps tried.stands.2, tried.stands.3) }
+
+loaded_cut : {I K : Type 0} (old new : Outside I K) (k : K) (at : Sides) (from to : ℕ) (s : State) (e : Ended) → KeepsRows old.rows at.keeper.rows
+    → Runs (reloaded old k (same_sink old at)) new lines s e ⊎ TriedFront (reloaded old k (same_sink old at)) new from to s → Runs old new lines s e ⊎ TriedFront old new from to s
+loaded_cut old new k at from to s e keeps (inl ran) = inl (loaded_run old new k at lines s e keeps ran)
+loaded_cut old new k at from to s e keeps (inr tried) =
+    inr (record { bytes = tried.bytes; read = tried.read; stands = (tried.stands.0, tried.stands.1, kept_then old.rows at.keeper.rows new.rows _ keeps tried.stands.2) })
+
+loaded_trial : {I K : Type 0} (old new : Outside I K) (k : K) (at : Sides) (from to : ℕ) (s : State) (e : Ended) → KeepsRows old.rows at.keeper.rows → Tries (reloaded old k (same_sink old at)) new from to s e → Tries old new from to s e
+loaded_trial old new k at from to s ended.Done keeps tried = loaded_all old new k at from to s false keeps tried
+loaded_trial old new k at from to s ended.Refused keeps tried = loaded_all old new k at from to s true keeps tried
+loaded_trial old new k at from to s ended.Usage keeps tried = absurd tried
+loaded_trial old new k at from to s ended.Source keeps tried = loaded_run old new k at lines s ended.Source keeps tried
+loaded_trial old new k at from to s ended.Sink keeps tried = loaded_cut old new k at from to s ended.Sink keeps tried
+loaded_trial old new k at from to s ended.Keeper keeps tried = loaded_run old new k at lines s ended.Keeper keeps tried
+loaded_trial old new k at from to s ended.Memory keeps tried = loaded_cut old new k at from to s ended.Memory keeps tried
+loaded_trial old new k at from to s ended.Door keeps tried = absurd tried
+loaded_trial old new k at from to s ended.Damaged keeps tried = absurd tried
+loaded_trial old new k at from to s ended.Endless keeps tried = loaded_run old new k at lines s ended.Endless keeps tried
+
+-- and its cause, from the load on
+pub record TriedFrom {I K : Type 0} (old new : Outside I K) (from to : ℕ) (s : State) (e : Ended) : Type 0 where
+  pub tried : Tries old new from to s e
+  pub cause : HasCause old new e
+
+pub trial_outcome : {I K : Type 0} (old new : Outside I K) (k : K) (at : Sides) (from to : ℕ) (s : State) (e : Ended) → GaveLedger (sides_of old) at s → TriedFrom (reloaded old k at) new from to s e → Outcome old new (Some (command.Trial from to)) e
+unfolding Ends
+trial_outcome old new k at from to s e gave tried =
+    let same : TriedFrom (reloaded old k (same_sink old at)) new from to s e = subst (λ (x : SinkSide). TriedFrom (reloaded old k (record { sink = x; keeper = at.keeper })) new from to s e) gave.sink tried in
+    record {
+      ends = inr (record { ledger = s; loaded = gave.loaded; ran = loaded_trial old new k at from to s e gave.rows same.tried });
+      cause = loaded_cause old new k at e gave.count same.cause;
+    }
+
 -- ---- no ledger was loaded
 
 unloaded_cause : {I K : Type 0} (old new : Outside I K) (e : Ended) → new.source_faults ≡ old.source_faults → NotLoaded (sides_of old) (sides_of new) e → SidesFailed (sides_of old) (sides_of new) e → HasCause old new e
@@ -117,6 +154,7 @@ LoadsRows (command.Restate name cycle) = Unit {0}
 LoadsRows (command.Repay name cycle) = Unit {0}
 LoadsRows (command.Demo d) = ⊥
 LoadsRows (command.Serve port count) = Unit {0}
+LoadsRows (command.Trial from to) = Unit {0}
 
 unloaded_ends : {I K : Type 0} (old new : Outside I K) (c : Command) (e : Ended) → LoadsRows c → new.input ≡ old.input → GaveNone (sides_of old) (sides_of new) e → Ends old new (Some c) e
 unfolding Ends
@@ -129,6 +167,7 @@ unloaded_ends old new (command.Restate name cycle) e loads same none = ((same, n
 unloaded_ends old new (command.Repay name cycle) e loads same none = ((same, none.rows), inl ((same, none.rows), none.ends))
 unloaded_ends old new (command.Demo d) e loads same none = absurd loads
 unloaded_ends old new (command.Serve port count) e loads same none = ((same, none.rows), none.ends)
+unloaded_ends old new (command.Trial from to) e loads same none = inl ((same, none.rows), none.ends)
 
 pub unloaded_outcome : {I K : Type 0} (old new : Outside I K) (c : Command) (e : Ended) → LoadsRows c → new.input ≡ old.input → new.source_faults ≡ old.source_faults → GaveNone (sides_of old) (sides_of new) e → Outcome old new (Some c) e
 unloaded_outcome old new c e loads same count none = record { ends = unloaded_ends old new c e loads same none; cause = unloaded_cause old new e count none.ends none.cause }
@@ -152,6 +191,7 @@ untouched_outcome old (Some (command.Statement name cycle)) = unloaded_memory ol
 untouched_outcome old (Some (command.Restate name cycle)) = unloaded_memory old (command.Restate name cycle) tt
 untouched_outcome old (Some (command.Repay name cycle)) = unloaded_memory old (command.Repay name cycle) tt
 untouched_outcome old (Some (command.Serve port count)) = unloaded_memory old (command.Serve port count) tt
+untouched_outcome old (Some (command.Trial from to)) = unloaded_memory old (command.Trial from to) tt
 untouched_outcome old (Some (command.Demo d)) = record {
   ends = (refl, (refl, keeps_same old.rows), record { bytes = []; taken = Appends-nil old.taken; front = front_none _ });
   cause = record { source = refl; sides = counts_refl (sides_of old) };

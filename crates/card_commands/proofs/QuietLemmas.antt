@@ -5,13 +5,13 @@ use Rattle.card_desk.specs.Kept.{AreSound, AreDamaged, AreDamagedAt}
 use Rattle.card_events.specs.declared.request.Request.{Request}
 use Rattle.card_ports.specs.declared.row.Row.{Row}
 use Rattle.card_model.specs.Machine.{State}
-use Rattle.card_commands.specs.Commands.{status_of, IsOneOf}
+use Rattle.card_commands.specs.Statuses.{status_of, IsOneOf}
 use Rattle.card_commands.specs.Input.{Cut, lines, records}
-use Rattle.card_commands.specs.Outside.{Outside, Outcome, Runs, HasCause, Loads, Views, Ends, sides_of}
+use Rattle.card_commands.specs.Outside.{Outside, Outcome, Runs, Tries, HasCause, Loads, Views, Ends, sides_of}
 use Rattle.card_commands.specs.Views.{NotLoaded, Tells}
 use Rattle.card_commands.specs.Quiet.{NothingFailed, HasSoundRows, HasFewerLeft, IsQuiet}
-use Rattle.card_commands.specs.declared.command.Command.{Command}
-use Rattle.card_commands.specs.declared.command.Command.TheVariants as command
+use Rattle.card_words.specs.declared.command.Command.{Command}
+use Rattle.card_words.specs.declared.command.Command.TheVariants as command
 use Rattle.card_commands.specs.declared.ended.Ended.{Ended}
 use Rattle.card_commands.specs.declared.ended.Ended.TheVariants as ended
 
@@ -62,6 +62,25 @@ quiet_loads : {I K : Type 0} (never : NeverDamaged) (old new : Outside I K) (cut
 quiet_loads never old new cut e (inl not) cause none sound few = quiet_load never old new e not.1 cause none sound
 quiet_loads never old new cut e (inr run) cause none sound few = quiet_run old new cut run.ledger e run.ran cause none few
 
+-- with a trial balance behind it
+quiet_tried : {I K : Type 0} (old new : Outside I K) (from to : ℕ) (s : State) (e : Ended) → Tries old new from to s e → HasCause old new e → NothingFailed old new → HasFewerLeft old lines.limit → IsOneOf (status_of e) (0 ∷ 1 ∷ 6 ∷ [])
+unfolding HasCause
+quiet_tried old new from to s ended.Done tried cause none few = inl refl
+quiet_tried old new from to s ended.Refused tried cause none few = inr (inl refl)
+quiet_tried old new from to s ended.Usage tried cause none few = absurd tried
+quiet_tried old new from to s ended.Source tried cause none few = absurd (none.source cause)
+quiet_tried old new from to s ended.Sink tried cause none few = absurd (none.sink cause)
+quiet_tried old new from to s ended.Keeper tried cause none few = absurd (none.keeper cause)
+quiet_tried old new from to s ended.Memory tried cause none few = inr (inr (inl refl))
+quiet_tried old new from to s ended.Door tried cause none few = absurd tried
+quiet_tried old new from to s ended.Damaged tried cause none few = absurd tried
+quiet_tried old new from to s ended.Endless tried cause none few = quiet_run old new lines s ended.Endless tried cause none few
+
+quiet_trial : {I K : Type 0} (never : NeverDamaged) (old new : Outside I K) (from to : ℕ) (e : Ended) → Loads old new (Tries old new from to) e → HasCause old new e → NothingFailed old new → HasSoundRows old → HasFewerLeft old lines.limit
+    → IsOneOf (status_of e) (0 ∷ 1 ∷ 6 ∷ [])
+quiet_trial never old new from to e (inl not) cause none sound few = quiet_load never old new e not.1 cause none sound
+quiet_trial never old new from to e (inr run) cause none sound few = quiet_tried old new from to run.ledger e run.ran cause none few
+
 quiet_text : {I K : Type 0} (old new : Outside I K) (text : Option (List ℕ)) (e : Ended) → Tells old.taken new.taken e text → HasCause old new e → NothingFailed old new → IsOneOf (status_of e) (0 ∷ 1 ∷ 6 ∷ [])
 unfolding HasCause
 quiet_text old new text ended.Done told cause none = inl refl
@@ -96,3 +115,4 @@ quiet never old new (command.Restate name cycle) e outcome is = quiet_view never
 quiet never old new (command.Repay name cycle) e outcome is = quiet_view never old new _ e outcome.ends outcome.cause is.0 is.1
 quiet never old new (command.Demo d) e outcome is = quiet_text old new _ e outcome.ends.2 outcome.cause is
 quiet never old new (command.Serve port count) e outcome is = quiet_load never old new e outcome.ends.1 outcome.cause is.0 is.1
+quiet never old new (command.Trial from to) e outcome is = quiet_trial never old new from to e outcome.ends outcome.cause is.0 is.1 is.2

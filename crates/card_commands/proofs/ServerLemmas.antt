@@ -23,7 +23,7 @@ use Rattle.card_ports.specs.Written.{SinkSide, TookAll, TookFront, TookPart}
 use Rattle.card_ports.specs.declared.source.SinkFault.{SinkFault}
 use Rattle.card_ports.specs.declared.source.SinkFault.TheVariants as fault
 use Rattle.card_commands.specs.Attended.{AreFresh, Attended, AttendedLast, AttendedOne, Attends, CameNone, DoorSide, FellAttending, HaveCome, HavePassed, KeptCounts, Parties, ServerFailed, Serves, Tended, WroteLines, WroteLinesFront, line_of, lines_of}
-use Rattle.card_commands.specs.Commands.{ended_by_sink}
+use Rattle.card_commands.specs.Statuses.{ended_by_sink}
 use Rattle.card_commands.specs.Views.{GaveLedger}
 use Rattle.card_commands.specs.Written.{KeeperSide, Sides, TookBetween}
 use Rattle.card_commands.specs.declared.ended.Ended.{Ended}

@@ -1,13 +1,13 @@
 -- The statuses of each command.
 use Rattle.std.proofs.Common.{ℕ, inl, inr, List, [], ◌∷◌, refl, Option, None, Some}
 use Rattle.card_model.specs.Machine.{State}
-use Rattle.card_commands.specs.Commands.{status_of, statuses_of, account_statuses, run_statuses, IsOneOf}
+use Rattle.card_commands.specs.Statuses.{status_of, statuses_of, account_statuses, run_statuses, IsOneOf}
 use Rattle.card_commands.specs.Input.{Cut, lines, records}
-use Rattle.card_commands.specs.Outside.{Outside, Runs, NoCommand, Loads, Ends, sides_of, entries_text, issued_text, repaid_text, restated_text, work_text}
+use Rattle.card_commands.specs.Outside.{Outside, Runs, Tries, NoCommand, Loads, Ends, sides_of, entries_text, issued_text, repaid_text, restated_text, work_text}
 use Rattle.card_commands.specs.Views.{NotLoaded, Tells}
 use Rattle.card_commands.specs.Written.{Sides}
-use Rattle.card_commands.specs.declared.command.Command.{Command}
-use Rattle.card_commands.specs.declared.command.Command.TheVariants as command
+use Rattle.card_words.specs.declared.command.Command.{Command}
+use Rattle.card_words.specs.declared.command.Command.TheVariants as command
 use Rattle.card_commands.specs.declared.ended.Ended.{Ended}
 use Rattle.card_commands.specs.declared.ended.Ended.TheVariants as ended
 
@@ -67,6 +67,22 @@ among_server port count n (inr (inr (inr never))) = absurd never
 loads_status : {I K : Type 0} (old new : Outside I K) (cut : Cut) (e : Ended) → Loads old new (Runs old new cut) e → IsOneOf (status_of e) run_statuses
 loads_status old new cut e (inl none) = among_run (status_of e) (not_loaded_status (sides_of old) (sides_of new) e none.1)
 loads_status old new cut e (inr run) = run_status old new cut run.ledger e run.ran
+
+tried_status : {I K : Type 0} (old new : Outside I K) (from to : ℕ) (s : State) (e : Ended) → Tries old new from to s e → IsOneOf (status_of e) run_statuses
+tried_status old new from to s ended.Done tried = inl refl
+tried_status old new from to s ended.Refused tried = inr (inl refl)
+tried_status old new from to s ended.Usage tried = absurd tried
+tried_status old new from to s ended.Source tried = run_status old new lines s ended.Source tried
+tried_status old new from to s ended.Sink tried = inr (inr (inr (inl refl)))
+tried_status old new from to s ended.Keeper tried = run_status old new lines s ended.Keeper tried
+tried_status old new from to s ended.Memory tried = inr (inr (inr (inr (inr (inl refl)))))
+tried_status old new from to s ended.Door tried = absurd tried
+tried_status old new from to s ended.Damaged tried = absurd tried
+tried_status old new from to s ended.Endless tried = run_status old new lines s ended.Endless tried
+
+trial_status : {I K : Type 0} (old new : Outside I K) (from to : ℕ) (e : Ended) → Loads old new (Tries old new from to) e → IsOneOf (status_of e) run_statuses
+trial_status old new from to e (inl none) = among_run (status_of e) (not_loaded_status (sides_of old) (sides_of new) e none.1)
+trial_status old new from to e (inr run) = tried_status old new from to run.ledger e run.ran
 
 -- a text that is always there
 tells_status : (old new : Option (List ℕ)) (e : Ended) (text : List ℕ) → Tells old new e (Some text) → IsOneOf (status_of e) (statuses_of (Some command.Work))
@@ -135,3 +151,4 @@ ends_status old new (Some (command.Restate name cycle)) e ends = account_view_st
 ends_status old new (Some (command.Repay name cycle)) e ends = account_view_status old new (repaid_text name cycle) e ends.1
 ends_status old new (Some (command.Demo d)) e ends = demo_status old.taken new.taken e _ ends.2
 ends_status old new (Some (command.Serve port count)) e ends = among_server port count (status_of e) (not_loaded_status (sides_of old) (sides_of new) e ends.1)
+ends_status old new (Some (command.Trial from to)) e ends = trial_status old new from to e ends

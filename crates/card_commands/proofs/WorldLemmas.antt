@@ -5,13 +5,14 @@ use Rattle.card_model.specs.Machine.{State}
 use Rattle.card_ports.specs.Written.{SinkSide, TookPart}
 use Rattle.card_ports.specs.declared.source.SinkFault.TheVariants as fault
 use Rattle.card_commands.specs.Attended.{Attends, HaveCome, Parties, ServerFailed}
-use Rattle.card_commands.specs.Commands.{IsOneOf, status_of, statuses_of}
+use Rattle.card_commands.specs.Statuses.{IsOneOf, status_of, statuses_of}
 use Rattle.card_commands.specs.Outside.{Ends, HasCause, Outcome}
 use Rattle.card_commands.specs.Quiet.{IsQuiet, NothingFailed}
-use Rattle.card_commands.specs.Words.{TookLine, usage_line}
+use Rattle.card_commands.specs.Said.{TookLine}
+use Rattle.card_words.specs.Usage.{usage_line}
 use Rattle.card_commands.specs.World.{Comes, IsCalm, MayServe, ServedBy, World, parties_of}
-use Rattle.card_commands.specs.declared.command.Command.{Command}
-use Rattle.card_commands.specs.declared.command.Command.TheVariants as command
+use Rattle.card_words.specs.declared.command.Command.{Command}
+use Rattle.card_words.specs.declared.command.Command.TheVariants as command
 use Rattle.card_commands.specs.declared.ended.Ended.{Ended}
 use Rattle.card_commands.specs.declared.ended.Ended.TheVariants as ended
 use Rattle.card_commands.proofs.LoadedLemmas.{unloaded_outcome, untouched_outcome}
@@ -79,6 +80,7 @@ served_status old new (Some (command.Statement name cycle)) e by = absurd by
 served_status old new (Some (command.Restate name cycle)) e by = absurd by
 served_status old new (Some (command.Repay name cycle)) e by = absurd by
 served_status old new (Some (command.Demo d)) e by = absurd by
+served_status old new (Some (command.Trial from to)) e by = absurd by
 served_status old new (Some (command.Serve port count)) e by = server_status _ port count by.ran.ledger (parties_of old) (parties_of new) e by.ran.ran.ends
 
 -- an end that is in these words has one of the command's statuses
@@ -111,6 +113,7 @@ calm_served old new (command.Statement name cycle) e by calm = absurd by
 calm_served old new (command.Restate name cycle) e by calm = absurd by
 calm_served old new (command.Repay name cycle) e by calm = absurd by
 calm_served old new (command.Demo d) e by calm = absurd by
+calm_served old new (command.Trial from to) e by calm = absurd by
 calm_served old new (command.Serve port count) e by calm = calm_server old new port count by.ran.ledger e by.ran.ran.ends by.ran.ran.cause calm calm.quiet.0
 
 pub calm : {I K D : Type 0} (never : NeverDamaged) (old new : World I K D) (c : Command) (e : Ended) → Comes old new (Some c) e → IsCalm old new c → IsOneOf (status_of e) (0 ∷ 1 ∷ 6 ∷ [])

@@ -81,7 +81,7 @@ rows_all p (b ∷ bs) = feed_rows p b ++ rows_all (feed p b) bs
 abbrev pub new_run : State → Progress
 new_run s = record { ledger = s; number = 0; refused = false; line = [] }
 
--- what is written for a last line that no line feed ends, what is kept of it, and whether any line was refused
+-- what is written for a last line that no line feed ends, what is kept of it, whether any line was refused, and the ledger after it
 unfoldable pub end_text : Progress → List ℕ
 end_text p = if length p.line == 0 then [] else answer_text p.ledger (next_item p (line_of p.line))
 
@@ -90,3 +90,6 @@ end_rows p = if length p.line == 0 then [] else item_rows p.ledger (next_item p 
 
 unfoldable pub end_refused : Progress → Bool
 end_refused p = if length p.line == 0 then p.refused else p.refused || is_refused p.ledger (next_item p (line_of p.line))
+
+unfoldable pub end_ledger : Progress → State
+end_ledger p = if length p.line == 0 then p.ledger else next p.ledger (next_item p (line_of p.line))

@@ -10,19 +10,21 @@ use Rattle.card_rates.specs.Segments.{account_segments}
 use Rattle.card_text.specs.Export.{export_text}
 use Rattle.card_text.specs.Repayment.{repayment_text}
 use Rattle.card_text.specs.Tasks.{tasks_text}
+use Rattle.card_trial.specs.Trial.{trial_text}
 use Rattle.card_ports.specs.Rows.{AddsRows, KeepsRows}
 use Rattle.card_ports.specs.declared.row.Row.{Row}
 use Rattle.card_model.specs.Machine.{State, lists_of}
 use Rattle.card_ports.specs.Counts.{Rose}
 use Rattle.card_commands.specs.Input.{Cut, lines, records, all_items}
-use Rattle.card_commands.specs.Run.{text_of, rows_kept, any_refused}
-use Rattle.card_commands.specs.Words.{usage_line, TookLine}
+use Rattle.card_commands.specs.Run.{after, text_of, rows_kept, any_refused}
+use Rattle.card_commands.specs.Said.{TookLine}
+use Rattle.card_words.specs.Usage.{usage_line}
 use Rattle.card_commands.specs.Views.{Loaded, NotLoaded, Tells}
 use Rattle.card_ports.specs.Written.{TookFront}
 use Rattle.card_http.specs.Told.{text_of_statement}
 use Rattle.card_commands.specs.Written.{Sides, TookBetween, SameCounts}
-use Rattle.card_commands.specs.declared.command.Command.{Command}
-use Rattle.card_commands.specs.declared.command.Command.TheVariants as command
+use Rattle.card_words.specs.declared.command.Command.{Command}
+use Rattle.card_words.specs.declared.command.Command.TheVariants as command
 use Rattle.card_commands.specs.declared.ended.Ended.{Ended}
 use Rattle.card_commands.specs.declared.ended.Ended.TheVariants as ended
 use Rattle.card_text.specs.declared.item.Item.{Item}
@@ -136,6 +138,37 @@ module _ {I K : Type 0} (old new : Outside I K) where
   Runs cut s ended.Memory = ReadFirst cut (WroteFront s)
   Runs cut s _ = ⊥
 
+  -- the same, and this is the ledger after all items of an input that was read to its end
+  abbrev pub ReadAllTo : Cut → State → State → Bool → Type 0
+  ReadAllTo cut s t refused = HasRead (λ bytes. IsAtEnd new.left × Wrote s (cut.all bytes) × (any_refused s (cut.all bytes) ≡ refused) × (t ≡ after s (cut.all bytes)))
+
+  abbrev pub RunsTo : Cut → State → State → Ended → Type 0
+  RunsTo cut s t ended.Done = ReadAllTo cut s t false
+  RunsTo cut s t ended.Refused = ReadAllTo cut s t true
+  RunsTo cut s t e = Runs cut s e
+
+  -- the input was read to its end, all of its lines were handled, and the trial balance stands behind the replies
+  abbrev pub TriedAll : ℕ → ℕ → State → Bool → Type 0
+  TriedAll from to s refused =
+      HasRead (λ bytes. IsAtEnd new.left
+      × Appends old.taken new.taken (text_of s (all_items bytes) ++ trial_text from to (after s (all_items bytes)))
+      × AddsRows old.rows new.rows (rows_kept s (all_items bytes)) × (any_refused s (all_items bytes) ≡ refused))
+
+  -- the same, but of the balance a front was written
+  abbrev pub TriedFront : ℕ → ℕ → State → Type 0
+  TriedFront from to s =
+      HasRead (λ bytes. IsAtEnd new.left
+      × TookBetween old.taken new.taken (text_of s (all_items bytes)) (text_of s (all_items bytes) ++ trial_text from to (after s (all_items bytes)))
+      × AddsRows old.rows new.rows (rows_kept s (all_items bytes)))
+
+  -- how a run over lines ends that has a trial balance behind it
+  abbrev pub Tries : ℕ → ℕ → State → Ended → Type 0
+  Tries from to s ended.Done = TriedAll from to s false
+  Tries from to s ended.Refused = TriedAll from to s true
+  Tries from to s ended.Sink = Runs lines s ended.Sink ⊎ TriedFront from to s
+  Tries from to s ended.Memory = Runs lines s ended.Memory ⊎ TriedFront from to s
+  Tries from to s e = Runs lines s e
+
   -- the source wasn't touched, and the rows stay
   abbrev pub Untouched : Type 0
   Untouched = (new.input ≡ old.input) × KeepsRows old.rows new.rows
@@ -167,6 +200,7 @@ module _ {I K : Type 0} (old new : Outside I K) where
   Ends (Some (command.Repay name cycle)) e = Views (repaid_text name cycle) e
   Ends (Some (command.Demo d)) e = (new.keeper ≡ old.keeper) × Untouched × Tells old.taken new.taken e (Some (demo_text d.start d.accounts d.cycles))
   Ends (Some (command.Serve port count)) e = Untouched × NotLoaded (sides_of old) (sides_of new) e
+  Ends (Some (command.Trial from to)) e = Loads (Tries from to) e
 
   -- nothing failed
   pub record Unfailed : Type 0 where

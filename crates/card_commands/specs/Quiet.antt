@@ -6,8 +6,8 @@ use Rattle.card_ports.specs.declared.row.Row.{Row}
 use Rattle.card_ports.specs.Counts.{Rose}
 use Rattle.card_commands.specs.Input.{lines, records}
 use Rattle.card_commands.specs.Outside.{Outside}
-use Rattle.card_commands.specs.declared.command.Command.{Command}
-use Rattle.card_commands.specs.declared.command.Command.TheVariants as command
+use Rattle.card_words.specs.declared.command.Command.{Command}
+use Rattle.card_words.specs.declared.command.Command.TheVariants as command
 
 -- nothing failed
 pub record NothingFailed {I K : Type 0} (old new : Outside I K) : Type 0 where
@@ -39,3 +39,4 @@ IsQuiet old new (command.Restate name cycle) = NothingFailed old new × HasSound
 IsQuiet old new (command.Repay name cycle) = NothingFailed old new × HasSoundRows old
 IsQuiet old new (command.Demo d) = NothingFailed old new
 IsQuiet old new (command.Serve port count) = NothingFailed old new × HasSoundRows old
+IsQuiet old new (command.Trial from to) = NothingFailed old new × HasSoundRows old × HasFewerLeft old lines.limit

@@ -3,14 +3,15 @@ use Rattle.std.specs.Prelude.{◌≡◌, ℕ, ◌+◌, ◌-◌, ◌≤◌, Bool,
 use Rattle.std.specs.Io.KnownBytes.{Consumes}
 use Rattle.card_desk.specs.Kept.{Fits}
 use Rattle.card_commands.specs.Answers.{answer_text, item_rows}
-use Rattle.card_commands.specs.Commands.{ended_by}
-use Rattle.card_commands.specs.Feed.{Run, Progress, after_item, feed_all, text_all, rows_all, end_text, end_rows, end_refused}
+use Rattle.card_commands.specs.Statuses.{ended_by}
+use Rattle.card_commands.specs.Feed.{Run, Progress, after_item, feed_all, text_all, rows_all, end_text, end_rows, end_refused, end_ledger}
 use Rattle.card_commands.specs.Outside.{Outside, HasCause, sides_of}
 use Rattle.card_commands.specs.Written.{Sides, TookBetween, Did, SameCounts, Failed, FellIn}
 use Rattle.card_commands.specs.declared.stop.Stop.{Stop}
 use Rattle.card_commands.specs.declared.stop.Stop.TheVariants as stop
 use Rattle.card_text.specs.declared.item.Item.{Item}
 use Rattle.card_ports.specs.Rows.{AddsRows}
+use Rattle.card_model.specs.Machine.{State}
 
 -- an item was handled: its text was written, and its rows were kept
 pub record Handled (old new : Sides) (r : Run) (x : Item) (next : Run) : Type 0 where
@@ -31,9 +32,10 @@ pub record Fed (old new : Sides) (p : Progress) (bytes : List ℕ) (q : Progress
   pub counts : SameCounts old new
   pub fits : Fits new.keeper.rows q.ledger
 
--- the last line was handled, and the run had a refusal or none
-pub record Finished (old new : Sides) (p : Progress) (refused : Bool) : Type 0 where
+-- the last line was handled, the run had a refusal or none, and this is its ledger
+pub record Finished (old new : Sides) (p : Progress) (ledger : State) (refused : Bool) : Type 0 where
   pub refused_is : refused ≡ end_refused p
+  pub ledger_is : ledger ≡ end_ledger p
   pub did : Did old new (end_text p) (end_rows p)
   pub counts : SameCounts old new
 

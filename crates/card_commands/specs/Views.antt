@@ -8,7 +8,7 @@ use Rattle.card_ports.specs.declared.row.Row.{Row}
 use Rattle.card_model.specs.Machine.{State}
 use Rattle.card_text.specs.Absent.{none_line}
 use Rattle.card_ports.specs.Counts.{Rose}
-use Rattle.card_commands.specs.Words.{DamagedRows, TookLine}
+use Rattle.card_commands.specs.Said.{DamagedRows, TookLine}
 use Rattle.card_ports.specs.Written.{SinkSide, TookFront}
 use Rattle.card_commands.specs.Written.{Sides, SameCounts}
 use Rattle.card_commands.specs.declared.ended.Ended.{Ended}

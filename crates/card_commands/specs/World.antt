@@ -5,12 +5,13 @@ use Rattle.card_ports.specs.declared.row.Row.{Row}
 use Rattle.card_ports.specs.Counts.{Rose}
 use Rattle.card_ports.specs.Visits.{Visits}
 use Rattle.card_commands.specs.Attended.{HaveCome, Parties, Serves}
-use Rattle.card_commands.specs.Commands.{command_of, status_of}
+use Rattle.card_commands.specs.Statuses.{status_of}
+use Rattle.card_words.specs.Commands.{command_of}
 use Rattle.card_commands.specs.Outside.{Outside, Outcome, outside, sides_of}
 use Rattle.card_commands.specs.Quiet.{IsQuiet}
 use Rattle.card_commands.specs.Views.{GaveNone, Loaded}
-use Rattle.card_commands.specs.declared.command.Command.{Command}
-use Rattle.card_commands.specs.declared.command.Command.TheVariants as command
+use Rattle.card_words.specs.declared.command.Command.{Command}
+use Rattle.card_words.specs.declared.command.Command.TheVariants as command
 use Rattle.card_commands.specs.declared.ended.Ended.{Ended}
 
 -- what lies outside; the door, what it tells of its connections, and how often it failed

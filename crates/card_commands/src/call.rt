@@ -1,15 +1,15 @@
 // The top call.
 ghost use Rattle.std.specs.Prelude.{◌≡◌, Some, map, OnOk, OnErr};
 ghost use Rattle.std.specs.String.{string_bytes};
-ghost use Rattle.card_commands.specs.Commands.{IsOneOf, statuses_of};
-ghost use Rattle.card_commands.specs.Commands as spec;
+ghost use Rattle.card_commands.specs.Statuses.{IsOneOf, statuses_of};
 ghost use Rattle.card_commands.specs.Attended.{parties};
 ghost use Rattle.card_commands.specs.Outside.{outside, Outcome};
-ghost use Rattle.card_commands.specs.Words.{usage_line, TookLine};
+ghost use Rattle.card_commands.specs.Said.{TookLine};
 ghost use Rattle.card_commands.specs.World.{Answered, Comes, ComesOf, MayServe, world};
 ghost use Rattle.card_ports.specs.Written.{sink_side, TookPart};
+ghost use Rattle.card_words.specs.Commands.{command_of};
+ghost use Rattle.card_words.specs.Usage.{usage_line};
 
-use crate::command::{Command, command_of};
 use crate::demo::demo;
 use crate::ended::{Ended, status_of};
 use crate::handle::Run;
@@ -19,17 +19,17 @@ use crate::progress::Progress;
 use crate::run::run;
 use crate::serve::serve;
 use crate::tell::{tell, tell_repayment};
+use crate::trial::run_trial;
 use card_desk::Ask;
-use card_events::NoMemory;
+use card_events::{Day, NoMemory};
 use card_ports::{Door, Keeper, Sink, SinkFault, Source, write_all};
+use card_words::{Command, command_of, usage_line};
 use std::alloc::Global;
-
-const USAGE: &str =
-    "usage: apply | import | statement ACCOUNT CYCLE | restate ACCOUNT CYCLE | export ACCOUNT | work | demo START ACCOUNTS CYCLES | serve PORT COUNT | repay ACCOUNT CYCLE\n";
 
 /// Does what the words say, and answers the exit status. Each command but `demo` begins with the ledger that the kept rows
 /// give. `apply` reads request lines from the input and writes one reply for each to the output, `import` does so with records
-/// of CSV; each newly accepted request is kept as one row. `statement` and `restate` write the statement of an account's cycle
+/// of CSV; each newly accepted request is kept as one row. `trial` does what `apply` does, brings all accounts to today, and
+/// writes the debits and credits of each kind of entry from one day to another behind the replies. `statement` and `restate` write the statement of an account's cycle
 /// as it was issued, and as the book of today has it, and `repay` what the balances of the issued one come to where they are
 /// repaid; `export` and `work` write the entries of an account, and the open tasks of all. `demo` writes what generated requests come to over a ledger of their own, and leaves source and keeper alone.
 /// `serve` listens on a port, answers one request of HTTP on each of so many connections, and writes a line for each when it is
@@ -55,7 +55,7 @@ pub fn billctl<I: Source, O: Sink, K: Keeper, D: Door>(
         Answered (at input.old output.old keeper.old door.old) (at input.new output.new keeper.new door.new) words.now result }
 
     // No other status comes.
-    ensures statuses { IsOneOf result (statuses_of (spec.command_of (map string_bytes words.now))) }
+    ensures statuses { IsOneOf result (statuses_of (command_of (map string_bytes words.now))) }
 {
     let ended = carry_out_words(alloc, words, input, output, keeper, door);
     status_of(ended)
@@ -107,6 +107,7 @@ fn carry_out<I: Source, O: Sink, K: Keeper, D: Door>(
         }
         Command::Demo(size) => demo(alloc, &size, output),
         Command::Serve { port, count } => { serve_ledger(alloc, port, count, output, keeper, door) }
+        Command::Trial { from, to } => trial_lines(alloc, from, to, input, output, keeper),
     }
 }
 
@@ -124,6 +125,27 @@ fn apply_lines<I: Source, O: Sink, K: Keeper>(
         Ok(desk) => {
             let mut progress = Progress::new(alloc, desk);
             run(&mut progress, alloc, input, output, keeper)
+        }
+        Err(ended) => ended,
+    }
+}
+
+// Loads the ledger, runs over the lines of the input, and writes a trial balance behind the replies.
+fn trial_lines<I: Source, O: Sink, K: Keeper>(
+    alloc: Global,
+    from: Day,
+    to: Day,
+    input: &mut I,
+    output: &mut O,
+    keeper: &mut K,
+) -> Ended
+    ensures { let at = outside I.left I.faults O.taken O.faults K.rows K.faults in
+        Outcome (at input.old output.old keeper.old) (at input.new output.new keeper.new) (Some (Command.Trial from to)) result }
+{
+    match load(alloc, output, keeper) {
+        Ok(desk) => {
+            let progress = Progress::new(alloc, desk);
+            run_trial(progress, alloc, from, to, input, output, keeper)
         }
         Err(ended) => ended,
     }
@@ -167,12 +189,11 @@ fn serve_ledger<O: Sink, K: Keeper, D: Door>(
 }
 
 // Says which words are a command.
-#[tactic(auto, unfolding(crate::specs::Words::usage_line))]
 fn usage<O: Sink>(output: &mut O) -> Result<(), NoMemory>
     ensures ok { OnOk result (TookLine (O.taken output.old) (O.taken output.new) (O.faults output.old) (O.faults output.new) usage_line) }
     ensures err { let at = sink_side O.taken O.faults in OnErr result (TookPart (at output.old) (at output.new) usage_line SinkFault.Memory) }
 {
-    match write_all(output, USAGE.as_bytes()) {
+    match write_all(output, usage_line().as_bytes()) {
         Ok(()) => Ok(()),
         Err(SinkFault::Failed) => Ok(()),
         Err(SinkFault::Memory) => Err(NoMemory),

@@ -1,6 +1,6 @@
 // How a call ends.
 ghost use Rattle.std.specs.Prelude.{◌≡◌};
-ghost use Rattle.card_commands.specs.Commands as spec;
+ghost use Rattle.card_commands.specs.Statuses as spec;
 
 use crate::stop::Stop;
 use card_ports::SinkFault;

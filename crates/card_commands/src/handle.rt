@@ -43,6 +43,14 @@ impl Run {
         }
     }
 
+    /// The desk of the run, which ends.
+    pub fn give_back(self) -> Desk
+        ensures { result.state ≡ self.ledger }
+    {
+        let Run { desk, refused: _ } = self;
+        desk
+    }
+
     /// Whether an item was refused.
     pub fn is_refused(&self) -> bool
         ensures { result ≡ self.now.refused }

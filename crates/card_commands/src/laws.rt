@@ -1,12 +1,12 @@
 //! Laws of the top call, for all that it may find outside. Their functions do nothing; their clauses are what holds.
 ghost use Rattle.std.specs.Prelude.{[], ◌∷◌, Some};
-ghost use Rattle.card_commands.specs.Commands.{IsOneOf, status_of};
+ghost use Rattle.card_commands.specs.Statuses.{IsOneOf, status_of};
 ghost use Rattle.card_commands.specs.Outside.{HandledAllLines, HandledFirstLines, HandledFirstLinesInPart};
 ghost use Rattle.card_commands.specs.World.{Comes, IsCalm, World};
 
-use crate::command::Command;
 use crate::ended::Ended;
 use card_desk::laws::load_of_rows;
+use card_words::Command;
 
 /// Where nothing outside fails, the kept rows are sound and the input isn't too long, a command ends in 0 or 1, or for want
 /// of memory.

@@ -4,7 +4,6 @@
 
 mod answer;
 mod call;
-mod command;
 mod demo;
 mod ended;
 mod handle;
@@ -17,5 +16,6 @@ mod run;
 mod serve;
 mod stop;
 mod tell;
+mod trial;
 
 pub use call::billctl;

@@ -1,7 +1,7 @@
 // The ledger that the kept rows give.
 ghost use Rattle.std.specs.Prelude.{IfOk, IfErr, OnOk, OnErr};
 ghost use Rattle.card_commands.specs.Views.{GaveLedger, GaveNone};
-ghost use Rattle.card_commands.specs.Words.{damaged_line, TookLine};
+ghost use Rattle.card_commands.specs.Said.{damaged_line, TookLine};
 ghost use Rattle.card_ports.specs.Written.{sink_side, TookAll, TookPart};
 ghost use Rattle.card_commands.specs.Written.{sides};
 

@@ -84,6 +84,15 @@ impl Progress {
         }
     }
 
+    /// The desk of the run, which ends.
+    pub fn give_back(self) -> Desk
+        ensures { result.state ≡ self.ledger }
+    {
+        let Progress { run, number: _, line } = self;
+        drop(line);
+        run.give_back()
+    }
+
     // Keeps a run behind the line that is there, as much of it as shows that the line is too long.
     fn keep(&mut self, run: &[u8]) -> Result<(), NoMemory>
         ensures { OnOk result (self.new ≡ record self.old { line = self.old.line ++ kept_of self.old.line run.now }) }
@@ -196,7 +205,7 @@ impl Progress {
     }
 
     /// Handles a last line that no line feed ends, and says whether a line of the run was refused.
-    #[tactic(auto, unfolding(crate::specs::Feed::end_text, crate::specs::Feed::end_rows, crate::specs::Feed::end_refused))]
+    #[tactic(auto, unfolding(crate::specs::Feed::end_text, crate::specs::Feed::end_rows, crate::specs::Feed::end_refused, crate::specs::Feed::end_ledger))]
     pub fn finish<O: Sink, K: Keeper>(
         &mut self,
         alloc: Global,
@@ -206,7 +215,7 @@ impl Progress {
         requires number { self.old.number < 2 ^ 63 }
         requires fits { Fits (K.rows keeper.old) self.old.ledger }
         ensures ok { let at = sides O.taken O.faults K.rows K.faults in
-            IfOk result (Finished (at output.old keeper.old) (at output.new keeper.new) self.old) }
+            IfOk result (Finished (at output.old keeper.old) (at output.new keeper.new) self.old self.new.ledger) }
         ensures err { let at = sides O.taken O.faults K.rows K.faults in
             IfErr result (FellIn (at output.old keeper.old) (at output.new keeper.new) (end_text self.old) (end_rows self.old)) }
     {

@@ -4,7 +4,7 @@ ghost use Rattle.std.specs.Io.KnownBytes.{IsAtEnd};
 ghost use Rattle.card_desk.specs.Kept.{Fits};
 ghost use Rattle.card_commands.specs.Feed.{new_run};
 ghost use Rattle.card_commands.specs.Input.{lines};
-ghost use Rattle.card_commands.specs.Outside.{outside, Runs, HasCause};
+ghost use Rattle.card_commands.specs.Outside.{outside, RunsTo, HasCause};
 ghost use Rattle.card_commands.specs.Ran.{Ran, FellReading};
 
 use crate::ended::{Ended, ended_by, ended_of};
@@ -62,7 +62,7 @@ pub fn run<I: Source, O: Sink, K: Keeper>(
     requires new { progress.old ≡ new_run progress.old.ledger }
     requires fits { Fits (K.rows keeper.old) progress.old.ledger }
     ensures ran { let at = outside I.left I.faults O.taken O.faults K.rows K.faults in
-        Runs (at input.old output.old keeper.old) (at input.new output.new keeper.new) lines progress.old.ledger result }
+        RunsTo (at input.old output.old keeper.old) (at input.new output.new keeper.new) lines progress.old.ledger progress.new.ledger result }
     ensures cause { let at = outside I.left I.faults O.taken O.faults K.rows K.faults in
         HasCause (at input.old output.old keeper.old) (at input.new output.new keeper.new) result }
 {

@@ -13,7 +13,6 @@ mod summary;
 mod tally;
 mod text;
 mod totals;
-mod wide_money;
 
 pub use demonstration::Demonstration;
 pub use text::demo_text;

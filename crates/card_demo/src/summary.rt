@@ -7,8 +7,8 @@ ghost use Rattle.card_events.specs.Money.{money_text};
 
 use crate::tally::Tally;
 use crate::totals::Totals;
-use crate::wide_money::WideMoney;
 use card_events::NoMemory;
+use card_text::WideMoney;
 use std::alloc::Global;
 
 // The line of a count.

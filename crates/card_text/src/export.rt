@@ -15,8 +15,8 @@ use csv::{Writer, WriterBuilder};
 use std::alloc::Global;
 use std::io::Write;
 
-// Why an entry stands, in a word.
-fn kind_word(kind: EntryKind) -> &'static str
+/// Why an entry stands, in a word.
+pub fn kind_word(kind: EntryKind) -> &'static str
     ensures { result.now ≡ spec.kind_word kind }
 {
     match kind {

@@ -16,6 +16,7 @@ mod records;
 mod repayment;
 mod statement;
 mod tasks;
+mod wide_money;
 
 pub use absent::none_line;
 pub use card_lines::{
@@ -23,10 +24,11 @@ pub use card_lines::{
     read_finding, read_line, read_number, read_place, read_plan_kind, read_word, refusal_name,
     refusal_value, reply_text, show_text,
 };
-pub use export::export_text;
+pub use export::{export_text, kind_word};
 pub use item::Item;
 pub use record::import_record;
 pub use records::Records;
 pub use repayment::repayment_text;
 pub use statement::statement_text;
 pub use tasks::tasks_text;
+pub use wide_money::WideMoney;

@@ -3,7 +3,8 @@ use Rattle.card_commands.specs.Feed.{Progress}
 use Rattle.card_commands.specs.Outside.{outside}
 use Rattle.card_commands.specs.Views.{GaveLedger}
 use Rattle.card_commands.specs.Written.{sides}
-use Rattle.card_commands.specs.declared.command.Command.TheVariants as command
+use Rattle.card_words.specs.declared.command.Command.TheVariants as command
+use Rattle.card_commands.proofs.EndLemmas.{runs_of}
 use Rattle.card_commands.proofs.LoadedLemmas.{apply_outcome, unloaded_outcome}
 use Rattle.card_commands.proofs.call.apply_lines.Goals as goal
 
@@ -13,7 +14,7 @@ returns-in-Ok g c =
     let side = sides g.O.Sink.taken g.O.Sink.faults g.K.Keeper.rows g.K.Keeper.faults in
     let gave = subst (GaveLedger (side c.args.output.now c.args.keeper.now) (side c.load.new.output c.load.new.keeper)) (sym (ap (λ (q : Progress). q.ledger) c.new-progress.ensures)) c.in-Ok.ensures.ok in
     apply_outcome (at c.args.input.now c.args.output.now c.args.keeper.now) (at c.run.new.input c.run.new.output c.run.new.keeper) c.load.new.keeper (side c.load.new.output c.load.new.keeper) c.new-progress.result.ledger c.run.result gave
-    (record { ran = c.run.ensures.ran; cause = c.run.ensures.cause })
+    (record { ran = runs_of _ _ _ _ c.run.result c.run.ensures.ran; cause = c.run.ensures.cause })
 
 pub returns-in-Err : goal.returns-in-Err
 returns-in-Err g c =

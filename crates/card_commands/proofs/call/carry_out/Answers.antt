@@ -1,5 +1,5 @@
 use Rattle.std.proofs.Common.{Some, refl, sym, subst}
-use Rattle.card_commands.specs.declared.command.Command.{Command}
+use Rattle.card_words.specs.declared.command.Command.{Command}
 use Rattle.card_commands.specs.World.{Comes, world}
 use Rattle.card_ports.specs.Written.{sink_side}
 use Rattle.card_commands.proofs.LoadedLemmas.{demo_outcome, export_outcome, repay_outcome, restate_outcome, statement_outcome, work_outcome}
@@ -72,3 +72,10 @@ returns-in-Repay g c =
     let new = at c.args.input.now c.tell_repayment.new.output c.tell_repayment.new.keeper c.args.door.now in
     subst (λ (x : Command). Comes old new (Some x) c.tell_repayment.result) (sym c.in-Repay.is)
     (without_door old new _ c.tell_repayment.result refl (repay_outcome _ _ c.in-Repay.name c.in-Repay.cycle c.tell_repayment.result refl refl c.tell_repayment.ensures))
+
+pub returns-in-Trial : goal.returns-in-Trial
+returns-in-Trial g c =
+    let at = world g.I.Source.left g.I.Source.faults g.O.Sink.taken g.O.Sink.faults g.K.Keeper.rows g.K.Keeper.faults g.D.Door.visits g.D.Door.faults in
+    let old = at c.args.input.now c.args.output.now c.args.keeper.now c.args.door.now in
+    let new = at c.trial_lines.new.input c.trial_lines.new.output c.trial_lines.new.keeper c.args.door.now in
+    subst (λ (x : Command). Comes old new (Some x) c.trial_lines.result) (sym c.in-Trial.is) (without_door old new _ c.trial_lines.result refl c.trial_lines.ensures)

@@ -2,7 +2,7 @@ use Rattle.std.proofs.Common.{Some, None, sym, ◌∙◌}
 use Rattle.std.specs.Prelude.{map}
 use Rattle.std.specs.String.{string_bytes}
 use Rattle.card_ports.specs.Written.{sink_side}
-use Rattle.card_commands.specs.Commands.{command_of}
+use Rattle.card_words.specs.Commands.{command_of}
 use Rattle.card_commands.specs.World.{world}
 use Rattle.card_commands.specs.declared.ended.Ended.TheVariants as ended
 use Rattle.card_commands.proofs.WorldLemmas.{comes_of, untouched, usage_cut, usage_said, with_sink}

@@ -3,7 +3,7 @@ use Rattle.card_commands.specs.Feed.{Run}
 use Rattle.card_commands.specs.Outside.{outside}
 use Rattle.card_commands.specs.Views.{GaveLedger}
 use Rattle.card_commands.specs.Written.{sides}
-use Rattle.card_commands.specs.declared.command.Command.TheVariants as command
+use Rattle.card_words.specs.declared.command.Command.TheVariants as command
 use Rattle.card_commands.proofs.LoadedLemmas.{import_outcome, unloaded_outcome}
 use Rattle.card_commands.proofs.call.import_records.Goals as goal
 

@@ -17,7 +17,7 @@ loop-total-preserved g c = record {
 }
 
 pub returns-in-Err-clause-ran : goal.returns-in-Err-clause-ran
-returns-in-Err-clause-ran g c = fell_end _ _ c.args.progress.now.ledger c.in-Err.stop _ c.ended_by.ensures (ran_fell _ _ _ _ _ _ _ c.loop-total.invariant.ran c.in-Err.ensures.err)
+returns-in-Err-clause-ran g c = fell_end _ _ c.args.progress.now.ledger _ c.in-Err.stop _ c.ended_by.ensures (ran_fell _ _ _ _ _ _ _ c.loop-total.invariant.ran c.in-Err.ensures.err)
 
 pub returns-in-Err-clause-cause : goal.returns-in-Err-clause-cause
 returns-in-Err-clause-cause g c = fell_end_cause _ _ c.args.progress.now.ledger c.in-Err.stop _ c.ended_by.ensures (ran_fell _ _ _ _ _ _ _ c.loop-total.invariant.ran c.in-Err.ensures.err)
@@ -25,12 +25,12 @@ returns-in-Err-clause-cause g c = fell_end_cause _ _ c.args.progress.now.ledger 
 pub returns-then-n-eq0-clause-ran : goal.returns-then-n-eq0-clause-ran
 returns-then-n-eq0-clause-ran g c =
     let ran = ran_more _ _ _ _ _ _ _ _ c.loop-total.invariant.ran c.in-Ok.ensures.ok in
-    ended_run _ _ _ c.args.progress.now.ledger _ _ c.finish.result _ c.ended_of.ensures ran (record { left = refl; count = refl }) (c.in-Ok.ensures.end c.if-n-eq0.true) c.finish.ensures.ok c.finish.ensures.err
+    ended_run _ _ _ c.args.progress.now.ledger _ _ _ c.finish.result _ c.ended_of.ensures ran (record { left = refl; count = refl }) (c.in-Ok.ensures.end c.if-n-eq0.true) c.finish.ensures.ok c.finish.ensures.err
 
 pub returns-then-n-eq0-clause-cause : goal.returns-then-n-eq0-clause-cause
 returns-then-n-eq0-clause-cause g c =
     let ran = ran_more _ _ _ _ _ _ _ _ c.loop-total.invariant.ran c.in-Ok.ensures.ok in
-    ended_cause _ _ _ c.args.progress.now.ledger _ _ c.finish.result _ c.ended_of.ensures ran (record { left = refl; count = refl }) c.finish.ensures.ok c.finish.ensures.err
+    ended_cause _ _ _ c.args.progress.now.ledger _ _ _ c.finish.result _ c.ended_of.ensures ran (record { left = refl; count = refl }) c.finish.ensures.ok c.finish.ensures.err
 
 pub returns-clause-ran : goal.returns-clause-ran
 returns-clause-ran g c = endless_run _ _ c.args.progress.now.ledger _ _ c.loop-total.invariant.ran (omega (arith, c.loop-total.invariant.limit))

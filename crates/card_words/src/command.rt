@@ -1,13 +1,13 @@
 // What is asked for.
 ghost use Rattle.std.specs.Prelude.{◌≡◌, ◌≤◌, map, option_map, IfOk, IfSome};
 ghost use Rattle.std.specs.String.{string_bytes};
-ghost use Rattle.card_lines.specs.Forms.{name_of, number_of};
-ghost use Rattle.card_commands.specs.Commands.{demonstration_of};
-ghost use Rattle.card_commands.specs.Commands as spec;
+ghost use Rattle.card_lines.specs.Forms.{day_of, name_of, number_of};
+ghost use Rattle.card_words.specs.Commands.{demonstration_of};
+ghost use Rattle.card_words.specs.Commands as spec;
 
 use card_demo::Demonstration;
-use card_events::{Name, NoMemory, Num};
-use card_lines::read_number;
+use card_events::{Day, Name, NoMemory, Num};
+use card_lines::{read_day, read_number};
 use std::alloc::Global;
 
 /// What is asked for.
@@ -31,6 +31,8 @@ pub enum Command {
     Demo(Demonstration),
     /// Answers requests over HTTP: the port to listen on, and how many connections are attended to.
     Serve { port: u16, count: u32 },
+    /// Does what `Apply` does, and writes the debits and credits of each kind from one day to another behind the replies.
+    Trial { from: Day, to: Day },
 }
 
 fn command_of_word(word: &str) -> Option<Command>
@@ -145,6 +147,19 @@ fn server_of(port: &str, count: &str) -> Option<Command>
     })
 }
 
+// A trial balance from one day to another that isn't before it.
+fn trial_of(from: &str, to: &str) -> Option<Command>
+    ensures { result ≡ spec.trial_of (day_of from.now) (day_of to.now) }
+{
+    let from = read_day(from.as_bytes())?;
+    let to = read_day(to.as_bytes())?;
+    if from <= to {
+        Some(Command::Trial { from, to })
+    } else {
+        None
+    }
+}
+
 fn command_of_two(
     alloc: Global,
     word: &str,
@@ -155,6 +170,8 @@ fn command_of_two(
 {
     if word == "serve" {
         Ok(server_of(first, second))
+    } else if word == "trial" {
+        Ok(trial_of(first, second))
     } else {
         command_of_cycle(alloc, word, first, second)
     }

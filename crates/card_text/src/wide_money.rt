@@ -1,4 +1,3 @@
-// Large amounts of money.
 ghost use Rattle.std.specs.Prelude.{◌≡◌, unsigned_abs, Some};
 ghost use Rattle.card_events.specs.Money.{money_text, sign_text};
 

@@ -1,4 +1,4 @@
--- What is said of words that are no command, and of damaged rows.
+-- A line that is said, and what is said of damaged rows.
 use Rattle.std.specs.Prelude.{◌⊎◌, ℕ, List, [], ◌∷◌, ◌++◌, Option, codes}
 use Rattle.std.specs.Fmt.{decimal}
 use Rattle.std.specs.Io.KnownBytes.{Appends}
@@ -6,9 +6,6 @@ use Rattle.card_desk.specs.Kept.{AreDamagedAt}
 use Rattle.card_ports.specs.declared.row.Row.{Row}
 use Rattle.card_ports.specs.Counts.{Rose}
 use Rattle.card_ports.specs.Written.{TookFront}
-
-unfoldable pub usage_line : List ℕ
-usage_line = codes "usage: apply | import | statement ACCOUNT CYCLE | restate ACCOUNT CYCLE | export ACCOUNT | work | demo START ACCOUNTS CYCLES | serve PORT COUNT | repay ACCOUNT CYCLE" ++ 10 ∷ []
 
 -- what is said where row n is the first that is damaged
 unfoldable pub damaged_line : ℕ → List ℕ

@@ -1,0 +1,8 @@
+//! The words of a call: which command they are, and what is said of words that are none.
+#![tactic(auto)]
+
+mod command;
+mod usage;
+
+pub use command::{Command, command_of};
+pub use usage::usage_line;
