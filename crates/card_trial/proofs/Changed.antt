@@ -8,7 +8,7 @@ use Rattle.std.proofs.lemmas.List.Sums.{get_or-le-sum_by, sum_by-le, sum_by-set,
 use Rattle.card_model.specs.declared.entry.Entry.{Entry}
 use Rattle.card_model.specs.declared.entry.EntryKind.{EntryKind}
 use Rattle.card_trial.specs.Sums.{all_on, all_sizes, amount_of, cell, is_at, size, sum_on, whole}
-use Rattle.card_trial.specs.Totals.{AreEnough, AreEntered, AreNothing, AreTotals, BothSums, HaveRoom, IsTakenOut, of_side}
+use Rattle.card_trial.specs.Totals.{AreEnough, AreEntered, AreNothing, AreSmall, AreTotals, BothSums, HaveRoom, IsTakenOut, of_side}
 use Rattle.card_trial.specs.declared.side.Side.{Side}
 use Rattle.card_trial.proofs.Entered.{size-none, sum_on-none}
 
@@ -65,6 +65,12 @@ unfolding all_sizes
 sizes-small s lists t a l =
     let most : sum_by (size s) lists ≤ length lists * 2 ^ 95 = sum_by-le (size s) (2 ^ 95) lists (λ i d low. list-small s (get_or lists i d) (a.small s i d low) (a.few i d low)) in
     let few : length lists * 2 ^ 95 ≤ 1_000_000 * 2 ^ 95 = mul-le-mul_right (2 ^ 95) l in
+    omega arith
+
+pub totals-small : (lists : List (List Entry)) (t : BothSums) → AreTotals lists t → length lists ≤ 1_000_000 → AreSmall t
+totals-small lists t a l s =
+    let wholes : whole (of_side s t) ≡ all_sizes s lists = a.wholes s in
+    let small : all_sizes s lists ≤ 1_000_000 * 2 ^ 95 = sizes-small s lists t a l in
     omega arith
 
 -- ---- entries that are entered behind all

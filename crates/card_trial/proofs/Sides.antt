@@ -9,11 +9,10 @@ use Rattle.card_model.specs.Entries.{at_least_zero, is_kind, owed, sum_of}
 use Rattle.card_model.specs.declared.entry.Entry.{Entry}
 use Rattle.card_model.specs.declared.entry.EntryKind.{EntryKind}
 use Rattle.card_model.specs.declared.entry.EntryKind.TheVariants as kind
-use Rattle.card_trial.specs.Sums.{amount_of, is_between, sum_between}
+use Rattle.card_trial.specs.Sums.{all_kinds, amount_of, is_between, sum_between}
 use Rattle.card_trial.specs.declared.side.Side.{Side}
 use Rattle.card_trial.specs.declared.side.Side.TheVariants as side
 use Rattle.card_trial.proofs.Ranges.{sum_by-nothing, sum_by-parts}
-use Rattle.card_trial.specs.Laws.{all_kinds}
 
 -- the entries of all kinds and all days up to one
 unfoldable pub sum_up_to : Side → ℕ → List Entry → ℕ

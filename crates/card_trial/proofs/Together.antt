@@ -13,11 +13,11 @@ use Rattle.card_model.specs.Machine.{NamedAccount, State}
 use Rattle.card_model.specs.declared.entry.Entry.{Entry}
 use Rattle.card_model.specs.declared.entry.EntryKind.{EntryKind}
 use Rattle.card_model.specs.declared.entry.EntryKind.TheVariants as kind
-use Rattle.card_trial.specs.Sums.{all_between, sum_between}
+use Rattle.card_trial.specs.Sums.{all_between, all_kinds, of_all_kinds, sum_between}
 use Rattle.card_trial.specs.declared.side.Side.{Side}
 use Rattle.card_trial.specs.declared.side.Side.TheVariants as side
 use Rattle.card_trial.proofs.Ranges.{sum_by-nothing, sum_by-parts}
-use Rattle.card_trial.specs.Laws.{DebitsAndCredits, all_kinds, all_up_to, owed_on, owed_on_all}
+use Rattle.card_trial.specs.Laws.{DebitsAndCredits, all_up_to, owed_on, owed_on_all}
 use Rattle.card_trial.proofs.Balanced.{held-even, owed-then}
 use Rattle.card_trial.proofs.Sides.{sum_up_to}
 
@@ -30,13 +30,13 @@ unfolding all_between
 between-none s from to k = refl
 
 up_to-cons : (s : Side) (day : ℕ) (es : List Entry) (lists : List (List Entry)) → all_up_to s day (es ∷ lists) ≡ sum_up_to s day es + all_up_to s day lists
-unfolding all_up_to sum_up_to
+unfolding all_up_to of_all_kinds sum_up_to
 up_to-cons s day es lists =
     sum_by-parts (λ k. all_between s first_calendar_day day k (es ∷ lists)) (λ k. sum_between s first_calendar_day day k es) (λ k. all_between s first_calendar_day day k lists)
     (λ k. between-cons s first_calendar_day day k es lists) all_kinds
 
 up_to-none : (s : Side) (day : ℕ) → all_up_to s day [] ≡ 0
-unfolding all_up_to
+unfolding all_up_to of_all_kinds
 up_to-none s day = sum_by-nothing (λ k. all_between s first_calendar_day day k []) (λ k. between-none s first_calendar_day day k) all_kinds
 
 -- one account

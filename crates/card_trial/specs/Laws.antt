@@ -1,25 +1,19 @@
 -- What debits and credits come to where all accounts have reached today. Days are day numbers.
 use Rattle.std.specs.Prelude.{ℕ, ℤ, ◌≡◌, ◌≤◌, pos, ◌+ℤ◌, List, [], ◌∷◌}
-use Rattle.std.specs.List.{sum_by}
 use Rattle.card_desk.specs.Desks.{IsRun}
 use Rattle.card_desk.specs.Recorded.{all_entries, entries_on}
 use Rattle.card_events.specs.Range.{first_calendar_day}
 use Rattle.card_model.specs.Entries.{owed}
 use Rattle.card_model.specs.Machine.{NamedAccount, State}
-use Rattle.card_model.specs.declared.entry.EntryKind.{EntryKind}
 use Rattle.card_model.specs.declared.entry.EntryKind.TheVariants as kind
 use Rattle.card_model.specs.declared.entry.Entry.{Entry}
-use Rattle.card_trial.specs.Sums.{all_between}
+use Rattle.card_trial.specs.Sums.{all_between, of_all_kinds}
 use Rattle.card_trial.specs.declared.side.Side.{Side}
 use Rattle.card_trial.specs.declared.side.Side.TheVariants as side
 
--- all kinds, in their order
-abbrev pub all_kinds : List EntryKind
-all_kinds = kind.Charge ∷ kind.Credit ∷ kind.Payment ∷ kind.Return ∷ kind.Refund ∷ kind.Fee ∷ kind.Interest ∷ kind.Hold ∷ []
-
 -- the debits, or the credits, of all kinds and all days up to one
 unfoldable pub all_up_to : Side → ℕ → List (List Entry) → ℕ
-all_up_to s day lists = sum_by (λ k. all_between s first_calendar_day day k lists) all_kinds
+all_up_to s day lists = of_all_kinds s first_calendar_day day lists
 
 -- what is owed on an account at the end of a day
 unfoldable pub owed_on : State → ℕ → NamedAccount → ℤ

@@ -1,3 +1,4 @@
 pub mod Laws
 pub mod Sums
 pub mod Totals
+pub mod Trial

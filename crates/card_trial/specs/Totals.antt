@@ -41,6 +41,10 @@ pub record IsTakenOut (es : List Entry) (old new : BothSums) : Type 0 where
   pub cells : (s : Side) (x : ℕ) (k : EntryKind) → first_calendar_day ≤ x → x ≤ last_calendar_day → cell x k (of_side s new) + sum_on s x k es ≡ cell x k (of_side s old)
   pub wholes : (s : Side) → whole (of_side s new) + size s es ≡ whole (of_side s old)
 
+-- they leave room for more kinds than there are
+abbrev pub AreSmall : BothSums → Type 0
+AreSmall t = (s : Side) → whole (of_side s t) ≤ 2 ^ 120
+
 -- The totals are those of all lists of entries, and there are neither too many entries nor too large ones
 pub record AreTotals (lists : List (List Entry)) (t : BothSums) : Type 0 where
   pub sums : (s : Side) → AreSums s lists (of_side s t)

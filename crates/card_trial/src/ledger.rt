@@ -3,8 +3,8 @@ ghost use Rattle.card_trial.specs.Totals.{AreNothing, AreTotals};
 
 use crate::totals::Totals;
 use card_desk::{Desk, Fault, View};
-use card_events::{Name, NoMemory, Reply, Request, Steps};
-use card_model::Entry;
+use card_events::{Day, Name, NoMemory, Reply, Request, Steps};
+use card_model::{Entry, EntryKind};
 use card_ports::Keeper;
 use std::alloc::Global;
 use std::marker::Model;
@@ -47,7 +47,7 @@ fn fill(desk: &Desk, totals: &mut Totals)
 }
 
 impl LedgerDesk {
-    ghost use Rattle.std.specs.Prelude.{◌≡◌, ◌<◌, ◌≤◌, ◌+◌, true, length, IfOk, OnOk, OnErr};
+    ghost use Rattle.std.specs.Prelude.{◌≡◌, ◌<◌, ◌≤◌, ◌+◌, ◌^◌, true, length, pos, IfOk, OnOk, OnErr};
     ghost use Rattle.std.specs.List.{All};
     ghost use Rattle.card_events.specs.Dated.{is_dated};
     ghost use Rattle.card_ports.specs.Rows.{KeepsRows, SameRowsTold};
@@ -62,7 +62,9 @@ impl LedgerDesk {
     ghost use Rattle.card_desk.specs.Recorded.{AppliedStays, MayChange, all_entries};
     ghost use Rattle.card_desk.specs.Steps.{AreFewToApply, AreFewToTell, most_for_all, reached_of};
     ghost use Rattle.card_desk.specs.Views.{shown};
-    ghost use Rattle.card_trial.specs.Totals.{AreTotals};
+    ghost use Rattle.card_trial.specs.Sums.{all_between, of_all_kinds};
+    ghost use Rattle.card_trial.specs.Totals.{AreSmall, AreTotals};
+    ghost use Rattle.card_trial.specs.declared.side.Side.TheVariants as side;
 
     /// Takes the desk.
     pub fn of(alloc: Global, desk: Desk) -> Result<LedgerDesk, NoMemory>
@@ -85,9 +87,40 @@ impl LedgerDesk {
         ensures value { result.now ≡ self.now.totals }
         ensures all { AreTotals self.now.desk.recorded self.now.totals }
         ensures today { All (λ day. day ≡ self.now.desk.state.today) self.now.desk.reached → AreTotals (all_entries self.now.desk.state) self.now.totals }
+        ensures small { AreSmall self.now.totals }
     {
         let _count = self.desk.accounts();
         &self.totals
+    }
+
+    /// The debits of a kind from one day to another, in cents, of all that is recorded.
+    pub fn debits(&self, from: Day, to: Day, kind: EntryKind) -> i128
+        ensures { result ≡ pos (all_between side.Debits from to kind self.now.desk.recorded) }
+    {
+        self.totals().debits(from, to, kind)
+    }
+
+    /// The credits.
+    pub fn credits(&self, from: Day, to: Day, kind: EntryKind) -> i128
+        ensures { result ≡ pos (all_between side.Credits from to kind self.now.desk.recorded) }
+    {
+        self.totals().credits(from, to, kind)
+    }
+
+    /// The debits of all kinds.
+    pub fn all_debits(&self, from: Day, to: Day) -> u128
+        ensures value { result ≡ of_all_kinds side.Debits from to self.now.desk.recorded }
+        ensures bound { result ≤ 2 ^ 123 }
+    {
+        self.totals().all_debits(from, to)
+    }
+
+    /// The credits.
+    pub fn all_credits(&self, from: Day, to: Day) -> u128
+        ensures value { result ≡ of_all_kinds side.Credits from to self.now.desk.recorded }
+        ensures bound { result ≤ 2 ^ 123 }
+    {
+        self.totals().all_credits(from, to)
     }
 
     /// One step of the machine, as `Desk::apply` takes it. Of the account that the request names, what a post may change is taken out

@@ -1,6 +1,6 @@
-ghost use Rattle.std.specs.Prelude.{◌≡◌, ◌+◌, ◌<◌, ◌≤◌, ◌^◌, pos, replicate, IfOk};
+ghost use Rattle.std.specs.Prelude.{◌≡◌, ◌+◌, ◌<◌, ◌≤◌, ◌^◌, pos, replicate, length, IfOk};
 ghost use Rattle.card_events.specs.Range.{first_calendar_day, last_calendar_day};
-ghost use Rattle.card_trial.specs.Sums.{kind_number, place, cell_count, whole};
+ghost use Rattle.card_trial.specs.Sums.{all_kinds, kind_number, place, cell_count, whole};
 
 use crate::side::{Side, amount_of, day_of};
 use card_events::{Day, NoMemory};
@@ -11,6 +11,23 @@ use std::marker::Model;
 const DAYS: usize = 33_602;
 
 const CELLS: usize = 268_816;
+
+/// All kinds, in their order.
+pub fn kinds() -> &'static [EntryKind]
+    ensures value { result.now ≡ all_kinds }
+    ensures count { length result.now ≡ 8 }
+{
+    &[
+        EntryKind::Charge,
+        EntryKind::Credit,
+        EntryKind::Payment,
+        EntryKind::Return,
+        EntryKind::Refund,
+        EntryKind::Fee,
+        EntryKind::Interest,
+        EntryKind::Hold,
+    ]
+}
 
 fn kind_number(kind: EntryKind) -> usize
     ensures value { result ≡ kind_number kind }
@@ -88,7 +105,7 @@ impl Sums {
     ghost use Rattle.card_model.specs.declared.entry.Entry.{Entry};
     ghost use Rattle.card_model.specs.declared.entry.EntryKind.{EntryKind};
     ghost use Rattle.std.specs.List.{All};
-    ghost use Rattle.card_trial.specs.Sums.{AreSums, all_between, amount_of, cell, is_at, size, sum_on, whole};
+    ghost use Rattle.card_trial.specs.Sums.{AreSums, all_between, amount_of, cell, is_at, of_all_kinds, size, sum_on, whole};
 
     /// All of them 0.
     pub fn new(alloc: Global) -> Result<Sums, NoMemory>
@@ -151,13 +168,38 @@ impl Sums {
         }
     }
 
-    /// The sum of a kind from one day to another. For any lists of entries whose sums these are, it is theirs.
-    pub fn between(&self, from: Day, to: Day, kind: EntryKind) -> i128
-        requires { from ≤ to }
-        ensures { (side : Side) (lists : List (List Entry)) → AreSums side lists self.now → result ≡ pos (all_between side from to kind lists) }
+    // The sum of a kind from one day to another, 0 where this one is before that.
+    fn range(&self, from: Day, to: Day, kind: EntryKind) -> u128
+        ensures value { (side : Side) (lists : List (List Entry)) → AreSums side lists self.now → result ≡ all_between side from to kind lists }
+        ensures most { result ≤ whole self.now }
+        ensures bound { result < 2 ^ 127 }
     {
+        if to < from {
+            return 0;
+        }
         let low = place(from, kind);
         let high = place(to, kind) + 1;
-        signed(sum_of(&self.cells[low..high]))
+        sum_of(&self.cells[low..high])
+    }
+
+    /// The sum of a kind from one day to another. For any lists of entries whose sums these are, it is theirs.
+    pub fn between(&self, from: Day, to: Day, kind: EntryKind) -> i128
+        ensures { (side : Side) (lists : List (List Entry)) → AreSums side lists self.now → result ≡ pos (all_between side from to kind lists) }
+    {
+        signed(self.range(from, to, kind))
+    }
+
+    /// The sum of all kinds from one day to another.
+    pub fn of_all_kinds(&self, from: Day, to: Day) -> u128
+        requires { whole self.now ≤ 2 ^ 120 }
+        ensures value { (side : Side) (lists : List (List Entry)) → AreSums side lists self.now → result ≡ of_all_kinds side from to lists }
+        ensures bound { result ≤ 2 ^ 123 }
+    {
+        let kinds = kinds();
+        let mut sum = 0;
+        for i in 0..kinds.len() {
+            sum += self.range(from, to, kinds[i]);
+        }
+        sum
     }
 }

@@ -23,8 +23,8 @@ impl Model for Totals {
 impl Totals {
     ghost use Rattle.std.specs.Prelude.{◌≡◌, ◌+◌, ◌*◌, ◌<◌, ◌≤◌, ◌^◌, ℕ, List, pos, length, IfOk};
     ghost use Rattle.card_model.specs.declared.entry.Entry.{Entry};
-    ghost use Rattle.card_trial.specs.Sums.{all_between};
-    ghost use Rattle.card_trial.specs.Totals.{AreEntered, AreEnough, AreNothing, AreTotals, HaveRoom, IsTakenOut};
+    ghost use Rattle.card_trial.specs.Sums.{all_between, of_all_kinds};
+    ghost use Rattle.card_trial.specs.Totals.{AreEntered, AreEnough, AreNothing, AreSmall, AreTotals, HaveRoom, IsTakenOut};
 
     /// Nothing.
     pub fn new(alloc: Global) -> Result<Totals, NoMemory>
@@ -62,9 +62,8 @@ impl Totals {
         self.credits.take_out(Side::Credits, entries);
     }
 
-    /// The debits of a kind from one day to another.
+    /// The debits of a kind from one day to another, in cents: 0 where this one is before that.
     pub fn debits(&self, from: Day, to: Day, kind: EntryKind) -> i128
-        requires { from ≤ to }
         ensures { (lists : List (List Entry)) → AreTotals lists self.now → result ≡ pos (all_between Side.Debits from to kind lists) }
     {
         self.debits.between(from, to, kind)
@@ -72,9 +71,26 @@ impl Totals {
 
     /// The credits.
     pub fn credits(&self, from: Day, to: Day, kind: EntryKind) -> i128
-        requires { from ≤ to }
         ensures { (lists : List (List Entry)) → AreTotals lists self.now → result ≡ pos (all_between Side.Credits from to kind lists) }
     {
         self.credits.between(from, to, kind)
+    }
+
+    /// The debits of all kinds from one day to another.
+    pub fn all_debits(&self, from: Day, to: Day) -> u128
+        requires { AreSmall self.now }
+        ensures value { (lists : List (List Entry)) → AreTotals lists self.now → result ≡ of_all_kinds Side.Debits from to lists }
+        ensures bound { result ≤ 2 ^ 123 }
+    {
+        self.debits.of_all_kinds(from, to)
+    }
+
+    /// The credits.
+    pub fn all_credits(&self, from: Day, to: Day) -> u128
+        requires { AreSmall self.now }
+        ensures value { (lists : List (List Entry)) → AreTotals lists self.now → result ≡ of_all_kinds Side.Credits from to lists }
+        ensures bound { result ≤ 2 ^ 123 }
+    {
+        self.credits.of_all_kinds(from, to)
     }
 }
