@@ -3,7 +3,7 @@
     python3 -m audit.compare PROGRAM SEED N [--accounts A] [--by WAY]
 
 runs both over the same input and the same views, and tells the first
-difference.  WAY is `memory` (one run of `apply` with rows in memory), or, over
+difference.  WAY is `memory` (one run of `apply` or `trial` with rows in memory), or, over
 a file of rows that the views are read from afterwards, `lines` (the default, in
 three runs), `csv` (records that come twice) or `http` (a connection a request).
 """
@@ -18,6 +18,7 @@ from pathlib import Path
 
 from .commands import Keeper, run
 from .connections import serve
+from .days import FIRST_DAY, LAST_REQUEST_DAY, day_text
 from .difference import first_difference
 from .generate import generate
 from .inputs import connections, csv_bytes
@@ -38,6 +39,17 @@ class Model:
         return run(words, self.keeper, data)
 
 
+def balances(model: Model) -> list[list[str]]:
+    """Trial balances of all days, of today, of the days before it, of the last forty, of the days
+    between these, and of the days to come."""
+    today = model.keeper.machine().today
+    month = max(FIRST_DAY, today - 40)
+    spans = [(FIRST_DAY, LAST_REQUEST_DAY), (today, today), (month, today),
+             (FIRST_DAY, max(FIRST_DAY, today - 1)), (month, max(month, today - 20)),
+             (min(today + 1, LAST_REQUEST_DAY), LAST_REQUEST_DAY)]
+    return [["trial", day_text(first), day_text(last)] for first, last in spans]
+
+
 def views(model: Model, commands: set[str]) -> list[list[str]]:
     """The commands that look at every account and cycle, with the cycle behind the last one, and at
     an account that isn't there; of those that the program has."""
@@ -47,7 +59,7 @@ def views(model: Model, commands: set[str]) -> list[list[str]]:
         found.append(["export", name])
         for k in range(1, machine.closed_cycles(account) + 2 if account else 2):
             found += [[word, name, str(k)] for word in ("statement", "restate", "repay")]
-    found.append(["trial", "2011-01-01", "2099-12-31"])
+    found += balances(model)
     return [words for words in found if words[0] in commands]
 
 
@@ -63,13 +75,14 @@ def both(model: Model, program: Program, words: list[str], data: bytes = b"",
     return f"{' '.join(words)}, {found}"
 
 
-def compare_lines(model: Model, program: Program, lines: list[str], runs: int) -> str | None:
-    """The lines in so many runs."""
+def compare_lines(model: Model, program: Program, lines: list[str], runs: int,
+                  words: list[str] = ("apply",)) -> str | None:
+    """The lines in so many runs of a command that reads lines."""
     size = -(-len(lines) // runs)
     for at in range(0, len(lines), size):
         part = lines[at:at + size]
         data = "".join(line + "\n" for line in part).encode()
-        found = both(model, program, ["apply"], data, part)
+        found = both(model, program, list(words), data, part)
         if found:
             return found
     return None
@@ -154,10 +167,21 @@ def compare_over_file(program: Program, seed: int, n: int, accounts: int, way: s
     return found
 
 
+def compare_in_memory(program: Program, lines: list[str], seed: int) -> str | None:
+    """An input in one run, by an odd seed with a trial balance behind its replies."""
+    words = ["apply"]
+    if seed % 2 and "trial" in program.commands():
+        after = Model()
+        after.run(words, "".join(line + "\n" for line in lines).encode())
+        spans = balances(after)
+        words = spans[seed // 2 % len(spans)]
+    return compare_lines(Model(), program, lines, 1, words)
+
+
 def compare(path: str, seed: int, n: int, accounts: int, way: str = "lines") -> str | None:
     """The first difference, None where there is none."""
     if way == "memory":
-        return compare_lines(Model(), Program(path, "-"), generate(seed, n, accounts), 1)
+        return compare_in_memory(Program(path, "-"), generate(seed, n, accounts), seed)
     with tempfile.TemporaryDirectory() as folder:
         program = Program(path, str(Path(folder) / "rows.db"))
         return compare_over_file(program, seed, n, accounts, way)

@@ -25,7 +25,7 @@ _billctl() {
     local word=${COMP_WORDS[COMP_CWORD]}
     case $COMP_CWORD in
     1) mapfile -t COMPREPLY < <(compgen -f -- "$word") ;;
-    2) mapfile -t COMPREPLY < <(compgen -W 'apply import statement restate export work demo serve repay' -- "$word") ;;
+    2) mapfile -t COMPREPLY < <(compgen -W 'apply import statement restate export work demo serve repay trial' -- "$word") ;;
     *) COMPREPLY=() ;;
     esac
 }

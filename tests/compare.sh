@@ -1,8 +1,9 @@
 #!/bin/sh
 # Holds the proved program against the independent model of the rules (audit/): 60 inputs of 250 generated lines over four
 # accounts, with rows in memory; then 60 such inputs over a file of rows, in three runs each, and 60 of CSV records that come twice,
-# and 60 as requests over HTTP, each with the open tasks, the entries of every account and the statements of every cycle, with what
-# their balances come to where they are repaid, afterwards; then 10 demonstrations. It fails on the first difference.
+# and 60 as requests over HTTP, each with the open tasks, the entries of every account, the statements of every cycle, with what
+# their balances come to where they are repaid, and trial balances of six ranges of days afterwards; then 10 demonstrations. Half of
+# the inputs in memory have a trial balance behind their replies. It fails on the first difference.
 #
 #     tests/compare.sh [PROGRAM]
 top=$(cd "$(dirname "$0")/.." && pwd) || exit 1
@@ -29,7 +30,7 @@ for way, count in WAYS.items():
             sys.exit(f"compare: seed {seed} by {way} differs\n{found}")
     if way == "memory":
         print(f"compare: {count} inputs, the same replies and statuses", flush=True)
-print("compare: 60 inputs over a file of rows, 60 of CSV records that come twice and 60 over HTTP, the same replies, statuses, open tasks, entries, statements and repayments", flush=True)
+print("compare: 60 inputs over a file of rows, 60 of CSV records that come twice and 60 over HTTP, the same replies, statuses, open tasks, entries, statements, repayments and trial balances", flush=True)
 for seed in range(1, 11):
     size = (seed * 99_999_999_999, seed, 60 // seed)
     found = subprocess.run([program, "-", "demo", *map(str, size)], stdin=subprocess.DEVNULL, capture_output=True, text=True)

@@ -18,11 +18,12 @@ expect() {
     fi
 }
 
-usage='usage: apply | import | statement ACCOUNT CYCLE | restate ACCOUNT CYCLE | export ACCOUNT | work | demo START ACCOUNTS CYCLES | serve PORT COUNT | repay ACCOUNT CYCLE'
+usage='usage: apply | import | statement ACCOUNT CYCLE | restate ACCOUNT CYCLE | export ACCOUNT | work | demo START ACCOUNTS CYCLES | serve PORT COUNT | repay ACCOUNT CYCLE | trial FROM TO'
 for words in '' '-' '- apply now' '- Apply' '- --help' '- export' '- export -a' '- export a now' '- serve' '- serve 8080' '- serve 0 1' '- serve 65536 1' '- serve 08080 1' '- serve 8080 0' '- serve 8080 1000001' '- demo 1 20' '- demo 1 20 6 7' '- demo 1 1001 6' '- demo 1 20 61' '- demo 1 20 0' '- demo 01 20 6' '- demo -1 20 6' '- demo 1000000000000 1 1' \
     '- statement' '- statement a' '- statement a 0' '- statement a 01' '- statement a 1201' \
     '- restate -a 1' '- restate a -1' '- restate a 1 now' \
-    '- repay' '- repay a' '- repay a 0' '- repay a 01' '- repay a 1201' '- repay -a 1' '- repay a 1 now'; do
+    '- repay' '- repay a' '- repay a 0' '- repay a 01' '- repay a 1201' '- repay -a 1' '- repay a 1 now' \
+    '- trial' '- trial 2024-01-01' '- trial 2024-01-02 2024-01-01' '- trial 2024-02-30 2024-03-01' '- trial 2010-12-31 2024-01-01' '- trial 2024-01-01 2100-01-01' '- trial 2024-1-1 2024-01-02' '- trial 2024-01-01 2024-01-02 now'; do
     # shellcheck disable=SC2086
     "$program" $words <"$day" >"$written"
     expect "the words '$words'" $? 2
@@ -44,6 +45,8 @@ if [ -w /dev/full ]; then
     expect 'an output that is full' $? 4
     "$program" - demo 1 0 1 >/dev/full
     expect 'a demonstration into an output that is full' $? 4
+    "$program" - trial 2024-01-01 2024-01-01 </dev/null >/dev/full
+    expect 'a trial balance into an output that is full' $? 4
 fi
 "$program" "$top" apply <"$day" >"$written"
 expect 'rows in a directory' $? 5

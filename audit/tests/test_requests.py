@@ -9,7 +9,7 @@ from audit.lines import read_line
 from audit.machine import Machine
 from audit.rows import decode, encode
 
-from .session import EVERY_WORD, START, Session, request_of, started
+from .session import START, Session, request_of, started
 
 FIRST_DAY = ["roll 2024-03-01", "open a o 2024-03-01 5 1999 2499 2199 2999 2500 100",
              "charge a c1 2024-03-01 purchase 1250", "show a"]
@@ -91,9 +91,12 @@ class Lines(unittest.TestCase):
             reply = machine.apply(request_of(line)).refused
             self.assertEqual(reply.number if reply else None, refused)
 
-    def test_trial_isnt_a_command_yet(self):
-        self.assertEqual(Session().run("trial", "2024-01-01", "2024-01-02")[1], 2)
-        self.assertEqual(Session(unknown=EVERY_WORD).run("trial", "2024-01-01", "2024-01-02")[1], 0)
+    def test_days_of_a_trial_balance(self):
+        for words, status in (("2024-01-01 2024-01-02", 0), ("2024-01-01 2024-01-01", 0),
+                              ("2024-01-02 2024-01-01", 2), ("2024-01-01", 2),
+                              ("2010-12-31 2024-01-01", 2), ("2024-01-01 2100-01-01", 2),
+                              ("2011-01-01 2099-12-31", 0)):
+            self.assertEqual(Session().run("trial", *words.split())[1], status)
 
 
 class KeptRows(unittest.TestCase):

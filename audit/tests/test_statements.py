@@ -10,7 +10,7 @@ from audit.repay import Owing
 from audit.tasks import resolve_by
 from audit.words import WORDS
 
-from .session import EVERY_WORD, START, Session, started
+from .session import START, Session, started
 
 
 def disputable() -> Session:
@@ -195,13 +195,11 @@ class Repayment(unittest.TestCase):
 
 
 class TrialBalance(unittest.TestCase):
-    """A command that the program doesn't have yet."""
-
     ZEROS = [f"{kind} 0.00 0.00" for kind in
              ("charge", "credit", "payment", "return", "refund", "fee", "interest", "hold")]
 
     def test_first_day(self):
-        p = Session(unknown=EVERY_WORD)
+        p = Session()
         p.apply(*START, "charge a c1 2024-01-10 purchase 1250")
         self.assertEqual(p.text("trial", "2024-01-10", "2024-01-10").splitlines(),
                          ["charge 12.50 0.00", *self.ZEROS[1:], "total 12.50 0.00",
@@ -209,7 +207,6 @@ class TrialBalance(unittest.TestCase):
 
     def test_holds(self):
         p = disputable()
-        p.unknown = EVERY_WORD
         p.apply("dispute d x1 2024-04-16 2 5000")
         words = ("trial", "2024-04-16", "2024-04-16")
         self.assertEqual(p.text(*words).splitlines(),

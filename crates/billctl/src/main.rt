@@ -92,7 +92,7 @@ fn carries_out(words: &Vec<String>) -> bool {
     match words.first() {
         Some(word) => {
             let word = word.as_str();
-            word == "apply" || word == "import" || word == "serve"
+            word == "apply" || word == "import" || word == "serve" || word == "trial"
         }
         None => false,
     }
