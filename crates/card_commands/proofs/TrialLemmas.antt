@@ -47,7 +47,7 @@ tried_of old mid x from to s t refused ran took = record {
   stands = (
     ran.stands.0,
     subst (λ (u : State). Appends old.taken x.taken (text_of s (all_items ran.bytes) ++ trial_text from to u)) ran.stands.3
-    (Appends-trans old.taken mid.taken x.taken (text_of s (all_items ran.bytes)) (trial_text from to t) ran.stands.1.0 took.written),
+        (Appends-trans old.taken mid.taken x.taken (text_of s (all_items ran.bytes)) (trial_text from to t) ran.stands.1.0 took.written),
     ran.stands.1.1,
     ran.stands.2,
   );
@@ -73,7 +73,7 @@ front_of old mid x from to s t refused ran took = record {
   stands = (
     ran.stands.0,
     subst (λ (u : State). TookBetween old.taken x.taken (text_of s (all_items ran.bytes)) (text_of s (all_items ran.bytes) ++ trial_text from to u)) ran.stands.3
-    (took_part old.taken mid.taken x.taken (text_of s (all_items ran.bytes)) (trial_text from to t) ran.stands.1.0 took),
+        (took_part old.taken mid.taken x.taken (text_of s (all_items ran.bytes)) (trial_text from to t) ran.stands.1.0 took),
     ran.stands.1.1,
   );
 }

@@ -88,7 +88,11 @@ impl Progress {
     pub fn give_back(self) -> Desk
         ensures { result.state ≡ self.ledger }
     {
-        let Progress { run, number: _, line } = self;
+        let Progress {
+            run,
+            number: _,
+            line,
+        } = self;
         drop(line);
         run.give_back()
     }

@@ -8,8 +8,8 @@ mod sums;
 mod text;
 mod totals;
 
-pub use ledger::LedgerDesk;
 pub use card_text::WideMoney;
+pub use ledger::LedgerDesk;
 pub use side::Side;
 pub use text::trial_text;
 pub use totals::Totals;

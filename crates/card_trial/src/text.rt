@@ -20,15 +20,15 @@ use std::sync::ledger::{Blank, Ledger};
 
 // A word, debits and credits.
 #[tactic(auto, using(card_events::proofs::Texts::texts))]
-fn push_line(
-    text: &mut String,
-    word: &str,
-    debits: i128,
-    credits: i128,
-) -> Result<(), NoMemory>
+fn push_line(text: &mut String, word: &str, debits: i128, credits: i128) -> Result<(), NoMemory>
     ensures { OnOk result (string_bytes text.new ≡ string_bytes text.old ++ spec.line word.now debits credits) }
 {
-    write!(text, "{word} {} {}\n", WideMoney(debits), WideMoney(credits))?;
+    write!(
+        text,
+        "{word} {} {}\n",
+        WideMoney(debits),
+        WideMoney(credits)
+    )?;
     Ok(())
 }
 
@@ -59,12 +59,7 @@ fn push_kind(
 
 // The lines of all kinds.
 #[tactic(auto, unfolding(crate::specs::Trial::kind_lines))]
-fn kind_lines(
-    alloc: Global,
-    ledger: &LedgerDesk,
-    from: Day,
-    to: Day,
-) -> Result<String, NoMemory>
+fn kind_lines(alloc: Global, ledger: &LedgerDesk, from: Day, to: Day) -> Result<String, NoMemory>
     ensures { IfOk result (λ text. string_bytes text ≡ spec.kind_lines from to ledger.now.desk.recorded) }
 {
     let kinds = kinds();
@@ -103,12 +98,7 @@ fn push_ends(text: &mut String, debits: u128, credits: u128) -> Result<(), NoMem
 
 // The ten lines of what is recorded.
 #[tactic(auto, unfolding(crate::specs::Trial::lines_text))]
-fn lines_text(
-    alloc: Global,
-    ledger: &LedgerDesk,
-    from: Day,
-    to: Day,
-) -> Result<String, NoMemory>
+fn lines_text(alloc: Global, ledger: &LedgerDesk, from: Day, to: Day) -> Result<String, NoMemory>
     ensures { IfOk result (λ text. string_bytes text ≡ spec.lines_text from to ledger.now.desk.recorded) }
 {
     let mut text = kind_lines(alloc, ledger, from, to)?;
@@ -120,12 +110,7 @@ fn lines_text(
 
 // Where all accounts have reached today, what is recorded is all that the ledger has.
 #[tactic(auto, unfolding(crate::specs::Trial::trial_text))]
-fn balance_text(
-    alloc: Global,
-    ledger: &LedgerDesk,
-    from: Day,
-    to: Day,
-) -> Result<String, NoMemory>
+fn balance_text(alloc: Global, ledger: &LedgerDesk, from: Day, to: Day) -> Result<String, NoMemory>
     requires { All (λ day. day ≡ ledger.now.desk.state.today) ledger.now.desk.reached }
     ensures { IfOk result (λ text. string_bytes text ≡ spec.trial_text from to ledger.now.desk.state) }
 {

@@ -125,6 +125,89 @@ static CORRECTED: [Case; 4] = [
     },
 ];
 
+// A payment in time that is returned after the due date, with a fee on that day and none on the due date.
+static RETURNED: [Case; 4] = [
+    Case {
+        lines: &[
+            b"feerow 2011-01-02 3000 4100",
+            b"roll 2024-01-10",
+            b"open a o 2024-01-06 5 1999 2499 2199 2999 2500 100",
+            b"charge a c1 2024-01-10 purchase 100000",
+            b"roll 2024-02-06",
+            b"bill a b1 1",
+            b"roll 2024-02-20",
+            b"payment a p1 2024-02-20 600 online 3000",
+            b"roll 2024-03-10",
+        ],
+        first: b"2024-02-20",
+        last: b"2024-03-10",
+        kind: EntryKind::Payment,
+        debits: 0,
+        credits: 3_000,
+    },
+    Case {
+        lines: &[b"return a r1 2024-03-10 4"],
+        first: b"2024-02-20",
+        last: b"2024-03-10",
+        kind: EntryKind::Fee,
+        debits: 2_500,
+        credits: 0,
+    },
+    Case {
+        lines: &[],
+        first: b"2024-03-10",
+        last: b"2024-03-10",
+        kind: EntryKind::Return,
+        debits: 3_000,
+        credits: 0,
+    },
+    Case {
+        lines: &[],
+        first: b"2024-03-01",
+        last: b"2024-03-02",
+        kind: EntryKind::Fee,
+        debits: 0,
+        credits: 0,
+    },
+];
+
+// A payment of which a part goes to the credit balance, and a later charge and a refund that use it up.
+static CREDITED: [Case; 3] = [
+    Case {
+        lines: &[
+            b"feerow 2011-01-02 3000 4100",
+            b"roll 2024-01-10",
+            b"open a o 2024-01-06 5 1999 2499 2199 2999 2500 100",
+            b"charge a c1 2024-01-10 purchase 5000",
+            b"payment a p1 2024-01-10 600 online 7000",
+            b"charge a c2 2024-01-10 purchase 1500",
+            b"refund a f1 500",
+            b"show a",
+        ],
+        first: b"2024-01-10",
+        last: b"2024-01-10",
+        kind: EntryKind::Charge,
+        debits: 6_500,
+        credits: 0,
+    },
+    Case {
+        lines: &[],
+        first: b"2024-01-10",
+        last: b"2024-01-10",
+        kind: EntryKind::Payment,
+        debits: 0,
+        credits: 7_000,
+    },
+    Case {
+        lines: &[],
+        first: b"2024-01-10",
+        last: b"2024-01-10",
+        kind: EntryKind::Refund,
+        debits: 500,
+        credits: 0,
+    },
+];
+
 fn day(rt: &impl Abort, text: &[u8]) -> Day {
     read_day(text).expect(rt, "a day")
 }
@@ -168,7 +251,6 @@ fn carry_out<L: Ledger>(
 fn are_of(rt: &impl Abort, ledger: &LedgerDesk, case: &Case) -> bool {
     let first = day(rt, case.first);
     let last = day(rt, case.last);
-    assert!(rt; first <= last);
     let totals = ledger.totals();
     totals.debits(first, last, case.kind) == case.debits
         && totals.credits(first, last, case.kind) == case.credits
@@ -220,4 +302,14 @@ fn a_dispute(rt: HostRuntime) -> Result<(), Fail> {
 #[test]
 fn a_correction(rt: HostRuntime) -> Result<(), Fail> {
     run_cases::<Brand>(&rt, rt.alloc(), &CORRECTED, Blank::new(1))
+}
+
+#[test]
+fn a_return(rt: HostRuntime) -> Result<(), Fail> {
+    run_cases::<Brand>(&rt, rt.alloc(), &RETURNED, Blank::new(1))
+}
+
+#[test]
+fn a_credit_balance(rt: HostRuntime) -> Result<(), Fail> {
+    run_cases::<Brand>(&rt, rt.alloc(), &CREDITED, Blank::new(1))
 }
