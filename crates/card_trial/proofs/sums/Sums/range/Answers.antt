@@ -1,4 +1,5 @@
-use Rattle.std.proofs.Common.{◌≡◌, ◌+◌, ◌-◌, ◌≤◌, take, drop, length, ap, sym, ◌∙◌, arith, subst}
+use Rattle.std.proofs.Common.{◌≡◌, ◌+◌, ◌-◌, ◌<◌, ◌≤◌, take, drop, length, ap, sym, ◌∙◌, arith, subst}
+use Rattle.std.proofs.lemmas.Bool.Decides.{nat_tests}
 use Rattle.card_trial.specs.Sums.{AreSums, all_between, place, whole}
 use Rattle.card_trial.proofs.Cells.{whole-parts}
 use Rattle.card_trial.proofs.Ranges.{between-is, none-between, sums-between}
@@ -23,7 +24,9 @@ returns-clause-value c side lists a =
     let n = to + 1 - from in
     let view : xs ≡ c.args.self.now = c.deref.ensures.value ∙ c.self.view_is in
     let sums : AreSums side lists xs = subst (AreSums side lists) (sym view) a in
-    let ordered : from ≤ to = omega (arith, c.if-lt.false) in
+    let later = c.if-lt.false in
+    let means = c.lt.ensures in
+    let ordered : from ≤ to = grind (arith, nat_tests, later, means) in
     let range : whole (take n (drop (place from c.args.kind) xs)) ≡ all_between side from to c.args.kind lists =
     sums-between side from n c.args.kind lists xs sums (ap length c.deref.ensures.value ∙ c.self.invariant.0) c.place-low.ensures.first (omega (arith, c.place-high.ensures.last)) ∙ between-is side from to c.args.kind lists ordered in
     let days : c.place-high.result + 1 - c.place-low.result ≡ n = omega (arith, c.place-low.ensures.first) in
@@ -41,4 +44,8 @@ returns-clause-most c =
     omega arith
 
 pub returns-then-lt-clause-value : goal.returns-then-lt-clause-value
-returns-then-lt-clause-value c side lists a = sym (none-between side c.args.from c.args.to c.args.kind lists (omega (arith, c.if-lt.true)))
+returns-then-lt-clause-value c side lists a =
+    let less = c.if-lt.true in
+    let means = c.lt.ensures in
+    let before : c.args.to < c.args.from = grind (arith, nat_tests, less, means) in
+    sym (none-between side c.args.from c.args.to c.args.kind lists before)
