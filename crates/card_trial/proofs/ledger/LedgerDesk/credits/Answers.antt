@@ -1,8 +1,10 @@
-use Rattle.std.proofs.Common.{sym, subst}
+use Rattle.std.proofs.Common.{sym, subst, ◌∙◌}
+use Rattle.std.specs.Int.{w128}
+use Rattle.std.proofs.lemmas.Int.{to_z-of_z}
 use Rattle.card_trial.specs.Totals.{AreTotals}
 use Rattle.card_trial.proofs.ledger.LedgerDesk.credits.Goals as goal
 
 pub returns : goal.returns
 returns c =
     let lists = c.args.self.now.desk.recorded in
-    c.credits.ensures lists (subst (AreTotals lists) (sym c.totals.ensures.value) c.totals.ensures.all)
+    to_z-of_z w128 c.credits.result (record { sfits = c.credits.type_inv }) ∙ c.credits.ensures lists (subst (AreTotals lists) (sym c.totals.ensures.value) c.totals.ensures.all)
