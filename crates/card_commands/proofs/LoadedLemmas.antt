@@ -4,7 +4,7 @@ use Rattle.std.proofs.KnownBytes.{Appends-nil}
 use Rattle.std.specs.Option.{option_map}
 use Rattle.card_account.specs.Accounts.{issued_statement, restated_statement}
 use Rattle.card_daily.specs.declared.track.Statement.{Statement}
-use Rattle.card_demo.specs.Demonstrations.{Demonstration}
+use Rattle.card_words.specs.Demonstrations.{Demonstration}
 use Rattle.card_demo.specs.Summary.{demo_text}
 use Rattle.card_desk.specs.Views.{issued, listed, restated, seen, stated}
 use Rattle.card_http.specs.Told.{entries_told, repaid, repayment_told, statement_told, text_of_statement, told}

@@ -6,9 +6,10 @@ ghost use Rattle.card_ports.specs.Written.{sink_side};
 
 use crate::ended::Ended;
 use crate::tell::write_told;
-use card_demo::{Demonstration, demo_text};
+use card_demo::demo_text;
 use card_events::NoMemory;
 use card_ports::Sink;
+use card_words::Demonstration;
 use std::alloc::Global;
 
 /// Writes what the generated requests of a demonstration come to. Their ledger is its own, so no keeper is asked.

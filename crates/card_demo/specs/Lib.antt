@@ -1,6 +1,5 @@
 pub mod Generator
 pub mod Requests
-pub mod Demonstrations
 pub mod Progress
 pub mod Sums
 pub mod Summary

@@ -2,7 +2,6 @@
 //! own, and what these requests come to.
 #![tactic(auto)]
 
-mod demonstration;
 mod generator;
 pub mod laws;
 mod ledger;
@@ -14,5 +13,4 @@ mod tally;
 mod text;
 mod totals;
 
-pub use demonstration::Demonstration;
 pub use text::demo_text;

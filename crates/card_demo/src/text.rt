@@ -3,10 +3,10 @@ ghost use Rattle.std.specs.Prelude.{◌≡◌, IfOk};
 ghost use Rattle.std.specs.String.{string_bytes};
 ghost use Rattle.card_demo.specs.Summary as spec;
 
-use crate::demonstration::Demonstration;
 use crate::progress::Progress;
 use crate::summary::summary_text;
 use card_events::NoMemory;
+use card_words::Demonstration;
 use std::alloc::Global;
 
 /// Has a ledger of its own carry out the requests of a demonstration, one after the other, and sums up, in six lines: how many

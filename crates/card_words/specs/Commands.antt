@@ -2,7 +2,7 @@
 use Rattle.std.specs.Prelude.{◌&&◌, ℕ, nat_le, if◌then◌else◌, List, [], ◌∷◌, Option, Some, None, codes, Bool}
 use Rattle.std.specs.Option.{option_map}
 use Rattle.std.specs.Str.{bytes_eq}
-use Rattle.card_demo.specs.Demonstrations.{Demonstration, demonstration}
+use Rattle.card_words.specs.Demonstrations.{Demonstration, demonstration}
 use Rattle.card_lines.specs.Forms.{day_of, name_of, number_of}
 use Rattle.card_words.specs.declared.command.Command.{Command}
 use Rattle.card_words.specs.declared.command.Command.TheVariants as command

@@ -5,7 +5,7 @@ ghost use Rattle.card_lines.specs.Forms.{day_of, name_of, number_of};
 ghost use Rattle.card_words.specs.Commands.{demonstration_of};
 ghost use Rattle.card_words.specs.Commands as spec;
 
-use card_demo::Demonstration;
+use crate::demonstration::Demonstration;
 use card_events::{Day, Name, NoMemory, Num};
 use card_lines::{read_day, read_number};
 use std::alloc::Global;

@@ -2,7 +2,9 @@
 #![tactic(auto)]
 
 mod command;
+mod demonstration;
 mod usage;
 
 pub use command::{Command, command_of};
+pub use demonstration::Demonstration;
 pub use usage::usage_line;

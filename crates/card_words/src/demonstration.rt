@@ -17,7 +17,7 @@ pub struct Demonstration {
 }
 
 impl Model for Demonstration {
-    ghost use Rattle.card_demo.specs.Demonstrations as spec;
+    ghost use Rattle.card_words.specs.Demonstrations as spec;
 
     ghost Value = { spec.Demonstration };
 
@@ -28,7 +28,7 @@ impl Model for Demonstration {
 
 impl Demonstration {
     ghost use Rattle.std.specs.Prelude.{◌≡◌, ◌≤◌};
-    ghost use Rattle.card_demo.specs.Demonstrations.{demonstration, IsInRange};
+    ghost use Rattle.card_words.specs.Demonstrations.{demonstration, IsInRange};
 
     /// The demonstration of these numbers, None where there are too many accounts or cycles, or no cycle.
     #[tactic(auto, unfolding(crate::specs::Demonstrations::demonstration))]
