@@ -85,10 +85,10 @@ def numbered(lines):
 
 
 def dated_back(count):
-    yield from OPEN
     yield "roll 2099-01-01"
+    yield "open a o 2020-01-02 5 1999 2499 2199 2999 2500 100"
     for n in range(count):
-        yield f"charge a k{n} {datetime.date(2098, 12, 31) - datetime.timedelta(n % 30_000)} purchase 100"
+        yield f"charge a k{n} {datetime.date(2098, 12, 31) - datetime.timedelta(n % 28_000)} purchase 100"
 
 
 def disputed(count):
@@ -156,33 +156,50 @@ STREAMS = {
 }
 
 
-def measured(words, text):
-    """Seconds and megabytes of one call, and whether it ended well."""
+def written(lines, path):
+    """Writes the lines by a process of its own, so that this one stays small, and counts them."""
+    child = os.fork()
+    if child == 0:
+        with open(path, "w") as out:
+            count = 0
+            for line in lines():
+                out.write(line + "\n")
+                count += 1
+        with open(f"{path}.count", "w") as out:
+            out.write(str(count))
+        os._exit(0)
+    os.waitpid(child, 0)
+    with open(f"{path}.count") as counted:
+        return int(counted.read())
+
+
+def measured(words, path):
+    """Seconds and megabytes of one call, and its status."""
     begun = time.monotonic()
-    child = subprocess.Popen(words, stdin=subprocess.PIPE, stdout=subprocess.DEVNULL)
-    child.stdin.write(text)
-    child.stdin.close()
+    with open(path) as given:
+        child = subprocess.Popen(words, stdin=given, stdout=subprocess.DEVNULL)
     _, status, used = os.wait4(child.pid, 0)
     child.returncode = os.waitstatus_to_exitcode(status)
     return time.monotonic() - begun, used.ru_maxrss / 1024, child.returncode
 
 
-def told(name, words, text, lines):
-    runs = [measured(words, text) for _ in range(1 if "1000000" in name else RUNS)]
-    statuses = {status for _, _, status in runs}
+def told(name, words, path, lines):
+    runs = [measured(words, path) for _ in range(1 if lines >= 1_000_000 else RUNS)]
+    statuses = " ".join(sorted({str(run[2]) for run in runs}))
     print(f"{name} lines {lines} seconds {min(run[0] for run in runs):.2f} megabytes {max(run[1] for run in runs):.0f} status {statuses}", flush=True)
 
 
 def main():
-    for name in sys.argv[2:] or STREAMS:
-        lines = list(STREAMS[name]())
-        told(name, [PROGRAM, "-", "apply"], "".join(line + "\n" for line in lines).encode(), len(lines))
-    if not sys.argv[2:]:
-        with tempfile.TemporaryDirectory(dir="/dev/shm" if os.path.isdir("/dev/shm") else None) as room:
-            lines = list(usual(200_000))
-            words = [PROGRAM, f"{room}/ledger.db", "apply"]
-            subprocess.run(words, input="".join(line + "\n" for line in lines).encode(), stdout=subprocess.DEVNULL, check=True)
-            told("load-200000-and-show", words, b"show a\n", 1)
+    with tempfile.TemporaryDirectory(dir="/dev/shm" if os.path.isdir("/dev/shm") else None) as room:
+        path, ledger, asked = f"{room}/lines", f"{room}/ledger.db", f"{room}/asked"
+        for name in sys.argv[2:] or STREAMS:
+            count = written(STREAMS[name], path)
+            told(name, [PROGRAM, "-", "apply"], path, count)
+        if not sys.argv[2:]:
+            written(STREAMS["usual-200000"], path)
+            measured([PROGRAM, ledger, "apply"], path)
+            written(lambda: ["show a"], asked)
+            told("load-200000-and-show", [PROGRAM, ledger, "apply"], asked, 1)
 
 
 main()
