@@ -76,7 +76,7 @@ def numbered(lines):
         if words[0] == "amend":
             words[3] = str(last["charge"])
         if words[0] == "return":
-            words = ["return", words[1], words[2], str(last["payment"])]
+            words[4] = str(last["payment"])
         if words[0] not in ("roll", "feerow", "show", "holiday", "index"):
             posts += 1
         if words[0] in last:
@@ -130,7 +130,8 @@ def billed(count):
 
 def opened(count):
     yield "roll 2011-01-02"
-    for n in range(count):
+    yield "open a o 2011-01-02 5 1999 2499 2199 2999 2500 100"
+    for n in range(1, count):
         yield f"open a{n} o 2011-01-02 5 1999 2499 2199 2999 2500 100"
 
 
@@ -157,12 +158,12 @@ STREAMS = {
 
 
 def written(lines, path):
-    """Writes the lines by a process of its own, so that this one stays small, and counts them."""
+    """Writes the lines and a question after them, by a process of its own, so that this one stays small, and counts them."""
     child = os.fork()
     if child == 0:
         with open(path, "w") as out:
             count = 0
-            for line in lines():
+            for line in [*lines(), "show a"]:
                 out.write(line + "\n")
                 count += 1
         with open(f"{path}.count", "w") as out:
@@ -198,7 +199,7 @@ def main():
         if not sys.argv[2:]:
             written(STREAMS["usual-200000"], path)
             measured([PROGRAM, ledger, "apply"], path)
-            written(lambda: ["show a"], asked)
+            written(lambda: [], asked)
             told("load-200000-and-show", [PROGRAM, ledger, "apply"], asked, 1)
 
 
