@@ -10,6 +10,7 @@ pub mod Bounded
 pub mod Changed
 pub mod Following
 pub mod Alone
+pub mod Awaited
 pub mod FirstWith
 pub mod Opening
 pub mod Holidays

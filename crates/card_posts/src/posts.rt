@@ -5,7 +5,7 @@ use crate::enter::enter;
 use crate::foretold::first_with;
 use crate::make::{copy_history, make_room_in, one, opening};
 use crate::order::{slot, slot_with};
-use crate::refresh::{is_correction, waits_with};
+use crate::refresh::waits_with;
 use card_events::{Anchor, Calendar, Day, Kept, Name, NoMemory, Post, Slot, numbered};
 use card_keys::{KeyTable, enter_key, find, rebuilt};
 use std::alloc::Global;
@@ -48,7 +48,7 @@ pub struct Pushed {
 }
 
 impl Posts {
-    ghost use Rattle.std.specs.Prelude.{◌≡◌, ℕ, ◌+◌, ◌<◌, ◌≤◌, ◌++◌, List, [], ◌∷◌, true, false, length, IsOk, IfOk, IfSome, OnOk, OnErr, None, option_copied};
+    ghost use Rattle.std.specs.Prelude.{◌≡◌, ℕ, ◌+◌, ◌<◌, ◌≤◌, ◌++◌, List, [], ◌∷◌, true, false, length, IsOk, IfOk, OnOk, OnErr, None, option_copied};
     ghost use Rattle.card_events.specs.Limits.{post_limit};
     ghost use Rattle.card_events.specs.Range.{last_request_day};
     ghost use Rattle.card_events.specs.Billing.{IsCloseDay};
@@ -56,7 +56,7 @@ impl Posts {
     ghost use Rattle.card_events.specs.Keys.{with_key};
     ghost use Rattle.card_events.specs.declared.kept.Kept.{Kept};
     ghost use Rattle.card_posts.specs.Change.{IsFirstChange};
-    ghost use Rattle.card_posts.specs.Corrections.{corrects, some_waits};
+    ghost use Rattle.card_posts.specs.Corrections.{corrects};
     ghost use Rattle.card_posts.specs.Draft.{AwaitsReturn, IsDraft, IsFirstWith};
     ghost use Rattle.card_posts.specs.Posted.{Posted, AreBounded, AreNumbered, IsReceived, StandsFor, folding_order, opens, slot_with, target_of};
     ghost use Rattle.card_posts.specs.Stored.{AreTimely};
@@ -205,23 +205,17 @@ impl Posts {
     }
 
     /// The first day on which the corrected list differs once this post stands behind the others, accepted on this day under any
-    /// key; told without entering it, and without memory. None comes only for a post that corrects others, where a Return, a
-    /// Dispute or a Resolve stands among them: then `draft` tells it. The corrected list must be that of the posts under this
-    /// calendar. The post is about no later one. A payment came in by the day of acceptance, and an Amend gives no later day.
-    pub fn first_change(&self, accepted: Day, post: &Post, calendar: &Calendar) -> Option<Day>
+    /// key; told without entering it, and without memory. The corrected list must be that of the posts under this calendar. The
+    /// post is about no later one. A payment came in by the day of acceptance, and an Amend gives no later day.
+    pub fn first_change(&self, accepted: Day, post: &Post, calendar: &Calendar) -> Day
         requires few { length self.now.history < post_limit }
         requires stands { StandsFor calendar.now self.now }
         requires target { target_of post.now ≤ length self.now.history }
         requires dated { accepted ≤ last_request_day }
         requires received { IsReceived (anchor_of self.now.history).opened accepted post.now }
-        ensures from { IfSome result (IsFirstWith calendar.now accepted post.now self.now) }
-        ensures none { result ≡ None → corrects post.now ≡ true }
-        ensures waits { result ≡ None → some_waits self.now.history ≡ true }
+        ensures { IsFirstWith calendar.now accepted post.now self.now result }
     {
-        if is_correction(post) && self.waits {
-            return None;
-        }
-        let from = first_with(
+        first_with(
             &self.history,
             &self.corrections,
             &self.effects,
@@ -229,8 +223,7 @@ impl Posts {
             post,
             &self.anchor,
             calendar,
-        );
-        Some(from)
+        )
     }
 
     /// Enters a post behind the others for a while, with room made for it: as `add` does, but so that `withdraw` takes it back.
