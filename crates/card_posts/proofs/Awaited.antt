@@ -1,5 +1,5 @@
 -- What one more post does to the effective days of earlier ones, through the posts for which they wait.
-use Rattle.std.proofs.Common.{◌≡◌, ℕ, zero, suc, ◌+◌, ◌<◌, ◌≤◌, ◌⊎◌, inl, inr, max, Bool, true, false, cond, List, length, refl, sym, ap, ◌∙◌, subst, arith, Option, Some, None}
+use Rattle.std.proofs.Common.{◌≡◌, ℕ, zero, suc, ◌<◌, ◌≤◌, ◌⊎◌, inl, inr, max, Bool, true, false, cond, List, length, refl, sym, ap, ◌∙◌, subst, arith, Option, Some, None}
 use Rattle.std.proofs.lemmas.Bool.{cases_eq}
 use Rattle.card_events.specs.declared.anchor.Anchor.{Anchor}
 use Rattle.card_events.specs.History.{at_number, effective_day, last_amend}
@@ -75,7 +75,11 @@ days-below a holidays h k top e l w b = record {
   said = λ m q n is. inl (said-other h k e l m (λ f. omega (arith, f, n, b))).0;
 }
 
--- and so is the day for which it waits
+pub days-under : (a : Anchor) (holidays : List ℕ) (h : List Kept) (k : Kept) (m : ℕ) (q : Kept) → NameEarlier 1 h → target_of k.post ≤ length h → m ≤ length h → m < changed_by h k.post → at_number m h ≡ Some q
+    → effective_day a holidays h m q.accepted q.post ≡ effective_day a holidays (more h k) m q.accepted q.post
+days-under a holidays h k m q e l w b is = carried (λ x y. x ≡ y) a holidays h (more h k) m m q (days-below a holidays h k m e l w b) (omega arith) is
+
+-- and so is the day for which one of them waits
 pub awaited-below : (a : Anchor) (holidays : List ℕ) (h : List Kept) (k : Kept) (p : Post) → NameEarlier 1 h → target_of k.post ≤ length h → target_of p ≤ length h → target_of p < changed_by h k.post
     → awaited_day a holidays (more h k) p (at_number (target_of p) (more h k)) ≡ awaited_day a holidays h p (at_number (target_of p) h)
 awaited-below a holidays h k p e l w b =

@@ -1,5 +1,5 @@
 -- The first day on which the corrected list differs with one more post, told from the list before it.
-use Rattle.std.proofs.Common.{◌≡◌, ℕ, zero, suc, ◌+◌, ◌-◌, ◌<◌, ◌≤◌, inl, inr, min, Bool, true, false, cond, List, [], ◌∷◌, ◌++◌, length, get_or, refl, sym, ap, ◌∙◌, subst, arith, Some, None}
+use Rattle.std.proofs.Common.{◌≡◌, ℕ, suc, ◌+◌, ◌-◌, ◌<◌, ◌≤◌, inl, inr, min, Bool, true, false, cond, List, [], ◌∷◌, ◌++◌, length, get_or, refl, sym, ap, ◌∙◌, subst, arith, Some, None}
 use Rattle.std.proofs.lemmas.List.{same_lists}
 use Rattle.std.proofs.lemmas.Option.{get_or_from_slice_get, slice_get-get_or}
 use Rattle.card_events.specs.declared.anchor.Anchor.{Anchor}
@@ -35,13 +35,13 @@ first-with a holidays h k es fs d long same are is =
     (subst (λ m. IsFirstChange m (corrected_with 1 5 h es) (corrected_with 1 5 (more h k) (fs ++ e ∷ []))) (sym is) (first-change-exact h k es fs e (sym long) same))
 
 -- ---- what counts for the post that one more corrects, and for the others
-effect-at : (a : Anchor) (holidays : List ℕ) (g : List Kept) (i : ℕ) (ks : List Kept) (d : Effect) (k : Kept) → i < length ks → get_or (effects_from a holidays g 1 ks) i d ≡ effect_of a holidays g (suc i) (get_or ks i k)
+pub effect-at : (a : Anchor) (holidays : List ℕ) (g : List Kept) (i : ℕ) (ks : List Kept) (d : Effect) (k : Kept) → i < length ks → get_or (effects_from a holidays g 1 ks) i d ≡ effect_of a holidays g (suc i) (get_or ks i k)
 effect-at a holidays g i ks d k l = let number : 1 + i ≡ suc i = omega arith in effects-at a holidays g 1 i ks d k l ∙ ap (λ n. effect_of a holidays g n (get_or ks i k)) number
 
-abbrev effect_by : ℕ → ℕ → Effect
+abbrev pub effect_by : ℕ → ℕ → Effect
 effect_by d c = record { day = d; cents = c }
 
-parts : (d c m b : ℕ) → d ≡ m → c ≡ b → effect_by d c ≡ effect_by m b
+pub parts : (d c m b : ℕ) → d ≡ m → c ≡ b → effect_by d c ≡ effect_by m b
 parts d c m b e f = rw (e, f) refl
 
 -- one that isn't corrected keeps its cents
@@ -93,7 +93,7 @@ first-changed a holidays h k first i d e l is =
     (λ j w o. subst (λ x. IsLate x (get_or (effects a holidays h) j d) (get_or (effects_from a holidays (more h k) 1 h) j d)) low (late-at a holidays h k first i j d e l is within (omega (arith, w, long)) o))
 
 -- where the corrected one stays on its day, the others are as they were
-still-at : (a : Anchor) (holidays : List ℕ) (h : List Kept) (k : Kept) (i : ℕ) (d : Effect) → NameEarlier 1 h → target_of k.post ≤ length h
+pub still-at : (a : Anchor) (holidays : List ℕ) (h : List Kept) (k : Kept) (i : ℕ) (d : Effect) → NameEarlier 1 h → target_of k.post ≤ length h
     → ((q : Kept) → at_number (changed_by h k.post) h ≡ Some q → effective_day a holidays h (changed_by h k.post) q.accepted q.post ≡ effective_day a holidays (more h k) (changed_by h k.post) q.accepted q.post)
     → (changed_by h k.post ≡ suc i → ⊥) → i < length h → get_or (effects_from a holidays (more h k) 1 h) i d ≡ get_or (effects a holidays h) i d
 still-at a holidays h k i d e l stays other w =

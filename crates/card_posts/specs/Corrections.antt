@@ -1,5 +1,5 @@
 -- What is kept of later posts for each post, by number: the last Amend, and the sum that was confirmed as an error.
-use Rattle.std.specs.Prelude.{ℕ, suc, ◌+◌, ◌-◌, ◌^◌, min, Bool, true, false, ◌&&◌, ◌||◌, if◌then◌else◌, List, [], ◌∷◌, Option, Some, None}
+use Rattle.std.specs.Prelude.{ℕ, suc, ◌+◌, ◌-◌, ◌^◌, min, Bool, true, false, List, [], ◌∷◌, Option, Some, None}
 use Rattle.card_events.specs.History.{at_number, charge_disputed, confirmed, last_amend}
 use Rattle.card_events.specs.declared.kept.Kept.{Kept}
 use Rattle.card_events.specs.declared.post.Post.{Post}
@@ -43,25 +43,3 @@ abbrev pub corrects : Post → Bool
 corrects (post.Amend _ _ _) = true
 corrects (post.Resolve _ _ _) = true
 corrects _ = false
-
--- the post that an Amend names, and 0 for the other kinds
-abbrev pub amended : Post → ℕ
-amended (post.Amend target _ _) = target
-amended _ = 0
-
--- the post counts no earlier than another one that it names
-abbrev pub waits : Post → Bool
-waits (post.Return _ _) = true
-waits (post.Dispute _ _ _) = true
-waits (post.Resolve _ _ _) = true
-waits _ = false
-
--- one of the posts waits
-unfoldable pub some_waits : List Kept → Bool
-some_waits [] = false
-some_waits (k ∷ ks) = waits k.post || some_waits ks
-
--- the one earlier post for which something else may count with a new post, 0 for none; and None where others may wait for what
--- it corrects
-abbrev pub changed_alone : Bool → Post → Option ℕ
-changed_alone waiting p = if corrects p && waiting then None else Some (amended p)

@@ -1,6 +1,6 @@
 use Rattle.std.proofs.Common.{◌≡◌, ℕ, ◌+◌, ◌-◌, ◌<◌, ◌≤◌, max, unwrap_or, List, [], length, get_or, take, sym, ap, subst, ◌∙◌, refl, arith}
 use Rattle.std.proofs.lemmas.List.{get_or_default}
-use Rattle.card_events.specs.History.{amend_of, at_number, cents_of, effective_day, last_amend}
+use Rattle.card_events.specs.History.{amend_of, at_number, effective_day, last_amend}
 use Rattle.card_events.specs.declared.kept.Kept.{Kept}
 use Rattle.card_events.specs.declared.anchor.Anchor.{Anchor}
 use Rattle.card_events.specs.declared.post.Post.{Post}
