@@ -21,7 +21,7 @@ class Replies(unittest.TestCase):
         p = Session()
         self.assertEqual(p.apply(*FIRST_DAY), FIRST_REPLIES)
         self.assertEqual(len(p.keeper.rows), 3)
-        self.assertEqual(p.keeper.rows[0][1].hex(), "010100004d47")
+        self.assertEqual(p.keeper.rows[0][1].hex(), "020112c8")
         out, status = Session().run("apply", data="\n".join(FIRST_DAY).encode())
         self.assertEqual((out.decode().splitlines(), status), (FIRST_REPLIES, 0))
 
@@ -69,8 +69,11 @@ class Replies(unittest.TestCase):
             lines += [f"askrefund a k{n}-{i} {day}" for i in range(10)]
         lines.append(f"askrefund a last {day}")
         replies = p.apply(*lines)
-        self.assertTrue(all(r.startswith("ok") for r in replies[:-1]))
-        self.assertEqual(replies[-2:], ["ok 10000", "no 25 AccountFull"])
+        self.assertTrue(all(r.startswith("ok") for r in replies))
+        self.assertEqual(replies[-2:], ["ok 10000", "ok 10001"])
+        few = Machine(post_limit=3)
+        replies = [few.apply(request_of(line)).refused for line in lines[:7]]
+        self.assertEqual([r.number if r else None for r in replies], [None] * 5 + [25, 25])
 
     def test_words_of_commands(self):
         out, status = Session().run("now")
@@ -80,9 +83,8 @@ class Replies(unittest.TestCase):
 
 
 class Lines(unittest.TestCase):
-    def test_words_to_come(self):
-        """The program doesn't know them yet, and the model does."""
-        self.assertEqual(Session().last("index 2024-04-01 550"), "bad 1 1")
+    def test_index_rows(self):
+        self.assertEqual(Session().last("index 2024-04-01 550"), "ok")
         machine = Machine()
         for line, refused in (("index 2011-01-01 550", 29), ("index 2024-01-01 10000", 5),
                               ("index 2024-01-01 550", None)):

@@ -173,7 +173,7 @@ fees-moved (e ∷ es) =
     by kind.Interest x = omega arith
     by kind.Hold x = omega arith
 
-little : (part all entered m limit : ℕ) → part ≤ all → entered ≡ all → entered ≤ m → m ≤ limit → limit ≤ 100_000_000_000_000 → part ≤ 10 ^ 17
+little : (part all entered m limit : ℕ) → part ≤ all → entered ≡ all → entered ≤ m → m ≤ limit → limit ≤ 500_000_000_000_000 → part ≤ 10 ^ 17
 little part all entered m limit a b c d e = omega (arith, a, b, c, d, e)
 
 pub fees-small : (g : Given) (day : ℕ) → IsSound g → day ≤ last_request_day → All (λ c. fees_sum c.fees ≤ 10 ^ 17) (book_on g day).cycles

@@ -13,11 +13,12 @@ use Rattle.card_events.specs.declared.post.PlanKind.TheVariants as plan
 use Rattle.card_events.specs.declared.post.Post.{Post}
 use Rattle.card_events.specs.declared.post.Post.TheVariants as post
 use Rattle.card_events.specs.declared.post.Terms.{Terms}
+use Rattle.card_model.specs.Rates.{rate_on, starts}
 use Rattle.card_model.specs.Segments.{SegmentTerms, opening_vintage, segment_of, segments, sort_of_category, sort_of_plan}
 use Rattle.card_model.specs.declared.segment.Sort.TheVariants as sort
-use Rattle.card_rates.specs.RateBooks.{AreByNumber}
+use Rattle.card_rates.specs.RateBooks.{AreByNumber, rates_of}
 use Rattle.card_rates.proofs.Added.{all-by-number, segments-are}
-use Rattle.card_rates.proofs.DayLaws.{rates_any}
+use Rattle.card_rates.proofs.DayLaws.{index-seen, rates_any}
 use Rattle.card_rates.proofs.LaterPosts.{AreDated, corrected-dated, own_day}
 use Rattle.card_effects.specs.Laws.{BooksOfADay, BooksStand, SegmentsAreRated, SegmentsAreThose}
 use Rattle.card_effects.specs.Standing.{is_added}
@@ -124,7 +125,9 @@ stand : BooksStand
 stand history issued shared day b balances l sums none =
     record {
       segments = those history issued shared day l;
-      rates = λ g. rates_any history issued shared b day day g (omega arith);
+      rates = λ g.
+          let r = rates_of shared.holidays history b.penalties in
+          ap (λ index. rate_on index r.lowerings r.penalty (starts day r.penalties) r.segments day g) (index-seen r.variable shared.index day day (omega arith)) ∙ rates_any history issued shared b day day g (omega arith);
       same = refl;
       sums = sums;
       to_come = none;

@@ -6,6 +6,7 @@ pub mod LaterPosts
 pub mod Nearest
 pub mod OneMore
 pub mod Penalties
+pub mod RowsAhead
 pub mod Runs
 pub mod Spans
 pub mod Unchanged

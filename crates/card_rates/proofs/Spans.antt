@@ -256,7 +256,7 @@ spans_keep_rates = record {
   rates = λ history issued shared penalties first days i g low q l c.
       let posts = corrected (anchor_of history) shared.holidays history in
       let all = (rates_of shared.holidays history penalties).segments in
-      let began = λ x. starts x penalties in
+      let began = λ (x : ℕ). starts x penalties in
       span (λ x. rate_of shared.index (rates_of shared.holidays history penalties) x g) first days
       (λ x m h.
       ap (λ index. rate_on index (lowerings posts) (terms_of history).penalty (began (suc x)) all (suc x) g) (index-after history issued shared penalties first days low q x m h)

@@ -247,7 +247,7 @@ impl RateBook {
             }
         } else {
             let index = self.index_of(index, day);
-            vintage_rate(&self.segments, g.sort, g.id, day, index)
+            vintage_rate(&self.segments, g.sort, g.id, day, &index)
         }
     }
 

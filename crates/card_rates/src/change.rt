@@ -106,13 +106,8 @@ pub fn next_row(index: &IndexTable, opened: Day, first: Day, end: Day) -> Day
     if opened < first {
         return next_from(index, first, end);
     }
-    if end <= opened {
+    if number_of(end) <= number_of(opened) {
         return end;
     }
-    let after = opened.next();
-    if end < after {
-        end
-    } else {
-        next_from(index, after, end)
-    }
+    next_from(index, opened.next(), end)
 }

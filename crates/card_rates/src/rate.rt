@@ -75,11 +75,11 @@ pub fn bears_its_own(g: &RatedSegment, day: Day) -> bool
 }
 
 // The rate of a vintage, where the opening rates follow this index, if any.
-fn rate_with(g: &RatedSegment, index: Option<Bp>) -> Bp
-    ensures { result ≡ rate_with index g.now }
+fn rate_with(g: &RatedSegment, index: &Option<Bp>) -> Bp
+    ensures { result ≡ rate_with index.now g.now }
 {
     match index {
-        Some(index) if g.id < FIRST_ADDED => with_margin(g.rate, index),
+        Some(index) if g.id < FIRST_ADDED => with_margin(g.rate, *index),
         _ => g.rate,
     }
 }
@@ -99,9 +99,9 @@ pub fn vintage_rate(
     sort: Sort,
     id: u8,
     day: Day,
-    index: Option<Bp>,
+    index: &Option<Bp>,
 ) -> BegunRate
-    ensures { result ≡ begun_of index (last_that (bears_in day sort id) segments.now) }
+    ensures { result ≡ begun_of index.now (last_that (bears_in day sort id) segments.now) }
 {
     let mut begun = BegunRate {
         rate: no_rate(),

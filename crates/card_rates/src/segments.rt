@@ -52,7 +52,7 @@ fn opening_day(opening: &Post) -> Day
     ensures { result ≡ opening_in opening.now }
 {
     match opening {
-        Post::Open { day, .. } => *day,
+        Post::Open { day, .. } | Post::OpenVariable { day, .. } => *day,
         _ => unreachable!(),
     }
 }

@@ -1,5 +1,5 @@
 -- Closings of cycles with great numbers.
-use Rattle.std.proofs.Common.{ℕ, zero, suc, ◌+◌, ◌≤◌, arith}
+use Rattle.std.proofs.Common.{ℕ, zero, suc, ◌≤◌, arith}
 use Rattle.card_events.specs.Billing.{closing}
 use Rattle.card_events.specs.declared.anchor.Anchor.{Anchor}
 use Rattle.card_events.proofs.Cycles.{closing_grows}

@@ -37,6 +37,7 @@ fn bad_term(terms: &Terms) -> Option<Refusal>
 /// Why the opening of an account isn't accepted today, where so many accounts exist: terms out of their ranges, a day ahead, no
 /// index on the day where the rates follow it (12 CFR 1026.55(b)(2)), or a full ledger. `BadTerms` gives the place of the first
 /// bad term, from 1. None where it is accepted. It takes no memory.
+#[tactic(auto, unfolding(card_model::specs::Refusals::reason_to_open, card_model::specs::Refusals::no_index))]
 pub fn open_reason(today: Day, accounts: usize, shared: &SharedRows, post: &Post) -> Option<Refusal>
     requires opens { is_open post.now ≡ true }
     ensures value { result ≡ reason_to_open today accounts shared.now post.now }
@@ -95,18 +96,7 @@ fn later_open_reason(
     }
     match without {
         Some(refusal) => Some(refusal),
-        None => full_ledger(accounts),
-    }
-}
-
-// Why no account is opened beside so many.
-fn full_ledger(accounts: usize) -> Option<Refusal>
-    ensures room { result ≡ None → accounts < 1_000_000 }
-    ensures value { result ≡ where_true (nat_le 1000000 accounts) Refusal.LedgerFull }
-{
-    if accounts >= 1_000_000 {
-        Some(Refusal::LedgerFull)
-    } else {
-        None
+        None if accounts >= 1_000_000 => Some(Refusal::LedgerFull),
+        None => None,
     }
 }

@@ -71,7 +71,7 @@ fn is_at(rows: &[Row], at: usize, day: Day) -> bool
 impl IndexTable {
     ghost use Rattle.std.specs.Prelude.{◌≡◌, [], IfOk, OnOk, OnErr, nat_le, option_map};
     ghost use Rattle.std.specs.List.{find};
-    ghost use Rattle.card_events.specs.SharedRows.{with_index};
+    ghost use Rattle.card_events.specs.SharedRows.{AreByDay, with_index};
     ghost use Rattle.card_model.specs.Rates.{index_on};
 
     /// A table without a row. It takes no memory.
@@ -113,7 +113,8 @@ impl IndexTable {
 
     /// The first day from this one on that has a row. It takes no memory.
     pub fn from(&self, day: Day) -> Option<Day>
-        ensures { result ≡ option_map (λ r. r.day) (find (λ r. nat_le day r.day) self.now) }
+        ensures found { result ≡ option_map (λ r. r.day) (find (λ r. nat_le day r.day) self.now) }
+        ensures by_day { AreByDay 0 self.now }
     {
         let at = before(&self.rows, day);
         day_at(&self.rows, at)

@@ -1,6 +1,7 @@
-use Rattle.std.proofs.Common.{◌≡◌, ◌+◌, ◌-◌, ◌<◌, ◌≤◌, ◌^◌, take, refl, sym, ap, ◌∙◌, subst, pos, of_z, rules, to_z, w64}
+use Rattle.std.proofs.Common.{◌≡◌, ◌+◌, ◌-◌, ◌<◌, ◌≤◌, ◌^◌, List, take, refl, sym, ap, ◌∙◌, subst, pos, of_z, rules, to_z, w64}
 use Rattle.std.specs.List.{All}
 use Rattle.std.specs.Prelude.{nat_le}
+use Rattle.card_events.specs.SharedRows.{IndexRow}
 use Rattle.card_effects.specs.Standing.{is_added}
 use Rattle.card_model.specs.Books.{Book}
 use Rattle.card_model.specs.Cycles.{Cycle, amounts_sum}
@@ -65,7 +66,10 @@ returns c =
       moves = did.moves ∙ ap (λ (x : Book). moves_of (cycle_entries cycle x)) h.book;
       fees_year = ap pos (years.fees ∙ (ap (λ n. year_sum (λ d. fees_sum d.fees) n f.book.cycles) closing ∙ ap (λ (x : Book). year_sum (λ d. fees_sum d.fees) day x.cycles) h.book));
       interest_year = ap pos (years.interest ∙ (ap (λ n. year_sum (λ d. amounts_sum d.interest) n f.book.cycles) closing ∙ ap (λ (x : Book). year_sum (λ d. amounts_sum d.interest) day x.cycles) h.book));
-      rates = did.rates ∙ (ap (λ (x : Book). kept_rate_lines g.shared.index f.rates cycle x.entries) h.book ∙ is.rates cycle refl);
+      rates =
+          did.rates
+          ∙ (ap (λ (rows : List IndexRow). kept_rate_lines rows f.rates cycle f.book.entries) c.index.ensures
+          ∙ (ap (λ (x : Book). kept_rate_lines g.shared.index f.rates cycle x.entries) h.book ∙ is.rates cycle refl));
       deferred = did.deferred ∙ is.deferred;
       late_up_to = late ∙ c.stated_of-stated.ensures.late_up_to;
       penalty = c.stated_of-stated.ensures.penalty ∙ ap (λ (r : Rates). r.penalty) h.rates;

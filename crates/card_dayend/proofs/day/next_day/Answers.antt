@@ -1,3 +1,4 @@
+use Rattle.std.proofs.Common.{sym}
 use Rattle.card_dayend.proofs.day.next_day.Goals as goal
 
 pub row_day-requires-clause-amid : goal.row_day-requires-clause-amid
@@ -8,3 +9,7 @@ row_day-requires-clause-amid c = record {
   opened = c.requires.dated.opened;
   amid = c.in_ok-post_day.ensures.posted;
 }
+
+pub close_day-requires-clause-posted : goal.close_day-requires-clause-posted
+close_day-requires-clause-posted c =
+    c.in_ok-row_day.ensures.posted c.args.inputs.now c.post_day.new.track (sym c.index.ensures) c.opening_day-opening.ensures.sound c.requires.dated.opened c.in_ok-post_day.ensures.posted

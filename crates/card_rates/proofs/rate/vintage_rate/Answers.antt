@@ -1,5 +1,5 @@
 use Rattle.std.proofs.Common.{ℕ, sym, ap, ◌∙◌, Some}
-use Rattle.card_model.specs.Rates.{Begun, bears_in, begun_of}
+use Rattle.card_model.specs.Rates.{Begun, bears_in, begun_of, rate_with}
 use Rattle.card_model.specs.Segments.{SegmentTerms}
 use Rattle.card_rates.proofs.OneMore.{last-then, last-else}
 use Rattle.card_rates.proofs.rate.vintage_rate.Goals as goal
@@ -15,11 +15,11 @@ loop-g-preserved c =
     elim c.if-bears.branch [
       | then-bears w ↦
           w.begun-is
-          ∙ (ap (λ r. begun_at r w.number_of.result) w.rate_with.ensures ∙ ap (begun_at _) w.number_of.ensures.value
-          ∙ (ap (λ (v : SegmentTerms). begun_of c.args.index (Some v)) c.g.view_is
-          ∙ sym (ap (begun_of c.args.index) (last-then p c.args.segments.now c.loop-g.g-index c.g-item.result c.loop-g-test.true c.g-item.is (sym e ∙ w.if-bears.true)))))
+          ∙ (ap (λ r. begun_at r w.number_of.result) w.rate_with.ensures
+          ∙ (ap (begun_at (rate_with c.args.index.now c.g-item.result)) (w.number_of.ensures.value ∙ ap (λ (v : SegmentTerms). v.effective) c.g.view_is)
+          ∙ sym (ap (begun_of c.args.index.now) (last-then p c.args.segments.now c.loop-g.g-index c.g-item.result c.loop-g-test.true c.g-item.is (sym e ∙ w.if-bears.true)))))
       | else-bears w ↦
           w.begun-is
           ∙ (c.loop-g.invariant
-          ∙ sym (ap (begun_of c.args.index) (last-else p c.args.segments.now c.loop-g.g-index c.g-item.result c.loop-g-test.true c.g-item.is (sym e ∙ w.if-bears.false))))
+          ∙ sym (ap (begun_of c.args.index.now) (last-else p c.args.segments.now c.loop-g.g-index c.g-item.result c.loop-g-test.true c.g-item.is (sym e ∙ w.if-bears.false))))
     ]

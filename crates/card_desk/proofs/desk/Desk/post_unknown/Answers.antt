@@ -37,8 +37,8 @@ keep_open-requires-clause-room g c =
 pub keep_open-requires-clause-open : goal.keep_open-requires-clause-open
 keep_open-requires-clause-open g c = sym c.is_open.ensures ∙ c.if-not-is_open.false
 
-pub open_reason-requires-clause-opens : goal.open_reason-requires-clause-opens
-open_reason-requires-clause-opens g c = sym c.is_open.ensures ∙ c.if-not-is_open.false
+pub open_reason-requires : goal.open_reason-requires
+open_reason-requires g c = record { opens = sym c.is_open.ensures ∙ c.if-not-is_open.false }
 
 pub keep_open-requires-clause-no_reason : goal.keep_open-requires-clause-no_reason
 keep_open-requires-clause-no_reason g c =

@@ -16,5 +16,5 @@ returns c rows is its =
     let penalties = inside.penalties.ok.0 in
     let no_penalty = eqb-true (vec_len inside.penalties) 0 (sym c.is_empty-else-not-is_empty.ensures ∙ c.if-not-is_empty-2.false) in
     let unraised : rates.penalties ≡ [] = ap (λ (r : Rates). r.penalties) (sym c.self.view_is) ∙ nil_from_length inside.penalties.items (omega (arith, penalties, no_penalty)) in
-    let fixed : rates.variable ≡ false = ap (λ (r : Rates). r.variable) (sym c.self.view_is) ∙ c.if-inside.false in
+    let fixed : rates.variable ≡ false = ap (λ (r : Rates). r.variable) (sym c.self.view_is) ∙ c.if-self.false in
     rate-is rows rates c.args.day c.args.g.now there fixed lowers unraised its (sym c.bears_its_own.ensures ∙ is)
