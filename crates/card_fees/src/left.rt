@@ -1,22 +1,13 @@
 // What earlier payments left of a minimum payment.
-ghost use Rattle.std.specs.Prelude.{◌≡◌, ℕ, ◌-◌, ◌<◌, ◌≤◌, ◌≤ℤ◌, List, pos, unsigned_abs};
+ghost use Rattle.std.specs.Prelude.{◌≡◌, ℕ, ◌<◌, ◌≤◌, ◌≤ℤ◌, List, pos};
 ghost use Rattle.card_events.specs.Billing.{IsCloseDay, closing};
 ghost use Rattle.card_fees.specs.Asked.{left_by};
 ghost use Rattle.card_posts.specs.Posted.{StandsFor};
 
-use crate::counted_before;
-use crate::due_cycle::{DueCycle, asked};
+use crate::counting::counted_in_front;
+use crate::due_cycle::{DueCycle, asked, cents_in, left_of};
 use card_events::{Anchor, Cents, Day, after_closing};
 use card_posts::Posts;
-
-// what an amount leaves of another
-fn rest(amount: Cents, paid: Cents) -> Cents
-    requires low { pos 0 ≤ℤ amount }
-    requires paid { pos 0 ≤ℤ paid }
-    ensures { result ≡ pos (unsigned_abs amount - unsigned_abs paid) }
-{
-    (amount as u64).saturating_sub(paid as u64) as i64
-}
 
 /// What is left of a cycle's minimum payment for the payment with this number, whose effective day is this one, in cents
 /// (12 CFR 1026.53(a)): the minimum payment less the payments that are folded before it, with effective days after the
@@ -33,5 +24,7 @@ pub fn minimum_left(posts: &Posts, a: &Anchor, c: &DueCycle, day: Day, number: u
 {
     let _last = day.number();
     let from = after_closing(a, c.cycle);
-    rest(asked(c), counted_before(posts, from, day, number))
+    let asked = asked(c);
+    let limit = cents_in(asked);
+    left_of(asked, counted_in_front(posts, from, day, number, limit))
 }
