@@ -1,5 +1,5 @@
 -- The day of a charge and the Bills that reflect it, in the history and in the corrected list.
-use Rattle.std.proofs.Common.{◌≡◌, ℕ, zero, suc, ◌+◌, ◌≤◌, ◌<◌, drop, take, nat_lt, ◌==◌, length, Bool, true, false, cond, List, [], ◌∷◌, refl, sym, ap, ◌∙◌, subst, Option, Some, None, arith}
+use Rattle.std.proofs.Common.{◌≡◌, ℕ, zero, suc, ◌+◌, ◌≤◌, ◌<◌, drop, nat_lt, ◌==◌, Bool, true, false, cond, List, [], ◌∷◌, refl, sym, ap, ◌∙◌, subst, Option, Some, None, arith}
 use Rattle.std.specs.Prelude.{slice_get, ◌&&◌}
 use Rattle.std.specs.List.{find}
 use Rattle.std.specs.Option.{option_map, option_or}
@@ -174,15 +174,6 @@ first-dated (post.Resolve d t c) e = omega arith
 first-dated (post.AskRefund d) e = omega arith
 first-dated (post.Refund c) e = omega arith
 first-dated (post.Return d t) e = omega arith
-
-place-within : (i : ℕ) (ks : List Kept) (k : Kept) → slice_get ks i ≡ Some k → i < length ks
-place-within i [] k e = cc
-place-within zero (q ∷ ks) k e = omega arith
-place-within (suc i) (q ∷ ks) k e = let rest = place-within i ks k e in omega (arith, rest)
-
-pub number-within : (n : ℕ) (ks : List Kept) (k : Kept) → at_number n ks ≡ Some k → n ≤ length ks
-number-within zero ks k e = omega arith
-number-within (suc i) ks k e = let within = place-within i ks k e in omega (arith, within)
 
 pub opening-dated : (ks : List Kept) → ArePostsDated ks → (anchor_of ks).opened ≤ last_request_day
 opening-dated [] h = omega arith

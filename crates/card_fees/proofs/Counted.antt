@@ -74,3 +74,6 @@ below-min limit x = by (nat_lt x limit) refl
 
 pub less-min : (limit x : ℕ) → limit - min limit x ≡ limit - x
 less-min limit x = omega arith
+
+pub not-below : (limit x : ℕ) → not (nat_lt x limit) ≡ nat_le limit x
+not-below limit x = grind (arith, nat_tests)

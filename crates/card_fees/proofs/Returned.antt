@@ -142,33 +142,42 @@ slot-at a holidays history (suc j) n segment (k ∷ ks) =
     ∙ subst (λ m. slot_with m (corrected_from a holidays history (suc n) (next_segment segment k.post) ks) ≡ option_map slot_of (slice_get (corrected_from a holidays history (suc n) (next_segment segment k.post) ks) j)) next
     (slot-at a holidays history j (suc n) (next_segment segment k.post) ks)
 
+-- the slot of the first of these posts
+first-reached : (u : Until) (a : Anchor) (holidays : List ℕ) (history : List Kept) (posts : List CorrectedPost) (i segment : ℕ) (k : Kept) (ks : List Kept)
+    → ((m : ℕ) → slot_with (suc i + m) posts ≡ option_map slot_of (slice_get (corrected_from a holidays history (suc i) segment (k ∷ ks)) m))
+    → holds_of (λ s. reaches u s.day s.number) (slot_with (suc i) posts) ≡ reaches u (effective_day a holidays history (suc i) k.accepted k.post) (suc i)
+unfolding corrected_from corrected_post
+first-reached u a holidays history posts i segment k ks s =
+    let here : suc i ≡ suc i + 0 = omega arith in
+    ap (holds_of (λ (x : Slot). reaches u x.day x.number)) (ap (λ x. slot_with x posts) here ∙ s 0)
+
+-- and what it returns
+first-returns : (u : Until) (a : Anchor) (holidays : List ℕ) (history : List Kept) (posts : List CorrectedPost) (n i segment : ℕ) (k : Kept) (ks : List Kept) → slice_get history i ≡ Some k
+    → ((m : ℕ) → slot_with (suc i + m) posts ≡ option_map slot_of (slice_get (corrected_from a holidays history (suc i) segment (k ∷ ks)) m))
+    → returns_until u history posts n (suc i) ≡ (returns n k.post && reaches u (effective_day a holidays history (suc i) k.accepted k.post) (suc i))
+first-returns u a holidays history posts n i segment k ks there s =
+    ap (λ o. returns_at n o && holds_of (λ (x : Slot). reaches u x.day x.number) (slot_with (suc i) posts)) there
+    ∙ ap (λ b. returns n k.post && b) (first-reached u a holidays history posts i segment k ks s)
+
 by-corrected : (u : Until) (a : Anchor) (holidays : List ℕ) (history : List Kept) (posts : List CorrectedPost) (n i segment : ℕ) (ks : List Kept) → ((m : ℕ) → slice_get history (i + m) ≡ slice_get ks m)
     → ((m : ℕ) → slot_with (suc i + m) posts ≡ option_map slot_of (slice_get (corrected_from a holidays history (suc i) segment ks) m))
     → list_any (returns_until u history posts n) (waiting_from (suc i) ks) ≡ list_any (λ q. returns n q.post && reaches u q.day q.number) (corrected_from a holidays history (suc i) segment ks)
 unfolding waiting_from corrected_from corrected_post
 by-corrected u a holidays history posts n i segment [] h s = refl
 by-corrected u a holidays history posts n i segment (k ∷ ks) h s =
-    by (waits k.post) refl (by-corrected u a holidays history posts n (suc i) (next_segment segment k.post) ks (rest-at history i k ks h) (λ m. let on : suc (suc i) + m ≡ suc i + suc m = omega arith in ap (λ x. slot_with x posts) on ∙ s (suc m)))
+    by (waits k.post) refl (first-returns u a holidays history posts n i segment k ks (first-at history i k ks h) s)
+    (by-corrected u a holidays history posts n (suc i) (next_segment segment k.post) ks (rest-at history i k ks h) (λ m. let on : suc (suc i) + m ≡ suc i + suc m = omega arith in ap (λ x. slot_with x posts) on ∙ s (suc m)))
   where
-    day : ℕ
-    day = effective_day a holidays history (suc i) k.accepted k.post
-
-    slot : holds_of (λ (x : Slot). reaches u x.day x.number) (slot_with (suc i) posts) ≡ reaches u day (suc i)
-    slot = let here : suc i ≡ suc i + 0 = omega arith in ap (holds_of (λ (x : Slot). reaches u x.day x.number)) (ap (λ x. slot_with x posts) here ∙ s 0)
-
-    this : returns_until u history posts n (suc i) ≡ (returns n k.post && reaches u day (suc i))
-    this =
-        ap (λ o. returns_at n o && holds_of (λ (x : Slot). reaches u x.day x.number) (slot_with (suc i) posts)) (first-at history i k ks h)
-        ∙ ap (λ b. returns n k.post && b) slot
-
     by : (w : Bool) → waits k.post ≡ w
+        → returns_until u history posts n (suc i) ≡ (returns n k.post && reaches u (effective_day a holidays history (suc i) k.accepted k.post) (suc i))
         → list_any (returns_until u history posts n) (waiting_from (suc (suc i)) ks) ≡ list_any (λ q. returns n q.post && reaches u q.day q.number) (corrected_from a holidays history (suc (suc i)) (next_segment segment k.post) ks)
         → list_any (returns_until u history posts n) (cond w (suc i ∷ waiting_from (suc (suc i)) ks) (waiting_from (suc (suc i)) ks))
-        ≡ ((returns n k.post && reaches u day (suc i)) || list_any (λ q. returns n q.post && reaches u q.day q.number) (corrected_from a holidays history (suc (suc i)) (next_segment segment k.post) ks))
-    by true e r =
-        ap (λ b. b || list_any (returns_until u history posts n) (waiting_from (suc (suc i)) ks)) this
-        ∙ ap (λ b. (returns n k.post && reaches u day (suc i)) || b) r
-    by false e r = r ∙ sym (ap (λ b. (b && reaches u day (suc i)) || list_any (λ q. returns n q.post && reaches u q.day q.number) (corrected_from a holidays history (suc (suc i)) (next_segment segment k.post) ks)) (none-returns n k.post e))
+        ≡ ((returns n k.post && reaches u (effective_day a holidays history (suc i) k.accepted k.post) (suc i)) || list_any (λ q. returns n q.post && reaches u q.day q.number) (corrected_from a holidays history (suc (suc i)) (next_segment segment k.post) ks))
+    by true e t r =
+        ap (λ b. b || list_any (returns_until u history posts n) (waiting_from (suc (suc i)) ks)) t
+        ∙ ap (λ b. (returns n k.post && reaches u (effective_day a holidays history (suc i) k.accepted k.post) (suc i)) || b) r
+    by false e t r =
+        r ∙ sym (ap (λ b. (b && reaches u (effective_day a holidays history (suc i) k.accepted k.post) (suc i)) || list_any (λ q. returns n q.post && reaches u q.day q.number) (corrected_from a holidays history (suc (suc i)) (next_segment segment k.post) ks)) (none-returns n k.post e))
 
 pub returned-corrected : (u : Until) (a : Anchor) (holidays : List ℕ) (history : List Kept) (n : ℕ)
     → is_returned_until u history (corrected a holidays history) n ≡ list_any (λ q. returns n q.post && reaches u q.day q.number) (corrected a holidays history)

@@ -1,5 +1,5 @@
 // Sums over the payments of some days.
-ghost use Rattle.std.specs.Prelude.{◌≡◌, ◌<◌, ◌≤◌, ◌≤ℤ◌, ℕ, List, min, nat_le, nat_lt, pos, true, unsigned_abs};
+ghost use Rattle.std.specs.Prelude.{◌≡◌, ◌≤◌, ◌≤ℤ◌, ℕ, List, min, nat_le, nat_lt, pos, unsigned_abs};
 ghost use Rattle.std.specs.List.{sum_by};
 ghost use Rattle.card_events.specs.History.{at_number};
 ghost use Rattle.card_fees.specs.Counting.{counts, credits, earlier_posts, in_front, is_before, is_credit_at, is_payment_at, since, slots_sum, up_to};
@@ -73,8 +73,7 @@ fn slots_before(posts: &Posts, from: Day, day: Day, number: u32) -> &[Slot]
 }
 
 fn is_payment(posts: &Posts, number: u32) -> bool
-    ensures value { result ≡ is_payment_at (at_number number posts.now.history) }
-    ensures some { result ≡ true → 0 < number }
+    ensures { result ≡ is_payment_at (at_number number posts.now.history) }
 {
     match posts.get(number) {
         Some(kept) => matches!(kept.post, Post::Payment { .. }),

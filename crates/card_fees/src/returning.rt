@@ -1,5 +1,5 @@
 // Whether a payment is returned.
-ghost use Rattle.std.specs.Prelude.{◌≡◌, ◌<◌};
+ghost use Rattle.std.specs.Prelude.{◌≡◌};
 ghost use Rattle.card_events.specs.History.{at_number};
 ghost use Rattle.card_fees.specs.Counting.{is_returned_until, reaches, returns_at, returns_until};
 ghost use Rattle.card_model.specs.Payments as payments;
@@ -88,9 +88,11 @@ fn this_or_other(posts: &Posts, this: u32, payment: u32, until: Until) -> bool
 // Whether a Return among the posts that are read names the payment with this number. It looks at one post, or at all that wait
 // where that one isn't such a Return.
 pub fn is_returned(posts: &Posts, payment: u32, until: Until) -> bool
-    requires { 0 < payment }
     ensures { result ≡ is_returned_until until posts.now.history posts.now.corrected payment }
 {
+    if payment == 0 {
+        return any_returns(posts, payment, until);
+    }
     match posts.by(payment) {
         Some(this) => this_or_other(posts, this, payment, until),
         None => false,

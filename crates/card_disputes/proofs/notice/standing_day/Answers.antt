@@ -1,5 +1,4 @@
 use Rattle.std.proofs.Common.{◌≤◌, sym, ap, ◌∙◌, subst, Some}
-use Rattle.card_events.specs.History.{amended_day, last_amend}
 use Rattle.card_events.specs.Range.{last_request_day}
 use Rattle.card_disputes.proofs.NoticeLemmas.{no-slot, slot-stands, stands-dated}
 use Rattle.card_posts.specs.Posted.{slot_with}
