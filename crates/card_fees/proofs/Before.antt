@@ -1,6 +1,6 @@
 -- Payments folded before a post, and credits, over the slots of some days.
 use Rattle.std.proofs.Common.{◌≡◌, ℕ, ◌≤◌, Bool, true, false, cond, not, ◌&&◌, nat_le, List, map, refl, sym, ap, ◌∙◌, arith}
-use Rattle.std.specs.List.{All, filter, sum_by}
+use Rattle.std.specs.List.{filter, sum_by}
 use Rattle.std.proofs.lemmas.Bool.Decides.{nat_tests}
 use Rattle.std.proofs.lemmas.List.Elements.{All-weaker}
 use Rattle.card_events.specs.declared.anchor.Anchor.{Anchor}

@@ -3,7 +3,7 @@ pub mod Slots
 pub mod Days
 pub mod Payments
 pub mod Returned
-pub mod Counted
+pub mod SlotSums
 pub mod Fold
 pub mod Before
 pub mod Charges

@@ -1,11 +1,11 @@
 -- Whether a payment is returned, by the posts that wait and by the corrected list.
-use Rattle.std.proofs.Common.{◌≡◌, ℕ, zero, suc, ◌+◌, Bool, true, false, cond, eqb, ◌&&◌, ◌||◌, ◌==◌, List, [], ◌∷◌, refl, sym, ap, ◌∙◌, subst, Option, Some, None, arith}
+use Rattle.std.proofs.Common.{◌≡◌, ℕ, zero, suc, ◌+◌, Bool, true, false, cond, eqb, ◌&&◌, ◌||◌, ◌==◌, List, [], ◌∷◌, refl, sym, ap, ◌∙◌, subst, Some, None, arith}
 use Rattle.std.specs.Prelude.{option_map, slice_get}
 use Rattle.std.specs.List.{find, list_any}
 use Rattle.std.proofs.lemmas.Bool.{ne_eqb}
 use Rattle.std.proofs.lemmas.Bool.Decides.{nat_tests}
 use Rattle.card_events.specs.declared.anchor.Anchor.{Anchor}
-use Rattle.card_events.specs.History.{CorrectedPost, at_number, corrected, corrected_from, corrected_post, effective_day, next_segment, slot_of}
+use Rattle.card_events.specs.History.{CorrectedPost, corrected, corrected_from, corrected_post, effective_day, next_segment, slot_of}
 use Rattle.card_events.specs.declared.kept.Kept.{Kept}
 use Rattle.card_events.specs.declared.kept.Slot.{Slot}
 use Rattle.card_events.specs.declared.post.Post.{Post}
@@ -15,7 +15,7 @@ use Rattle.card_fees.proofs.Payments.{return-shape}
 use Rattle.card_model.specs.Payments.{returns}
 use Rattle.card_model.specs.Refusals.{holds_of}
 use Rattle.card_posts.specs.Posted.{slot_with}
-use Rattle.card_waits.specs.Waits.{awaited, first_by, first_from, if_any, waiting, waiting_from, waits}
+use Rattle.card_waits.specs.Waits.{awaited, first_by, first_from, if_any, waiting_from, waits}
 
 -- a Return waits for its payment
 returns-wait : (n : ℕ) (p : Post) → returns n p ≡ true → (waits p ≡ true) × (awaited p ≡ n)

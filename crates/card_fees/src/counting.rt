@@ -82,8 +82,8 @@ fn is_payment(posts: &Posts, number: u32) -> bool
 }
 
 // the cents of a payment that no Return among the posts that are read names
-fn counts(posts: &Posts, until: Until, slot: &Slot) -> u64
-    ensures value { result ≡ counts until posts.now.history posts.now.corrected slot.now }
+fn counts(posts: &Posts, until: &Until, slot: &Slot) -> u64
+    ensures value { result ≡ counts until.now posts.now.history posts.now.corrected slot.now }
     ensures bound { result ≤ unsigned_abs slot.now.cents }
 {
     if is_payment(posts, slot.number) && !is_returned(posts, slot.number, until) {
@@ -100,9 +100,9 @@ fn is_enough(total: u64, limit: u64) -> bool
 }
 
 // what slots count together, up to a limit, behind which no slot is looked at
-fn sum(posts: &Posts, slots: &[Slot], until: Until, limit: u64) -> u64
+fn sum(posts: &Posts, slots: &[Slot], until: &Until, limit: u64) -> u64
     requires bounded { AreBounded slots.now }
-    ensures value { result ≡ min limit (slots_sum until posts.now.history posts.now.corrected slots.now) }
+    ensures value { result ≡ min limit (slots_sum until.now posts.now.history posts.now.corrected slots.now) }
     ensures bound { result ≤ payments_limit }
 {
     let mut total = 0;
@@ -120,7 +120,7 @@ pub fn counted_up_to(posts: &Posts, from: Day, to: Day, limit: u64) -> u64
     ensures bound { result ≤ payments_limit }
     ensures value { (holidays : List ℕ) → StandsFor holidays posts.now → result ≡ min limit (payments.counted posts.now.corrected from to) }
 {
-    sum(posts, slots_of(posts, from, to), Until::Day(to), limit)
+    sum(posts, slots_of(posts, from, to), &Until::Day(to), limit)
 }
 
 // The same without a limit.
@@ -147,7 +147,7 @@ pub fn counted_in_front(posts: &Posts, from: Day, day: Day, number: u32, limit: 
     ensures value { (holidays : List ℕ) → StandsFor holidays posts.now → result ≡ min limit (payments.counted (earlier_posts day number posts.now.corrected) from day) }
 {
     let slots = slots_before(posts, from, day, number);
-    sum(posts, slots, Until::Post(day, number), limit)
+    sum(posts, slots, &Until::Post(day, number), limit)
 }
 
 // The same without a limit.

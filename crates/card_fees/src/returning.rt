@@ -17,18 +17,18 @@ pub enum Until {
 }
 
 // whether that is behind a slot
-fn reaches(until: Until, slot: &Slot) -> bool
-    ensures { result ≡ reaches until slot.now.day slot.now.number }
+fn reaches(until: &Until, slot: &Slot) -> bool
+    ensures { result ≡ reaches until.now slot.now.day slot.now.number }
 {
     match until {
-        Until::Day(to) => slot.day <= to,
-        Until::Post(day, number) => slot.day < day || slot.day == day && slot.number < number,
+        Until::Day(to) => slot.day <= *to,
+        Until::Post(day, number) => slot.day < *day || slot.day == *day && slot.number < *number,
     }
 }
 
 // whether the post with a number is among the posts that are read
-fn is_reached(posts: &Posts, number: u32, until: Until) -> bool
-    ensures { result ≡ holds_of (λ s. reaches until s.day s.number) (slot_with number posts.now.corrected) }
+fn is_reached(posts: &Posts, number: u32, until: &Until) -> bool
+    ensures { result ≡ holds_of (λ s. reaches until.now s.day s.number) (slot_with number posts.now.corrected) }
 {
     match posts.slot(number as u64) {
         Some(slot) => reaches(until, &slot),
@@ -56,15 +56,15 @@ fn returns(posts: &Posts, number: u32, payment: u32) -> bool
 }
 
 // the same, where it is among the posts that are read
-fn returns_until(posts: &Posts, number: u32, payment: u32, until: Until) -> bool
-    ensures { result ≡ returns_until until posts.now.history posts.now.corrected payment number }
+fn returns_until(posts: &Posts, number: u32, payment: u32, until: &Until) -> bool
+    ensures { result ≡ returns_until until.now posts.now.history posts.now.corrected payment number }
 {
     returns(posts, number, payment) && is_reached(posts, number, until)
 }
 
 // whether one of all that wait does so
-fn any_returns(posts: &Posts, payment: u32, until: Until) -> bool
-    ensures { result ≡ is_returned_until until posts.now.history posts.now.corrected payment }
+fn any_returns(posts: &Posts, payment: u32, until: &Until) -> bool
+    ensures { result ≡ is_returned_until until.now posts.now.history posts.now.corrected payment }
 {
     let waiting = posts.waiting();
     for number in waiting {
@@ -76,8 +76,8 @@ fn any_returns(posts: &Posts, payment: u32, until: Until) -> bool
 }
 
 // the same, where this one waits for the payment
-fn this_or_other(posts: &Posts, this: u32, payment: u32, until: Until) -> bool
-    ensures { result ≡ is_returned_until until posts.now.history posts.now.corrected payment }
+fn this_or_other(posts: &Posts, this: u32, payment: u32, until: &Until) -> bool
+    ensures { result ≡ is_returned_until until.now posts.now.history posts.now.corrected payment }
 {
     if returns_until(posts, this, payment, until) {
         return true;
@@ -87,8 +87,8 @@ fn this_or_other(posts: &Posts, this: u32, payment: u32, until: Until) -> bool
 
 // Whether a Return among the posts that are read names the payment with this number. It looks at one post, or at all that wait
 // where that one isn't such a Return.
-pub fn is_returned(posts: &Posts, payment: u32, until: Until) -> bool
-    ensures { result ≡ is_returned_until until posts.now.history posts.now.corrected payment }
+pub fn is_returned(posts: &Posts, payment: u32, until: &Until) -> bool
+    ensures { result ≡ is_returned_until until.now posts.now.history posts.now.corrected payment }
 {
     if payment == 0 {
         return any_returns(posts, payment, until);

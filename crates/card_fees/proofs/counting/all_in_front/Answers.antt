@@ -1,5 +1,5 @@
 use Rattle.std.proofs.Common.{arith}
-use Rattle.card_fees.proofs.Counted.{unlimited}
+use Rattle.card_fees.proofs.SlotSums.{unlimited}
 use Rattle.card_fees.specs.Counting.{earlier_posts}
 use Rattle.card_fees.specs.Limits.{payments_limit}
 use Rattle.card_model.specs.Payments.{counted}

@@ -4,7 +4,7 @@ use Rattle.card_model.specs.Payments.{counted}
 use Rattle.card_posts.specs.Posted.{folding_order}
 use Rattle.card_fees.specs.Counting.{since, slots_sum, up_to}
 use Rattle.card_fees.specs.declared.returning.Until.TheVariants as until
-use Rattle.card_fees.proofs.Counted.{slots-counted}
+use Rattle.card_fees.proofs.SlotSums.{slots-counted}
 use Rattle.card_fees.proofs.counting.counted_up_to.Goals as goal
 
 pub returns-clause-value : goal.returns-clause-value

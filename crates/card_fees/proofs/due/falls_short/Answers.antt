@@ -1,7 +1,7 @@
 use Rattle.std.proofs.Common.{◌+◌, nat_lt, ap, ◌∙◌}
 use Rattle.card_events.specs.Billing.{closing}
 use Rattle.card_model.specs.Payments.{counted}
-use Rattle.card_fees.proofs.Counted.{below-min}
+use Rattle.card_fees.proofs.SlotSums.{below-min}
 use Rattle.card_fees.proofs.due.falls_short.Goals as goal
 
 pub returns : goal.returns

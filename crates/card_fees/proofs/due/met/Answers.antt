@@ -2,7 +2,7 @@ use Rattle.std.proofs.Common.{◌+◌, nat_lt, not, ap, ◌∙◌, arith}
 use Rattle.std.specs.Prelude.{unsigned_abs}
 use Rattle.card_events.specs.Billing.{closing, due}
 use Rattle.card_model.specs.Payments.{counted}
-use Rattle.card_fees.proofs.Counted.{not-below}
+use Rattle.card_fees.proofs.SlotSums.{not-below}
 use Rattle.card_fees.proofs.Days.{due-later}
 use Rattle.card_fees.proofs.due.met.Goals as goal
 

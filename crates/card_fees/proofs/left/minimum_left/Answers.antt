@@ -1,10 +1,9 @@
-use Rattle.std.proofs.Common.{◌+◌, ◌-◌, min, pos, ap, ◌∙◌}
+use Rattle.std.proofs.Common.{◌-◌, min, pos, ap, ◌∙◌}
 use Rattle.std.specs.Prelude.{unsigned_abs}
-use Rattle.card_events.specs.Billing.{closing}
 use Rattle.card_model.specs.Payments.{counted}
 use Rattle.card_fees.specs.Asked.{asks}
 use Rattle.card_fees.specs.Counting.{earlier_posts}
-use Rattle.card_fees.proofs.Counted.{less-min}
+use Rattle.card_fees.proofs.SlotSums.{less-min}
 use Rattle.card_fees.proofs.left.minimum_left.Goals as goal
 
 pub returns : goal.returns

@@ -5,4 +5,4 @@ use Rattle.card_fees.proofs.returning.is_returned.Goals as goal
 pub returns-in-None : goal.returns-in-None
 returns-in-None c =
     let posts = c.args.posts.now in
-    sym (none-waits c.args.until posts.history posts.corrected c.args.payment (sym c.by.ensures ∙ c.in-None.is))
+    sym (none-waits c.args.until.now posts.history posts.corrected c.args.payment (sym c.by.ensures ∙ c.in-None.is))

@@ -1,6 +1,5 @@
 -- Payments counted over the slots of some days are those of the corrected list; and a count that ends at a limit.
 use Rattle.std.proofs.Common.{◌≡◌, ℕ, ◌-◌, ◌<◌, ◌≤◌, Bool, true, false, cond, not, ◌&&◌, nat_le, nat_lt, List, map, min, refl, sym, ap, ◌∙◌, arith}
-use Rattle.std.specs.List.{All}
 use Rattle.std.proofs.lemmas.Bool.Decides.{nat_tests}
 use Rattle.std.proofs.lemmas.List.Elements.{All-weaker}
 use Rattle.card_events.specs.declared.anchor.Anchor.{Anchor}
