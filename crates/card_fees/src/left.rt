@@ -1,13 +1,24 @@
 // What earlier payments left of a minimum payment.
-ghost use Rattle.std.specs.Prelude.{◌≡◌, ℕ, ◌<◌, ◌≤◌, ◌≤ℤ◌, List, pos};
+ghost use Rattle.std.specs.Prelude.{◌≡◌, ℕ, ◌-◌, ◌<◌, ◌≤◌, ◌≤ℤ◌, List, pos, unsigned_abs};
 ghost use Rattle.card_events.specs.Billing.{IsCloseDay, closing};
 ghost use Rattle.card_fees.specs.Asked.{left_by};
+ghost use Rattle.card_fees.specs.Counting.{earlier_posts};
+ghost use Rattle.card_model.specs.Payments as payments;
 ghost use Rattle.card_posts.specs.Posted.{StandsFor};
 
 use crate::counting::counted_in_front;
 use crate::due_cycle::{DueCycle, asked, cents_in, left_of};
 use card_events::{Anchor, Cents, Day, after_closing};
 use card_posts::Posts;
+
+// what the payments that are folded before a post, with effective days from one on, leave of an amount
+fn left_in_front(posts: &Posts, from: Day, day: Day, number: u32, amount: Cents) -> Cents
+    requires { pos 0 ≤ℤ amount }
+    ensures { (holidays : List ℕ) → StandsFor holidays posts.now → result ≡ pos (unsigned_abs amount - payments.counted (earlier_posts day number posts.now.corrected) from day) }
+{
+    let limit = cents_in(amount);
+    left_of(amount, counted_in_front(posts, from, day, number, limit))
+}
 
 /// What is left of a cycle's minimum payment for the payment with this number, whose effective day is this one, in cents
 /// (12 CFR 1026.53(a)): the minimum payment less the payments that are folded before it, with effective days after the
@@ -24,7 +35,5 @@ pub fn minimum_left(posts: &Posts, a: &Anchor, c: &DueCycle, day: Day, number: u
 {
     let _last = day.number();
     let from = after_closing(a, c.cycle);
-    let asked = asked(c);
-    let limit = cents_in(asked);
-    left_of(asked, counted_in_front(posts, from, day, number, limit))
+    left_in_front(posts, from, day, number, asked(c))
 }
