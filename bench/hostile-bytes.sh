@@ -34,8 +34,9 @@ CONNECTIONS = 500  # of a server
 SECONDS = 60  # of the processor, that a run may take
 ODD = b"\x00\t\r\n \"',:.-{}[]\\+0129azAZ_%/?#\x7f\x80\xc3\xa9\xed\xa0\x80\xff"
 FIELDS = {
-    "roll": "day", "holiday": "day", "feerow": "day first repeat",
+    "roll": "day", "holiday": "day", "feerow": "day first repeat", "index": "day rate",
     "open": "account key day close purchase cash transfer penalty floor pct",
+    "openvar": "account key day close purchase cash transfer penalty floor pct",
     "charge": "account key day place cents", "credit": "account key day place cents",
     "payment": "account key day minute channel cents", "return": "account key day target",
     "plan": "account key day plan rate end after", "notice": "account key day category rate effective",

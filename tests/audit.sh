@@ -145,7 +145,7 @@ def ledgers():
     count = 0
     for path in EXAMPLES:
         file = written(f"books-{path.stem}", path.read_bytes())
-        accounts = dict.fromkeys(line.split()[1] for line in path.read_text().splitlines() if line.startswith("open "))
+        accounts = dict.fromkeys(line.split()[1] for line in path.read_text().splitlines() if line.startswith(("open ", "openvar ")))
         for account in accounts:
             shown = program(file, "apply", data=f"show {account}\n".encode()).decode().split()
             if shown[0] != "show":

@@ -5,8 +5,8 @@
 # and clients come that send nothing, a byte a second, half a head and a reset, 100 kB of head, two requests at once, and a
 # chunked body. Each gets its answer or is cut within the deadline, the next is served, each line says how its connection
 # ended, the rows are those of the requests that were answered 200, and each answer is one that docs/openapi.json describes.
-# Another server answers requests byte by byte as they stand here, and carries none out that is cut off, at whatever byte; a third,
-# whose disk is full, says so and goes on; and a fourth, whose output takes nothing for now, has closed its connection before the
+# Another server answers requests byte by byte as they stand here, and carries none out that is cut off, at whatever byte, and one
+# more index rows and openings that follow them; a third, whose disk is full, says so and goes on; and a fourth, whose output takes nothing for now, has closed its connection before the
 # line of it is written.
 #
 #     tests/desk.sh
@@ -352,6 +352,26 @@ WHOLE = (
     (ROLL + b"GET", whole("200 OK", JSON, '{"ok":0}')),
 )
 
+OPENED = b'"kind":"openvar","account":"v","key":"o","day":"2024-01-06","close":5,"cash":1949,"transfer":1649,"penalty":2999,"floor":2500,"pct":100'
+# Index rows and openings that follow them, in one ledger, with their whole answers.
+FOLLOWING = tuple(
+    (posted(b"{%s}" % members), whole(status, JSON, body))
+    for members, status, body in (
+        (OPENED + b',"purchase":1449', "409 Conflict", '{"name":"DayAhead","no":6}'),
+        (b'"kind":"index","day":"2024-01-01","rate":550', "200 OK", '{"ok":0}'),
+        (b'"kind":"index","day":"2024-01-01"', "422 Unprocessable Entity", '{"field":"rate"}'),
+        (b'"kind":"index","day":"2024-01-01","rate":550,"account":"v"', "422 Unprocessable Entity", '{"field":"account"}'),
+        (b'"kind":"index","day":"2024-01-01","rate":"550"', "422 Unprocessable Entity", '{"field":"rate"}'),
+        (b'"kind":"index","day":"2010-12-31","rate":550', "422 Unprocessable Entity", '{"field":"day"}'),
+        (b'"kind":"index","day":"2024-01-01","rate":10000', "409 Conflict", '{"name":"AmountRange","no":5}'),
+        (b'"kind":"roll","day":"2024-01-10"', "200 OK", '{"ok":0}'),
+        (b'"kind":"index","day":"2024-01-10","rate":550', "409 Conflict", '{"name":"PastRow","no":29,"value":"2024-01-10"}'),
+        (OPENED, "422 Unprocessable Entity", '{"field":"purchase"}'),
+        (OPENED.replace(b"2024-01-06", b"2023-12-31") + b',"purchase":1449', "409 Conflict", '{"name":"NoIndex","no":30}'),
+        (OPENED + b',"purchase":1449', "200 OK", '{"ok":1}'),
+    )
+)
+
 
 def served(place, talk, **how):
     """A server of its own for these requests: each has to get its whole answer, and each line has to say so."""
@@ -450,9 +470,10 @@ def main():
         if rows_of(file) != rows_of(os.path.join(work, "lined.db")):
             fail("the rows aren't those of the requests that were answered 200")
         served("-", WHOLE)
+        served("-", FOLLOWING)
         on_a_full_disk(os.path.join(work, "full.db"))
         closed_before_its_line()
-        print(f"desk: {len(todo) + len(WHOLE) + 5} connections, the answers, lines and rows that were wanted")
+        print(f"desk: {len(todo) + len(WHOLE) + len(FOLLOWING) + 5} connections, the answers, lines and rows that were wanted")
     finally:
         shutil.rmtree(work)
 

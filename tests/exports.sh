@@ -12,7 +12,7 @@ count=0
 for expected in "$top"/examples/*.csv; do
     input="${expected%.csv}.txt"
     rows="$room/$(basename "$expected" .csv)"
-    account=$(awk '$1 == "open" { print $2; exit }' "$input")
+    account=$(awk '$1 == "open" || $1 == "openvar" { print $2; exit }' "$input")
     "$program" "$rows" apply <"$input" >"$room/replies"
     "$program" "$rows" export "$account" >"$room/entries"
     status=$?

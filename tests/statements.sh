@@ -1,6 +1,6 @@
 #!/bin/sh
 # Statements of whole examples over rows in a file, held against those of the independent model (examples/NAME.statements, the
-# statements of all cycles of the account one behind the other). Then a charge is dated back to a cycle of `returned-payment`, and
+# statements of the cycles that were billed, one behind the other). Then a charge is dated back to a cycle of `returned-payment`, and
 # an old charge of `two-years` is corrected, and the correction is taken back: what was issued stays as it was, and the cycles as
 # recomputed are the model's (NAME.restated), and those from before at the end.
 #
@@ -10,12 +10,10 @@ program="$top/crates/billctl/out/billctl"
 room=$(mktemp -d) || exit 1
 trap 'rm -rf "$room"' EXIT
 
-# The statements of all cycles of the example: as issued, or as recomputed.
+# The statements of all billed cycles of the example: as issued, or as recomputed.
 texts() {
-    cycle=1
-    while [ "$cycle" -le "$cycles" ]; do
+    for cycle in $cycles; do
         "$program" "$rows" "$1" "$account" "$cycle" || exit 1
-        cycle=$((cycle + 1))
     done >"$room/texts"
 }
 
@@ -41,13 +39,13 @@ for expected in "$top"/examples/*.statements; do
     input="${expected%.statements}.txt"
     rows="$room/$name"
     account=$(awk '$1 == "open" || $1 == "openvar" { print $2; exit }' "$input")
-    cycles=$(grep -c '^bill ' "$input")
+    cycles=$(awk '$1 == "bill" { print $4 }' "$input")
     "$program" "$rows" apply <"$input" >"$room/replies"
     texts statement
     same "$expected" "what was issued"
     texts restate
     same "$expected" "the cycles as recomputed"
-    count=$((count + cycles))
+    count=$((count + $(echo "$cycles" | wc -l)))
 done
 
 # Has a line accepted for an example, and holds its statements as issued and as recomputed against files of examples/.
@@ -55,7 +53,7 @@ after() {
     name=$1
     rows="$room/$name"
     account=anna
-    cycles=$2
+    cycles=$(seq "$2")
     say "$3" "$4"
     texts statement
     same "$top/examples/$name.statements" "what was issued, after $3,"

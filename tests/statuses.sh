@@ -1,7 +1,8 @@
 #!/bin/sh
 # Runs the proved program where it can't go on, and holds its exit status and what it wrote against what
 # docs/FORMATS.md says: words that are no command, an account that isn't there, no input, an input that can't be read, an output that takes nothing,
-# rows that can't be kept, a file that another run has, a disk that is full, rows and records that are damaged, and too little memory.
+# rows that can't be kept, a file that another run has, a disk that is full, rows and records that are damaged, an account that is
+# full, and too little memory. The bytes of rows are held against those that the independent model gave, and so are bytes that are no row.
 #
 #     tests/statuses.sh
 top=$(cd "$(dirname "$0")/.." && pwd) || exit 1
@@ -105,6 +106,13 @@ def keep(file, rows):
     base.close()
 
 
+def bodies(file):
+    base = sqlite3.connect(file)
+    found = [body for (body,) in base.execute("SELECT body FROM kept ORDER BY seq")]
+    base.close()
+    return found
+
+
 # the rows of each format that is read: as they are, out of turn, one of another format, cut, empty, twice, before what they
 # stand on, and from 2 on
 SPELLINGS = {"format 1": (OLD_ROLL, OLD_OPEN, OLD_CHARGE), "format 2": (ROLL, OPEN, CHARGE), "both formats": (OLD_ROLL, OPEN, OLD_CHARGE)}
@@ -130,6 +138,69 @@ for spelling, (roll, opened, charge) in SPELLINGS.items():
     ):
         keep(whole, rows)
         expect(f"{spelling}, the rows {rows}", apply(whole, ["show a"]), wanted)
+
+# a file of format 1 goes on in format 2, and a process that loads both says what the one before said
+expect("three old rows", keep(whole, [(1, OLD_ROLL), (2, OLD_OPEN), (3, OLD_CHARGE)]), None)
+later = ["index 2024-04-01 550", "charge a c2 2024-03-01 purchase 5", "index 2024-03-01 550", "show a"]
+shown = SHOWN.replace("1250", "1255")
+expect("lines after old rows", apply(whole, later), (1, "ok\nok 3\nno 29 PastRow 2024-03-01\n" + shown))
+expect("their rows", bodies(whole), [OLD_ROLL, OLD_OPEN, OLD_CHARGE, bytes.fromhex("021512e7020226"), bytes.fromhex("0205016102633212c8000105")])
+expect("five rows of two formats", apply(whole, ["show a"]), (0, shown))
+
+# the bytes of a row, behind those of the lines before it
+for lines, body in (
+    (["roll 2024-01-28"], "020112a7"),
+    (["roll 2099-12-31"], "02017efa"),
+    (["index 2024-04-01 550"], "021512e7020226"),
+    (["index 2024-04-01 0"], "021512e700"),
+    (
+        ["index 2011-01-02 550", "roll 2024-01-28", "openvar h-1 o 2023-12-29 28 1449 1949 1649 2999 2500 100"],
+        "021603682d31016f1289011c0205a902079d020671020bb70209c40164",
+    ),
+    (
+        ["roll 2024-01-28", "open h-1 o 2023-12-29 28 1999 2499 2499 2999 2500 100", "charge h-1 c1 2023-12-29 purchase 1100"],
+        "020503682d3102633112890002044c",
+    ),
+):
+    file = os.path.join(room, body)
+    expect(f"the lines {lines}", apply(file, lines)[0], 0)
+    expect(f"the row of {lines[-1]}", bodies(file)[-1].hex(), body)
+    expect(f"the rows of {lines}, loaded", run(file, "work", []), (0, ""))
+
+# bytes that are no row in either format, though some would be one that is accepted if they were read less strictly
+FIRST_INDEX, OPENED = bytes.fromhex("021500010101"), bytes.fromhex("020112a7")
+for body in (
+    "02",
+    "0201",
+    "02010112a7",  # a day of three bytes
+    "020112a700",  # a byte behind it
+    "02017efb",  # a day of 2100
+    "03010000",  # a third format
+    "0117000000",  # a kind that there isn't
+    "021512e703000226",  # a number with a 0 in front
+    "021512e70226",  # a number of two bytes, cut
+    "021512e70600000000000226",  # a number of six bytes
+    "021512e70100",  # 0 as a byte
+    "011500004d660000000000000226",  # an index row in format 1
+    "011603682d31016f00004d0800000000000000" + "1c00000000000005a9000000000000079d00000000000006710000000000000bb700000000000009c40000000000000064",  # an openvar in format 1
+):
+    keep(whole, [(1, FIRST_INDEX), (2, OPENED), (3, bytes.fromhex(body))])
+    expect(f"the row {body}", apply(whole, ["show a"]), (8, "damaged 3\n"))
+
+# an account takes 200,000 posts; a repeat of one of them still gets its old number
+posts = LINES[:2] + [f"askrefund a k{count} 2024-03-01" for count in range(2, 200_002)] + ["askrefund a k5 2024-03-01"]
+status, replies = apply("-", posts)
+replies = replies.splitlines()
+expect("200,000 posts of an account", (status, replies[:2], replies[10_001], replies[200_000:]), (1, ["ok", "ok 1"], "ok 10001", ["ok 200000", "no 25 AccountFull", "ok 5"]))
+expect("each of them", replies[1:200_001] == [f"ok {count}" for count in range(1, 200_001)], True)
+
+# an index row that comes after what was worked out, in this process and in the next
+file = os.path.join(room, "variable")
+VARIABLE = ["index 2024-01-01 550", "roll 2024-01-10", "openvar v o 2024-01-06 5 1449 1949 1649 2999 2500 100", "charge v c1 2024-01-10 cash 100000"]
+LATER = "show v 2024-02-06 owed 101860 credit 0 held 0\n"
+expect("an account that follows the index", apply(file, VARIABLE), (0, "ok\nok\nok 1\nok 2\n"))
+expect("a later index row", apply(file, ["show v", "index 2024-01-21 575", "roll 2024-02-06", "show v"]), (0, LATER.replace("02-06", "01-10").replace("101860", "100000") + "ok\nok\n" + LATER))
+expect("the same in the next process", apply(file, ["show v"]), (0, LATER))
 
 # records of seven fields, without a channel in the header, and of a kind that isn't read
 HEADER = "account,key,kind,day,place,cents,minute,channel"

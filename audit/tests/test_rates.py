@@ -127,7 +127,7 @@ class Plans(unittest.TestCase):
 
 
 class VariableRates(unittest.TestCase):
-    """Index rows and openings of variable rates, which the program doesn't take yet."""
+    """Index rows and the accounts whose rates follow them."""
 
     def carried_out(self, *lines: str) -> tuple[Machine, list]:
         machine = Machine()

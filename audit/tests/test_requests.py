@@ -131,7 +131,18 @@ class KeptRows(unittest.TestCase):
             self.assertEqual((encode(request, 1).hex(), encode(request, 2).hex()), (one, two))
             self.assertEqual(decode(bytes.fromhex(one)), request)
             self.assertEqual(decode(bytes.fromhex(two)), request)
-        self.assertIsNone(decode(bytes.fromhex("02010112a7")))
+        for line, two in (
+                ("roll 2011-01-01", "02010000"), ("roll 2099-12-31", "02017efa"),
+                ("index 2024-04-01 550", "021512e7020226"), ("index 2011-01-01 0", "0215000000"),
+                ("openvar h-1 o 2023-12-29 28 1449 1949 1649 2999 2500 100",
+                 "021603682d31016f1289011c0205a902079d020671020bb70209c40164")):
+            request = read_line(line.encode())
+            self.assertEqual(encode(request, 2).hex(), two)
+            self.assertEqual(decode(bytes.fromhex(two)), request)
+        for none in ("", "02", "0201", "02010112a7", "020112a700", "02017efb", "03010000",
+                     "021512e703000226", "021512e70226", "021512e70600000000000226",
+                     "021500000100", "011500004d660000000000000226"):
+            self.assertIsNone(decode(bytes.fromhex(none)), none)
 
     def test_rows_of_both_formats_load(self):
         old = self.rows()

@@ -4,7 +4,7 @@
 #     shared.sh roll 2024-03-01
 #     shared.sh holiday 2024-07-04
 #     shared.sh feerow 2024-01-02 3000 4100
-#     shared.sh index 2024-04-01 550          where the ledger knows index rows
+#     shared.sh index 2024-04-01 550
 #     shared.sh                               sends what shards lack
 #     shared.sh again SHARD                   the same from the first request on, to a shard whose file was restored
 #

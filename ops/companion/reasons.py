@@ -59,6 +59,13 @@ TERMS = {
     "7": "the part is above 10,000 basis points",
 }
 
+# Where the opening rates follow the index, these terms are margins on it.
+MARGINS = {
+    "2": "the purchase margin is above 9,999 basis points",
+    "3": "the cash margin is above 9,999 basis points",
+    "4": "the transfer margin is above 9,999 basis points",
+}
+
 BAD_TERMS = 4
 AMOUNT_RANGE = 5
 ROLL_BACK = 27
@@ -76,6 +83,8 @@ def reason_of(reply, word):
     parts = reply.split(" ")
     value = parts[3] if len(parts) > 3 else ""
     number = number_of(reply)
+    if number == BAD_TERMS and word == "openvar" and value in MARGINS:
+        return MARGINS[value]
     if number == BAD_TERMS:
         return TERMS.get(value, "a term is outside its range")
     if number == AMOUNT_RANGE:

@@ -110,6 +110,16 @@ line 10: : bad 10 1: the line is empty
 status 1: something was refused; those lines had no effect, and the others stand
 """)
 
+    def test_margins(self):
+        self.begin()
+        given = "openvar ben o 2024-02-06 5 1449 10000 1649 2999 2500 100\nopen ben o 2024-02-06 5 1999 10000 2199 2999 2500 100\n" \
+            "openvar ben o 2024-02-06 5 1449 1949 1649 10000 2500 100\nopenvar ben o 2024-02-06 5 1449 1949 1649 2999 2500 100\nindex 2024-02-07 10000\n"
+        status, out, err = ledger("run", self.file, given=given)
+        self.assertEqual((status, out), (1, "no 4 BadTerms 3\nno 4 BadTerms 3\nno 4 BadTerms 5\nno 30 NoIndex\nno 5 AmountRange\n"))
+        for line, reason in enumerate(("the cash margin is above 9,999 basis points", "the cash rate is above 9,999 basis points", "the penalty rate is above 9,999 basis points",
+                                       "no index row is there for its day", "the rate is above 9,999 basis points"), 1):
+            self.assertRegex(err, f"line {line}: .*: {reason}\n")
+
     def test_records(self):
         self.begin()
         given = HEADER + 'anna,c2,charge,2024-02-06,purchase,500,,\n\n"anna","p1",payment,2024-02-06,,9.87,600,online\nanna,p2,payment,2024-02-06,cash,987,600,online\n' \

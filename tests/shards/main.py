@@ -21,11 +21,12 @@ DAYS = [f"2024-01-{day:02}" for day in range(4, 32, 3)] + ["2024-02-03"]
 KILLED_ON, HELD_ON, REFUSED_ON, MOVED_ON = "2024-01-10", "2024-01-13", "2024-01-16", "2024-01-22"
 ANSWERS_A_DAY = 300
 # the first two bytes of a kept row that names no account
-SHARED_ROWS = (b"\x01\x01", b"\x01\x02", b"\x01\x03")
+SHARED_ROWS = (b"\x02\x01", b"\x02\x02", b"\x02\x03", b"\x02\x15")
 BODIES = {
     "roll": '{{"kind":"roll","day":"{0}"}}',
     "holiday": '{{"kind":"holiday","day":"{0}"}}',
     "feerow": '{{"kind":"feerow","day":"{0}","first":{1},"repeat":{2}}}',
+    "index": '{{"kind":"index","day":"{0}","rate":{1}}}',
 }
 
 
@@ -128,6 +129,7 @@ class Month:
             if day == HELD_ON:
                 self.share("holiday", "2024-01-15")
                 self.share("feerow", "2024-01-20", "3200", "4300")
+                self.share("index", "2024-01-20", "550")
             if day == REFUSED_ON:
                 self.share("roll", day, is_new=False)
                 self.share("holiday", "2024-01-20", is_new=True)

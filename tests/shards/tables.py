@@ -111,7 +111,7 @@ def month(room, examples, program, folder):
     """The month of three accounts, imported in four ledgers side by side: the entries are those of one ledger."""
     split, prefix = os.path.join(examples, "split.py"), os.path.join(room, "month-")
     lines = read(os.path.join(folder, "opening.txt")).splitlines(keepends=True)
-    shared = [line for line in lines if line.split(b" ")[0] in (b"roll", b"holiday", b"feerow")]
+    shared = [line for line in lines if line.split(b" ")[0] in (b"roll", b"holiday", b"feerow", b"index")]
     opens = b"".join(line for line in lines if line not in shared)
     call(split, ["lines", str(SHARDS), prefix + "opens-"], opens)
     for name in TABLES:
