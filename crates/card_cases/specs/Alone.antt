@@ -19,11 +19,11 @@ pub record IsAlone (history : List Kept) : Type 0 where
   pub accepted : ℕ
   pub is : history ≡ alone number key accepted
 
--- no holiday and no fee row
+-- no holiday, no fee row and no index row
 abbrev pub no_rows : SharedRows
 no_rows = record { holidays = []; fees = []; index = [] }
 
--- what its fold is given: no issued statement, no holiday and no fee row
+-- what its fold is given: no issued statement, no holiday, no fee row and no index row
 abbrev pub given_alone : List Kept → Given
 given_alone history = record { history = history; issued = []; shared = no_rows }
 

@@ -200,12 +200,13 @@ pub fn pass_quiet(
     if days == 0 {
         return Ok(());
     }
+    let at = first;
     add_rows(
         &mut state.rows,
         &state.segments,
         &state.rates,
         index,
-        first,
+        at,
         days,
     )?;
     accrue_all(

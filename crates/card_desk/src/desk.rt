@@ -22,8 +22,8 @@ use std::alloc::Global;
 use std::marker::Model;
 use std::sync::ledger::Ledger;
 
-/// Today, the accepted shared requests with the holidays and the fee rows in them, and all accounts in the order of their
-/// opening, each folded to the day that it has reached. Clauses see it as a record of its state and these days.
+/// Today, the accepted shared requests with the holidays, the fee rows and the index in them, and all accounts in the order of
+/// their opening, each folded to the day that it has reached. Clauses see it as a record of its state and these days.
 #[derive(Drop)]
 pub struct Desk {
     today: Day,
@@ -431,8 +431,8 @@ impl Desk {
     /// memory; a refusal or a repeat changes nothing. No account but the one that the request names is touched, and the reply
     /// depends on no other. After a fault the state and the rows are as they were. It takes at most two steps more than twice the
     /// break days, before or after the request, from the first day of the cycle in which the first changed day lies, or from the day
-    /// last reached where that is earlier, to today; of a request that isn't accepted, from the day last reached on; of an Open, from
-    /// the opening day on. A shared request takes none.
+    /// last reached where that is earlier, to today; of a request that isn't accepted, from the day last reached on; of an opening,
+    /// from the opening day on. A shared request takes none.
     ///
     /// `Keeper`: the keeper failed, which alone raises its count. `Memory`: memory was wanted and isn't there.
     #[tactic(auto, using(crate::proofs::Apart::apart_of_step), unfolding(crate::specs::Reached::MovesToApply, crate::specs::Recorded::AppliedStays, crate::specs::Steps::AreFewToApply))]

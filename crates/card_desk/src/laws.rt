@@ -10,8 +10,9 @@ ghost use Rattle.card_desk.specs.Apart.{LooksIsolated, RequestsStandApart};
 ghost use Rattle.card_desk.specs.Kept.{AreSound, AreDamaged, IsRunOf, rows_from, rows_of, new_rows};
 
 /// The rows of what is newly accepted of requests are sound, and a run of the accepted ones alone ends in the state of the
-/// whole run. Sound rows are damaged nowhere: so no row that a desk wrote is ever called damaged, and a desk that is loaded
-/// from them is in the writer's state.
+/// whole run. Sound rows, in either format, go on with those written for what is newly accepted after them. Sound rows are
+/// damaged nowhere: so no row that a desk wrote is ever called damaged, and a desk that is loaded from them is in the writer's
+/// state.
 pub fn load_of_rows()
     ensures sound { (requests : List Request) → list_all is_request requests ≡ true → AreSound (rows_of (accepted_from start requests)) (accepted_from start requests) }
     ensures state { (requests : List Request) → run (accepted_from start requests) ≡ run requests }
@@ -32,7 +33,7 @@ pub fn rows_tell_requests()
 {}
 
 /// Over two lists of requests that agree on one account and on what all accounts share, with equal replies to the latter and
-/// the ledger never full for an Open of that account: all replies on the account are equal, and so are its posts, its issued
+/// the ledger never full for an opening of that account: all replies on the account are equal, and so are its posts, its issued
 /// statements, its cycles, and the answers to what is asked of it. No other account's requests reach it.
 pub fn isolation()
     ensures lists { Isolation }
@@ -40,7 +41,7 @@ pub fn isolation()
 {}
 
 /// A single request changes the posts and issued statements of no account but the one that it names; and its reply depends on
-/// today, the shared requests, that account's own lists and, for its Open, the number of accounts, and on nothing else.
+/// today, the shared requests, that account's own lists and, for an opening, the number of accounts, and on nothing else.
 pub fn requests_stand_apart()
     ensures { RequestsStandApart }
 {}

@@ -1,6 +1,7 @@
 mod Scans
 mod DeadlineLemmas
 mod EndLemmas
+pub mod FirstWaiting
 mod IncreaseLemmas
 mod NoticeLemmas
 mod ReviewLemmas

@@ -1,5 +1,5 @@
 -- The day of a charge and the Bills that reflect it, in the history and in the corrected list.
-use Rattle.std.proofs.Common.{◌≡◌, ℕ, zero, suc, ◌+◌, ◌≤◌, ◌<◌, drop, take, nat_lt, ◌==◌, length, Bool, true, false, cond, List, [], ◌∷◌, refl, sym, ap, ◌∙◌, subst, Option, Some, None, arith}
+use Rattle.std.proofs.Common.{◌≡◌, ℕ, zero, suc, ◌+◌, ◌≤◌, ◌<◌, drop, nat_lt, ◌==◌, Bool, true, false, cond, List, [], ◌∷◌, refl, sym, ap, ◌∙◌, subst, Option, Some, None, arith}
 use Rattle.std.specs.Prelude.{slice_get, ◌&&◌}
 use Rattle.std.specs.List.{find}
 use Rattle.std.specs.Option.{option_map, option_or}
@@ -8,53 +8,22 @@ use Rattle.std.proofs.lemmas.Bool.Decides.{nat_tests}
 use Rattle.card_events.specs.Range.{last_request_day}
 use Rattle.card_events.specs.declared.anchor.Anchor.{Anchor}
 use Rattle.card_events.specs.Billing.{cycle_of}
-use Rattle.card_disputes.specs.Notices.{amend_at, amended_at, charge_day, charge_in, charge_own, notice_end_at}
-use Rattle.card_disputes.proofs.Scans.{at_place, place-there}
+use Rattle.card_disputes.specs.Notices.{amended_at, charge_day, charge_in, charge_own, notice_end_at}
 use Rattle.card_events.specs.Dated.{is_dated_post}
-use Rattle.card_events.specs.History.{CorrectedPost, amend_of, amended_day, anchor_of, at_number, corrected, corrected_from, corrected_post, effective_day, last_amend, next_segment, opening_in}
+use Rattle.card_events.specs.History.{CorrectedPost, amend_of, amended_day, anchor_of, at_number, corrected, corrected_from, corrected_post, effective_day, last_amend, next_segment, opening_in, slot_of}
 use Rattle.card_events.specs.declared.kept.Kept.{Kept}
 use Rattle.card_events.specs.declared.post.Post.{Post}
 use Rattle.card_events.specs.declared.post.Post.TheVariants as post
 use Rattle.card_model.specs.Deadlines.{bills_from, last_notice_day, notice_end, notice_end_of, reflects}
 use Rattle.card_model.specs.Effects.{charge_at, is_charge}
-use Rattle.card_posts.specs.Posted.{last_accepted}
+use Rattle.card_posts.specs.Posted.{Posted, StandsFor, last_accepted, slot_with}
+use Rattle.card_events.specs.declared.kept.Slot.{Slot}
 use Rattle.card_rates.specs.Segments.{ArePostsDated}
 
 -- ---- the last Amend
--- by the first i + 1 posts, where the one in place i is this
-last_amend-step : (n i : ℕ) (ks : List Kept) (k : Kept) → slice_get ks i ≡ Some k → last_amend n (take (suc i) ks) ≡ option_or (amend_of n k.post) (last_amend n (take i ks))
-unfolding last_amend
-last_amend-step n i [] k e = cc
-last_amend-step n zero (q ∷ ks) k e = same (amend_of n q.post) ∙ ap (λ (x : Kept). option_or (amend_of n x.post) None) (some e)
-  where
-    same : (o : Option (ℕ × ℕ)) → option_or None o ≡ option_or o None
-    same None = refl
-    same (Some x) = refl
-
-    some : Some q ≡ Some k → q ≡ k
-    some h = cc
-last_amend-step n (suc i) (q ∷ ks) k e = ap (λ o. option_or o (amend_of n q.post)) (last_amend-step n i ks k e) ∙ assoc (amend_of n k.post) (last_amend n (take i ks)) (amend_of n q.post)
-  where
-    assoc : (a b c : Option (ℕ × ℕ)) → option_or (option_or a b) c ≡ option_or a (option_or b c)
-    assoc None b c = refl
-    assoc (Some x) b c = refl
-
 either-day : (a b : Option (ℕ × ℕ)) (own : ℕ) → amended_day (option_or a b) own ≡ amended_day a (amended_day b own)
 either-day None b own = refl
 either-day (Some x) b own = refl
-
-pub amended-step : (n i own : ℕ) (ks : List Kept) → i < length ks → amend_at n (at_number (i + 1) ks) (amended_day (last_amend n (take i ks)) own) ≡ amended_day (last_amend n (take (i + 1) ks)) own
-amended-step n i own ks l =
-    let there = place-there i ks l in
-    let one : suc i ≡ i + 1 = omega arith in
-    ap (λ o. amend_at n o (amended_day (last_amend n (take i ks)) own)) (at_place i ks ∙ there.1)
-    ∙ sym (either-day (amend_of n there.0.post) (last_amend n (take i ks)) own)
-    ∙ sym (ap (λ o. amended_day o own) (last_amend-step n i ks there.0 there.1))
-    ∙ ap (λ m. amended_day (last_amend n (take m ks)) own) one
-
-pub amended-none : (n own : ℕ) → amended_day (last_amend n []) own ≡ own
-unfolding last_amend
-amended-none n own = refl
 
 -- ---- days of requests
 amend-dated : (n own : ℕ) (p : Post) → is_dated_post p ≡ true → own ≤ last_request_day → amended_at n p own ≤ last_request_day
@@ -119,16 +88,71 @@ pub number-dated : (ks : List Kept) (n : ℕ) (k : Kept) → ArePostsDated ks �
 number-dated ks zero k h e = cc
 number-dated ks (suc n) k h e = post-dated ks n k h e
 
-pub charge-dated : (n day : ℕ) (ks : List Kept) → ArePostsDated ks → charge_day n ks ≡ Some day → day ≤ last_request_day
-charge-dated n day ks h e = by (at_number n ks) refl e
-  where
-    by : (o : Option Kept) → at_number n ks ≡ o → charge_in (last_amend n ks) o ≡ Some day → day ≤ last_request_day
-    by None f g = cc
-    by (Some k) f g = own (charge_own k.post) refl g
-      where
-        own : (x : Option ℕ) → charge_own k.post ≡ x → option_map (amended_day (last_amend n ks)) x ≡ Some day → day ≤ last_request_day
-        own None q r = cc
-        own (Some d) q r = let same : amended_day (last_amend n ks) d ≡ day = cc in subst (λ x. x ≤ last_request_day) same (last-dated n d ks h (own-dated k.post d (number-dated ks n k h f) q))
+-- the day in its slot
+slot-there : (a : Anchor) (holidays : List ℕ) (history : List Kept) (i m segment : ℕ) (ks : List Kept) (k : Kept) → slice_get ks i ≡ Some k
+    → option_map (λ (s : Slot). s.day) (option_map slot_of (find (λ p. p.number == m + i) (corrected_from a holidays history m segment ks))) ≡ Some (effective_day a holidays history (m + i) k.accepted k.post)
+unfolding corrected_from corrected_post
+slot-there a holidays history i m segment [] k e = cc
+slot-there a holidays history zero m segment (q ∷ ks) k e =
+    let same : q ≡ k = cc in
+    let zeroth : m ≡ m + 0 = omega arith in
+    let here : (m == m + 0) ≡ true = grind (arith, nat_tests) in
+    rw here (ap (λ n. Some (effective_day a holidays history n q.accepted q.post)) zeroth ∙ ap (λ (x : Kept). Some (effective_day a holidays history (m + 0) x.accepted x.post)) same)
+slot-there a holidays history (suc i) m segment (q ∷ ks) k e =
+    let next : suc m + i ≡ m + suc i = omega arith in
+    let other : (m == m + suc i) ≡ false = grind (arith, nat_tests) in
+    rw other
+    (subst (λ n. option_map (λ (s : Slot). s.day) (option_map slot_of (find (λ p. p.number == n) (corrected_from a holidays history (suc m) (next_segment segment q.post) ks))) ≡ Some (effective_day a holidays history n k.accepted k.post)) next
+    (slot-there a holidays history i (suc m) (next_segment segment q.post) ks k e))
+
+slot-at : (a : Anchor) (holidays : List ℕ) (history : List Kept) (n : ℕ) (k : Kept) → at_number n history ≡ Some k
+    → option_map (λ (s : Slot). s.day) (slot_with n (corrected a holidays history)) ≡ Some (effective_day a holidays history n k.accepted k.post)
+slot-at a holidays history zero k e = cc
+slot-at a holidays history (suc i) k e =
+    let one : 1 + i ≡ suc i = omega arith in
+    subst (λ n. option_map (λ (s : Slot). s.day) (slot_with n (corrected a holidays history)) ≡ Some (effective_day a holidays history n k.accepted k.post)) one (slot-there a holidays history i 1 5 history k e)
+
+charge-effective : (a : Anchor) (holidays : List ℕ) (history : List Kept) (n accepted own : ℕ) (p : Post) → charge_own p ≡ Some own → effective_day a holidays history n accepted p ≡ amended_day (last_amend n history) own
+unfolding effective_day
+charge-effective a holidays history n accepted own (post.Charge d p c) e = let same : d ≡ own = cc in ap (amended_day (last_amend n history)) same
+charge-effective a holidays history n accepted own (post.Open d t) e = cc
+charge-effective a holidays history n accepted own (post.OpenVariable d t) e = cc
+charge-effective a holidays history n accepted own (post.Credit d p c) e = cc
+charge-effective a holidays history n accepted own (post.Payment d m by c) e = cc
+charge-effective a holidays history n accepted own (post.Return d t) e = cc
+charge-effective a holidays history n accepted own (post.Bill c) e = cc
+charge-effective a holidays history n accepted own (post.Amend t d c) e = cc
+charge-effective a holidays history n accepted own (post.Plan d v r w f) e = cc
+charge-effective a holidays history n accepted own (post.Notice d y r w) e = cc
+charge-effective a holidays history n accepted own (post.Lower d y r) e = cc
+charge-effective a holidays history n accepted own post.Penalty e = cc
+charge-effective a holidays history n accepted own (post.Review d f) e = cc
+charge-effective a holidays history n accepted own (post.Dispute d t c) e = cc
+charge-effective a holidays history n accepted own (post.Ack d t) e = cc
+charge-effective a holidays history n accepted own (post.Resolve d t c) e = cc
+charge-effective a holidays history n accepted own (post.AskRefund d) e = cc
+charge-effective a holidays history n accepted own (post.Refund c) e = cc
+
+-- where the corrected list is that of the posts, the slot of a charge has the day that stands
+pub slot-stands : (holidays : List ℕ) (p : Posted) (n own : ℕ) (k : Kept) (s : Slot) → StandsFor holidays p → at_number n p.history ≡ Some k → charge_own k.post ≡ Some own → slot_with n p.corrected ≡ Some s
+    → s.day ≡ amended_day (last_amend n p.history) own
+slot-stands holidays p n own k s stands e o f =
+    let a = anchor_of p.history in
+    let at : option_map (λ (x : Slot). x.day) (slot_with n p.corrected) ≡ Some (effective_day a holidays p.history n k.accepted k.post) = ap (λ l. option_map (λ (x : Slot). x.day) (slot_with n l)) stands ∙ slot-at a holidays p.history n k e in
+    let day : Some s.day ≡ Some (effective_day a holidays p.history n k.accepted k.post) = sym (ap (option_map (λ (x : Slot). x.day)) f) ∙ at in
+    let is : s.day ≡ effective_day a holidays p.history n k.accepted k.post = cc in
+    is ∙ charge-effective a holidays p.history n k.accepted own k.post o
+
+pub no-slot : (holidays : List ℕ) (p : Posted) (n : ℕ) (k : Kept) → StandsFor holidays p → at_number n p.history ≡ Some k → slot_with n p.corrected ≡ None → ⊥
+no-slot holidays p n k stands e f =
+    let a = anchor_of p.history in
+    let at : option_map (λ (x : Slot). x.day) (slot_with n p.corrected) ≡ Some (effective_day a holidays p.history n k.accepted k.post) = ap (λ l. option_map (λ (x : Slot). x.day) (slot_with n l)) stands ∙ slot-at a holidays p.history n k e in
+    let none : option_map (λ (x : Slot). x.day) (slot_with n p.corrected) ≡ None = ap (option_map (λ (x : Slot). x.day)) f in
+    cc
+
+-- it is a day of requests
+pub stands-dated : (ks : List Kept) (n own : ℕ) (k : Kept) → ArePostsDated ks → at_number n ks ≡ Some k → charge_own k.post ≡ Some own → amended_day (last_amend n ks) own ≤ last_request_day
+stands-dated ks n own k h e o = last-dated n own ks h (own-dated k.post own (number-dated ks n k h e) o)
 
 first-dated : (p : Post) → is_dated_post p ≡ true → opening_in p ≤ last_request_day
 unfolding is_dated_post
@@ -150,19 +174,6 @@ first-dated (post.Resolve d t c) e = omega arith
 first-dated (post.AskRefund d) e = omega arith
 first-dated (post.Refund c) e = omega arith
 first-dated (post.Return d t) e = omega arith
-
-place-within : (i : ℕ) (ks : List Kept) (k : Kept) → slice_get ks i ≡ Some k → i < length ks
-place-within i [] k e = cc
-place-within zero (q ∷ ks) k e = omega arith
-place-within (suc i) (q ∷ ks) k e = let rest = place-within i ks k e in omega (arith, rest)
-
-pub charge-there : (n day : ℕ) (ks : List Kept) → charge_day n ks ≡ Some day → n ≤ length ks
-charge-there zero day ks e = omega arith
-charge-there (suc i) day ks e = by (slice_get ks i) refl e
-  where
-    by : (o : Option Kept) → slice_get ks i ≡ o → charge_in (last_amend (suc i) ks) o ≡ Some day → suc i ≤ length ks
-    by None f g = cc
-    by (Some k) f g = let within = place-within i ks k f in omega (arith, within)
 
 pub opening-dated : (ks : List Kept) → ArePostsDated ks → (anchor_of ks).opened ≤ last_request_day
 opening-dated [] h = omega arith

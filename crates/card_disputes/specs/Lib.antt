@@ -3,3 +3,4 @@ pub mod Ends
 pub mod Histories
 pub mod Increases
 pub mod Notices
+pub mod Waits

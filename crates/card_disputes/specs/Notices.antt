@@ -17,11 +17,6 @@ charge_own _ = None
 abbrev pub amended_at : ℕ → Post → ℕ → ℕ
 amended_at n p day = amended_day (amend_of n p) day
 
--- the same of the post there
-abbrev pub amend_at : ℕ → Option Kept → ℕ → ℕ
-amend_at n None day = day
-amend_at n (Some k) day = amended_at n k.post day
-
 -- the day that stands for a charge, by the last Amend of it
 abbrev pub charge_in : Option (ℕ × ℕ) → Option Kept → Option ℕ
 charge_in amend None = None

@@ -3,6 +3,7 @@ ghost use Rattle.std.specs.Prelude.{◌≡◌, ℕ, ◌≤◌, ◌==◌, true, L
 ghost use Rattle.card_events.specs.Range.{last_request_day};
 ghost use Rattle.card_events.specs.Billing.{IsCloseDay};
 ghost use Rattle.card_disputes.specs.Dues as dues;
+ghost use Rattle.card_disputes.specs.Ends.{AreLast};
 ghost use Rattle.card_events.specs.Dated.{is_dated_post};
 ghost use Rattle.card_events.specs.History.{at_number};
 ghost use Rattle.card_model.specs.Deadlines as spec;
@@ -10,7 +11,7 @@ ghost use Rattle.card_posts.specs.Posted.{StandsFor};
 ghost use Rattle.card_rates.specs.Segments.{ArePostsDated};
 
 use crate::deadline::{ack_by, lower_by, refund_by, resolve_by};
-use crate::end::{is_acknowledged, is_lowered, is_refunded, is_resolved};
+use crate::end::{LastEnds, is_acknowledged, is_lowered, is_refunded, is_resolved};
 use card_events::{Anchor, Calendar, Day, Finding, Post, six_months_after};
 use card_model::TaskKind;
 use card_posts::Posts;
@@ -29,7 +30,7 @@ fn ack_due(posts: &Posts, number: u32, post: &Post) -> Option<Day>
 {
     match post {
         Post::Dispute { day, .. } => {
-            let done = is_acknowledged(posts, number) || is_resolved(posts, number);
+            let done = is_resolved(posts, number) || is_acknowledged(posts, number);
             is_done(done, ack_by(*day))
         }
         _ => None,
@@ -57,15 +58,17 @@ fn refund_due(
     posts: &Posts,
     calendar: &Calendar,
     credit: u64,
+    last: LastEnds,
     number: u32,
     post: &Post,
 ) -> Option<Day>
+    requires last { AreLast posts.now.history last }
     requires dated { is_dated_post post.now ≡ true }
     ensures { (holidays : List ℕ) → StandsFor holidays posts.now → result ≡ spec.refund_due calendar.now credit posts.now.corrected number post.now }
 {
     match post {
         Post::AskRefund { day } => {
-            let done = credit == 0 || is_refunded(posts, number);
+            let done = credit == 0 || is_refunded(posts, last, number);
             is_done(done, refund_by(*day, calendar))
         }
         _ => None,
@@ -73,7 +76,8 @@ fn refund_due(
 }
 
 #[tactic(auto, unfolding(card_events::specs::Dated::is_dated_post))]
-fn lower_due(posts: &Posts, number: u32, post: &Post) -> Option<Day>
+fn lower_due(posts: &Posts, last: LastEnds, number: u32, post: &Post) -> Option<Day>
+    requires last { AreLast posts.now.history last }
     requires dated { is_dated_post post.now ≡ true }
     ensures { (holidays : List ℕ) → StandsFor holidays posts.now → result ≡ spec.lower_due posts.now.corrected number post.now }
 {
@@ -81,7 +85,7 @@ fn lower_due(posts: &Posts, number: u32, post: &Post) -> Option<Day>
         Post::Review {
             day,
             finding: Finding::Reduce,
-        } => is_done(is_lowered(posts, number), lower_by(*day)),
+        } => is_done(is_lowered(posts, last, number), lower_by(*day)),
         _ => None,
     }
 }
@@ -92,10 +96,12 @@ fn due_by(
     anchor: &Anchor,
     calendar: &Calendar,
     credit: u64,
+    last: LastEnds,
     kind: TaskKind,
     number: u32,
     post: &Post,
 ) -> Option<Day>
+    requires last { AreLast posts.now.history last }
     requires close_day { IsCloseDay anchor.now.close_day }
     requires opened { anchor.now.opened ≤ last_request_day }
     requires dated { is_dated_post post.now ≡ true }
@@ -104,8 +110,8 @@ fn due_by(
     match kind {
         TaskKind::Ack => ack_due(posts, number, post),
         TaskKind::Resolve => resolve_due(posts, anchor, number, post),
-        TaskKind::Refund => refund_due(posts, calendar, credit, number, post),
-        TaskKind::Lower => lower_due(posts, number, post),
+        TaskKind::Refund => refund_due(posts, calendar, credit, last, number, post),
+        TaskKind::Lower => lower_due(posts, last, number, post),
         TaskKind::Credit | TaskKind::Review => None,
     }
 }
@@ -116,16 +122,20 @@ pub fn due_at(
     anchor: &Anchor,
     calendar: &Calendar,
     credit: u64,
+    last: LastEnds,
     kind: TaskKind,
     number: u32,
 ) -> Option<Day>
+    requires last { AreLast posts.now.history last }
     requires close_day { IsCloseDay anchor.now.close_day }
     requires opened { anchor.now.opened ≤ last_request_day }
     requires dated { ArePostsDated posts.now.history }
     ensures { (holidays : List ℕ) → StandsFor holidays posts.now → result ≡ dues.due_at anchor.now calendar.now credit posts.now.corrected kind number (at_number number posts.now.history) }
 {
     match posts.get(number) {
-        Some(kept) => due_by(posts, anchor, calendar, credit, kind, number, &kept.post),
+        Some(kept) => due_by(
+            posts, anchor, calendar, credit, last, kind, number, &kept.post,
+        ),
         None => None,
     }
 }

@@ -1,23 +1,31 @@
 // The posts that end tasks.
-ghost use Rattle.std.specs.Prelude.{◌≡◌, ℕ, drop, List};
+ghost use Rattle.std.specs.Prelude.{◌≡◌, ◌<◌, ℕ, List};
 ghost use Rattle.std.specs.List.{list_any};
 ghost use Rattle.card_disputes.specs.Ends as ends;
+ghost use Rattle.card_disputes.specs.Ends.{AreLast, IsLast};
+ghost use Rattle.card_disputes.specs.declared.end.End.TheVariants as end;
 ghost use Rattle.card_events.specs.History.{at_number};
 ghost use Rattle.card_model.specs.Deadlines as spec;
 ghost use Rattle.card_model.specs.Refusals.{holds_of};
 ghost use Rattle.card_posts.specs.Posted.{StandsFor};
 
+use crate::waiting::{Wait, first_waiting};
 use card_events::Post;
 use card_posts::Posts;
 
-// What ends a task: that a dispute is acknowledged or resolved, by its number, that a credit balance is refunded, or that a
-// rate is lowered.
+// What ends a task: that a dispute is acknowledged, by its number, that a credit balance is refunded, or that a rate is lowered.
 #[derive(Clone, Copy)]
 pub enum End {
     Acknowledged(u32),
-    Resolved(u32),
     Refunded,
     Lowered,
+}
+
+// The numbers of the last Refund and of the last Lower of an account, 0 for none.
+#[derive(Clone, Copy)]
+pub struct LastEnds {
+    pub refund: u32,
+    pub lower: u32,
 }
 
 fn ends(end: End, post: &Post) -> bool
@@ -25,7 +33,6 @@ fn ends(end: End, post: &Post) -> bool
 {
     match (end, post) {
         (End::Acknowledged(dispute), Post::Ack { target, .. }) => target.get() == dispute as u64,
-        (End::Resolved(dispute), Post::Resolve { target, .. }) => target.get() == dispute as u64,
         (End::Refunded, Post::Refund { .. }) => true,
         (End::Lowered, Post::Lower { .. }) => true,
         _ => false,
@@ -42,42 +49,57 @@ fn ends_at(posts: &Posts, number: u32, end: End) -> bool
     }
 }
 
-// whether some post behind the first so many ends it
-fn is_ended(posts: &Posts, end: End, first: u32) -> bool
-    ensures { result ≡ list_any (λ k. ends.ends end k.post) (drop first posts.now.history) }
+// the number of the last post that ends it, 0 where none does
+fn last_end(posts: &Posts, end: End) -> u32
+    ensures { IsLast end result posts.now.history }
 {
-    for i in first..posts.len() {
+    for i in (0..posts.len()).rev() {
         if ends_at(posts, i + 1, end) {
-            return true;
+            return i + 1;
         }
     }
-    false
+    0
+}
+
+// The last Refund and the last Lower.
+pub fn last_ends(posts: &Posts) -> LastEnds
+    ensures { AreLast posts.now.history result }
+{
+    LastEnds {
+        refund: last_end(posts, End::Refunded),
+        lower: last_end(posts, End::Lowered),
+    }
 }
 
 // Whether an Ack names the Dispute of this number.
 pub fn is_acknowledged(posts: &Posts, dispute: u32) -> bool
     ensures { (holidays : List ℕ) → StandsFor holidays posts.now → result ≡ spec.has (spec.acknowledges dispute) posts.now.corrected }
 {
-    is_ended(posts, End::Acknowledged(dispute), 0)
+    0 < last_end(posts, End::Acknowledged(dispute))
 }
 
 // Whether a Resolve names the Dispute of this number.
 pub fn is_resolved(posts: &Posts, dispute: u32) -> bool
     ensures { (holidays : List ℕ) → StandsFor holidays posts.now → result ≡ spec.has (spec.resolves dispute) posts.now.corrected }
 {
-    is_ended(posts, End::Resolved(dispute), 0)
+    match first_waiting(posts, Wait::Resolve, dispute as u64) {
+        Some(_) => true,
+        None => false,
+    }
 }
 
 // Whether a Refund comes after the post with this number.
-pub fn is_refunded(posts: &Posts, number: u32) -> bool
-    ensures { (holidays : List ℕ) → StandsFor holidays posts.now → result ≡ spec.has_later spec.is_refund number posts.now.corrected }
+pub fn is_refunded(_posts: &Posts, last: LastEnds, number: u32) -> bool
+    requires { AreLast _posts.now.history last }
+    ensures { (holidays : List ℕ) → StandsFor holidays _posts.now → result ≡ spec.has_later spec.is_refund number _posts.now.corrected }
 {
-    is_ended(posts, End::Refunded, number)
+    number < last.refund
 }
 
 // Whether a Lower comes after the post with this number.
-pub fn is_lowered(posts: &Posts, number: u32) -> bool
-    ensures { (holidays : List ℕ) → StandsFor holidays posts.now → result ≡ spec.has_later spec.is_lower number posts.now.corrected }
+pub fn is_lowered(_posts: &Posts, last: LastEnds, number: u32) -> bool
+    requires { AreLast _posts.now.history last }
+    ensures { (holidays : List ℕ) → StandsFor holidays _posts.now → result ≡ spec.has_later spec.is_lower number _posts.now.corrected }
 {
-    is_ended(posts, End::Lowered, number)
+    number < last.lower
 }

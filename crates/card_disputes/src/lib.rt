@@ -10,6 +10,7 @@ mod notice;
 mod order;
 mod review;
 mod tasks;
+mod waiting;
 
 pub use card_model::{Task, TaskKind};
 pub use deadline::{ack_by, lower_by, refund_by, resolve_by};
@@ -18,3 +19,4 @@ pub use notice::{last_notice_day, named};
 pub use order::in_work_order;
 pub use review::review_by;
 pub use tasks::work_of;
+pub use waiting::{Wait, first_waiting};

@@ -1,15 +1,16 @@
 // The last day for a Dispute of a charge.
-ghost use Rattle.std.specs.Prelude.{◌≡◌, ℕ, ◌+◌, ◌≤◌, drop, List, option_copied, true};
+ghost use Rattle.std.specs.Prelude.{◌≡◌, ℕ, ◌+◌, ◌≤◌, drop, length, List, IfSome, Some, option_copied, true};
 ghost use Rattle.card_events.specs.Range.{last_request_day};
 ghost use Rattle.std.specs.List.{find};
 ghost use Rattle.std.specs.Option.{option_map};
 ghost use Rattle.card_disputes.specs.Histories.{AreInCalendar};
-ghost use Rattle.card_disputes.specs.Notices.{amend_at, amended_at, charge_day, charge_own, notice_end_at};
+ghost use Rattle.card_disputes.specs.Notices.{charge_day, charge_own, notice_end_at};
 ghost use Rattle.card_events.specs.History.{amended_day, at_number, last_amend};
-ghost use Rattle.card_events.specs.Dated.{is_dated_post};
+ghost use Rattle.card_events.specs.declared.kept.Kept.{Kept};
 ghost use Rattle.card_model.specs.Deadlines as spec;
 ghost use Rattle.card_model.specs.Refusals.{holds_of};
 ghost use Rattle.card_posts.specs.Posted.{StandsFor, last_accepted};
+ghost use Rattle.card_rates.specs.Segments.{ArePostsDated};
 
 use crate::deadline::cycle_on;
 use card_events::{Anchor, Day, Kept, Num, Post};
@@ -35,48 +36,40 @@ fn own_day(post: &Post) -> Option<Day>
     }
 }
 
-// the day that a post gives to the charge, or else this one
-fn amended_by(post: &Post, charge: Num, day: Day) -> Day
-    ensures { result ≡ amended_at charge post.now day }
+// a day, where it is one of requests
+fn requested(day: Day) -> Option<Day>
+    ensures dated { IfSome result (λ d. d ≤ last_request_day) }
+    ensures value { day ≤ last_request_day → result ≡ Some day }
 {
-    match post {
-        Post::Amend {
-            target,
-            day: given,
-            ..
-        } if *target == charge => *given,
-        _ => day,
+    if day.is_request_day() {
+        Some(day)
+    } else {
+        None
     }
 }
 
-// the day that the post with a number gives to the charge, or else this one
-fn amended_at(posts: &Posts, number: u32, charge: Num, day: Day) -> Day
-    ensures { result ≡ amend_at charge (at_number number posts.now.history) day }
+// the day of the post with a number as it stands, where that is a charge, whose day is one of requests
+fn standing_day(posts: &Posts, number: Num) -> Option<Day>
+    requires { ArePostsDated posts.now.history }
+    ensures dated { IfSome result (λ d. d ≤ last_request_day) }
+    ensures value { (holidays : List ℕ) (k : Kept) (own : ℕ) → StandsFor holidays posts.now → at_number number posts.now.history ≡ Some k → charge_own k.post ≡ Some own → result ≡ Some (amended_day (last_amend number posts.now.history) own) }
 {
-    match posts.get(number) {
-        Some(kept) => amended_by(&kept.post, charge, day),
-        None => day,
+    match posts.slot(number.get()) {
+        Some(slot) => requested(slot.day),
+        None => None,
     }
-}
-
-// the day that the last Amend gives to the charge, or else its own
-fn amended_day(posts: &Posts, charge: Num, own: Day) -> Day
-    ensures { result ≡ amended_day (last_amend charge posts.now.history) own }
-{
-    let mut day = own;
-    for i in 0..posts.len() {
-        day = amended_at(posts, i + 1, charge, day);
-    }
-    day
 }
 
 // the day of a charge as it stands, none where no charge has the number
 fn charge_day(posts: &Posts, charge: Num) -> Option<Day>
-    ensures { result ≡ charge_day charge posts.now.history }
+    requires { ArePostsDated posts.now.history }
+    ensures dated { IfSome result (λ d. d ≤ last_request_day) }
+    ensures within { IfSome result (λ d. charge ≤ length posts.now.history) }
+    ensures value { (holidays : List ℕ) → StandsFor holidays posts.now → result ≡ charge_day charge posts.now.history }
 {
     match named(posts, charge) {
         Some(kept) => match own_day(&kept.post) {
-            Some(own) => Some(amended_day(posts, charge, own)),
+            Some(_) => standing_day(posts, charge),
             None => None,
         },
         None => None,

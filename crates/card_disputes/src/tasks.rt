@@ -4,6 +4,7 @@ ghost use Rattle.card_events.specs.Range.{last_request_day};
 ghost use Rattle.std.specs.Option.{option_map, option_to_list};
 ghost use Rattle.card_events.specs.Billing.{IsCloseDay};
 ghost use Rattle.card_disputes.specs.Dues.{AddsTasks};
+ghost use Rattle.card_disputes.specs.Ends.{AreLast};
 ghost use Rattle.card_events.specs.History.{anchor_of};
 ghost use Rattle.card_model.specs.Deadlines.{open_tasks};
 ghost use Rattle.card_model.specs.Deadlines as spec;
@@ -11,6 +12,7 @@ ghost use Rattle.card_posts.specs.Posted.{StandsFor};
 ghost use Rattle.card_rates.specs.Segments.{ArePostsDated};
 
 use crate::due::{credit_due, due_at};
+use crate::end::{LastEnds, last_ends};
 use crate::order::by_day;
 use crate::review::review_by;
 use card_events::{Anchor, Calendar, Cents, Day, Name, NoMemory};
@@ -18,13 +20,14 @@ use card_model::{Task, TaskKind};
 use card_posts::Posts;
 use std::alloc::Global;
 
-// What the tasks of an account are made from: its name, its cycles, its posts, the holidays, and the cents of its credit
-// balance.
+// What the tasks of an account are made from: its name, its cycles, its posts with the last that end tasks, the holidays, and the
+// cents of its credit balance.
 #[derive(Drop)]
 struct Basis<'a> {
     name: &'a Name,
     anchor: &'a Anchor,
     posts: &'a Posts,
+    last: LastEnds,
     calendar: &'a Calendar,
     credit: u64,
 }
@@ -70,6 +73,7 @@ fn push_tasks(
     basis: &Basis,
     kind: TaskKind,
 ) -> Result<(), NoMemory>
+    requires last { AreLast basis.now.posts.now.history basis.now.last }
     requires close_day { IsCloseDay basis.now.anchor.now.close_day }
     requires opened { basis.now.anchor.now.opened ≤ last_request_day }
     requires dated { ArePostsDated basis.now.posts.now.history }
@@ -82,6 +86,7 @@ fn push_tasks(
             basis.anchor,
             basis.calendar,
             basis.credit,
+            basis.last,
             kind,
             i + 1,
         );
@@ -118,6 +123,7 @@ pub fn work_of(
         name,
         anchor,
         posts,
+        last: last_ends(posts),
         calendar,
         credit,
     };

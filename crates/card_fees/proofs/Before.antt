@@ -1,6 +1,6 @@
 -- Payments folded before a post, and credits, over the slots of some days.
 use Rattle.std.proofs.Common.{◌≡◌, ℕ, ◌≤◌, Bool, true, false, cond, not, ◌&&◌, nat_le, List, map, refl, sym, ap, ◌∙◌, arith}
-use Rattle.std.specs.List.{All, filter, sum_by}
+use Rattle.std.specs.List.{filter, sum_by}
 use Rattle.std.proofs.lemmas.Bool.Decides.{nat_tests}
 use Rattle.std.proofs.lemmas.List.Elements.{All-weaker}
 use Rattle.card_events.specs.declared.anchor.Anchor.{Anchor}
@@ -11,52 +11,38 @@ use Rattle.card_events.specs.declared.post.Post.{Post}
 use Rattle.card_events.specs.declared.post.Post.TheVariants as post
 use Rattle.card_model.specs.Payments.{counted, credited, is_between, is_credit, is_payment, is_returned, returns}
 use Rattle.card_posts.specs.Posted.{folding_order}
-use Rattle.card_fees.specs.Counting.{counts, credits, earlier_posts, in_front, is_before, is_credit_at, is_payment_at, is_returned_among, returns_at, since, slots_sum, up_to}
+use Rattle.card_fees.specs.Counting.{counts, credits, earlier_posts, in_front, is_before, is_credit_at, is_payment_at, is_returned_until, since, slots_sum, up_to}
+use Rattle.card_fees.specs.declared.returning.Until.TheVariants as until
 use Rattle.card_fees.specs.Due.{seen_of}
 use Rattle.card_fees.proofs.Fold.{alike, by-then, each, payment-folded, return-folded}
-use Rattle.card_fees.proofs.Payments.{Stands, all-stand, return-later}
-use Rattle.card_fees.proofs.Slots.{any-filter, any-in_order, any-map, any-same, sum-filter, sum-in_order, sum-map, sum-same}
+use Rattle.card_fees.proofs.Payments.{Stands, all-stand}
+use Rattle.card_fees.proofs.Returned.{returned-corrected}
+use Rattle.card_fees.proofs.Slots.{any-filter, any-same, sum-filter, sum-in_order, sum-map, sum-same}
 
 front-by : (day number d n : ℕ) → is_before day number d n ≡ true → nat_le d day ≡ true
 front-by day number d n e = grind (arith, nat_tests)
 
-late-too : (f d e : ℕ) → nat_le f d ≡ true → d ≤ e → nat_le f e ≡ true
-late-too f d e h l = grind (arith, nat_tests)
+-- ---- what is returned in front of a post
+both : (R F D : Bool) → (F ≡ true → D ≡ true) → (R && F) ≡ (F && (R && D))
+both true true true g = refl
+both true true false g = let no : false ≡ true = g refl in absurd (cc)
+both true false D g = refl
+both false true D g = refl
+both false false D g = refl
 
--- ---- what the slots in front of a post return
-three : (B F T D : Bool) → (T ≡ true → B ≡ true) → (F ≡ true → D ≡ true) → (B && (F && T)) ≡ (F && (T && D))
-three true true true true h g = refl
-three true true true false h g = sym (g refl)
-three true true false D h g = refl
-three true false T D h g = refl
-three false F true D h g = let no : false ≡ true = h refl in absurd (cc)
-three false true false D h g = refl
-three false false false D h g = refl
-
-returned-before : (a : Anchor) (holidays : List ℕ) (history : List Kept) (xs : List CorrectedPost) (from day number : ℕ) (p : CorrectedPost) → All (Stands a holidays history) xs → Stands a holidays history p → is_payment p.post ≡ true → nat_le from p.day ≡ true
-    → is_returned_among history p.number (in_front day number (since from (folding_order xs))) ≡ is_returned (earlier_posts day number xs) day p.number
-returned-before a holidays history xs from day number p all s pays late =
-    any-filter test (λ s. is_before day number s.day s.number) (since from (folding_order xs))
-    ∙ any-filter (λ s. is_before day number s.day s.number && test s) (λ s. nat_le from s.day) (folding_order xs)
-    ∙ any-in_order (λ s. nat_le from s.day && (is_before day number s.day s.number && test s)) (map slot_of xs)
-    ∙ any-map (λ s. nat_le from s.day && (is_before day number s.day s.number && test s)) slot_of xs
-    ∙ any-same (λ q. nat_le from q.day && (is_before day number q.day q.number && test (slot_of q))) (λ q. is_before day number q.day q.number && (returns p.number q.post && nat_le q.day day)) xs
-    (All-weaker (Stands a holidays history) (λ q. (nat_le from q.day && (is_before day number q.day q.number && test (slot_of q))) ≡ (is_before day number q.day q.number && (returns p.number q.post && nat_le q.day day))) one xs all)
-    ∙ sym (any-filter (λ q. returns p.number q.post && nat_le q.day day) (λ q. is_before day number q.day q.number) xs)
+returned-before : (a : Anchor) (holidays : List ℕ) (history : List Kept) (day number n : ℕ)
+    → is_returned_until (until.Post day number) history (corrected a holidays history) n ≡ is_returned (earlier_posts day number (corrected a holidays history)) day n
+returned-before a holidays history day number n =
+    returned-corrected (until.Post day number) a holidays history n
+    ∙ any-same (λ q. returns n q.post && is_before day number q.day q.number) (λ q. is_before day number q.day q.number && (returns n q.post && nat_le q.day day)) xs
+    (each (λ q. (returns n q.post && is_before day number q.day q.number) ≡ (is_before day number q.day q.number && (returns n q.post && nat_le q.day day))) (λ q. both (returns n q.post) (is_before day number q.day q.number) (nat_le q.day day) (front-by day number q.day q.number)) xs)
+    ∙ sym (any-filter (λ q. returns n q.post && nat_le q.day day) (λ q. is_before day number q.day q.number) xs)
   where
-    test : Slot → Bool
-    test s = returns_at p.number (at_number s.number history)
+    xs : List CorrectedPost
+    xs = corrected a holidays history
 
-    one : (q : CorrectedPost) → Stands a holidays history q → (nat_le from q.day && (is_before day number q.day q.number && test (slot_of q))) ≡ (is_before day number q.day q.number && (returns p.number q.post && nat_le q.day day))
-    one q t =
-        let is : test (slot_of q) ≡ returns p.number q.post = ap (returns_at p.number) t.found ∙ ap (returns p.number) (sym t.same) in
-        ap (λ b. nat_le from q.day && (is_before day number q.day q.number && b)) is
-        ∙ three (nat_le from q.day) (is_before day number q.day q.number) (returns p.number q.post) (nat_le q.day day)
-        (λ e. late-too from p.day q.day late (return-later a holidays history p q s t pays e))
-        (front-by day number q.day q.number)
-
-four : (A B D F R S : Bool) (c : ℕ) → (F ≡ true → D ≡ true) → (A ≡ true → B ≡ true → R ≡ S) → cond B (cond F (cond (A && not R) c 0) 0) 0 ≡ cond F (cond (A && (B && D) && not S) c 0) 0
-four true true true true R S c g h = ap (λ r. cond (not r) c 0) (h refl refl)
+four : (A B D F R S : Bool) (c : ℕ) → (F ≡ true → D ≡ true) → R ≡ S → cond B (cond F (cond (A && not R) c 0) 0) 0 ≡ cond F (cond (A && (B && D) && not S) c 0) 0
+four true true true true R S c g h = ap (λ r. cond (not r) c 0) h
 four true true false true R S c g h = let no : false ≡ true = g refl in absurd (cc)
 four true true D false R S c g h = refl
 four true false D true R S c g h = refl
@@ -67,7 +53,7 @@ four false false D true R S c g h = refl
 four false false D false R S c g h = refl
 
 pub slots-before : (a : Anchor) (holidays : List ℕ) (history : List Kept) (from day number : ℕ)
-    → slots_sum history (in_front day number (since from (folding_order (corrected a holidays history)))) (in_front day number (since from (folding_order (corrected a holidays history))))
+    → slots_sum (until.Post day number) history (corrected a holidays history) (in_front day number (since from (folding_order (corrected a holidays history))))
     ≡ counted (earlier_posts day number (corrected a holidays history)) from day
 unfolding counted
 slots-before a holidays history from day number =
@@ -82,11 +68,8 @@ slots-before a holidays history from day number =
     xs : List CorrectedPost
     xs = corrected a holidays history
 
-    w : List Slot
-    w = in_front day number (since from (folding_order (corrected a holidays history)))
-
     g : Slot → ℕ
-    g s = counts history w s
+    g s = counts (until.Post day number) history (corrected a holidays history) s
 
     worth : CorrectedPost → ℕ
     worth p = cond (is_payment p.post && is_between from day p && not (is_returned (earlier_posts day number xs) day p.number)) p.cents 0
@@ -94,10 +77,10 @@ slots-before a holidays history from day number =
     one : (p : CorrectedPost) → Stands a holidays history p → cond (nat_le from p.day) (cond (is_before day number p.day p.number) (g (slot_of p)) 0) 0 ≡ cond (is_before day number p.day p.number) (worth p) 0
     one p s =
         let is : is_payment_at (at_number p.number history) ≡ is_payment p.post = ap is_payment_at s.found ∙ ap is_payment (sym s.same) in
-        ap (λ b. cond (nat_le from p.day) (cond (is_before day number p.day p.number) (cond (b && not (is_returned_among history p.number w)) p.cents 0) 0) 0) is
-        ∙ four (is_payment p.post) (nat_le from p.day) (nat_le p.day day) (is_before day number p.day p.number) (is_returned_among history p.number w) (is_returned (earlier_posts day number xs) day p.number) p.cents
+        ap (λ b. cond (nat_le from p.day) (cond (is_before day number p.day p.number) (cond (b && not (is_returned_until (until.Post day number) history xs p.number)) p.cents 0) 0) 0) is
+        ∙ four (is_payment p.post) (nat_le from p.day) (nat_le p.day day) (is_before day number p.day p.number) (is_returned_until (until.Post day number) history xs p.number) (is_returned (earlier_posts day number xs) day p.number) p.cents
         (front-by day number p.day p.number)
-        (λ pays late. returned-before a holidays history xs from day number p (all-stand a holidays history) s pays late)
+        (returned-before a holidays history day number p.number)
 
 -- ---- credits
 five : (A B C : Bool) (c : ℕ) → cond B (cond C (cond A c 0) 0) 0 ≡ cond (A && (B && C)) c 0

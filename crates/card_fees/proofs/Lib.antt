@@ -2,10 +2,11 @@ pub mod Bounded
 pub mod Slots
 pub mod Days
 pub mod Payments
+pub mod Returned
+pub mod SlotSums
 pub mod Fold
 pub mod Before
 pub mod Charges
-pub mod Returned
 pub mod OneFee
 pub mod Repaid
 pub mod Cases

@@ -101,25 +101,6 @@ unfolding in_order
 sum-in_order f [] = refl
 sum-in_order f (x ∷ xs) = sum-placed f x (in_order xs) ∙ ap (λ n. f x + n) (sum-in_order f xs) ∙ sym (sum_by-cons f x xs)
 
-or-swap : (a b c : Bool) → (a || (b || c)) ≡ (b || (a || c))
-or-swap true true c = refl
-or-swap true false c = refl
-or-swap false b c = refl
-
-any-placed : (p : Slot → Bool) (s : Slot) (xs : List Slot) → list_any p (placed s xs) ≡ (p s || list_any p xs)
-unfolding placed
-any-placed p s [] = refl
-any-placed p s (y ∷ ys) = at (before y s) (any-placed p s ys)
-  where
-    at : (b : Bool) → list_any p (placed s ys) ≡ (p s || list_any p ys) → list_any p (cond b (y ∷ placed s ys) (s ∷ y ∷ ys)) ≡ (p s || (p y || list_any p ys))
-    at true r = ap (λ b. p y || b) r ∙ or-swap (p y) (p s) (list_any p ys)
-    at false r = refl
-
-pub any-in_order : (p : Slot → Bool) (xs : List Slot) → list_any p (in_order xs) ≡ list_any p xs
-unfolding in_order
-any-in_order p [] = refl
-any-in_order p (x ∷ xs) = any-placed p x (in_order xs) ∙ ap (λ b. p x || b) (any-in_order p xs)
-
 pub sum-filter : {X : Type 0} (f : X → ℕ) (p : X → Bool) (xs : List X) → sum_by f (filter p xs) ≡ sum_by (λ x. cond (p x) (f x) 0) xs
 sum-filter f p [] = refl
 sum-filter f p (x ∷ xs) = at (p x) (sum-filter f p xs) ∙ sym (sum_by-cons (λ x. cond (p x) (f x) 0) x xs)
@@ -154,10 +135,6 @@ any-same f g [] h = refl
 any-same f g (x ∷ xs) h =
     let first : f x ≡ g x = All-head (λ x. f x ≡ g x) x xs h in
     rw first (ap (λ b. g x || b) (any-same f g xs (All-tail (λ x. f x ≡ g x) x xs h)))
-
-pub any-map : {X : Type 0} {Y : Type 0} (p : Y → Bool) (g : X → Y) (xs : List X) → list_any p (map g xs) ≡ list_any (λ x. p (g x)) xs
-any-map p g [] = refl
-any-map p g (x ∷ xs) = ap (λ b. p (g x) || b) (any-map p g xs)
 
 -- the rest of a list is what is left of its length
 pub take-rest : (n : ℕ) (xs : List Slot) → take (length xs - n) (drop n xs) ≡ drop n xs

@@ -4,7 +4,12 @@ use Rattle.std.specs.List.{filter, list_any, sum_by}
 use Rattle.card_events.specs.History.{CorrectedPost, at_number}
 use Rattle.card_events.specs.declared.kept.Kept.{Kept}
 use Rattle.card_events.specs.declared.kept.Slot.{Slot}
+use Rattle.card_fees.specs.declared.returning.Until.{Until}
+use Rattle.card_fees.specs.declared.returning.Until.TheVariants as until
 use Rattle.card_model.specs.Payments.{is_credit, is_payment, returns}
+use Rattle.card_model.specs.Refusals.{holds_of}
+use Rattle.card_posts.specs.Posted.{slot_with}
+use Rattle.card_waits.specs.Waits.{waiting}
 
 -- to be folded before the post with a day and a number: on an earlier day, or on that day with a smaller number
 abbrev pub is_before : ℕ → ℕ → ℕ → ℕ → Bool
@@ -28,18 +33,27 @@ abbrev pub returns_at : ℕ → Option Kept → Bool
 returns_at n None = false
 returns_at n (Some k) = returns n k.post
 
--- one of the slots is that of a Return of payment n
-abbrev pub is_returned_among : List Kept → ℕ → List Slot → Bool
-is_returned_among history n slots = list_any (λ s. returns_at n (at_number s.number history)) slots
+-- the posts that are read reach behind a day and a number
+abbrev pub reaches : Until → ℕ → ℕ → Bool
+reaches (until.Day to) d n = nat_le d to
+reaches (until.Post day number) d n = is_before day number d n
 
--- what a slot counts among others: the cents of a payment that none of them returns
-abbrev pub counts : List Kept → List Slot → Slot → ℕ
-counts history among s =
-    if is_payment_at (at_number s.number history) && not (is_returned_among history s.number among) then unsigned_abs s.cents else 0
+-- the post with a number is read, and a Return of payment n
+abbrev pub returns_until : Until → List Kept → List CorrectedPost → ℕ → ℕ → Bool
+returns_until u history posts n w = returns_at n (at_number w history) && holds_of (λ s. reaches u s.day s.number) (slot_with w posts)
+
+-- one of the posts that wait is
+abbrev pub is_returned_until : Until → List Kept → List CorrectedPost → ℕ → Bool
+is_returned_until u history posts n = list_any (returns_until u history posts n) (waiting history)
+
+-- what a slot counts: the cents of a payment that isn't returned among the posts that are read
+abbrev pub counts : Until → List Kept → List CorrectedPost → Slot → ℕ
+counts u history posts s =
+    if is_payment_at (at_number s.number history) && not (is_returned_until u history posts s.number) then unsigned_abs s.cents else 0
 
 -- what they count together
-abbrev pub slots_sum : List Kept → List Slot → List Slot → ℕ
-slots_sum history among slots = sum_by (counts history among) slots
+abbrev pub slots_sum : Until → List Kept → List CorrectedPost → List Slot → ℕ
+slots_sum u history posts slots = sum_by (counts u history posts) slots
 
 -- the post there is a merchant's credit
 abbrev pub is_credit_at : Option Kept → Bool

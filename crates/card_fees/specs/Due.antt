@@ -1,13 +1,11 @@
 -- What a due date asks for, by the cycle's number: the words of the fold without the fold's records
 -- (12 CFR 1026.5(b)(2)(ii), .55(b)(4)). Days are effective days, amounts cents; a minimum payment is 0 where the
 -- statement has no due payment.
-use Rattle.std.specs.Prelude.{ℕ, suc, ◌+◌, ◌-◌, Bool, false, ◌&&◌, ◌||◌, nat_le, nat_lt, List, [], ◌∷◌, ℤ}
+use Rattle.std.specs.Prelude.{ℕ, ◌+◌, ◌-◌, Bool, ◌&&◌, nat_le, nat_lt, List, ℤ}
 use Rattle.std.specs.List.{filter}
 use Rattle.card_events.specs.Billing.{closing, due}
 use Rattle.card_events.specs.declared.anchor.Anchor.{Anchor}
 use Rattle.card_events.specs.History.{CorrectedPost, is_folded}
-use Rattle.card_model.specs.CycleDays.{HasItsDays}
-use Rattle.card_model.specs.Cycles.{Cycle}
 use Rattle.card_model.specs.Entries.{at_least_zero}
 use Rattle.card_model.specs.Payments.{counted}
 

@@ -1,5 +1,5 @@
 -- Laws on penalty fees, and that the words of the fold are those of this crate (12 CFR 1026.5(b)(2)(ii), .52(b), .55(b)(4)).
-use Rattle.std.specs.Prelude.{ℕ, ◌+◌, ◌≡◌, ◌≤◌, false, nat_le, List, [], ◌∷◌, ◌++◌, map, Some, pos}
+use Rattle.std.specs.Prelude.{ℕ, ◌+◌, ◌≡◌, ◌≤◌, false, nat_le, List, [], ◌∷◌, ◌++◌, Some}
 use Rattle.std.specs.List.{filter}
 use Rattle.card_events.specs.Billing.{closing, due}
 use Rattle.card_events.specs.declared.anchor.Anchor.{Anchor}

@@ -1,13 +1,14 @@
 // Sums over the payments of some days.
-ghost use Rattle.std.specs.Prelude.{◌≡◌, ◌≤◌, ◌≤ℤ◌, ℕ, List, Some, false, length, nat_le, nat_lt, pos, take, unsigned_abs};
+ghost use Rattle.std.specs.Prelude.{◌≡◌, ◌≤◌, ◌≤ℤ◌, ℕ, List, min, nat_le, nat_lt, pos, unsigned_abs};
 ghost use Rattle.std.specs.List.{sum_by};
 ghost use Rattle.card_events.specs.History.{at_number};
-ghost use Rattle.card_fees.specs.Counting.{counts, credits, earlier_posts, in_front, is_before, is_credit_at, is_payment_at, is_returned_among, returns_at, since, slots_sum, up_to};
+ghost use Rattle.card_fees.specs.Counting.{counts, credits, earlier_posts, in_front, is_before, is_credit_at, is_payment_at, since, slots_sum, up_to};
 ghost use Rattle.card_fees.specs.Limits.{payments_limit};
 ghost use Rattle.card_model.specs.Payments as payments;
 ghost use Rattle.card_posts.specs.Order.{IsAscending};
 ghost use Rattle.card_posts.specs.Posted.{AreBounded, StandsFor, folding_order};
 
+use crate::returning::{Until, is_returned};
 use card_events::{Cents, Day, Post, Slot};
 use card_posts::Posts;
 
@@ -80,95 +81,54 @@ fn is_payment(posts: &Posts, number: u32) -> bool
     }
 }
 
-fn is_return(posts: &Posts, number: u32) -> bool
-    ensures { (payment : ℕ) → result ≡ false → returns_at payment (at_number number posts.now.history) ≡ false }
-{
-    match posts.get(number) {
-        Some(kept) => matches!(kept.post, Post::Return { .. }),
-        None => false,
-    }
-}
-
-// the place of the first Return, or the end
-fn first_return(posts: &Posts, slots: &[Slot]) -> usize
-    ensures bound { result ≤ length slots.now }
-    ensures none { (payment : ℕ) → is_returned_among posts.now.history payment (take result slots.now) ≡ false }
-{
-    for i in 0..slots.len() {
-        if is_return(posts, slots[i].number) {
-            return i;
-        }
-    }
-    slots.len()
-}
-
-// the slots from the first Return on
-fn from_returns<'a>(posts: &Posts, slots: &'a [Slot]) -> &'a [Slot]
-    ensures { (payment : ℕ) → is_returned_among posts.now.history payment result.now ≡ is_returned_among posts.now.history payment slots.now }
-{
-    &slots[first_return(posts, slots)..]
-}
-
-fn is_return_of(post: &Post, payment: u32) -> bool
-    ensures { result ≡ payments.returns payment post.now }
-{
-    match post {
-        Post::Return { target, .. } => target.get() == payment as u64,
-        _ => false,
-    }
-}
-
-fn returns(posts: &Posts, number: u32, payment: u32) -> bool
-    ensures { result ≡ returns_at payment (at_number number posts.now.history) }
-{
-    match posts.get(number) {
-        Some(kept) => is_return_of(&kept.post, payment),
-        None => false,
-    }
-}
-
-fn is_returned(posts: &Posts, among: &[Slot], payment: u32) -> bool
-    ensures { result ≡ is_returned_among posts.now.history payment among.now }
-{
-    for slot in among {
-        if returns(posts, slot.number, payment) {
-            return true;
-        }
-    }
-    false
-}
-
-// the cents of a payment that none of the slots returns
-fn counts(posts: &Posts, among: &[Slot], slot: &Slot) -> u64
-    ensures value { result ≡ counts posts.now.history among.now slot.now }
+// the cents of a payment that no Return among the posts that are read names
+fn counts(posts: &Posts, until: &Until, slot: &Slot) -> u64
+    ensures value { result ≡ counts until.now posts.now.history posts.now.corrected slot.now }
     ensures bound { result ≤ unsigned_abs slot.now.cents }
 {
-    if is_payment(posts, slot.number) && !is_returned(posts, among, slot.number) {
+    if is_payment(posts, slot.number) && !is_returned(posts, slot.number, until) {
         slot.cents.unsigned_abs()
     } else {
         0
     }
 }
 
-fn sum(posts: &Posts, slots: &[Slot]) -> u64
-    requires bounded { AreBounded slots.now }
-    ensures value { result ≡ slots_sum posts.now.history slots.now slots.now }
-    ensures bound { result ≤ payments_limit }
+fn is_enough(total: u64, limit: u64) -> bool
+    ensures { result ≡ nat_le limit total }
 {
-    let returns = from_returns(posts, slots);
-    let mut total = 0;
-    for slot in slots {
-        total += counts(posts, returns, slot);
-    }
-    total
+    limit <= total
 }
 
-// The payments with effective days from one day to another, less those returned by its end.
-pub fn counted_between(posts: &Posts, from: Day, to: Day) -> u64
+// what slots count together, up to a limit, behind which no slot is looked at
+fn sum(posts: &Posts, slots: &[Slot], until: &Until, limit: u64) -> u64
+    requires bounded { AreBounded slots.now }
+    ensures value { result ≡ min limit (slots_sum until.now posts.now.history posts.now.corrected slots.now) }
+    ensures bound { result ≤ payments_limit }
+{
+    let mut total = 0;
+    for slot in slots {
+        if is_enough(total, limit) {
+            return limit;
+        }
+        total += counts(posts, until, slot);
+    }
+    limit.min(total)
+}
+
+// The payments with effective days from one day to another, less those returned by its end; at most a limit.
+pub fn counted_up_to(posts: &Posts, from: Day, to: Day, limit: u64) -> u64
+    ensures bound { result ≤ payments_limit }
+    ensures value { (holidays : List ℕ) → StandsFor holidays posts.now → result ≡ min limit (payments.counted posts.now.corrected from to) }
+{
+    sum(posts, slots_of(posts, from, to), &Until::Day(to), limit)
+}
+
+// The same without a limit.
+fn counted_between(posts: &Posts, from: Day, to: Day) -> u64
     ensures bound { result ≤ payments_limit }
     ensures value { (holidays : List ℕ) → StandsFor holidays posts.now → result ≡ payments.counted posts.now.corrected from to }
 {
-    sum(posts, slots_of(posts, from, to))
+    counted_up_to(posts, from, to, u64::MAX)
 }
 
 /// The cents of the payments with effective days from one day to another, without those returned by its end (12 CFR
@@ -181,12 +141,21 @@ pub fn counted(posts: &Posts, from: Day, to: Day) -> Cents
     counted_between(posts, from, to) as i64
 }
 
-// the payments that are folded before a post, less those returned before it
-fn counted_in_front(posts: &Posts, from: Day, day: Day, number: u32) -> u64
+// The payments that are folded before a post, less those returned before it; at most a limit.
+pub fn counted_in_front(posts: &Posts, from: Day, day: Day, number: u32, limit: u64) -> u64
+    ensures bound { result ≤ payments_limit }
+    ensures value { (holidays : List ℕ) → StandsFor holidays posts.now → result ≡ min limit (payments.counted (earlier_posts day number posts.now.corrected) from day) }
+{
+    let slots = slots_before(posts, from, day, number);
+    sum(posts, slots, &Until::Post(day, number), limit)
+}
+
+// The same without a limit.
+fn all_in_front(posts: &Posts, from: Day, day: Day, number: u32) -> u64
     ensures bound { result ≤ payments_limit }
     ensures value { (holidays : List ℕ) → StandsFor holidays posts.now → result ≡ payments.counted (earlier_posts day number posts.now.corrected) from day }
 {
-    sum(posts, slots_before(posts, from, day, number))
+    counted_in_front(posts, from, day, number, u64::MAX)
 }
 
 /// The cents of the payments that are folded before the post with this effective day and number, with effective days from
@@ -196,7 +165,7 @@ pub fn counted_before(posts: &Posts, from: Day, day: Day, number: u32) -> Cents
     ensures low { pos 0 ≤ℤ result }
     ensures value { (holidays : List ℕ) → StandsFor holidays posts.now → result ≡ pos (payments.counted (earlier_posts day number posts.now.corrected) from day) }
 {
-    counted_in_front(posts, from, day, number) as i64
+    all_in_front(posts, from, day, number) as i64
 }
 
 fn is_credit(posts: &Posts, number: u32) -> bool

@@ -1,27 +1,54 @@
 // What a due date asks for, and what the payments left of it.
-ghost use Rattle.std.specs.Prelude.{◌≡◌, ℕ, ◌+◌, ◌-◌, ◌<◌, ◌≤◌, nat_lt, List, Some, ◌≤ℤ◌, pos, unsigned_abs};
+ghost use Rattle.std.specs.Prelude.{◌≡◌, ℕ, ◌+◌, ◌-◌, ◌<◌, ◌≤◌, min, nat_lt, List, Some, ◌≤ℤ◌, pos, unsigned_abs};
 ghost use Rattle.card_events.specs.Range.{last_calendar_day};
 ghost use Rattle.card_events.specs.Billing.{IsCloseDay, closing, due};
 ghost use Rattle.card_fees.specs.Due.{is_met, owes_sixty_days, past_due_at};
-ghost use Rattle.card_fees.specs.Limits.{payments_limit};
 ghost use Rattle.card_model.specs.Payments as payments;
 ghost use Rattle.card_posts.specs.Posted.{StandsFor};
 
-use crate::counting::counted_between;
+use crate::counting::counted_up_to;
+use crate::due_cycle::{cents_in, left_of};
 use card_events::{Anchor, Cents, Day, closing_date, due, due_date};
 use card_posts::Posts;
 
-// the payments since the closing of a cycle, up to a later day
-fn since_closing(posts: &Posts, a: &Anchor, k: u32, to: Day) -> u64
+// the payments since the closing of a cycle, up to a later day; at most a limit
+fn since_closing(posts: &Posts, a: &Anchor, k: u32, to: Day, limit: u64) -> u64
     requires close_day { IsCloseDay a.now.close_day }
     requires cycle { 1 ≤ k }
     requires closed { closing a.now k < to }
-    ensures bound { result ≤ payments_limit }
-    ensures value { (holidays : List ℕ) → StandsFor holidays posts.now → result ≡ payments.counted posts.now.corrected (closing a.now k + 1) to }
+    ensures { (holidays : List ℕ) → StandsFor holidays posts.now → result ≡ min limit (payments.counted posts.now.corrected (closing a.now k + 1) to) }
 {
     let _last = to.number();
     let from = closing_date(a, k).next();
-    counted_between(posts, from, to)
+    counted_up_to(posts, from, to, limit)
+}
+
+fn is_below(total: u64, minimum: u64) -> bool
+    ensures { result ≡ nat_lt total minimum }
+{
+    total < minimum
+}
+
+// whether they are below a minimum payment
+fn falls_short(posts: &Posts, a: &Anchor, k: u32, to: Day, minimum: u64) -> bool
+    requires close_day { IsCloseDay a.now.close_day }
+    requires cycle { 1 ≤ k }
+    requires closed { closing a.now k < to }
+    ensures { (holidays : List ℕ) → StandsFor holidays posts.now → result ≡ nat_lt (payments.counted posts.now.corrected (closing a.now k + 1) to) minimum }
+{
+    is_below(since_closing(posts, a, k, to, minimum), minimum)
+}
+
+// what they leave of it
+fn left_since(posts: &Posts, a: &Anchor, k: u32, to: Day, minimum: Cents) -> Cents
+    requires close_day { IsCloseDay a.now.close_day }
+    requires cycle { 1 ≤ k }
+    requires closed { closing a.now k < to }
+    requires low { pos 0 ≤ℤ minimum }
+    ensures { (holidays : List ℕ) → StandsFor holidays posts.now → result ≡ pos (unsigned_abs minimum - payments.counted posts.now.corrected (closing a.now k + 1) to) }
+{
+    let limit = cents_in(minimum);
+    left_of(minimum, since_closing(posts, a, k, to, limit))
 }
 
 /// Whether the payments credited after closing k and up to its due date, without those returned by then, reach the
@@ -35,15 +62,7 @@ pub fn met(posts: &Posts, a: Anchor, k: u32, minimum: Cents) -> bool
     requires low { pos 0 ≤ℤ minimum }
     ensures { (holidays : List ℕ) → StandsFor holidays posts.now → result ≡ is_met a posts.now.corrected k (unsigned_abs minimum) }
 {
-    minimum as u64 <= since_closing(posts, &a, k, due_date(&a, k))
-}
-
-// what an amount leaves of a minimum payment
-fn left_of(minimum: Cents, paid: u64) -> Cents
-    requires { pos 0 ≤ℤ minimum }
-    ensures { result ≡ pos (unsigned_abs minimum - paid) }
-{
-    (minimum as u64).saturating_sub(paid) as i64
+    !falls_short(posts, &a, k, due_date(&a, k), cents_in(minimum))
 }
 
 /// What is past due at closing k, in cents: the minimum payment of the cycle before less the payments credited in cycle
@@ -62,7 +81,7 @@ pub fn past_due(posts: &Posts, a: Anchor, k: u32, minimum_before: Cents) -> Cent
         return 0;
     }
     let end = closing_date(&a, k);
-    left_of(minimum_before, since_closing(posts, &a, k - 1, end))
+    left_since(posts, &a, k - 1, end, minimum_before)
 }
 
 // whether a due date lies more than 60 days back (12 CFR 1026.55(b)(4))
@@ -100,5 +119,5 @@ pub fn owes_sixty_days(posts: &Posts, a: &Anchor, k: u32, minimum: Cents, day: D
     if !is_cycle_long_past(a, k, day) {
         return false;
     }
-    since_closing(posts, a, k, day) < minimum as u64
+    falls_short(posts, a, k, day, minimum as u64)
 }

@@ -1,5 +1,5 @@
 // What a closed cycle asks for at its due date.
-ghost use Rattle.std.specs.Prelude.{◌≡◌, ◌≤ℤ◌, pos};
+ghost use Rattle.std.specs.Prelude.{◌≡◌, ◌-◌, ◌≤ℤ◌, pos, unsigned_abs};
 ghost use Rattle.card_fees.specs.Asked.{asks};
 
 use card_events::Cents;
@@ -23,4 +23,20 @@ pub fn asked(c: &DueCycle) -> Cents
     ensures low { pos 0 ≤ℤ result }
 {
     if c.has_due_payment { c.minimum } else { 0 }
+}
+
+// the cents of an amount that is at least 0
+pub fn cents_in(amount: Cents) -> u64
+    requires { pos 0 ≤ℤ amount }
+    ensures { result ≡ unsigned_abs amount }
+{
+    amount as u64
+}
+
+// what an amount leaves of a minimum payment
+pub fn left_of(minimum: Cents, paid: u64) -> Cents
+    requires { pos 0 ≤ℤ minimum }
+    ensures { result ≡ pos (unsigned_abs minimum - paid) }
+{
+    (minimum as u64).saturating_sub(paid) as i64
 }

@@ -2,20 +2,22 @@
 ghost use Rattle.std.specs.Prelude.{◌≡◌, ℕ, ◌-◌, ◌<◌, ◌≤◌, ◌≤ℤ◌, List, pos, unsigned_abs};
 ghost use Rattle.card_events.specs.Billing.{IsCloseDay, closing};
 ghost use Rattle.card_fees.specs.Asked.{left_by};
+ghost use Rattle.card_fees.specs.Counting.{earlier_posts};
+ghost use Rattle.card_model.specs.Payments as payments;
 ghost use Rattle.card_posts.specs.Posted.{StandsFor};
 
-use crate::counted_before;
-use crate::due_cycle::{DueCycle, asked};
+use crate::counting::counted_in_front;
+use crate::due_cycle::{DueCycle, asked, cents_in, left_of};
 use card_events::{Anchor, Cents, Day, after_closing};
 use card_posts::Posts;
 
-// what an amount leaves of another
-fn rest(amount: Cents, paid: Cents) -> Cents
-    requires low { pos 0 ≤ℤ amount }
-    requires paid { pos 0 ≤ℤ paid }
-    ensures { result ≡ pos (unsigned_abs amount - unsigned_abs paid) }
+// what the payments that are folded before a post, with effective days from one on, leave of an amount
+fn left_in_front(posts: &Posts, from: Day, day: Day, number: u32, amount: Cents) -> Cents
+    requires { pos 0 ≤ℤ amount }
+    ensures { (holidays : List ℕ) → StandsFor holidays posts.now → result ≡ pos (unsigned_abs amount - payments.counted (earlier_posts day number posts.now.corrected) from day) }
 {
-    (amount as u64).saturating_sub(paid as u64) as i64
+    let limit = cents_in(amount);
+    left_of(amount, counted_in_front(posts, from, day, number, limit))
 }
 
 /// What is left of a cycle's minimum payment for the payment with this number, whose effective day is this one, in cents
@@ -33,5 +35,5 @@ pub fn minimum_left(posts: &Posts, a: &Anchor, c: &DueCycle, day: Day, number: u
 {
     let _last = day.number();
     let from = after_closing(a, c.cycle);
-    rest(asked(c), counted_before(posts, from, day, number))
+    left_in_front(posts, from, day, number, asked(c))
 }

@@ -12,6 +12,7 @@ mod grace;
 pub mod laws;
 mod left;
 mod required;
+mod returning;
 
 pub use card_model::{Fee, FeeKind, GraceCase};
 pub use card_shared::{

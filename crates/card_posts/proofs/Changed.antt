@@ -1,5 +1,6 @@
 -- The first day of a change is exact.
-use Rattle.std.proofs.Common.{◌≡◌, ℕ, zero, suc, ◌+◌, ◌<◌, ◌≤◌, min, Bool, true, false, cond, ◌&&◌, ◌==◌, nat_le, List, [], ◌∷◌, ◌++◌, take, drop, length, get_or, set, refl, sym, ap, ◌∙◌, subst, arith, add-one}
+use Rattle.std.proofs.Common.{◌≡◌, ℕ, zero, suc, ◌+◌, ◌<◌, ◌≤◌, ◌⊎◌, inl, inr, min, Bool, true, false, cond, ◌&&◌, ◌==◌, nat_le, List, [], ◌∷◌, ◌++◌, take, drop, length, get_or, set, refl, sym, ap, ◌∙◌, subst, arith, add-one}
+use Rattle.std.proofs.lemmas.Bool.{cases_eq}
 use Rattle.std.proofs.lemmas.Bool.Decides.{nat_tests}
 use Rattle.std.proofs.lemmas.List.{append-nil, take_more}
 use Rattle.card_events.specs.History.{CorrectedPost, next_segment}
@@ -129,6 +130,72 @@ change-least first (e ∷ es) (f ∷ fs) = let r = change-least (after_one first
     at : (b : Bool) → first_change (cond b first (min first (min e.day f.day))) es fs ≤ cond b first (min first (min e.day f.day)) → first_change (cond b first (min first (min e.day f.day))) es fs ≤ first
     at true r = r
     at false r = omega (arith, r)
+
+-- what counted and counts is the same, or neither lies before a day
+abbrev pub IsLate : ℕ → Effect → Effect → Type 0
+IsLate low e f = (e ≡ f) ⊎ ((low ≤ e.day) × (low ≤ f.day))
+
+late-one : (first : ℕ) (e f : Effect) → IsLate first e f → after_one first e f ≡ first
+late-one first e f (inl same) = let still : stands e f ≡ true = ap (stands e) (sym same) ∙ stands-itself e in rw still refl
+late-one first e f (inr l) = at (stands e f)
+  where
+    at : (b : Bool) → cond b first (min first (min e.day f.day)) ≡ first
+    at true = refl
+    at false = omega (arith, l.0, l.1)
+
+-- no day before the first one
+change-late : (first : ℕ) (d : Effect) (es fs : List Effect) → length es ≡ length fs → ((i : ℕ) → i < length es → IsLate first (get_or es i d) (get_or fs i d)) → first_change first es fs ≡ first
+unfolding first_change
+change-late first d [] fs l h = refl
+change-late first d (e ∷ es) [] l h = refl
+change-late first d (e ∷ es) (f ∷ fs) l h = rw (late-one first e f (h 0 (omega arith))) (change-late first d es fs (omega (arith, l)) (λ i w. h (suc i) (omega (arith, w))))
+
+after-below : (first low : ℕ) (e f : Effect) → low ≤ first → after_one low e f ≤ after_one first e f
+after-below first low e f l = at (stands e f)
+  where
+    at : (b : Bool) → cond b low (min low (min e.day f.day)) ≤ cond b first (min first (min e.day f.day))
+    at true = l
+    at false = omega (arith, l)
+
+pub after-least : (first : ℕ) (e f : Effect) → after_one first e f ≤ first
+after-least first e f = at (stands e f)
+  where
+    at : (b : Bool) → cond b first (min first (min e.day f.day)) ≤ first
+    at true = omega arith
+    at false = omega arith
+
+after-late : (first : ℕ) (e f : Effect) → IsLate (after_one first e f) e f
+after-late first e f = at (stands e f) refl
+  where
+    at : (b : Bool) → stands e f ≡ b → IsLate (cond b first (min first (min e.day f.day))) e f
+    at true h = inl (stands-same e f h)
+    at false h = inr (omega arith, omega arith)
+
+change-below : (first i : ℕ) (es fs : List Effect) (d : Effect) → i < length es → length es ≡ length fs → first_change first es fs ≤ after_one first (get_or es i d) (get_or fs i d)
+unfolding first_change
+change-below first i [] fs d l m = absurd (omega (arith, l))
+change-below first i (e ∷ es) [] d l m = absurd (omega (arith, m))
+change-below first zero (e ∷ es) (f ∷ fs) d l m = change-least (after_one first e f) es fs
+change-below first (suc i) (e ∷ es) (f ∷ fs) d l m =
+    let r = change-below (after_one first e f) i es fs d (omega (arith, l)) (omega (arith, m)) in
+    let low = after-below first (after_one first e f) (get_or es i d) (get_or fs i d) (after-least first e f) in
+    omega (arith, r, low)
+
+-- where one moves first
+pub change-first : (first i : ℕ) (es fs : List Effect) (d : Effect) → i < length es → length es ≡ length fs → ((j : ℕ) → j < length es → (i ≡ j → ⊥) → IsLate (after_one first (get_or es i d) (get_or fs i d)) (get_or es j d) (get_or fs j d))
+    → first_change first es fs ≡ after_one first (get_or es i d) (get_or fs i d)
+change-first first i es fs d l m others =
+    let x : ℕ = after_one first (get_or es i d) (get_or fs i d) in
+    let low : x ≤ first = after-least first (get_or es i d) (get_or fs i d) in
+    let least : min x first ≡ x = omega (arith, low) in
+    let late : first_change x es fs ≡ x = change-late x d es fs m (λ j w. by j w (cases_eq i j)) in
+    let both : min x (first_change first es fs) ≡ x = change-last x first es fs ∙ (ap (λ n. first_change n es fs) least ∙ late) in
+    let below = change-below first i es fs d l m in
+    omega (arith, both, below)
+  where
+    by : (j : ℕ) → j < length es → (i ≡ j) ⊎ (i ≡ j → ⊥) → IsLate (after_one first (get_or es i d) (get_or fs i d)) (get_or es j d) (get_or fs j d)
+    by j w (inr n) = others j w n
+    by j w (inl e) = subst (λ n. IsLate (after_one first (get_or es i d) (get_or fs i d)) (get_or es n d) (get_or fs n d)) e (after-late first (get_or es i d) (get_or fs i d))
 
 -- ---- the lists of corrected posts
 later-day : (a x : ℕ) → x < a → nat_le a x ≡ false

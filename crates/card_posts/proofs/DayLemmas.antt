@@ -118,11 +118,11 @@ day-by-later a holidays h n accepted (post.Amend t d c) = amend a holidays h t d
 day-by-later a holidays h n accepted (post.Bill c) = top accepted
 
 -- ---- days of receipt
-either : (opened : ℕ) (x y : Option (ℕ × ℕ)) → IsAmendDated opened x → IsAmendDated opened y → IsAmendDated opened (option_or x y)
-either opened None y f g = g
-either opened (Some x) y f g = f
+pub either-dated : (opened : ℕ) (x y : Option (ℕ × ℕ)) → IsAmendDated opened x → IsAmendDated opened y → IsAmendDated opened (option_or x y)
+either-dated opened None y f g = g
+either-dated opened (Some x) y f g = f
 
-amend-one : (opened n : ℕ) (k : Kept) → IsTimely opened k → IsAmendDated opened (amend_of n k.post)
+pub amend-one : (opened n : ℕ) (k : Kept) → IsTimely opened k → IsAmendDated opened (amend_of n k.post)
 amend-one opened n k h = by k.post k.accepted h.dated h.received
   where
     if_named : (b : Bool) (d c : ℕ) → opened ≤ d → d ≤ last_request_day → IsAmendDated opened (cond b (Some (d, c)) None)
@@ -152,7 +152,7 @@ amend-one opened n k h = by k.post k.accepted h.dated h.received
 pub amend-dated : (opened n : ℕ) (h : List Kept) → AreTimely opened h → IsAmendDated opened (last_amend n h)
 unfolding last_amend AreTimely
 amend-dated opened n [] h = tt
-amend-dated opened n (k ∷ ks) h = either opened (last_amend n ks) (amend_of n k.post) (amend-dated opened n ks h.1) (amend-one opened n k h.0)
+amend-dated opened n (k ∷ ks) h = either-dated opened (last_amend n ks) (amend_of n k.post) (amend-dated opened n ks h.1) (amend-one opened n k h.0)
 
 pub timely-at : (opened i : ℕ) (h : List Kept) (k : Kept) → AreTimely opened h → i < length h → IsTimely opened (get_or h i k)
 unfolding AreTimely

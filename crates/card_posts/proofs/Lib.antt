@@ -9,10 +9,13 @@ pub mod DayLemmas
 pub mod Bounded
 pub mod Changed
 pub mod Following
-pub mod Alone
+pub mod Awaited
 pub mod FirstWith
+pub mod Left
+pub mod Still
 pub mod Opening
 pub mod Holidays
 pub mod Numbered
 pub mod Fronts
 pub mod Withdrawn
+pub mod Waiting

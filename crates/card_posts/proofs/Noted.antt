@@ -7,7 +7,7 @@ use Rattle.card_events.specs.History.{amend_of, at_number, charge_disputed, conf
 use Rattle.card_events.specs.declared.kept.Kept.{Kept}
 use Rattle.card_events.specs.declared.post.Post.{Post}
 use Rattle.card_events.specs.declared.post.Post.TheVariants as post
-use Rattle.card_posts.specs.Corrections.{charge_named, correction_of, corrections_from, corrects}
+use Rattle.card_posts.specs.Corrections.{changed_by, charge_named, correction_of, corrections_from, corrects, with_post}
 use Rattle.card_posts.specs.Posted.{target_of}
 use Rattle.card_posts.specs.Stored.{NameEarlier}
 use Rattle.card_posts.specs.declared.correction.Correction.{Correction}
@@ -82,18 +82,6 @@ amend-confirmed h k t d c m is e l =
 pub amend-said : (h : List Kept) (k : Kept) (t d c : ℕ) → k.post ≡ post.Amend t d c → NameEarlier 1 h → t ≤ length h → correction_of (more h k) t ≡ by_parts (Some (d, c)) (min (confirmed t h) (2 ^ 64 - 1))
 amend-said h k t d c is e l = rw (amend-this h k t d c is, amend-confirmed h k t d c t is e l) refl
 
-pub amend-kept : (h : List Kept) (k : Kept) (t d c : ℕ) (o : Correction) → k.post ≡ post.Amend t d c → NameEarlier 1 h → 0 < t → t ≤ length h
-    → corrections_from (more h k) 1 h ≡ set (corrections_from h 1 h) (t - 1) (by_parts (Some (d, c)) (get_or (corrections_from h 1 h) (t - 1) o).confirmed)
-amend-kept h k t d c o is e z l =
-    let place : 1 + (t - 1) ≡ t = omega (arith, z) in
-    let old : get_or (corrections_from h 1 h) (t - 1) o ≡ correction_of h (1 + (t - 1)) = corrections-at h 1 (t - 1) h o (omega (arith, z, l)) in
-    let count : (get_or (corrections_from h 1 h) (t - 1) o).confirmed ≡ min (confirmed t h) (2 ^ 64 - 1) = ap (λ (u : Correction). u.confirmed) old ∙ ap (λ m. min (confirmed m h) (2 ^ 64 - 1)) place in
-    one-changed h (more h k) t (λ m n. of-parts h (more h k) m (amend-other h k t d c m is n) (amend-confirmed h k t d c m is e l)) (t - 1) 1 h place (omega (arith, z, l))
-    ∙ ap (set (corrections_from h 1 h) (t - 1)) (amend-said h k t d c is e l ∙ ap (by_parts (Some (d, c))) (sym count))
-
-pub amend-none : (h : List Kept) (k : Kept) (d c : ℕ) → k.post ≡ post.Amend 0 d c → NameEarlier 1 h → corrections_from (more h k) 1 h ≡ corrections_from h 1 h
-amend-none h k d c is e = all-same h (more h k) 0 (λ m n. of-parts h (more h k) m (amend-other h k 0 d c m is n) (amend-confirmed h k 0 d c m is e (omega arith))) 1 h (omega arith)
-
 -- a Resolve adds to what was confirmed
 yes : (m : ℕ) (p : Post) → 0 < charge_disputed p → disputes m p ≡ (charge_disputed p == m)
 yes m (post.Open d t) z = absurd (omega (arith, z))
@@ -159,9 +147,6 @@ resolve-other h k a t x m is e l f = let all = resolve-by h k a t x m false is e
 resolve-this : (h : List Kept) (k : Kept) (a t x m : ℕ) → k.post ≡ post.Resolve a t x → NameEarlier 1 h → t ≤ length h → dispute_names m (at_number t h) ≡ true → confirmed m (more h k) ≡ confirmed m h + x
 resolve-this h k a t x m is e l f = resolve-by h k a t x m true is e l f
 
-pub resolve-none : (h : List Kept) (k : Kept) (a t x : ℕ) → k.post ≡ post.Resolve a t x → NameEarlier 1 h → t ≤ length h → charge_named (at_number t h) ≡ 0 → corrections_from (more h k) 1 h ≡ corrections_from h 1 h
-resolve-none h k a t x is e l f = all-same h (more h k) 0 (λ m n. of-parts h (more h k) m (resolve-amend h k a t x m is) (resolve-other h k a t x m is e l (named-no m (at_number t h) f n))) 1 h (omega arith)
-
 in-below : (t : ℕ) (p : Post) → target_of p < t → 0 < charge_disputed p → charge_disputed p < t
 in-below u (post.Open d t) b z = absurd (omega (arith, z))
 in-below u (post.OpenVariable d t) b z = absurd (omega (arith, z))
@@ -186,23 +171,122 @@ pub named-below : (h : List Kept) (t : ℕ) → NameEarlier 1 h → (o : Option 
 named-below h t e None f z = absurd (omega (arith, z))
 named-below h t e (Some k) f z = in-below t k.post (target-below t h k e f) z
 
-pub resolve-kept : (h : List Kept) (k : Kept) (a t x g : ℕ) (o : Correction) → k.post ≡ post.Resolve a t x → NameEarlier 1 h → t ≤ length h → g ≡ charge_named (at_number t h) → 0 < g
-    → corrections_from (more h k) 1 h ≡ set (corrections_from h 1 h) (g - 1) (by_parts (get_or (corrections_from h 1 h) (g - 1) o).amend (min ((get_or (corrections_from h 1 h) (g - 1) o).confirmed + x) (2 ^ 64 - 1)))
-resolve-kept h k a t x g o post_is e l is z =
-    let named : 0 < charge_named (at_number t h) = rw (← is) z in
-    let below : charge_named (at_number t h) < t = named-below h t e (at_number t h) refl named in
-    let place : 1 + (g - 1) ≡ g = omega (arith, z) in
-    let within : g - 1 < length h = omega (arith, is, below, l, z) in
-    let old : get_or (corrections_from h 1 h) (g - 1) o ≡ correction_of h g = corrections-at h 1 (g - 1) h o within ∙ ap (correction_of h) place in
-    let this : dispute_names g (at_number t h) ≡ true = named-yes g (at_number t h) named ∙ (rw (← is) (same g)) in
-    one-changed h (more h k) g (λ m n. of-parts h (more h k) m (resolve-amend h k a t x m post_is) (resolve-other h k a t x m post_is e l (named-yes m (at_number t h) named ∙ other (charge_named (at_number t h)) m (λ u. n (is ∙ u))))) (g - 1) 1 h place within
-    ∙ ap (set (corrections_from h 1 h) (g - 1)) (new (get_or (corrections_from h 1 h) (g - 1) o) old this)
+resolve-said : (h : List Kept) (k : Kept) (a t x : ℕ) → k.post ≡ post.Resolve a t x → NameEarlier 1 h → t ≤ length h → 0 < charge_named (at_number t h)
+    → correction_of (more h k) (charge_named (at_number t h)) ≡ by_parts (last_amend (charge_named (at_number t h)) h) (min (min (confirmed (charge_named (at_number t h)) h) (2 ^ 64 - 1) + x) (2 ^ 64 - 1))
+resolve-said h k a t x is e l z =
+    let g : ℕ = charge_named (at_number t h) in
+    let this : dispute_names g (at_number t h) ≡ true = named-yes g (at_number t h) z ∙ same g in
+    rw (resolve-amend h k a t x g is, resolve-this h k a t x g is e l this) (ap (by_parts (last_amend g h)) (capped (confirmed g h) x (2 ^ 64 - 1)))
   where
     capped : (c x top : ℕ) → min (c + x) top ≡ min (min c top + x) top
     capped c x top = grind arith
 
-    new : (o : Correction) → o ≡ correction_of h g → dispute_names g (at_number t h) ≡ true → correction_of (more h k) g ≡ by_parts o.amend (min (o.confirmed + x) (2 ^ 64 - 1))
-    new o f this = rw (f, resolve-amend h k a t x g post_is, resolve-this h k a t x g post_is e l this) (ap (by_parts (last_amend g h)) (capped (confirmed g h) x (2 ^ 64 - 1)))
+-- ---- the post that one more corrects
+-- two histories say the same of a post
+abbrev pub SaysSame : List Kept → List Kept → ℕ → Type 0
+SaysSame h g m = (last_amend m g ≡ last_amend m h) × (confirmed m g ≡ confirmed m h)
+
+resolve-others : (h : List Kept) (k : Kept) (a t x m : ℕ) → k.post ≡ post.Resolve a t x → NameEarlier 1 h → t ≤ length h → (charge_named (at_number t h) ≡ m → ⊥) → SaysSame h (more h k) m
+resolve-others h k a t x m is e l n = (resolve-amend h k a t x m is, resolve-other h k a t x m is e l (by (charge_named (at_number t h)) refl))
+  where
+    by : (g : ℕ) → charge_named (at_number t h) ≡ g → dispute_names m (at_number t h) ≡ false
+    by zero f = named-no m (at_number t h) f (λ u. n (f ∙ u))
+    by (suc g) f = named-yes m (at_number t h) (omega (arith, f)) ∙ other (charge_named (at_number t h)) m n
+
+-- of the others nothing else is said
+pub said-other : (h : List Kept) (k : Kept) → NameEarlier 1 h → target_of k.post ≤ length h → (m : ℕ) → (changed_by h k.post ≡ m → ⊥) → SaysSame h (more h k) m
+said-other h k e l m n = by k.post refl l n
+  where
+    plain : corrects k.post ≡ false → SaysSame h (more h k) m
+    plain f = (plain-amend m h k f, plain-confirmed m h k e l f)
+
+    by : (p : Post) → k.post ≡ p → target_of p ≤ length h → (changed_by h p ≡ m → ⊥) → SaysSame h (more h k) m
+    by (post.Open d' t') is b n = plain (rw is refl)
+    by (post.OpenVariable d' t') is b n = plain (rw is refl)
+    by (post.Charge d' p' c') is b n = plain (rw is refl)
+    by (post.Credit d' p' c') is b n = plain (rw is refl)
+    by (post.Payment d' i' y' c') is b n = plain (rw is refl)
+    by (post.Return d' t') is b n = plain (rw is refl)
+    by (post.Plan d' v' r' w' f') is b n = plain (rw is refl)
+    by (post.Notice d' y' r' w') is b n = plain (rw is refl)
+    by (post.Lower d' y' r') is b n = plain (rw is refl)
+    by post.Penalty is b n = plain (rw is refl)
+    by (post.Review d' f') is b n = plain (rw is refl)
+    by (post.Dispute d' t' c') is b n = plain (rw is refl)
+    by (post.Ack d' t') is b n = plain (rw is refl)
+    by (post.Resolve x t c) is b n = resolve-others h k x t c m is e b n
+    by (post.AskRefund d') is b n = plain (rw is refl)
+    by (post.Refund c') is b n = plain (rw is refl)
+    by (post.Amend t d c) is b n = (amend-other h k t d c m is n, amend-confirmed h k t d c m is e b)
+    by (post.Bill c') is b n = plain (rw is refl)
+
+-- and of that one what it says
+pub said-this : (h : List Kept) (k : Kept) → NameEarlier 1 h → target_of k.post ≤ length h → 0 < changed_by h k.post → correction_of (more h k) (changed_by h k.post) ≡ with_post k.post (correction_of h (changed_by h k.post))
+said-this h k e l z = by k.post refl l z
+  where
+    by : (p : Post) → k.post ≡ p → target_of p ≤ length h → 0 < changed_by h p → correction_of (more h k) (changed_by h p) ≡ with_post p (correction_of h (changed_by h p))
+    by (post.Open d' t') is b z = absurd (omega (arith, z))
+    by (post.OpenVariable d' t') is b z = absurd (omega (arith, z))
+    by (post.Charge d' p' c') is b z = absurd (omega (arith, z))
+    by (post.Credit d' p' c') is b z = absurd (omega (arith, z))
+    by (post.Payment d' i' y' c') is b z = absurd (omega (arith, z))
+    by (post.Return d' t') is b z = absurd (omega (arith, z))
+    by (post.Plan d' v' r' w' f') is b z = absurd (omega (arith, z))
+    by (post.Notice d' y' r' w') is b z = absurd (omega (arith, z))
+    by (post.Lower d' y' r') is b z = absurd (omega (arith, z))
+    by post.Penalty is b z = absurd (omega (arith, z))
+    by (post.Review d' f') is b z = absurd (omega (arith, z))
+    by (post.Dispute d' t' c') is b z = absurd (omega (arith, z))
+    by (post.Ack d' t') is b z = absurd (omega (arith, z))
+    by (post.Resolve x t c) is b z = resolve-said h k x t c is e b z
+    by (post.AskRefund d') is b z = absurd (omega (arith, z))
+    by (post.Refund c') is b z = absurd (omega (arith, z))
+    by (post.Amend t d c) is b z = amend-said h k t d c is e b
+    by (post.Bill c') is b z = absurd (omega (arith, z))
+
+pub changed-within : (h : List Kept) (p : Post) → NameEarlier 1 h → target_of p ≤ length h → changed_by h p ≤ length h
+changed-within h p e l = by p l
+  where
+    below : (t g : ℕ) → (0 < g → g < t) → t ≤ length h → g ≤ length h
+    below t zero b l = omega arith
+    below t (suc g) b l = let m = b (omega arith) in omega (arith, m, l)
+
+    by : (p : Post) → target_of p ≤ length h → changed_by h p ≤ length h
+    by (post.Open d' t') b = omega arith
+    by (post.OpenVariable d' t') b = omega arith
+    by (post.Charge d' p' c') b = omega arith
+    by (post.Credit d' p' c') b = omega arith
+    by (post.Payment d' i' y' c') b = omega arith
+    by (post.Return d' t') b = omega arith
+    by (post.Plan d' v' r' w' f') b = omega arith
+    by (post.Notice d' y' r' w') b = omega arith
+    by (post.Lower d' y' r') b = omega arith
+    by post.Penalty b = omega arith
+    by (post.Review d' f') b = omega arith
+    by (post.Dispute d' t' c') b = omega arith
+    by (post.Ack d' t') b = omega arith
+    by (post.Resolve x t c) b = below t (charge_named (at_number t h)) (named-below h t e (at_number t h) refl) b
+    by (post.AskRefund d') b = omega arith
+    by (post.Refund c') b = omega arith
+    by (post.Amend t d c) b = b
+    by (post.Bill c') b = omega arith
+
+-- what is kept of the posts
+of-other : (h : List Kept) (k : Kept) (m : ℕ) → SaysSame h (more h k) m → correction_of (more h k) m ≡ correction_of h m
+of-other h k m s = of-parts h (more h k) m s.0 s.1
+
+pub noted-none : (h : List Kept) (k : Kept) → NameEarlier 1 h → target_of k.post ≤ length h → changed_by h k.post ≡ 0 → corrections_from (more h k) 1 h ≡ corrections_from h 1 h
+noted-none h k e l z = all-same h (more h k) (changed_by h k.post) (λ m n. of-other h k m (said-other h k e l m n)) 1 h (omega (arith, z))
+
+pub noted-one : (h : List Kept) (k : Kept) (d : Correction) → NameEarlier 1 h → target_of k.post ≤ length h → 0 < changed_by h k.post
+    → corrections_from (more h k) 1 h ≡ set (corrections_from h 1 h) (changed_by h k.post - 1) (with_post k.post (get_or (corrections_from h 1 h) (changed_by h k.post - 1) d))
+noted-one h k d e l z =
+    let n : ℕ = changed_by h k.post in
+    let place : 1 + (n - 1) ≡ n = omega (arith, z) in
+    let within : n - 1 < length h = omega (arith, z, changed-within h k.post e l) in
+    let old : get_or (corrections_from h 1 h) (n - 1) d ≡ correction_of h n = corrections-at h 1 (n - 1) h d within ∙ ap (correction_of h) place in
+    one-changed h (more h k) n (λ m f. of-other h k m (said-other h k e l m f)) (n - 1) 1 h place within
+    ∙ ap (set (corrections_from h 1 h) (n - 1)) (said-this h k e l z ∙ ap (with_post k.post) (sym old))
 
 -- nothing is said of a new post
 target-last : (p : Post) (m n : ℕ) → target_of p < m → m ≤ n → amend_of n p ≡ None

@@ -1,5 +1,5 @@
 -- The lists of an account that was just opened.
-use Rattle.std.proofs.Common.{◌≡◌, ℕ, ◌<◌, ◌≤◌, true, false, List, [], ◌∷◌, refl, sym, ◌∙◌, subst, arith, None}
+use Rattle.std.proofs.Common.{◌≡◌, ℕ, ◌<◌, ◌≤◌, true, List, [], ◌∷◌, refl, sym, ◌∙◌, subst, arith, None}
 use Rattle.std.proofs.lemmas.List.Elements.{All-cons, All-nil}
 use Rattle.card_events.specs.Billing.{IsCloseDay}
 use Rattle.card_events.specs.Range.{last_request_day}
@@ -9,7 +9,8 @@ use Rattle.card_events.specs.declared.kept.Kept.{Kept}
 use Rattle.card_events.specs.declared.kept.Slot.{Slot}
 use Rattle.card_events.specs.declared.post.Post.{Post}
 use Rattle.card_events.specs.declared.post.Post.TheVariants as post
-use Rattle.card_posts.specs.Corrections.{corrections_from, some_waits, waits}
+use Rattle.card_waits.specs.Waits.{awaited}
+use Rattle.card_posts.specs.Corrections.{corrections_from}
 use Rattle.card_posts.specs.Effect.{corrected_with, slot_by, slots_from}
 use Rattle.card_posts.specs.Order.{in_order, placed}
 use Rattle.card_posts.specs.Posted.{AreNumbered, IsReceived, opens, target_of}
@@ -182,26 +183,22 @@ stands-one k e h es h_is es_is o day cents holidays =
     rw (h_is, es_is, one, two) refl
 
 -- an opening waits for no other post
-no-wait : (p : Post) → opens p ≡ true → false ≡ waits p
-no-wait (post.Open d t) o = refl
-no-wait (post.OpenVariable d t) o = refl
-no-wait (post.Charge d p c) o = absurd (cc)
-no-wait (post.Credit d p c) o = absurd (cc)
-no-wait (post.Payment d i y c) o = absurd (cc)
-no-wait (post.Return d t) o = absurd (cc)
-no-wait (post.Plan d v r w f) o = absurd (cc)
-no-wait (post.Notice d y r w) o = absurd (cc)
-no-wait (post.Lower d y r) o = absurd (cc)
-no-wait post.Penalty o = absurd (cc)
-no-wait (post.Review d f) o = absurd (cc)
-no-wait (post.Dispute d t c) o = absurd (cc)
-no-wait (post.Ack d t) o = absurd (cc)
-no-wait (post.Resolve d t c) o = absurd (cc)
-no-wait (post.AskRefund d) o = absurd (cc)
-no-wait (post.Refund c) o = absurd (cc)
-no-wait (post.Amend t d c) o = absurd (cc)
-no-wait (post.Bill c) o = absurd (cc)
-
-pub none-waits : (k : Kept) (h : List Kept) → h ≡ k ∷ [] → opens k.post ≡ true → false ≡ some_waits h
-unfolding some_waits
-none-waits k h is o = let none : false ≡ waits k.post = no-wait k.post o in rw (is, ← none) refl
+pub waits-for-none : (p : Post) → opens p ≡ true → awaited p ≡ 0
+waits-for-none (post.Open d t) o = refl
+waits-for-none (post.OpenVariable d t) o = refl
+waits-for-none (post.Charge d p c) o = absurd (cc)
+waits-for-none (post.Credit d p c) o = absurd (cc)
+waits-for-none (post.Payment d i y c) o = absurd (cc)
+waits-for-none (post.Return d t) o = absurd (cc)
+waits-for-none (post.Plan d v r w f) o = absurd (cc)
+waits-for-none (post.Notice d y r w) o = absurd (cc)
+waits-for-none (post.Lower d y r) o = absurd (cc)
+waits-for-none post.Penalty o = absurd (cc)
+waits-for-none (post.Review d f) o = absurd (cc)
+waits-for-none (post.Dispute d t c) o = absurd (cc)
+waits-for-none (post.Ack d t) o = absurd (cc)
+waits-for-none (post.Resolve d t c) o = absurd (cc)
+waits-for-none (post.AskRefund d) o = absurd (cc)
+waits-for-none (post.Refund c) o = absurd (cc)
+waits-for-none (post.Amend t d c) o = absurd (cc)
+waits-for-none (post.Bill c) o = absurd (cc)

@@ -1,12 +1,11 @@
 -- A post that is entered for a while, and taken back.
-use Rattle.std.proofs.Common.{◌≡◌, ℕ, ◌+◌, ◌-◌, ◌<◌, ◌≤◌, Bool, true, List, [], ◌∷◌, take, length, length-append, Option, Some, None, refl, sym, ap, ◌∙◌, subst, arith}
+use Rattle.std.proofs.Common.{◌≡◌, ℕ, ◌+◌, ◌-◌, ◌≤◌, Bool, true, List, [], ◌∷◌, take, length, length-append, Option, Some, None, refl, sym, ap, ◌∙◌, subst, arith}
 use Rattle.card_events.specs.declared.anchor.Anchor.{Anchor}
 use Rattle.card_events.specs.History.{CorrectedPost, anchor_of, corrected}
 use Rattle.card_events.specs.Keys.{with_key}
 use Rattle.card_events.specs.declared.kept.Kept.{Kept}
 use Rattle.card_events.specs.declared.kept.Slot.{Slot}
 use Rattle.card_posts.specs.Change.{IsFirstChange}
-use Rattle.card_posts.specs.Corrections.{some_waits}
 use Rattle.card_posts.specs.Draft.{IsCopyIfAny, IsDraft, IsRoomyIfAny, StoodIfAny, corrections_before, effects_before, slots_before}
 use Rattle.card_posts.specs.Effect.{corrected_with}
 use Rattle.card_posts.specs.Posted.{Posted, StandsFor, target_of}
@@ -42,9 +41,9 @@ stood-if-any holidays k old new cs es slots (Some c) some names target b is stoo
 
 pub drafted : (a : Anchor) (holidays : List ℕ) (k : Kept) (old new : Posted) (d : Draft) (g : List Kept) (cs ds : List Correction) (es fs : List Effect) (slots rows : List Slot) (room : Bool)
     → posted_of g es room ≡ old → IsKept a g → AreBeside g cs es slots → old.has_room ≡ true → with_key k.key old.history ≡ None → target_of k.post ≤ length old.history
-    → StandsFor holidays old → StandsFor holidays new → new.history ≡ more old.history k → IsFirstChange d.from old.corrected new.corrected → d.waits ≡ some_waits g
+    → StandsFor holidays old → StandsFor holidays new → new.history ≡ more old.history k → IsFirstChange d.from old.corrected new.corrected
     → ds ≡ cs → fs ≡ es → rows ≡ slots → IsCopyIfAny k.post ds fs rows d.before → IsDraft k old new d
-drafted a holidays k old new d g cs ds es fs slots rows room view kept b roomy fresh target stood stands added from waits_are corrections_are effects_are slots_are made =
+drafted a holidays k old new d g cs ds es fs slots rows room view kept b roomy fresh target stood stands added from corrections_are effects_are slots_are made =
     let same : g ≡ old.history = ap (λ (p : Posted). p.history) view in
     let is : old.corrected ≡ corrected_with 1 5 old.history es = sym (ap (λ (p : Posted). p.corrected) view) ∙ ap (λ u. corrected_with 1 5 u es) same in
     let some : 1 ≤ length old.history = subst (λ (u : List Kept). 1 ≤ length u) same kept.some in
@@ -58,7 +57,6 @@ drafted a holidays k old new d g cs ds es fs slots rows room view kept b roomy f
       history = added;
       stood = stood-if-any holidays k old new ds fs rows d.before some names target beside counts stood stands added made;
       from = from;
-      waits = waits_are ∙ ap some_waits same;
     }
 
 -- ---- taken back
@@ -103,14 +101,13 @@ posted-back k old new d g h es fs room n draft view long count h_is fs_is =
     parts h x c y r z p q s = rw (p, q, s) refl
 
 -- what is stored once the last post is taken back
-pub record AreBack (a : Anchor) (h : List Kept) (cs : List Correction) (es : List Effect) (slots : List Slot) (waits : Bool) : Type 0 where
+pub record AreBack (a : Anchor) (h : List Kept) (cs : List Correction) (es : List Effect) (slots : List Slot) : Type 0 where
   pub kept : IsKept a h
   pub beside : AreBeside h cs es slots
-  pub waiting : waits ≡ some_waits h
 
 pub lists-back : (a : Anchor) (k : Kept) (old new : Posted) (d : Draft) (g h : List Kept) (cs ds : List Correction) (es fs : List Effect) (slots rows : List Slot) (n : ℕ)
     → IsDraft k old new d → g ≡ new.history → IsKept a g → AreBeside g cs es slots → n ≡ length g → h ≡ take (n - 1) g
-    → ds ≡ corrections_before d.before cs → fs ≡ effects_before d.before es → rows ≡ slots_before d.before es → AreBack a h ds fs rows d.waits
+    → ds ≡ corrections_before d.before cs → fs ≡ effects_before d.before es → rows ≡ slots_before d.before es → AreBack a h ds fs rows
 lists-back a k old new d g h cs ds es fs slots rows n draft same kept b count h_is ds_is fs_is rows_is =
     let added : g ≡ more old.history k = same ∙ draft.history in
     let front : h ≡ old.history = history-back g h old.history k n added count h_is in
@@ -120,5 +117,4 @@ lists-back a k old new d g h cs ds es fs slots rows n draft same kept b count h_
     (record {
       kept = kept-front a old.history k draft.some all_kept;
       beside = beside-back k old new cs es slots d.before all_kept.names all_beside draft.stood;
-      waiting = draft.waits;
     })

@@ -1,6 +1,6 @@
 -- What is kept of later posts for each post, by number: the last Amend, and the sum that was confirmed as an error.
-use Rattle.std.specs.Prelude.{ℕ, suc, ◌+◌, ◌-◌, ◌^◌, min, Bool, true, false, ◌&&◌, ◌||◌, if◌then◌else◌, List, [], ◌∷◌, slice_index_or, slice_set, Option, Some, None}
-use Rattle.card_events.specs.History.{charge_disputed, confirmed, last_amend}
+use Rattle.std.specs.Prelude.{ℕ, suc, ◌+◌, ◌-◌, ◌^◌, min, Bool, true, false, List, [], ◌∷◌, Option, Some, None}
+use Rattle.card_events.specs.History.{at_number, charge_disputed, confirmed, last_amend}
 use Rattle.card_events.specs.declared.kept.Kept.{Kept}
 use Rattle.card_events.specs.declared.post.Post.{Post}
 use Rattle.card_events.specs.declared.post.Post.TheVariants as post
@@ -18,47 +18,28 @@ corrections_from history n (k ∷ ks) = correction_of history n ∷ corrections_
 abbrev pub corrections : List Kept → List Correction
 corrections history = corrections_from history 1 history
 
--- the corrections, where an Amend gave post n a day and cents; d stands for a post that isn't there
-abbrev pub with_amend : ℕ → ℕ → ℕ → Correction → List Correction → List Correction
-with_amend n day cents d cs = slice_set cs (n - 1) (record { amend = Some (day, cents); confirmed = (slice_index_or cs (n - 1) d).confirmed })
-
 -- a sum with more cents, kept up to the greatest number of its field
 abbrev pub saturated : ℕ → ℕ → ℕ
 saturated sum cents = min (sum + cents) (2 ^ 64 - 1)
 
--- the corrections, where so many cents more were confirmed as an error in post n
-abbrev pub with_confirmed : ℕ → ℕ → Correction → List Correction → List Correction
-with_confirmed n cents d cs =
-    slice_set cs (n - 1) (record { amend = (slice_index_or cs (n - 1) d).amend; confirmed = saturated (slice_index_or cs (n - 1) d).confirmed cents })
+-- what is said of a post, where one more corrects it
+abbrev pub with_post : Post → Correction → Correction
+with_post (post.Amend _ day cents) c = record { amend = Some (day, cents); confirmed = c.confirmed }
+with_post (post.Resolve _ _ cents) c = record { amend = c.amend; confirmed = saturated c.confirmed cents }
+with_post _ c = c
 
 abbrev pub charge_named : Option Kept → ℕ
 charge_named None = 0
 charge_named (Some k) = charge_disputed k.post
+
+-- the earlier post that a post corrects: the one that an Amend names, the charge of a Resolve; 0 for none
+abbrev pub changed_by : List Kept → Post → ℕ
+changed_by history (post.Amend target _ _) = target
+changed_by history (post.Resolve _ target _) = charge_named (at_number target history)
+changed_by history _ = 0
 
 -- the post changes what counts for earlier ones
 abbrev pub corrects : Post → Bool
 corrects (post.Amend _ _ _) = true
 corrects (post.Resolve _ _ _) = true
 corrects _ = false
-
--- the post that an Amend names, and 0 for the other kinds
-abbrev pub amended : Post → ℕ
-amended (post.Amend target _ _) = target
-amended _ = 0
-
--- the post counts no earlier than another one that it names
-abbrev pub waits : Post → Bool
-waits (post.Return _ _) = true
-waits (post.Dispute _ _ _) = true
-waits (post.Resolve _ _ _) = true
-waits _ = false
-
--- one of the posts waits
-unfoldable pub some_waits : List Kept → Bool
-some_waits [] = false
-some_waits (k ∷ ks) = waits k.post || some_waits ks
-
--- the one earlier post for which something else may count with a new post, 0 for none; and None where others may wait for what
--- it corrects
-abbrev pub changed_alone : Bool → Post → Option ℕ
-changed_alone waiting p = if corrects p && waiting then None else Some (amended p)

@@ -6,7 +6,7 @@ use Rattle.card_events.specs.declared.kept.Kept.{Kept}
 use Rattle.card_events.specs.declared.kept.Slot.{Slot}
 use Rattle.card_events.specs.declared.post.Post.{Post}
 use Rattle.card_posts.specs.Change.{IsFirstChange}
-use Rattle.card_posts.specs.Corrections.{corrects, some_waits}
+use Rattle.card_posts.specs.Corrections.{corrects}
 use Rattle.card_posts.specs.Effect.{corrected_with, slots_from}
 use Rattle.card_posts.specs.Order.{in_order}
 use Rattle.card_posts.specs.Posted.{Posted}
@@ -67,7 +67,6 @@ pub record IsDraft (kept : Kept) (old new : Posted) (d : Draft) : Type 0 where
   pub history : new.history ≡ old.history ++ kept ∷ []
   pub stood : StoodIfAny kept old new d.before
   pub from : IsFirstChange d.from old.corrected new.corrected
-  pub waits : d.waits ≡ some_waits old.history
 
 -- of some post and some others
 pub record AwaitsReturn (new : Posted) (d : Draft) : Type 0 where

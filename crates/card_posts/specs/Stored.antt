@@ -9,7 +9,8 @@ use Rattle.card_events.specs.Limits.{post_limit}
 use Rattle.card_events.specs.declared.kept.Kept.{Kept}
 use Rattle.card_events.specs.declared.kept.Slot.{Slot}
 use Rattle.card_keys.specs.Buckets.{HasRoom, Indexed, IsIndex}
-use Rattle.card_posts.specs.Corrections.{corrections, some_waits}
+use Rattle.card_waits.specs.Waits.{AreWaits, HasRoom as HasWaitRoom, Waits}
+use Rattle.card_posts.specs.Corrections.{corrections}
 use Rattle.card_posts.specs.Effect.{AreSmall, slots_from}
 use Rattle.card_posts.specs.Order.{in_order}
 use Rattle.card_posts.specs.Posted.{AreNumbered, IsReceived, target_of}
@@ -53,15 +54,16 @@ pub record AreBeside (history : List Kept) (later : List Correction) (now : List
   pub order : slots ≡ in_order (slots_from 1 now)
 
 -- there is room for one more in each
-pub record HaveRoom (history : Vec Kept) (index : Indexed) (later : Vec Correction) (now : Vec Effect) (slots : Vec Slot) : Type 0 where
+pub record HaveRoom (history : Vec Kept) (index : Indexed) (waits : Waits) (later : Vec Correction) (now : Vec Effect) (slots : Vec Slot) : Type 0 where
   pub history_room : vec_len history < vec_capacity history
   pub index_room : HasRoom 1 index
+  pub wait_room : HasWaitRoom waits
   pub correction_room : vec_len later < vec_capacity later
   pub effect_room : vec_len now < vec_capacity now
   pub slot_room : vec_len slots < vec_capacity slots
 
--- what always holds of it: an account may have the history, the rest is kept beside it, where there is said to be room, there
--- is, and it is known whether some post waits
-abbrev pub AreStored : Anchor → Vec Kept → Indexed → Vec Correction → Vec Effect → Vec Slot → Bool → Bool → Type 0
-AreStored a history index later now slots waits has_room =
-    IsKept a history.items × IsIndex history.items index × AreBeside history.items later.items now.items slots.items × (has_room ≡ true → HaveRoom history index later now slots) × (waits ≡ some_waits history.items)
+-- what always holds of it: an account may have the history, the rest is kept beside it, and where there is said to be room, there
+-- is
+abbrev pub AreStored : Anchor → Vec Kept → Indexed → Waits → Vec Correction → Vec Effect → Vec Slot → Bool → Type 0
+AreStored a history index waits later now slots has_room =
+    IsKept a history.items × IsIndex history.items index × AreWaits history.items waits × AreBeside history.items later.items now.items slots.items × (has_room ≡ true → HaveRoom history index waits later now slots)

@@ -1,8 +1,8 @@
 // What later posts say of each post, by number.
-ghost use Rattle.std.specs.Prelude.{◌≡◌, ◌<◌, ◌≤◌, ◌++◌, [], ◌∷◌, length};
+ghost use Rattle.std.specs.Prelude.{◌≡◌, ◌-◌, ◌<◌, ◌≤◌, ◌++◌, [], ◌∷◌, length, slice_index_or, slice_set};
 ghost use Rattle.card_events.specs.History.{at_number};
 ghost use Rattle.card_events.specs.declared.kept.Kept.{Kept};
-ghost use Rattle.card_posts.specs.Corrections.{charge_named, corrections_from, with_amend, with_confirmed};
+ghost use Rattle.card_posts.specs.Corrections.{charge_named, changed_by, corrections_from, with_post};
 ghost use Rattle.card_posts.specs.Posted.{target_of};
 ghost use Rattle.card_posts.specs.Stored.{NameEarlier};
 
@@ -25,35 +25,43 @@ fn disputed(history: &[Kept], number: u64) -> u64
     }
 }
 
-// Sets the day and cents that stand for a post.
-fn set_amend(corrections: &mut [Correction], target: u64, day: Day, cents: Num)
-    requires { target ≤ length corrections.old }
-    ensures set { (d : Correction) → 0 < target → corrections.new ≡ with_amend target day cents d corrections.old }
-    ensures none { target ≡ 0 → corrections.new ≡ corrections.old }
+// The earlier post that a post corrects: the one that an Amend names, the charge of a Resolve; 0 for none.
+pub fn changed_by(history: &[Kept], post: &Post) -> u64
+    ensures { result ≡ changed_by history.now post.now }
 {
-    if target > 0 {
-        let at = target as usize - 1;
-        let confirmed = corrections[at].confirmed;
-        corrections[at] = Correction {
-            amend: Some((day, cents)),
-            confirmed,
-        };
+    match post {
+        Post::Amend { target, .. } => target.get(),
+        Post::Resolve { target, .. } => disputed(history, target.get()),
+        _ => 0,
     }
 }
 
-// Adds to what was confirmed of an error in a charge.
-fn add_confirmed(corrections: &mut [Correction], target: u64, cents: u64)
-    requires { target ≤ length corrections.old }
-    ensures set { (d : Correction) → 0 < target → corrections.new ≡ with_confirmed target cents d corrections.old }
-    ensures none { target ≡ 0 → corrections.new ≡ corrections.old }
+// What is said of a post, where one more corrects it.
+pub fn with_post(before: &Correction, post: &Post) -> Correction
+    ensures { result ≡ with_post post.now before.now }
 {
-    if target > 0 {
-        let at = target as usize - 1;
-        let before = &corrections[at];
-        let amend = before.amend;
-        let confirmed = before.confirmed.saturating_add(cents);
-        corrections[at] = Correction { amend, confirmed };
+    match post {
+        Post::Amend { day, cents, .. } => Correction {
+            amend: Some((*day, *cents)),
+            confirmed: before.confirmed,
+        },
+        Post::Resolve { cents, .. } => Correction {
+            amend: before.amend,
+            confirmed: before.confirmed.saturating_add(cents.get()),
+        },
+        _ => *before,
     }
+}
+
+// Adds what one more post says of an earlier one.
+fn say(corrections: &mut [Correction], number: u64, post: &Post)
+    requires some { 0 < number }
+    requires known { number ≤ length corrections.old }
+    ensures { (d : Correction) → corrections.new ≡ slice_set corrections.old (number - 1) (with_post post.now (slice_index_or corrections.old (number - 1) d)) }
+{
+    let at = number as usize - 1;
+    let now = with_post(&corrections[at], post);
+    corrections[at] = now;
 }
 
 // Brings what is said of earlier posts up to one more post.
@@ -63,12 +71,8 @@ pub fn note(history: &[Kept], corrections: &mut [Correction], post: &Post)
     requires corrections { corrections.old ≡ corrections_from history.now 1 history.now }
     ensures { (k : Kept) → k.post ≡ post.now → corrections.new ≡ corrections_from (history.now ++ k ∷ []) 1 history.now }
 {
-    match post {
-        Post::Amend { target, day, cents } => set_amend(corrections, target.get(), *day, *cents),
-        Post::Resolve { target, cents, .. } => {
-            let charge = disputed(history, target.get());
-            add_confirmed(corrections, charge, cents.get());
-        }
-        _ => {}
+    let number = changed_by(history, post);
+    if number > 0 {
+        say(corrections, number, post);
     }
 }

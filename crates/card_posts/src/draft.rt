@@ -2,6 +2,7 @@
 ghost use Rattle.std.specs.Prelude.{◌≡◌, ◌-◌, ◌<◌, ◌≤◌, length, take, vec_len, vec_capacity, false, IsOk, IfOk, None};
 ghost use Rattle.card_events.specs.Limits.{post_limit};
 ghost use Rattle.card_keys.specs.Buckets.{HasRoom, IsIndex};
+ghost use Rattle.card_waits.specs.Waits.{AreWaits, HasRoom as HasWaitRoom};
 ghost use Rattle.card_posts.specs.Corrections.{corrects};
 ghost use Rattle.card_posts.specs.Draft.{IsCopy, IsCopyIfAny, IsRoomyIfAny, corrections_before, effects_before, slots_before};
 ghost use Rattle.card_posts.specs.Effect.{slots_from};
@@ -13,6 +14,7 @@ use crate::order::take_out;
 use crate::refresh::is_correction;
 use card_events::{Day, Kept, NoMemory, Post, Slot};
 use card_keys::{KeyTable, leave_key};
+use card_waits::WaitTable;
 use std::alloc::Global;
 
 // What was kept beside the posts before one that corrects others.
@@ -23,13 +25,12 @@ pub struct Beside {
     pub order: Vec<Slot>,
 }
 
-/// A post that was entered behind the others for a while: the first day on which the corrected list differs, what takes the
-/// post back, and whether one of the others waits.
+/// A post that was entered behind the others for a while: the first day on which the corrected list differs, and what takes the
+/// post back.
 #[derive(Drop)]
 pub struct Draft {
     pub(crate) from: Day,
     pub(crate) before: Option<Beside>,
-    pub(crate) waits: bool,
 }
 
 impl Draft {
@@ -134,16 +135,21 @@ pub fn put_back(
     }
 }
 
-// Takes the last post out of the history, and out of the index of keys.
-pub fn take_last(history: &mut Vec<Kept>, index: &mut KeyTable)
+// Takes the last post out of the history, and out of the index of keys and the table of posts that wait.
+pub fn take_last(history: &mut Vec<Kept>, index: &mut KeyTable, waits: &mut WaitTable)
     requires some { 1 ≤ length history.old.items }
+    requires few { length history.old.items ≤ post_limit }
     requires index { IsIndex history.old.items index.old }
+    requires waits { AreWaits history.old.items waits.old }
     ensures history { history.new.items ≡ take (length history.old.items - 1) history.old.items }
     ensures index { IsIndex history.new.items index.new }
+    ensures waits { AreWaits history.new.items waits.new }
     ensures history_room { vec_len history.new < vec_capacity history.new }
     ensures index_room { HasRoom 1 index.new }
+    ensures wait_room { HasWaitRoom waits.new }
 {
     if let Some(last) = history.pop() {
         leave_key(history, index, &last);
+        waits.leave(history, &last);
     }
 }

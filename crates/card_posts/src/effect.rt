@@ -3,10 +3,9 @@ ghost use Rattle.std.specs.Prelude.{◌≡◌, ℕ, ◌+◌, ◌-◌, ◌<◌, �
 ghost use Rattle.card_events.specs.Range.{last_request_day};
 ghost use Rattle.card_events.specs.Billing.{IsCloseDay};
 ghost use Rattle.card_events.specs.Business.{credit_day, is_mail, last_minute};
-ghost use Rattle.card_events.specs.History.{amended_cents, amended_day, cents_of, effective_day};
+ghost use Rattle.card_events.specs.History.{amend_of, amended_cents, amended_day, cents_of, effective_day};
 ghost use Rattle.card_events.specs.declared.kept.Kept.{Kept};
-ghost use Rattle.card_events.specs.declared.post.Post.TheVariants as kind;
-ghost use Rattle.card_posts.specs.Corrections.{correction_of, corrections_from, some_waits};
+ghost use Rattle.card_posts.specs.Corrections.{correction_of, changed_by, corrections_from};
 ghost use Rattle.card_posts.specs.Effect.{IsAmendDated, awaits, day_alone, day_awaited, effect_of, own_day};
 ghost use Rattle.card_posts.specs.Effect as spec;
 ghost use Rattle.card_posts.specs.Posted.{IsReceived, cents_limit, target_of};
@@ -14,7 +13,7 @@ ghost use Rattle.card_posts.specs.Stored.{IsKept, IsTimely};
 ghost use Rattle.card_posts.specs.declared.effect.Effect.{Effect};
 ghost use Rattle.card_events.specs.declared.anchor.Anchor.{Anchor};
 
-use crate::correction::Correction;
+use crate::correction::{Correction, with_post};
 use card_events::{Anchor, Calendar, Channel, Day, Kept, Num, Post, credit_day, numbered};
 
 // What counts for a post now: its effective day and its corrected cents.
@@ -247,33 +246,32 @@ pub fn day_of_next(
     later(alone, awaited_day(history, effects, post, history.len()))
 }
 
-// What counts for an earlier post with one more post, an Amend that gives it a day and cents, where no post waits for another.
-pub fn amended_effect(
+// What counts for the earlier post that one more post corrects, with that post.
+pub fn effect_with(
     history: &[Kept],
     corrections: &[Correction],
+    effects: &[Effect],
     number: u64,
-    day: Day,
-    cents: Num,
+    post: &Post,
     anchor: &Anchor,
     calendar: &Calendar,
 ) -> Effect
     requires kept { IsKept anchor.now history.now }
     requires corrections { corrections.now ≡ corrections_from history.now 1 history.now }
-    requires alone { some_waits history.now ≡ false }
-    requires number { 0 < number }
+    requires effects { effects.now ≡ spec.effects anchor.now calendar.now history.now }
+    requires target { target_of post.now ≤ length history.now }
+    requires number { number ≡ changed_by history.now post.now }
+    requires some { 0 < number }
     requires known { number ≤ length history.now }
-    requires dated { IsAmendDated anchor.now.opened (Some (day, cents)) }
-    ensures { (k d : Kept) → k.post ≡ kind.Amend number day cents → result ≡ effect_of anchor.now calendar.now (history.now ++ k ∷ []) number (slice_index_or history.now (number - 1) d) }
+    requires dated { IsAmendDated anchor.now.opened (amend_of number post.now) }
+    ensures { (k d : Kept) → k.post ≡ post.now → result ≡ effect_of anchor.now calendar.now (history.now ++ k ∷ []) number (slice_index_or history.now (number - 1) d) }
 {
     let i = number as usize - 1;
     let kept = &history[i];
-    let before = &corrections[i];
-    let correction = Correction {
-        amend: Some((day, cents)),
-        confirmed: before.confirmed,
-    };
+    let correction = with_post(&corrections[i], post);
+    let alone = day_alone(kept.accepted, &kept.post, &correction, anchor, calendar);
     Effect {
-        day: day_alone(kept.accepted, &kept.post, &correction, anchor, calendar),
+        day: later(alone, awaited_day(history, effects, &kept.post, i)),
         cents: cents_now(&kept.post, &correction),
     }
 }

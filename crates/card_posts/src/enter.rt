@@ -1,19 +1,20 @@
 // Entering a post, with room made for it.
-ghost use Rattle.std.specs.Prelude.{◌≡◌, ℕ, ◌+◌, ◌<◌, ◌≤◌, ◌++◌, [], ◌∷◌, List, Some, length, take, vec_len, vec_capacity};
+ghost use Rattle.std.specs.Prelude.{◌≡◌, ◌+◌, ◌<◌, ◌≤◌, ◌++◌, [], ◌∷◌, List, length, take, vec_len, vec_capacity};
 ghost use Rattle.card_events.specs.Limits.{post_limit};
 ghost use Rattle.card_events.specs.declared.kept.Kept.{Kept};
-ghost use Rattle.card_posts.specs.Change.{IsAlone, IsFirstChange};
-ghost use Rattle.card_posts.specs.Corrections.{corrections_from, some_waits};
+ghost use Rattle.card_waits.specs.Waits as spec_waits;
+ghost use Rattle.card_posts.specs.Change.{IsFirstChange, IsMoved};
+ghost use Rattle.card_posts.specs.Corrections.{corrections_from};
 ghost use Rattle.card_posts.specs.Effect.{AreSmall, corrected_with, slots_from};
 ghost use Rattle.card_posts.specs.Effect as spec;
 ghost use Rattle.card_posts.specs.Order.{in_order};
 ghost use Rattle.card_posts.specs.Posted.{target_of};
 ghost use Rattle.card_posts.specs.Stored.{AreBeside, IsKept, IsTimely};
 
-use crate::correction::{Correction, note};
+use crate::correction::{Correction, changed_by, note};
 use crate::effect::{Effect, effect_now};
 use crate::order::{place, slot};
-use crate::refresh::{changed_alone, sooner, update};
+use crate::refresh::{sooner, update};
 use card_events::{Anchor, Calendar, Day, Kept, Slot};
 
 // appends a post, and what later ones say of it, which is nothing
@@ -38,8 +39,8 @@ fn append(history: &mut Vec<Kept>, corrections: &mut Vec<Correction>, anchor: &A
     history.push_reserved(kept);
 }
 
-// Brings the corrected list up to the last post of the history, where it is known that something else may count for one other
-// alone, by that one. Answers the first day on which it differs.
+// Brings the corrected list up to the last post of the history, which corrects the one with a number, 0 for none. Answers the first
+// day on which it differs.
 fn follow(
     history: &[Kept],
     corrections: &[Correction],
@@ -47,7 +48,8 @@ fn follow(
     order: &mut Vec<Slot>,
     anchor: &Anchor,
     calendar: &Calendar,
-    alone: Option<u64>,
+    number: u64,
+    waiting: &[u32],
 ) -> Day
     requires kept { IsKept anchor.now history.now }
     requires corrections { corrections.now ≡ corrections_from history.now 1 history.now }
@@ -56,7 +58,7 @@ fn follow(
     requires order { order.old.items ≡ in_order (slots_from 1 effects.old.items) }
     requires room_effects { vec_len effects.old < vec_capacity effects.old }
     requires room_order { vec_len order.old < vec_capacity order.old }
-    requires alone { (n : ℕ) → alone ≡ Some n → IsAlone n effects.old.items (take (length effects.old.items) (spec.effects anchor.now calendar.now history.now)) }
+    requires moved { IsMoved number waiting.now effects.old.items (take (length effects.old.items) (spec.effects anchor.now calendar.now history.now)) }
     ensures effects { effects.new.items ≡ spec.effects anchor.now calendar.now history.now }
     ensures small { AreSmall effects.new.items }
     ensures order { order.new.items ≡ in_order (slots_from 1 effects.new.items) }
@@ -70,7 +72,8 @@ fn follow(
         order,
         anchor,
         calendar,
-        alone,
+        number,
+        waiting,
     );
     let effect = effect_now(history, corrections, effects, count, anchor, calendar);
     let from = sooner(effect.day, changed);
@@ -79,8 +82,8 @@ fn follow(
     from
 }
 
-// Enters a post, with room made for it, where the corrected list is that of the history, and it is known whether some post of
-// it waits. Answers the first day on which the list differs.
+// Enters a post, with room made for it, where the corrected list is that of the history, and these are the numbers of its posts
+// that wait. Answers the first day on which the list differs.
 pub fn enter(
     history: &mut Vec<Kept>,
     corrections: &mut Vec<Correction>,
@@ -89,10 +92,10 @@ pub fn enter(
     anchor: &Anchor,
     calendar: &Calendar,
     kept: Kept,
-    waiting: bool,
+    waiting: &[u32],
 ) -> Day
     requires kept { IsKept anchor.now history.old.items }
-    requires waiting { waiting ≡ some_waits history.old.items }
+    requires waiting { waiting.now ≡ spec_waits.waiting history.old.items }
     requires beside { AreBeside history.old.items corrections.old.items effects.old.items order.old.items }
     requires stands { effects.old.items ≡ spec.effects anchor.now calendar.now history.old.items }
     requires few { length history.old.items < post_limit }
@@ -109,7 +112,7 @@ pub fn enter(
     ensures stands { effects.new.items ≡ spec.effects anchor.now calendar.now history.new.items }
     ensures from { IsFirstChange result (corrected_with 1 5 history.old.items effects.old.items) (corrected_with 1 5 history.new.items effects.new.items) }
 {
-    let alone = changed_alone(waiting, &kept.post);
+    let number = changed_by(history, &kept.post);
     append(history, corrections, anchor, kept);
     follow(
         history,
@@ -118,6 +121,7 @@ pub fn enter(
         order,
         anchor,
         calendar,
-        alone,
+        number,
+        waiting,
     )
 }

@@ -2,9 +2,12 @@
 ghost use Rattle.std.specs.Prelude.{◌≡◌, ◌<◌, [], ◌∷◌, true, IfOk, OnOk, vec_len, vec_capacity};
 ghost use Rattle.card_events.specs.Billing.{IsCloseDay};
 ghost use Rattle.card_events.specs.History.{opening_in, terms_in};
+ghost use Rattle.card_events.specs.declared.kept.Kept.{Kept};
+ghost use Rattle.card_waits.specs.Waits.{AreWaits};
 ghost use Rattle.card_posts.specs.Posted.{opens};
 
 use card_events::{Anchor, Kept, NoMemory, Post};
+use card_waits::WaitTable;
 use std::alloc::Global;
 
 // What the post that opens an account says of its cycles.
@@ -41,6 +44,17 @@ pub fn one<T: Drop>(alloc: Global, item: T) -> Result<Vec<T>, NoMemory>
     let mut list = Vec::new(alloc);
     list.push(item)?;
     Ok(list)
+}
+
+// The table of posts that wait, for the post that opens an account alone.
+pub fn waits_of(alloc: Global, post: &Post) -> Result<WaitTable, NoMemory>
+    requires { opens post.now ≡ true }
+    ensures { IfOk result (λ w. (k : Kept) → k.post ≡ post.now → AreWaits (k ∷ []) w) }
+{
+    let mut waits = WaitTable::new(alloc)?;
+    waits.make_room()?;
+    waits.enter(post);
+    Ok(waits)
 }
 
 fn copy_kept(alloc: Global, kept: &Kept) -> Result<Kept, NoMemory>

@@ -3,11 +3,11 @@ use crate::draft::{Draft, beside_if_corrected, put_back, take_last};
 use crate::effect::{Effect, no_cents};
 use crate::enter::enter;
 use crate::foretold::first_with;
-use crate::make::{copy_history, make_room_in, one, opening};
+use crate::make::{copy_history, make_room_in, one, opening, waits_of};
 use crate::order::{slot, slot_with};
-use crate::refresh::{is_correction, waits_with};
 use card_events::{Anchor, Calendar, Day, Kept, Name, NoMemory, Post, Slot, numbered};
 use card_keys::{KeyTable, enter_key, find, rebuilt};
+use card_waits::WaitTable;
 use std::alloc::Global;
 use std::marker::Model;
 
@@ -20,11 +20,11 @@ const FIRST_BUCKETS: usize = 4;
 pub struct Posts {
     history: Vec<Kept>,
     index: KeyTable,
+    waits: WaitTable,
     corrections: Vec<Correction>,
     effects: Vec<Effect>,
     order: Vec<Slot>,
     anchor: Anchor,
-    waits: bool,
     has_room: bool,
 }
 
@@ -37,7 +37,7 @@ impl Model for Posts {
 
     ghost view = { λ p. record { history = p.history.items; corrected = corrected_with 1 5 p.history.items p.effects.items; has_room = p.has_room } };
 
-    ghost invariant = { λ p. AreStored p.anchor p.history p.index p.corrections p.effects p.order p.waits p.has_room };
+    ghost invariant = { λ p. AreStored p.anchor p.history p.index p.waits p.corrections p.effects p.order p.has_room };
 }
 
 /// What became of a post: its number, and the earliest day on which the corrected list differs from what it was.
@@ -48,15 +48,16 @@ pub struct Pushed {
 }
 
 impl Posts {
-    ghost use Rattle.std.specs.Prelude.{◌≡◌, ℕ, ◌+◌, ◌<◌, ◌≤◌, ◌++◌, List, [], ◌∷◌, true, false, length, IsOk, IfOk, IfSome, OnOk, OnErr, None, option_copied};
+    ghost use Rattle.std.specs.Prelude.{◌≡◌, ℕ, ◌+◌, ◌<◌, ◌≤◌, ◌++◌, List, [], ◌∷◌, true, false, length, IsOk, IfOk, OnOk, OnErr, None, option_copied};
     ghost use Rattle.card_events.specs.Limits.{post_limit};
     ghost use Rattle.card_events.specs.Range.{last_request_day};
     ghost use Rattle.card_events.specs.Billing.{IsCloseDay};
     ghost use Rattle.card_events.specs.History.{anchor_of, at_number, terms_in};
     ghost use Rattle.card_events.specs.Keys.{with_key};
     ghost use Rattle.card_events.specs.declared.kept.Kept.{Kept};
+    ghost use Rattle.card_waits.specs.Waits.{first_by, if_any, waiting};
     ghost use Rattle.card_posts.specs.Change.{IsFirstChange};
-    ghost use Rattle.card_posts.specs.Corrections.{corrects, some_waits};
+    ghost use Rattle.card_posts.specs.Corrections.{corrects};
     ghost use Rattle.card_posts.specs.Draft.{AwaitsReturn, IsDraft, IsFirstWith};
     ghost use Rattle.card_posts.specs.Posted.{Posted, AreBounded, AreNumbered, IsReceived, StandsFor, folding_order, opens, slot_with, target_of};
     ghost use Rattle.card_posts.specs.Stored.{AreTimely};
@@ -89,12 +90,12 @@ impl Posts {
         let history = one(alloc, kept)?;
         Ok(Posts {
             index: rebuilt(alloc, &history, FIRST_BUCKETS, 0)?,
+            waits: waits_of(alloc, post)?,
             corrections: one(alloc, nothing)?,
             order: one(alloc, slot(1, &effect))?,
             effects: one(alloc, effect)?,
             history,
             anchor,
-            waits: false,
             has_room: false,
         })
     }
@@ -130,6 +131,22 @@ impl Posts {
         find(&self.history, &self.index, key)
     }
 
+    /// The number of the first post that waits for the one with this number: a Return for a payment, a Dispute for a charge, a
+    /// Resolve for a Dispute. None comes exactly where none does.
+    pub fn by(&self, number: u32) -> Option<u32>
+        requires some { 0 < number }
+        ensures { result ≡ if_any (first_by number self.now.history) }
+    {
+        self.waits.by(number)
+    }
+
+    /// The numbers of the Returns, Disputes and Resolves, ascending.
+    pub fn waiting(&self) -> &[u32]
+        ensures { result.now ≡ waiting self.now.history }
+    {
+        self.waits.waiting()
+    }
+
     /// The corrected list as it is folded: by effective day, then by number. There are at most 200,000 slots. Each has 0 to
     /// 999,999,999,999 cents, and 0 for kinds without cents.
     pub fn in_order(&self) -> &[Slot]
@@ -158,6 +175,7 @@ impl Posts {
         }
         make_room_in(&mut self.history)?;
         card_keys::make_room(alloc, &self.history, &mut self.index)?;
+        self.waits.make_room()?;
         make_room_in(&mut self.corrections)?;
         make_room_in(&mut self.effects)?;
         make_room_in(&mut self.order)?;
@@ -197,31 +215,25 @@ impl Posts {
             &self.anchor,
             calendar,
             kept,
-            self.waits,
+            self.waits.waiting(),
         );
-        self.waits = waits_with(self.waits, post);
+        self.waits.enter(post);
         self.has_room = false;
         Pushed { number, from }
     }
 
     /// The first day on which the corrected list differs once this post stands behind the others, accepted on this day under any
-    /// key; told without entering it, and without memory. None comes only for a post that corrects others, where a Return, a
-    /// Dispute or a Resolve stands among them: then `draft` tells it. The corrected list must be that of the posts under this
-    /// calendar. The post is about no later one. A payment came in by the day of acceptance, and an Amend gives no later day.
-    pub fn first_change(&self, accepted: Day, post: &Post, calendar: &Calendar) -> Option<Day>
+    /// key; told without entering it, and without memory. The corrected list must be that of the posts under this calendar. The
+    /// post is about no later one. A payment came in by the day of acceptance, and an Amend gives no later day.
+    pub fn first_change(&self, accepted: Day, post: &Post, calendar: &Calendar) -> Day
         requires few { length self.now.history < post_limit }
         requires stands { StandsFor calendar.now self.now }
         requires target { target_of post.now ≤ length self.now.history }
         requires dated { accepted ≤ last_request_day }
         requires received { IsReceived (anchor_of self.now.history).opened accepted post.now }
-        ensures from { IfSome result (IsFirstWith calendar.now accepted post.now self.now) }
-        ensures none { result ≡ None → corrects post.now ≡ true }
-        ensures waits { result ≡ None → some_waits self.now.history ≡ true }
+        ensures { IsFirstWith calendar.now accepted post.now self.now result }
     {
-        if is_correction(post) && self.waits {
-            return None;
-        }
-        let from = first_with(
+        first_with(
             &self.history,
             &self.corrections,
             &self.effects,
@@ -229,8 +241,7 @@ impl Posts {
             post,
             &self.anchor,
             calendar,
-        );
-        Some(from)
+        )
     }
 
     /// Enters a post behind the others for a while, with room made for it: as `add` does, but so that `withdraw` takes it back.
@@ -257,12 +268,10 @@ impl Posts {
         ensures err { OnErr result (self.new ≡ self.old) }
     {
         let kept = beside_if_corrected(alloc, post, &self.corrections, &self.effects, &self.order)?;
-        let waits = self.waits;
         let pushed = self.add(key, accepted, post, calendar);
         Ok(Draft {
             from: pushed.from,
             before: kept,
-            waits,
         })
     }
 
@@ -278,8 +287,7 @@ impl Posts {
             &mut self.effects,
             &mut self.order,
         );
-        take_last(&mut self.history, &mut self.index);
-        self.waits = draft.waits;
+        take_last(&mut self.history, &mut self.index, &mut self.waits);
         self.has_room = true;
     }
 
@@ -317,11 +325,11 @@ impl Posts {
         Ok(Posts {
             history: copy_history(alloc, &self.history)?,
             index: self.index.copy(alloc)?,
+            waits: self.waits.copy(alloc)?,
             corrections: Vec::from_slice(alloc, &self.corrections)?,
             effects: Vec::from_slice(alloc, &self.effects)?,
             order: Vec::from_slice(alloc, &self.order)?,
             anchor: self.anchor,
-            waits: self.waits,
             has_room: false,
         })
     }

@@ -189,7 +189,8 @@ impl RateBook {
 
     /// The first day from one on, and before an end, on which a plan ends, a vintage, its rate or a penalty begins, or that
     /// comes after a penalty's last (12 CFR 1026.55(b)); the end where there is none. Over the days before it no rate changes
-    /// but on the day after a plan's end. It takes no memory.
+    /// but on the day after a plan's end or, where the opening rates follow the index, on that of an index row (`next_index`). It
+    /// takes no memory.
     pub fn next_change(&self, first: Day, end: Day) -> Day
         requires { first ≤ end }
         ensures { IsNext (changes self.now) first end result }

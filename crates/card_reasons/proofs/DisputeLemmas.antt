@@ -1,13 +1,11 @@
 -- The reasons against Disputes, Acks and Resolves, and against Reviews.
-use Rattle.std.proofs.Common.{◌≡◌, ℕ, suc, Bool, true, false, List, [], ◌∷◌, Option, Some, None, refl, ap, sym, ◌∙◌}
-use Rattle.std.specs.Prelude.{is_some, nat_lt, not, ◌||◌}
-use Rattle.std.specs.List.{list_any}
+use Rattle.std.proofs.Common.{◌≡◌, ℕ, Bool, true, false, List, [], ◌∷◌, Option, Some, None, refl, ap, sym, ◌∙◌}
+use Rattle.std.specs.Prelude.{nat_lt, not}
 use Rattle.std.specs.Option.{option_or}
 use Rattle.card_events.specs.declared.anchor.Anchor.{Anchor}
 use Rattle.card_events.specs.History.{CorrectedPost, anchor_of, at_number, corrected, disputes}
 use Rattle.card_events.specs.declared.kept.Kept.{Kept}
 use Rattle.card_events.specs.declared.post.Finding.{Finding}
-use Rattle.card_events.specs.declared.post.Post.{Post}
 use Rattle.card_events.specs.declared.post.Post.TheVariants as post
 use Rattle.card_events.specs.declared.reply.Refusal.{Refusal}
 use Rattle.card_events.specs.declared.reply.Refusal.TheVariants as refusal
@@ -37,24 +35,7 @@ pub never_late : (now : Present) (day charge cents : ℕ) → last_notice_day (a
 unfolding dispute_late
 never_late now day charge cents is = rw is refl
 
--- ---- a post that some other names
-any_by : (p : Post → Bool) (n : ℕ) (k : Kept) (ks : List Kept) (b : Bool) → p k.post ≡ b → is_some (number_from p (suc n) ks) ≡ list_any (λ k. p k.post) ks → is_some (number_from p n (k ∷ ks)) ≡ (p k.post || list_any (λ k. p k.post) ks)
-unfolding number_from
-any_by p n k ks true is rest = rw is refl
-any_by p n k ks false is rest = rw is rest
-
-any_from : (p : Post → Bool) (n : ℕ) (ks : List Kept) → is_some (number_from p n ks) ≡ list_any (λ k. p k.post) ks
-unfolding number_from
-any_from p n [] = refl
-any_from p n (k ∷ ks) = any_by p n k ks (p k.post) refl (any_from p (suc n) ks)
-
-pub found_any : (p : Post → Bool) (n : ℕ) (ks : List Kept) → number_from p 1 ks ≡ Some n → true ≡ list_any (λ k. p k.post) ks
-found_any p n ks is = sym (ap is_some is) ∙ any_from p 1 ks
-
-pub found_none : (p : Post → Bool) (ks : List Kept) → number_from p 1 ks ≡ None → false ≡ list_any (λ k. p k.post) ks
-found_none p ks is = sym (ap is_some is) ∙ any_from p 1 ks
-
--- an earlier Dispute of the charge
+-- ---- an earlier Dispute of the charge
 pub known_some : (now : Present) (day charge cents n : ℕ) (h : List Kept) → now.lists.posts ≡ h → number_from (disputes charge) 1 h ≡ Some n → Some (refusal.DisputeKnown n) ≡ dispute_known now (post.Dispute day charge cents)
 unfolding dispute_known
 known_some now day charge cents n h same is = let e : number_from (disputes charge) 1 now.lists.posts ≡ Some n = ap (number_from (disputes charge) 1) same ∙ is in rw e refl

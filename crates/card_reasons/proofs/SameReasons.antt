@@ -16,7 +16,7 @@ use Rattle.card_model.specs.Deadlines.{increases}
 use Rattle.card_model.specs.Entries.{credit_balance}
 use Rattle.card_model.specs.Payments.{sixty_days_late}
 use Rattle.card_model.specs.Refusals
-use Rattle.card_model.specs.Refusals.{Lists, Present, account_full, amount_range, book_today, day_ahead, day_before_open, first_reason, is_empty, is_no_amount, reason_against, seen_today, where_true}
+use Rattle.card_model.specs.Refusals.{Lists, Present, account_full, book_today, first_reason, is_empty, is_no_amount, reason_against, seen_today, where_true}
 use Rattle.card_reasons.proofs.ReasonLemmas.{dispute_reasons, review_reasons}
 use Rattle.card_reasons.specs.Reasons.{claim_reason, early_reason, full_reason}
 

@@ -1,3 +1,2 @@
 pub mod Notices
 pub mod Reasons
-pub mod Wanted

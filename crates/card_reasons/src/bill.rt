@@ -12,7 +12,7 @@ ghost use Rattle.card_reasons.specs.Reasons as reasons;
 ghost use Rattle.card_reasons.specs.Reasons.{AreInOrder};
 
 use crate::closings::closing_of;
-use crate::search::{Wanted, number_behind, number_of};
+use crate::search::bill_behind;
 use card_events::{Anchor, Day, Num, POST_LIMIT, Refusal};
 use card_posts::Posts;
 
@@ -45,7 +45,7 @@ fn bill_number(posts: &Posts, cycle: Num, closing: Day) -> Option<u32>
     requires billed { All (λ k. bills cycle k.post ≡ true → closing < k.accepted) posts.now.history }
     ensures { result ≡ number_from (bills cycle) 1 posts.now.history }
 {
-    number_behind(posts, accepted_by(posts, closing), &Wanted::Bill(cycle))
+    bill_behind(posts, accepted_by(posts, closing), cycle)
 }
 
 // Why a Bill isn't accepted today, of a cycle that closes on this day and has an earlier one.
@@ -88,7 +88,7 @@ pub fn bill_reason(posts: &Posts, anchor: &Anchor, today: Day, cycle: Num) -> Op
 {
     match billed_closing(anchor, cycle) {
         Some(closing) => {
-            let earlier = number_of(posts, &Wanted::Bill(cycle));
+            let earlier = bill_behind(posts, 0, cycle);
             closed_reason(posts, today, closing, earlier)
         }
         None => Some(Refusal::AmountRange),

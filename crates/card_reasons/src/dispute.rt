@@ -9,8 +9,7 @@ ghost use Rattle.card_disputes.specs.Histories.{AreInCalendar};
 ghost use Rattle.card_reasons.specs.Reasons.{claim_reason, open_dispute_reason};
 
 use crate::day::first_of;
-use crate::search::{Wanted, number_of};
-use card_disputes::{last_notice_day, named};
+use card_disputes::{Wait, first_waiting, last_notice_day, named};
 use card_events::{Anchor, Day, Kept, Num, Post, Refusal};
 use card_posts::Posts;
 
@@ -89,7 +88,7 @@ fn late_reason(posts: &Posts, anchor: &Anchor, day: Day, charge: Num) -> Option<
 fn known_reason(posts: &Posts, charge: Num) -> Option<Refusal>
     ensures { (now : Present) (day cents : ℕ) → now.lists.posts ≡ posts.now.history → result ≡ spec.dispute_known now (post.Dispute day charge cents) }
 {
-    match number_of(posts, &Wanted::Dispute(charge)) {
+    match first_waiting(posts, Wait::Dispute, charge.get()) {
         Some(number) => Some(Refusal::DisputeKnown(number as u64)),
         None => None,
     }
@@ -129,7 +128,7 @@ pub fn is_above_claim_of(posts: &Posts, dispute: Num, cents: Num) -> bool
 fn is_resolved(posts: &Posts, dispute: Num) -> bool
     ensures { (now : Present) → now.lists.posts ≡ posts.now.history → result ≡ spec.is_resolved now dispute }
 {
-    match number_of(posts, &Wanted::Resolve(dispute)) {
+    match first_waiting(posts, Wait::Resolve, dispute.get()) {
         Some(_) => true,
         None => false,
     }

@@ -8,8 +8,7 @@ ghost use Rattle.card_fees.specs.Counting.{is_payment_at};
 ghost use Rattle.card_model.specs.Payments as spec;
 ghost use Rattle.card_model.specs.Refusals.{Present, first_reason, holds_of, number_from, where_true};
 
-use crate::search::{Wanted, number_of};
-use card_disputes::named;
+use card_disputes::{Wait, first_waiting, named};
 use card_events::{Num, Post, Refusal};
 use card_posts::Posts;
 
@@ -46,6 +45,6 @@ pub fn returned_target(posts: &Posts, target: Num) -> Option<Refusal>
     ensures { (now : Present) (day : ℕ) → now.lists.posts ≡ posts.now.history → result ≡ returned_reason now (post.Return day target) }
 {
     let fits = is_payment_named(posts, target);
-    let earlier = number_of(posts, &Wanted::Return(target));
+    let earlier = first_waiting(posts, Wait::Return, target.get());
     reason_for(fits, earlier, target)
 }

@@ -21,8 +21,8 @@ KeptClosingsAreTheFold =
     → cycle_at k r.folding.past.track.cycles.items ≡ Some c
     → IsRewound (given_of r.lists shared) k c r.folding.book r.folding.past.track back cut → IsTheFold (given_of r.lists shared) back cut
 
--- Holidays and fee rows of days after one that comes neither before the day last reached nor before a post was accepted leave it
--- standing
+-- Holidays, fee rows and index rows of days after one that comes neither before the day last reached nor before a post was accepted
+-- leave it standing
 abbrev pub LaterRowsLeaveIt : Type 0
 LaterRowsLeaveIt =
     (old new : SharedRows) (r : Replay) (day : ℕ) → IsReplay old r → r.folding.reached ≤ day → last_accepted r.lists.posts ≤ day → AreLaterRows day old new → IsSound (given_of r.lists new) → IsReplay new r

@@ -12,7 +12,7 @@ pub fn kept_closings_are_the_fold()
     ensures { KeptClosingsAreTheFold }
 {}
 
-/// Holidays and fee rows of days after the one last reached leave what was folded.
+/// Holidays, fee rows and index rows of days after the one last reached leave what was folded.
 pub fn later_rows_leave_it()
     ensures { LaterRowsLeaveIt }
 {}

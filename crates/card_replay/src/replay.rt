@@ -359,11 +359,8 @@ impl Replay {
         if is_unread(post) {
             return Ok(TakenBackIfAny::none());
         }
-        let told = self.posts.first_change(today, post, shared.calendar());
-        match told {
-            Some(from) => self.rewound_from(alloc, key, post, today, from, shared, steps),
-            None => self.drafted_if_any(alloc, key, post, today, shared, steps),
-        }
+        let from = self.posts.first_change(today, post, shared.calendar());
+        self.rewound_from(alloc, key, post, today, from, shared, steps)
     }
 
     /// Prepares a post against which there is no reason, under a new key: there is room for it, and the Book is there that it takes

@@ -6,4 +6,4 @@ use Rattle.card_disputes.proofs.end.is_refunded.Goals as goal
 
 pub returns : goal.returns
 returns c holidays stands =
-    c.is_ended.ensures ∙ later-is is_refund (anchor_of c.args.posts.now.history) holidays c.args.posts.now.history c.args.number ∙ ap (λ (l : List CorrectedPost). has_later is_refund c.args.number l) (sym stands)
+    sym (c.requires.refund c.args.number) ∙ later-is is_refund (anchor_of c.args._posts.now.history) holidays c.args._posts.now.history c.args.number ∙ ap (λ (l : List CorrectedPost). has_later is_refund c.args.number l) (sym stands)

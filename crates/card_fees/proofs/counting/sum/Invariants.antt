@@ -4,4 +4,4 @@ use Rattle.card_fees.specs.Counting.{counts}
 use Rattle.card_fees.proofs.counting.sum.Given as goal
 
 abbrev pub invariant-loop-slot : goal.invariant-loop-slot
-invariant-loop-slot l = (l.total ≡ sum_by (counts l.posts.history l.slots) (take l.slot-index l.slots)) × (l.total ≤ l.slot-index * 999_999_999_999)
+invariant-loop-slot l = (l.total ≡ sum_by (counts l.until l.posts.history l.posts.corrected) (take l.slot-index l.slots)) × (l.total ≤ l.slot-index * 999_999_999_999)

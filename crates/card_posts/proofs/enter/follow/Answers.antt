@@ -12,7 +12,7 @@ use Rattle.card_posts.proofs.Following.{front-length, push-from, whole}
 use Rattle.card_posts.proofs.enter.follow.Goals as goal
 
 pub place-requires-clause-order : goal.place-requires-clause-order
-place-requires-clause-order c = rw c.update-changed.ensures.order (ascending-in_order _)
+place-requires-clause-order c = rw c.update-changed.ensures.ordered.order (ascending-in_order _)
 
 -- what counts after the update, with the last post
 all-is : (old front new pushed : List Effect) (n : ℕ) (e : Effect) → length new ≡ length old + 1 → n ≡ length old → front ≡ take (length old) new → e ≡ get_or new n e → pushed ≡ front ++ e ∷ [] → pushed ≡ new
@@ -38,7 +38,7 @@ returns-clause-order c =
     let pushed : c.push_reserved.new.self.items ≡ c.update-changed.new.effects ++ c.effect_now-effect.result ∷ [] = grind (arith, common_steps) in
     c.place.ensures.order
     ∙ (ap (λ s. placed s c.update-changed.new.order.items) (c.slot.ensures.value ∙ ap (λ n. slot_by (n + 1) c.effect_now-effect.result) many)
-    ∙ (ap (placed (slot_by (length c.update-changed.new.effects + 1) c.effect_now-effect.result)) c.update-changed.ensures.order
+    ∙ (ap (placed (slot_by (length c.update-changed.new.effects + 1) c.effect_now-effect.result)) c.update-changed.ensures.ordered.order
     ∙ (put-last c.update-changed.new.effects c.effect_now-effect.result ∙ ap (λ u. in_order (slots_from 1 u)) (sym pushed))))
 
 pub returns-clause-from : goal.returns-clause-from

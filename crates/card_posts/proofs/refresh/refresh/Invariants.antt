@@ -1,16 +1,14 @@
-use Rattle.std.proofs.Common.{◌≡◌, ◌≤◌, ◌++◌, take, drop, vec_len, vec_capacity}
-use Rattle.card_events.specs.Range.{last_calendar_day}
-use Rattle.card_posts.specs.Change.{first_change}
-use Rattle.card_posts.specs.Effect.{AreSmall, effects, slots_from}
-use Rattle.card_posts.specs.Order.{in_order}
+use Rattle.std.proofs.Common.{◌≡◌, ◌≤◌, take, drop, length, vec_len, vec_capacity}
+use Rattle.card_posts.specs.Change.{AgreeBut}
+use Rattle.card_posts.specs.Effect.{effects}
+use Rattle.card_posts.specs.Stored.{AreOrdered}
 use Rattle.card_posts.proofs.refresh.refresh.Given as goal
 
-abbrev pub invariant-loop-i : goal.invariant-loop-i
-invariant-loop-i l = record {
-  renewed : l.effects ≡ take l.i (effects l.anchor l.calendar l.history) ++ drop l.i l.initial.effects;
-  small : AreSmall l.effects;
-  order : l.order.items ≡ in_order (slots_from 1 l.effects);
-  first : l.first ≡ first_change last_calendar_day (take l.i l.initial.effects) (take l.i (effects l.anchor l.calendar l.history));
+abbrev pub invariant-loop-j : goal.invariant-loop-j
+invariant-loop-j l = record {
+  long : length l.effects ≡ length l.initial.effects;
+  left : AgreeBut (drop l.j l.numbers) l.effects (take (length l.initial.effects) (effects l.anchor l.calendar l.history));
+  ordered : AreOrdered l.order.items l.effects;
   len : vec_len l.order ≡ vec_len l.initial.order;
   capacity : vec_capacity l.initial.order ≤ vec_capacity l.order;
 }

@@ -6,4 +6,4 @@ use Rattle.card_reasons.proofs.bill.bill_number.Goals as goal
 pub returns : goal.returns
 returns c =
     let ks = c.args.posts.now.history in
-    c.number_behind.ensures ∙ sym (behind (bills c.args.cycle) c.accepted_by.result ks (λ k d l m. unbilled c.args.cycle c.args.closing k d ks m c.requires.billed (c.accepted_by.ensures k d l m)))
+    c.bill_behind.ensures ∙ sym (behind (bills c.args.cycle) c.accepted_by.result ks (λ k d l m. unbilled c.args.cycle c.args.closing k d ks m c.requires.billed (c.accepted_by.ensures k d l m)))

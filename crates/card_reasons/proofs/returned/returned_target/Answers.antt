@@ -10,5 +10,5 @@ use Rattle.card_model.specs.Refusals.{number_from}
 pub returns : goal.returns
 returns c now day same =
     c.reason_for.ensures
-    ∙ returned_by now day c.args.target c.is_payment_named-fits.result c.number_of-earlier.result (c.is_payment_named-fits.ensures ∙ ap (λ (h : List Kept). is_payment_at (at_number c.args.target h)) (sym same))
-    (c.number_of-earlier.ensures ∙ ap (number_from (spec.returns c.args.target) 1) (sym same))
+    ∙ returned_by now day c.args.target c.is_payment_named-fits.result c.first_waiting-earlier.result (c.is_payment_named-fits.ensures ∙ ap (λ (h : List Kept). is_payment_at (at_number c.args.target h)) (sym same))
+    (c.first_waiting-earlier.ensures ∙ (ap (λ n. number_from (spec.returns n) 1 c.args.posts.now.history) c.get.ensures.value ∙ ap (number_from (spec.returns c.args.target) 1) (sym same)))

@@ -9,30 +9,31 @@ put_back-requires-clause-room c = roomy_if_any c.requires.draft.kept c.requires.
 
 pub put_back-requires-clause-corrections : goal.put_back-requires-clause-corrections
 put_back-requires-clause-corrections c =
-    let long : length c.self.inside.corrections.items ≡ length c.self.inside.history.items = ap length c.self.invariant.2.corrections ∙ corrections-length c.self.inside.history.items 1 c.self.inside.history.items in
+    let long : length c.self.inside.corrections.items ≡ length c.self.inside.history.items = ap length c.self.invariant.3.corrections ∙ corrections-length c.self.inside.history.items 1 c.self.inside.history.items in
     omega (arith, long, c.self.invariant.0.some)
 
 pub returns : goal.returns
 returns c kept before draft =
     posted-back kept before c.args.self.now c.args.draft c.self.inside.history.items c.take_last.new.history.items c.self.inside.effects.items c.put_back.new.effects.items c.self.inside.has_room _
-    draft c.self.view_is c.self.invariant.2.effects refl c.take_last.ensures.history c.put_back.ensures.effects
+    draft c.self.view_is c.self.invariant.3.effects refl c.take_last.ensures.history c.put_back.ensures.effects
 
 pub invariant_of-self : goal.invariant_of-self
 invariant_of-self c =
-    let back : AreBack c.self.inside.anchor c.take_last.new.history.items c.put_back.new.corrections.items c.put_back.new.effects.items c.put_back.new.order.items c.args.draft.waits =
+    let back : AreBack c.self.inside.anchor c.take_last.new.history.items c.put_back.new.corrections.items c.put_back.new.effects.items c.put_back.new.order.items =
     lists-back c.self.inside.anchor c.requires.draft.kept c.requires.draft.old c.args.self.now c.args.draft c.self.inside.history.items c.take_last.new.history.items
     c.self.inside.corrections.items c.put_back.new.corrections.items c.self.inside.effects.items c.put_back.new.effects.items c.self.inside.order.items c.put_back.new.order.items _
-    c.requires.draft.draft (ap (λ (p : Posted). p.history) c.self.view_is) c.self.invariant.0 c.self.invariant.2 refl c.take_last.ensures.history
+    c.requires.draft.draft (ap (λ (p : Posted). p.history) c.self.view_is) c.self.invariant.0 c.self.invariant.3 refl c.take_last.ensures.history
     c.put_back.ensures.corrections c.put_back.ensures.effects c.put_back.ensures.order in (
       back.kept,
       c.take_last.ensures.index,
+      c.take_last.ensures.waits,
       back.beside,
       λ e. record {
         history_room = c.take_last.ensures.history_room;
         index_room = c.take_last.ensures.index_room;
+        wait_room = c.take_last.ensures.wait_room;
         correction_room = c.put_back.ensures.correction_room;
         effect_room = c.put_back.ensures.effect_room;
         slot_room = c.put_back.ensures.slot_room;
       },
-      back.waiting,
     )

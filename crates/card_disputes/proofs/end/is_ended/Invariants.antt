@@ -1,7 +1,0 @@
-use Rattle.std.proofs.Common.{◌≡◌, drop}
-use Rattle.std.specs.List.{list_any}
-use Rattle.card_disputes.specs.Ends.{ends}
-use Rattle.card_disputes.proofs.end.is_ended.Given as goal
-
-abbrev pub invariant-loop-i : goal.invariant-loop-i
-invariant-loop-i l = list_any (λ k. ends l.end k.post) (drop l.first l.posts.history) ≡ list_any (λ k. ends l.end k.post) (drop l.i l.posts.history)
