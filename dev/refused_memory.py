@@ -3,7 +3,7 @@
 and two disputes, with the rows in a file and in memory.
 
 Each run goes over rows that were kept before it, and its n-th growth is refused, for n = 1, 2, .. until a run meets no refusal. Each time
-the status has to be 6, or, where memory was wanted for the close alone, 0 with all replies and all rows; what was written has to be a front of what a run with memory writes; the rows in the file have to be those of the
+the status has to be 6, or, where the program does without that memory (for the close, say), that of a run with memory, with all replies and all rows; what was written has to be a front of what a run with memory writes; the rows in the file have to be those of the
 lines whose replies stand whole, or of one line more; and the same input, sent again with memory from its first line without a whole
 reply, has to give the rest of the replies and of the rows. It prints how many growths were refused.
 
@@ -128,10 +128,10 @@ def copied(file, to):
 
 
 def rows_after(program, before, path, work):
-    """The replies of the whole input, and how many rows are kept after each of them."""
+    """The status and the replies of the whole input, the rows, and how many are kept after each reply."""
     file = os.path.join(work, "counted")
     copied(before, file)
-    _, whole, _ = run(program, file, path.command, path.text, work)
+    status, whole, _ = run(program, file, path.command, path.text, work)
     replies = whole.splitlines(keepends=True)
     rows = rows_of(file)
     counts = [len(rows_of(before))]
@@ -145,10 +145,10 @@ def rows_after(program, before, path, work):
         counts.append(taken)
     if counts[-1] != len(rows):
         fail(f"{path.name}: {counts[-1]} replies that keep a row, and {len(rows)} rows")
-    return replies, rows, counts
+    return status, replies, rows, counts
 
 
-def one(program, before, path, work, refused, replies, rows, counts):
+def one(program, before, path, work, refused, usual, replies, rows, counts):
     """A run of which one growth is refused: whether it met the refusal."""
     file = os.path.join(work, "rows")
     copied(before, file)
@@ -158,7 +158,7 @@ def one(program, before, path, work, refused, replies, rows, counts):
         if written != whole or rows_of(file) != rows:
             fail(f"{path.name}: a run without a refusal gives something else")
         return False
-    if status == 0 and written == whole and rows_of(file) == rows:
+    if status == usual and written == whole and rows_of(file) == rows:
         return True
     if status != 6:
         fail(f"{path.name}: growth {refused} of {made} is refused, and the status is {status}")
@@ -173,12 +173,20 @@ def one(program, before, path, work, refused, replies, rows, counts):
     return True
 
 
+def renumbered(reply, first):
+    """The reply where the first lines aren't sent: a bad line is told with its number in the input."""
+    if not reply.startswith(b"bad "):
+        return reply
+    word, line, field = reply.split()
+    return b"%s %d %s\n" % (word, int(line) - first, field)
+
+
 def again(program, file, path, work, refused, replies, rows, told, ahead):
     """The rest, with memory. A shared request whose row stands without its reply has no key, so it isn't sent again."""
     shared = path.command == "apply" and ahead and replies[told] == b"ok\n"
     first = told + 1 if shared else told
     status, written, _ = run(program, file, path.command, path.rest(first), work)
-    wanted = b"".join(replies if path.command == "import" else replies[first:])
+    wanted = b"".join(replies if path.command == "import" else [renumbered(reply, first) for reply in replies[first:]])
     if written != wanted or rows_of(file) != rows:
         fail(f"{path.name}: growth {refused} was refused; sent again, the rest gives status {status} and something else")
 
@@ -207,9 +215,9 @@ def sweep(program, work):
                     os.remove(before + end)
             if path.before:
                 run(program, before, "apply", path.before, work)
-        replies, rows, counts = rows_after(program, before, path, work)
+        usual, replies, rows, counts = rows_after(program, before, path, work)
         refused = 0
-        while one(program, before, path, work, refused + 1, replies, rows, counts):
+        while one(program, before, path, work, refused + 1, usual, replies, rows, counts):
             refused += 1
         print(f"{path.name}: {refused} growths refused over a file of rows", flush=True)
         total += refused
