@@ -325,7 +325,7 @@ pub agree : (day : ℕ) (shared : SharedRows) (history new : List Kept) → Leav
 agree day shared history new r h anchor terms variable =
     let same : folded (anchor_of (history ++ new)) shared.holidays (history ++ new) ≡ folded (anchor_of history) shared.holidays history =
     ap (λ a. folded a shared.holidays (history ++ new)) anchor ∙ folded-same (anchor_of history) shared.holidays history new r h in
-    record { anchor = anchor; terms = terms; variable = variable; posts = ap (filter (λ (s : CorrectedPost). leb s.day day)) same; fees = refl; index = refl }
+    record { anchor = anchor; terms = terms; variable = variable; posts = ap (filter (λ (s : CorrectedPost). leb s.day day)) same; fees = refl; index = λ follows. refl }
 
 stood_nowhere : (amend : Option (ℕ × ℕ)) (o : Option Kept) (before : ℕ × ℕ) → o ≡ None → amended amend (own_at o) ≡ Some before → ⊥
 stood_nowhere amend None before e h = cc

@@ -20,5 +20,6 @@ pub mod Settled
 pub mod Signs
 pub mod Sound
 pub mod Spans
+pub mod Unindexed
 pub mod Unread
 pub mod WholeParts

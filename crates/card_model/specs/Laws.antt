@@ -1,5 +1,5 @@
 -- Laws of the fold, for all lists of posts.
-use Rattle.std.specs.Prelude.{ℕ, ◌+◌, ◌≡◌, ◌≤◌, nat_le, List, [], ◌∷◌, ◌++◌, cond, Some, pos, ◌+ℤ◌, ◌≤ℤ◌, nat_abs}
+use Rattle.std.specs.Prelude.{ℕ, ◌+◌, ◌≡◌, ◌≤◌, nat_le, List, [], ◌∷◌, ◌++◌, cond, true, Some, pos, ◌+ℤ◌, ◌≤ℤ◌, nat_abs}
 use Rattle.std.specs.List.{filter, All, sum_by}
 use Rattle.card_events.specs.History.{CorrectedPost, anchor_of, folded, is_variable, standing, terms_of}
 use Rattle.card_events.specs.SharedRows.{FeeRow, IndexRow, SharedRows}
@@ -29,16 +29,18 @@ fees_up_to day shared = filter (λ r. nat_le r.day day) shared.fees
 abbrev pub index_up_to : ℕ → SharedRows → List IndexRow
 index_up_to day shared = filter (λ r. nat_le r.day day) shared.index
 
--- two histories of one account, each under its own shared rows, agree on all days up to one
+-- Two histories of one account, each under its own shared rows, agree on all days up to one: in the index rows only where the
+-- account's opening rates follow the index
 pub record HistoriesAgree (day : ℕ) (shared other : SharedRows) (history later : List Kept) : Type 0 where
   pub anchor : anchor_of later ≡ anchor_of history
   pub terms : terms_of later ≡ terms_of history
   pub variable : is_variable later ≡ is_variable history
   pub posts : posts_up_to day other later ≡ posts_up_to day shared history
   pub fees : fees_up_to day other ≡ fees_up_to day shared
-  pub index : index_up_to day other ≡ index_up_to day shared
+  pub index : is_variable history ≡ true → index_up_to day other ≡ index_up_to day shared
 
--- the book of a day depends on the corrected posts, the fee rows and the index rows up to that day alone
+-- The book of a day depends on the corrected posts, the fee rows and, where the account's opening rates follow the index, the
+-- index rows up to that day alone
 abbrev pub PastIsEnough : Type 0
 PastIsEnough =
     (day : ℕ) (shared other : SharedRows) (history later : List Kept) (issued : List IssuedRow) → HistoriesAgree day shared other history later

@@ -9,7 +9,8 @@ ghost use Rattle.card_model.specs.QuietDays.{QuietDaysChangeNothing};
 ghost use Rattle.card_model.specs.Spans.{SpansAreSteps, SpansAreTold};
 ghost use Rattle.card_model.specs.Unread.{UnfoldedPostsAgree};
 
-/// The book of a day depends on the corrected posts, the fee rows and the index rows up to that day alone.
+/// The book of a day depends on the corrected posts, the fee rows and, where the account's opening rates follow the index,
+/// the index rows up to that day alone.
 pub fn past_is_enough()
     ensures { PastIsEnough }
 {}
