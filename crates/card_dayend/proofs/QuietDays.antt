@@ -130,7 +130,7 @@ rate-since g b first days d t low q l m c =
     let place : first + (d - first) ≡ d = omega arith in
     sym (rates_of_a_day.any g.history g.issued g.shared b d (first + days - 1) t (omega arith))
     ∙ (ap (λ x. rate_in_force g.shared.index (rates_by g b.penalties) x t) (sym place)
-    ∙ spans_keep_rates.rates g.history g.issued g.shared b.penalties first days (d - first) t low q (omega arith) c)
+    ∙ spans_keep_rates.rates g.history g.issued g.shared b.penalties first days (d - first) t (λ follows. low) q (omega arith) c)
 
 row-parts : (a : Account) (seen : Seen) (b : Book) (t : SegmentTerms) (d owed rate : ℕ) → row b.entries t.id d ≡ owed → rate_in a seen b d t ≡ rate → day_row a seen b t d ≡ row_of owed (rate_of owed rate) d
 row-parts a seen b t d owed rate e f =

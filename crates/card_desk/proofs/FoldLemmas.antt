@@ -22,7 +22,7 @@ use Rattle.card_desk.proofs.DeskLemmas.{read_at}
 use Rattle.card_reasons.proofs.SameReasons.{AreAlike, same_reason}
 use Rattle.card_desk.specs.Desks.{AreAccounts, AreSameHolidays, IsDesk, IsRun, named_all, now_at, now_of, state_of}
 use Rattle.card_events.specs.Dated.{is_dated, is_dated_post, is_dated_shared, is_request_day}
-use Rattle.card_events.specs.History.{CorrectedPost, anchor_of, at_number, corrected, is_folded, opening_in, terms_of}
+use Rattle.card_events.specs.History.{CorrectedPost, anchor_of, at_number, corrected, is_folded, is_variable, opening_in, terms_of}
 use Rattle.card_events.specs.Keys.{with_key}
 use Rattle.card_events.specs.Names.{is_name}
 use Rattle.card_events.specs.declared.reply.Refusal.{Refusal}
@@ -330,31 +330,31 @@ sound_under s l shared one few = record {
 
 -- holidays, fee rows and index rows of later days leave the accounts
 pub accounts_later : (s : State) (old new : SharedRows) (accounts : List OpenAccount) → All (λ (x : NamedAccount). AreRunning s x.lists) (named_all accounts) → All HasFewFees new.fees
-    → ((reached : ℕ) → reached ≤ s.today → AreLaterRows reached old new) → AreAccounts s.today old accounts → AreAccounts s.today new accounts
+    → ((variable : Bool) (reached : ℕ) → reached ≤ s.today → AreLaterRows variable reached old new) → AreAccounts s.today old accounts → AreAccounts s.today new accounts
 accounts_later s old new [] all few later stand = All-nil (IsAccount s.today new)
 accounts_later s old new (a ∷ rest) all few later stand =
     let one = All-head (λ (x : NamedAccount). AreRunning s x.lists) a.named (named_all rest) all in
     let h = All-head (IsAccount s.today old) a rest stand in
     All-cons (IsAccount s.today new) a rest
-    (record { replay = later_rows_leave_it old new (replay_of a) s.today h.replay h.reach.later h.reach.accepted (later s.today (omega arith)) (sound_under s a.named.lists new one few); reach = h.reach })
+    (record { replay = later_rows_leave_it old new (replay_of a) s.today h.replay h.reach.later h.reach.accepted (later (is_variable a.named.lists.posts) s.today (omega arith)) (sound_under s a.named.lists new one few); reach = h.reach })
     (accounts_later s old new rest (All-tail (λ (x : NamedAccount). AreRunning s x.lists) a.named (named_all rest) all) few later (All-tail (IsAccount s.today old) a rest stand))
 
-pub later_holidays : (today day : ℕ) (old : SharedRows) → today < day → (reached : ℕ) → reached ≤ today → AreLaterRows reached old (record old { holidays = with_holiday day old.holidays })
-later_holidays today day old later reached l = record { holidays = λ x low. sym (with_holiday-agrees reached day old.holidays (omega (arith, later, l)) x low); fees = refl; index = refl }
+pub later_holidays : (today day : ℕ) (old : SharedRows) → today < day → (variable : Bool) (reached : ℕ) → reached ≤ today → AreLaterRows variable reached old (record old { holidays = with_holiday day old.holidays })
+later_holidays today day old later variable reached l = record { holidays = λ x low. sym (with_holiday-agrees reached day old.holidays (omega (arith, later, l)) x low); fees = refl; index = λ follows. refl }
 
 -- no row of a later day is among those up to a day
 none-later : (row : FeeRow) (reached : ℕ) → reached < row.day → filter (λ r. nat_le r.day reached) (row ∷ []) ≡ []
 none-later row reached l = let later : nat_le row.day reached ≡ false = grind (arith, nat_tests) in rw later refl
 
-pub later_fees : (today : ℕ) (row : FeeRow) (old : SharedRows) → today < row.day → (reached : ℕ) → reached ≤ today → AreLaterRows reached old (record old { fees = old.fees ++ row ∷ [] })
-later_fees today row old later reached l = record {
+pub later_fees : (today : ℕ) (row : FeeRow) (old : SharedRows) → today < row.day → (variable : Bool) (reached : ℕ) → reached ≤ today → AreLaterRows variable reached old (record old { fees = old.fees ++ row ∷ [] })
+later_fees today row old later variable reached l = record {
   holidays = λ x low. refl;
   fees = filter-append (λ r. nat_le r.day reached) old.fees (row ∷ []) ∙ (ap (λ rs. filter (λ r. nat_le r.day reached) old.fees ++ rs) (none-later row reached (omega (arith, later, l))) ∙ append-nil (filter (λ r. nat_le r.day reached) old.fees));
-  index = refl;
+  index = λ follows. refl;
 }
 
-pub later_index : (today : ℕ) (row : IndexRow) (old : SharedRows) → today < row.day → (reached : ℕ) → reached ≤ today → AreLaterRows reached old (record old { index = with_index row old.index })
-later_index today row old later reached l = record { holidays = λ x low. refl; fees = refl; index = index-later reached row old.index (omega (arith, later, l)) }
+pub later_index : (today : ℕ) (row : IndexRow) (old : SharedRows) → today < row.day → (variable : Bool) (reached : ℕ) → reached ≤ today → AreLaterRows variable reached old (record old { index = with_index row old.index })
+later_index today row old later variable reached l = record { holidays = λ x low. refl; fees = refl; index = λ follows. index-later reached row old.index (omega (arith, later, l)) }
 
 -- a later day is still not before the one last reached
 pub accounts_rolled : (today day : ℕ) (common : SharedRows) (accounts : List OpenAccount) → today ≤ day → day ≤ last_request_day → AreAccounts today common accounts → AreAccounts day common accounts

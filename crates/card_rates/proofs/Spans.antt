@@ -217,9 +217,10 @@ row-next x (r ∷ rs) h =
     let rest = row-next x rs (All-tail (λ (r : IndexRow). r.day ≡ suc x → ⊥) r rs h) in
     rw (b, rest) refl
 
-index-next : (variable : Bool) (rows : List IndexRow) (opened x : ℕ) → opened ≤ x → (variable && ltb opened (suc x) && list_any (λ r. eqb r.day (suc x)) rows) ≡ false → index_for variable rows (suc x) ≡ index_for variable rows x
+index-next : (variable : Bool) (rows : List IndexRow) (opened x : ℕ) → (variable ≡ true → opened ≤ x) → (variable && ltb opened (suc x) && list_any (λ r. eqb r.day (suc x)) rows) ≡ false → index_for variable rows (suc x) ≡ index_for variable rows x
 index-next false rows opened x l h = refl
 index-next true rows opened x l h =
+    let low = l refl in
     let after : ltb opened (suc x) ≡ true = grind (arith, nat_tests) in
     let none : list_any (λ (r : IndexRow). eqb r.day (suc x)) rows ≡ false = ap (λ t. t && list_any (λ (r : IndexRow). eqb r.day (suc x)) rows) (sym after) ∙ h in
     ap (λ o. Some (unwrap_or (option_map (λ (r : IndexRow). r.rate) o) 0))
@@ -245,10 +246,10 @@ quiet-next history issued shared penalties first days q x l h =
     rate-quiet (account_of history) (corrected (anchor_of history) shared.holidays history) issued shared.index penalties x
     (quiet-at history issued shared penalties first days q x l (omega arith)) (quiet-at history issued shared penalties first days q (suc x) (omega arith) h)
 
-index-after : (history : List Kept) (issued : List IssuedRow) (shared : SharedRows) (penalties : List Interval) (first days : ℕ) → (anchor_of history).opened ≤ first → AreQuiet history issued shared penalties first days → (x : ℕ) → first ≤ x → suc x < first + days
+index-after : (history : List Kept) (issued : List IssuedRow) (shared : SharedRows) (penalties : List Interval) (first days : ℕ) → (is_variable history ≡ true → (anchor_of history).opened ≤ first) → AreQuiet history issued shared penalties first days → (x : ℕ) → first ≤ x → suc x < first + days
     → index_for (is_variable history) shared.index (suc x) ≡ index_for (is_variable history) shared.index x
 index-after history issued shared penalties first days low q x l h =
-    index-next (is_variable history) shared.index (anchor_of history).opened x (omega (arith, low, l))
+    index-next (is_variable history) shared.index (anchor_of history).opened x (λ follows. let m = low follows in omega (arith, m, l))
     (parts (account_of history) (corrected (anchor_of history) shared.holidays history) issued shared.index penalties (suc x) (quiet-at history issued shared penalties first days q (suc x) (omega arith) h)).index
 
 pub spans_keep_rates : SpansKeepRates

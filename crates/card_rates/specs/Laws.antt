@@ -1,7 +1,7 @@
 -- Laws on rates, for all lists of posts. What is read from all posts is what is read from those up to the day.
-use Rattle.std.specs.Prelude.{◌≡◌, ℕ, ◌+◌, ◌<◌, ◌≤◌, false, List, [], length, Option, Some}
+use Rattle.std.specs.Prelude.{◌≡◌, ℕ, ◌+◌, ◌<◌, ◌≤◌, false, true, List, [], length, Option, Some}
 use Rattle.std.specs.List.{All, Contains}
-use Rattle.card_events.specs.History.{CorrectedPost, anchor_of, corrected}
+use Rattle.card_events.specs.History.{CorrectedPost, anchor_of, corrected, is_variable}
 use Rattle.card_events.specs.SharedRows.{SharedRows}
 use Rattle.card_events.specs.declared.kept.Kept.{Kept}
 use Rattle.card_events.specs.declared.request.Request.{Request}
@@ -102,12 +102,13 @@ abbrev pub AreQuiet : List Kept → List IssuedRow → SharedRows → List Inter
 AreQuiet history issued shared penalties first days =
     (i : ℕ) → i < days → is_break (account_of history) (corrected (anchor_of history) shared.holidays history) issued shared.index penalties (first + i) ≡ false
 
--- Over days without a break day all is as on the first of them, which for rates isn't before the opening: until then an index
--- row is no break day. The day before it may differ: a plan's end is a break day, and its rate changes on the day after
+-- Over days without a break day all is as on the first of them, which for rates that follow the index isn't before the opening:
+-- until then an index row is no break day. The day before it may differ: a plan's end is a break day, and its rate changes on the
+-- day after
 pub record SpansKeepRates : Type 0 where
   pub rates :
       (history : List Kept) (issued : List IssuedRow) (shared : SharedRows) (penalties : List Interval) (first days i : ℕ) (g : SegmentTerms)
-      → (anchor_of history).opened ≤ first → AreQuiet history issued shared penalties first days → i < days
+      → (is_variable history ≡ true → (anchor_of history).opened ≤ first) → AreQuiet history issued shared penalties first days → i < days
       → Contains (rates_of shared.holidays history penalties).segments g
       → rate_of shared.index (rates_of shared.holidays history penalties) (first + i) g ≡ rate_of shared.index (rates_of shared.holidays history penalties) first g
   pub accruals :

@@ -4,7 +4,7 @@ use Rattle.std.specs.Prelude.{IfSome}
 use Rattle.std.specs.List.{filter}
 use Rattle.std.proofs.lemmas.Bool.{leb-true, leb-false}
 use Rattle.std.proofs.lemmas.List.Elements.{All-nil}
-use Rattle.card_events.specs.History.{CorrectedPost, anchor_of}
+use Rattle.card_events.specs.History.{CorrectedPost, anchor_of, is_variable}
 use Rattle.card_events.specs.SharedRows.{FeeRow, IndexRow, SharedRows}
 use Rattle.card_events.specs.declared.kept.Kept.{Kept}
 use Rattle.card_model.specs.CycleDays.{IsOpening}
@@ -48,7 +48,7 @@ agree-earlier old new history later x d l h = record {
   variable = h.variable;
   posts = sym (one-filter (λ (p : CorrectedPost). p.day) x d l _) ∙ (ap (filter (λ (p : CorrectedPost). nat_le p.day x)) h.posts ∙ one-filter (λ (p : CorrectedPost). p.day) x d l _);
   fees = sym (one-filter (λ (r : FeeRow). r.day) x d l new.fees) ∙ (ap (filter (λ (r : FeeRow). nat_le r.day x)) h.fees ∙ one-filter (λ (r : FeeRow). r.day) x d l old.fees);
-  index = sym (one-filter (λ (r : IndexRow). r.day) x d l new.index) ∙ (ap (λ is. filter (λ (r : IndexRow). nat_le r.day x) is) h.index ∙ one-filter (λ (r : IndexRow). r.day) x d l old.index);
+  index = λ follows. sym (one-filter (λ (r : IndexRow). r.day) x d l new.index) ∙ (ap (λ is. filter (λ (r : IndexRow). nat_le r.day x) is) (h.index follows) ∙ one-filter (λ (r : IndexRow). r.day) x d l old.index);
 }
 
 -- an account that is opened has a post
@@ -57,7 +57,7 @@ some-posts [] h = let first = h.first in absurd (omega (arith, first))
 some-posts (k ∷ ks) h = omega arith
 
 -- a folding of a day up to this one
-rows-on : (old new : SharedRows) (r : Replay) (day : ℕ) (f : Folding) → IsReplay old r → last_accepted r.lists.posts ≤ day → AreLaterRows day old new → f.reached ≤ day → IfSome f.eve (IsEve (given_of r.lists new) f.reached f.past)
+rows-on : (old new : SharedRows) (r : Replay) (day : ℕ) (f : Folding) → IsReplay old r → last_accepted r.lists.posts ≤ day → AreLaterRows (is_variable r.lists.posts) day old new → f.reached ≤ day → IfSome f.eve (IsEve (given_of r.lists new) f.reached f.past)
     → IsFolding (given_of r.lists old) f → IsFolding (given_of r.lists new) f
 rows-on old new r day f h accepted rows within stood folding =
     let was = given_of r.lists old in

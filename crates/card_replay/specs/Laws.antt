@@ -1,5 +1,6 @@
 -- Laws of accounts with a folded book.
 use Rattle.std.specs.Prelude.{ℕ, ◌≡◌, ◌≤◌, Some}
+use Rattle.card_events.specs.History.{is_variable}
 use Rattle.card_events.specs.SharedRows.{SharedRows}
 use Rattle.card_model.specs.Cycles.{Cycle}
 use Rattle.card_model.specs.Folds.{cycle_at}
@@ -22,7 +23,7 @@ KeptClosingsAreTheFold =
     → IsRewound (given_of r.lists shared) k c r.folding.book r.folding.past.track back cut → IsTheFold (given_of r.lists shared) back cut
 
 -- Holidays, fee rows and index rows of days after one that comes neither before the day last reached nor before a post was accepted
--- leave it standing
+-- leave it standing; where its opening rates don't follow the index, index rows of all days do
 abbrev pub LaterRowsLeaveIt : Type 0
 LaterRowsLeaveIt =
-    (old new : SharedRows) (r : Replay) (day : ℕ) → IsReplay old r → r.folding.reached ≤ day → last_accepted r.lists.posts ≤ day → AreLaterRows day old new → IsSound (given_of r.lists new) → IsReplay new r
+    (old new : SharedRows) (r : Replay) (day : ℕ) → IsReplay old r → r.folding.reached ≤ day → last_accepted r.lists.posts ≤ day → AreLaterRows (is_variable r.lists.posts) day old new → IsSound (given_of r.lists new) → IsReplay new r

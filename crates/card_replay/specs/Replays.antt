@@ -136,8 +136,8 @@ pub record SameLists (old new : Replay) : Type 0 where
   pub corrected : new.corrected ≡ old.corrected
   pub room : old.has_room ≡ true → new.has_room ≡ true
 
--- shared rows that no account sees before the day after this one
-pub record AreLaterRows (day : ℕ) (old new : SharedRows) : Type 0 where
+-- shared rows that an account doesn't see before the day after this one; index rows only where its opening rates follow the index
+pub record AreLaterRows (variable : Bool) (day : ℕ) (old new : SharedRows) : Type 0 where
   pub holidays : AgreeUpTo day old.holidays new.holidays
   pub fees : fees_up_to day new ≡ fees_up_to day old
-  pub index : index_up_to day new ≡ index_up_to day old
+  pub index : variable ≡ true → index_up_to day new ≡ index_up_to day old
