@@ -94,14 +94,17 @@ applied-front rows_old rows_new d new r name key p i n result es fs is place sta
     (subst (λ (o : Option ℕ). MovesOn o (outcome_in d.state name key p) result d new) place (subst (λ (x : Request). MovesToApply x result d new) is moves))
     ∙ ap (take n) (sym old))
 
+-- an account that was told of is nowhere behind
+told-forward : {T E : Type 0} (d new : OpenDesk) (i : ℕ) (result : Result T E) → day_there d i ≤ d.state.today → MovesToTell (Some i) result d new → day_there d i ≤ day_there new i
+told-forward d new i (Ok y) dated m = let own = m.answered.own in omega (arith, own, dated)
+told-forward d new i (Err e) dated m = m.wanting.own.forward
+
 -- of what was read before it was told of, and after that
 pub told-front : {T E : Type 0} (d new : OpenDesk) (i : ℕ) (result : Result T E) (es fs : List Entry) → new.state ≡ d.state → day_there d i ≤ d.state.today → MovesToTell (Some i) result d new
     → es ≡ entries_there d i → fs ≡ entries_there new i → take (length es) fs ≡ take (length es) es
-told-front d new i result es fs same dated moves old now = ap (take (length es)) now ∙ (same-front d new i (length es) same (forward result moves) (omega (arith, ap (λ (l : List Entry). length l) old)) ∙ ap (take (length es)) (sym old))
-  where
-    forward : (x : Result T E) → MovesToTell (Some i) x d new → day_there d i ≤ day_there new i
-    forward (Ok y) m = let own = m.answered.own in omega (arith, own, dated)
-    forward (Err e) m = m.wanting.own.forward
+told-front d new i result es fs same dated moves old now =
+    ap (take (length es)) now
+    ∙ (same-front d new i (length es) same (told-forward d new i result dated moves) (omega (arith, ap (λ (l : List Entry). length l) old)) ∙ ap (take (length es)) (sym old))
 
 -- so there are as many
 pub as-many : (n : ℕ) (es fs : List Entry) → n ≤ length es → take n fs ≡ take n es → n ≤ length fs

@@ -1,4 +1,4 @@
-use Rattle.std.proofs.Common.{◌≡◌, ℕ, ◌<◌, ◌≤◌, List, length, get_or, ap, sym, ◌∙◌, subst, arith}
+use Rattle.std.proofs.Common.{◌≡◌, ℕ, ◌<◌, ◌≤◌, ◌^◌, List, length, get_or, ap, sym, ◌∙◌, subst, arith}
 use Rattle.std.proofs.lemmas.List.{length-drop}
 use Rattle.card_desk.specs.Recorded.{ChangesAt, MayGrow}
 use Rattle.card_model.specs.declared.entry.Entry.{Entry}
@@ -16,13 +16,13 @@ invariant_of-self g c =
 
 -- ---- a post of an account that is there
 pub behind-requires : goal.behind-requires
-behind-requires g c = omega (arith, c.standing.ensures.within, ap (λ (l : List Entry). length l) c.recorded.ensures.entries)
+behind-requires g c = omega (arith, c.standing-standing.ensures.within, ap (λ (l : List Entry). length l) c.recorded.ensures.entries)
 
 pub take_out-requires : goal.take_out-requires
 take_out-requires g c =
     let es = c.recorded.result.now in
     subst (λ (l : List Entry). AreEnough l c.self.inside.totals) (sym c.behind.ensures)
-    (enough-at c.self.inside.desk.recorded c.in-Some.at c.standing.result es c.self.inside.totals c.self.invariant c.in-Some.ensures.within (c.recorded.ensures.value es))
+    (enough-at c.self.inside.desk.recorded c.in-Some.at c.standing-standing.result es c.self.inside.totals c.self.invariant c.in-Some.ensures.within (c.recorded.ensures.value es))
 
 pub recorded-requires-in-Some : goal.recorded-requires-in-Some
 recorded-requires-in-Some g c =
@@ -36,16 +36,16 @@ pub behind-requires-in-Some : goal.behind-requires-in-Some
 behind-requires-in-Some g c =
     let es = c.recorded.result.now in
     let fs = c.recorded-in-Some.result.now in
-    let n = c.standing.result in
-    let front = applied-front _ _ c.self.inside.desk c.apply-result.new.self c.args.request.now c.in-Post.account c.in-Post.key c.in-Post.post c.in-Some.at n c.apply-result.result es fs c.in-Post.is (sym c.in-Some.ensures.value) c.standing.ensures
+    let n = c.standing-standing.result in
+    let front = applied-front _ _ c.self.inside.desk c.apply-result.new.self c.args.request.now c.in-Post.account c.in-Post.key c.in-Post.post c.in-Some.at n c.apply-result.result es fs c.in-Post.is (sym c.in-Some.ensures.value) c.standing-standing.ensures
     c.apply-result.ensures.ok c.apply-result.ensures.err c.apply-result.ensures.reached c.recorded.ensures.entries c.recorded-in-Some.ensures.entries in
-    as-many n es fs (omega (arith, c.standing.ensures.within, ap (λ (l : List Entry). length l) c.recorded.ensures.entries)) front
+    as-many n es fs (omega (arith, c.standing-standing.ensures.within, ap (λ (l : List Entry). length l) c.recorded.ensures.entries)) front
 
 pub put_in-requires : goal.put_in-requires
 put_in-requires g c =
     let fs = c.recorded-in-Some.result.now in
     let few : length c.self.inside.desk.recorded ≤ 1_000_000 = omega (arith, c.accounts-few.ensures.few, c.accounts-few.ensures.recorded) in
-    let short = omega (arith, c.recorded-in-Some.ensures.few, length-drop c.standing.result fs, ap (λ (l : List Entry). length l) c.behind-in-Some.ensures) in
+    let short : length c.behind-in-Some.result.now < 2 ^ 32 = omega (arith, c.recorded-in-Some.ensures.few, length-drop c.standing-standing.result fs, ap (λ (l : List Entry). length l) c.behind-in-Some.ensures) in
     room-without c.self.inside.desk.recorded c.behind.result.now c.self.inside.totals c.take_out.new.self (length c.behind-in-Some.result.now) c.self.invariant c.take_out.ensures few short
 
 pub invariant_of-self-in-Some : goal.invariant_of-self-in-Some
@@ -53,12 +53,12 @@ invariant_of-self-in-Some g c =
     let d = c.self.inside.desk in
     let new = c.apply-result.new.self in
     let at = c.in-Some.at in
-    let n = c.standing.result in
+    let n = c.standing-standing.result in
     let es = c.recorded.result.now in
     let fs = c.recorded-in-Some.result.now in
     let within = c.in-Some.ensures.within in
     let change : ChangesAt at d.recorded new.recorded = changed d new c.args.request.now c.in-Post.account c.in-Post.key c.in-Post.post at c.in-Post.is (sym c.in-Some.ensures.value) c.apply-result.ensures.recorded in
-    let front = applied-front _ _ d new c.args.request.now c.in-Post.account c.in-Post.key c.in-Post.post at n c.apply-result.result es fs c.in-Post.is (sym c.in-Some.ensures.value) c.standing.ensures
+    let front = applied-front _ _ d new c.args.request.now c.in-Post.account c.in-Post.key c.in-Post.post at n c.apply-result.result es fs c.in-Post.is (sym c.in-Some.ensures.value) c.standing-standing.ensures
     c.apply-result.ensures.ok c.apply-result.ensures.err c.apply-result.ensures.reached c.recorded.ensures.entries c.recorded-in-Some.ensures.entries in
     let out = subst (λ (l : List Entry). IsTakenOut l c.self.inside.totals c.take_out.new.self) c.behind.ensures c.take_out.ensures in
     let entered = subst (λ (l : List Entry). AreEntered l c.take_out.new.self c.put_in.new.self) c.behind-in-Some.ensures c.put_in.ensures in
