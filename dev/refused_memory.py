@@ -10,6 +10,7 @@ reply, has to give the rest of the replies and of the rows. It prints how many g
 A growth is a call of malloc, calloc, realloc or posix_memalign by the program; a small library, which this script compiles with `cc` and
 has the system load before the C library, counts them. It is no part of the gate, and takes some minutes."""
 import argparse
+import csv
 import os
 import shutil
 import sqlite3
@@ -127,22 +128,38 @@ def copied(file, to):
             shutil.copyfile(file + end, to + end)
 
 
+def post_of_row(body):
+    """The account and the key of a post's kept row: behind format and kind, each with its length before it."""
+    key = 3 + body[2]
+    return body[3:key], body[key + 1:key + 1 + body[key]]
+
+
+def posts_sent(path):
+    """What each reply is of: the account and the key of a post, or less than both."""
+    if path.command == "import":
+        records = csv.reader(path.text.splitlines())
+        next(records)
+        words = [record[:2] for record in records]
+    else:
+        words = [line.split()[1:3] for line in path.text.splitlines()]
+    return [tuple(word.encode() for word in pair) for pair in words]
+
+
 def rows_after(program, before, path, work):
-    """The status and the replies of the whole input, the rows, and how many are kept after each reply."""
+    """The status and the replies of the whole input, the rows, and how many are kept after each reply. A post that was accepted before
+    is answered as it was then, so whether its row is new is told by the row that comes next."""
     file = os.path.join(work, "counted")
     copied(before, file)
     status, whole, _ = run(program, file, path.command, path.text, work)
-    replies = whole.splitlines(keepends=True)
-    rows = rows_of(file)
+    replies, rows, sent = whole.splitlines(keepends=True), rows_of(file), posts_sent(path)
+    if len(replies) != len(sent):
+        fail(f"{path.name}: {len(sent)} lines, and {len(replies)} replies")
     counts = [len(rows_of(before))]
-    fresh = {row for row in rows[counts[0]:]}
-    taken = counts[0]
-    for reply in replies:
-        new = (reply == b"ok\n" or reply.startswith(b"ok ")) and fresh and taken < len(rows)
-        if path.name == "the import, sent again":
-            new = False
-        taken += bool(new)
-        counts.append(taken)
+    for reply, post in zip(replies, sent):
+        new = reply == b"ok\n"
+        if reply.startswith(b"ok "):
+            new = counts[-1] < len(rows) and post_of_row(rows[counts[-1]][1]) == post
+        counts.append(counts[-1] + new)
     if counts[-1] != len(rows):
         fail(f"{path.name}: {counts[-1]} replies that keep a row, and {len(rows)} rows")
     return status, replies, rows, counts

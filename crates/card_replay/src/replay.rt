@@ -462,7 +462,7 @@ impl Replay {
     {
         let count = self.posts.len();
         if count < POST_LIMIT && may_come(post, self.posts.anchor().opened, today, count) {
-            self.posts.first_change(today, post, shared.calendar())
+            Some(self.posts.first_change(today, post, shared.calendar()))
         } else {
             None
         }
