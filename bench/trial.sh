@@ -1,6 +1,7 @@
 #!/bin/sh
 # What a trial balance costs. First the built program's `trial` beside its `apply`, over 200,000 lines of 1,000 accounts and a year, or
-# over as many lines as are given, with rows in memory: seconds, the least of three, and megabytes at the most. Then the microseconds of
+# over as many lines as are given, with rows in memory: seconds, the least of three, megabytes at the most, and where valgrind is there
+# the instructions, with how many times those of `apply` the others are. Then the microseconds of
 # one correction in a ledger that keeps totals, with a question of its account behind it, by the days that lie behind the corrected
 # one, by the accounts, and by the age of the account, which has a charge a day: bench/trial/timer.txt, a program of Rattle, is built
 # over the crates that it wants without a proof (dev/unproved.py). It isn't part of the gate, and wants the built program and `rt`.
@@ -42,6 +43,8 @@ python3 "$top/dev/unproved.py" --top "$room" timer "$room/timer" || exit 1
 python3 - "${PROGRAM:-$top/crates/billctl/out/billctl}" "$room/timer" "$@" <<'END'
 import datetime
 import os
+import re
+import shutil
 import subprocess
 import sys
 import time
@@ -117,6 +120,21 @@ def beside(words, text):
     print(f"{words[0]} seconds {min(seconds for seconds, _ in runs):.2f} megabytes {max(size for _, size in runs):.1f}", flush=True)
 
 
+def instructions(words, text):
+    """As callgrind counts them."""
+    tool = ["valgrind", "--tool=callgrind", "--callgrind-out-file=/dev/null"]
+    done = subprocess.run([*tool, PROGRAM, "-", *words], input=text, stdout=subprocess.DEVNULL, stderr=subprocess.PIPE)
+    return int(re.search(rb"Collected : (\d+)", done.stderr)[1])
+
+
+def counted(text, *commands):
+    first = None
+    for words in commands:
+        count = instructions(words, text)
+        first = first or count
+        print(f"{words[0]} instructions {count} times {count / first:.3f}", flush=True)
+
+
 def aged(accounts, days, corrected):
     """Accounts of which the first has a charge a day, and then has those of some days corrected, each twice."""
     yield "feerow 2011-01-02 3000 4100"
@@ -143,8 +161,11 @@ def correct(accounts, days, corrected):
 
 text = "".join(line + "\n" for line in ordinary(LINES)).encode()
 print(f"lines {len(text.splitlines())} accounts {ACCOUNTS}", flush=True)
-beside(["apply"], text)
-beside(["trial", "2011-01-01", "2099-12-31"], text)
+APPLY, TRIAL = ["apply"], ["trial", "2011-01-01", "2099-12-31"]
+beside(APPLY, text)
+beside(TRIAL, text)
+if shutil.which("valgrind"):
+    counted(text, APPLY, TRIAL)
 correct(1, 1_825, [0, 30, 365, 1_825])
 correct(1_000, 365, [0, 30, 365])
 correct(100_000, 30, [0, 30])
