@@ -23,7 +23,8 @@ use std::marker::Model;
 use std::sync::ledger::Ledger;
 
 /// Today, the accepted shared requests with the holidays, the fee rows and the index in them, and all accounts in the order of
-/// their opening, each folded to the day that it has reached. Clauses see it as a record of its state and these days.
+/// their opening, each folded to the day that it has reached. Clauses see it as a record of its state, these days and what is
+/// recorded up to them.
 #[derive(Drop)]
 pub struct Desk {
     today: Day,
@@ -159,8 +160,8 @@ impl Desk {
     }
 
     /// How many of the first entries that are recorded of the account at a place stay if it takes a post today, whatever it is then taken
-    /// back to: those up to the last closing, by the day last reached, before the first day that the post changes, or none where that
-    /// day isn't told beforehand. It takes no memory.
+    /// back to: those up to the last closing, by the day last reached, before the first day that the post changes, or none where the
+    /// post may not be accepted. It takes no memory.
     pub fn standing(&self, place: usize, post: &Post) -> usize
         requires { place < length self.now.recorded }
         ensures { AreStanding result place post.now self.now }
