@@ -27,13 +27,15 @@ use card_words::{Command, command_of, usage_line};
 use std::alloc::Global;
 
 /// Does what the words say, and answers the exit status. Each command but `demo` begins with the ledger that the kept rows
-/// give. `apply` reads request lines from the input and writes one reply for each to the output, `import` does so with records
-/// of CSV; each newly accepted request is kept as one row. `trial` does what `apply` does, brings all accounts to today, and
-/// writes the debits and credits of each kind of entry from one day to another behind the replies. `statement` and `restate` write the statement of an account's cycle
-/// as it was issued, and as the book of today has it, and `repay` what the balances of the issued one come to where they are
-/// repaid; `export` and `work` write the entries of an account, and the open tasks of all. `demo` writes what generated requests come to over a ledger of their own, and leaves source and keeper alone.
-/// `serve` listens on a port, answers one request of HTTP on each of so many connections, and writes a line for each when it is
-/// closed: the status of its answer, `cut` where the request ended inside or the connection failed, or `memory`.
+/// give. `apply` reads request lines from the input and writes one reply for each to the output, `import` does so with
+/// records of CSV; each newly accepted request is kept as one row. `trial` does what `apply` does, brings all accounts to
+/// today, and writes the debits and credits of each kind of entry from one day to another behind the replies. `statement`
+/// and `restate` write the statement of an account's cycle as it was issued, and as the book of today has it, and `repay`
+/// what the balances of the issued one come to where they are repaid; `export` and `work` write the entries of an account,
+/// and the open tasks of all. `demo` writes what generated requests come to over a ledger of their own, and leaves source
+/// and keeper alone. `serve` listens on a port, answers one request of HTTP on each of so many connections, and writes a
+/// line for each when it is closed: the status of its answer, `cut` where the request ended inside or the connection failed,
+/// or `memory`.
 ///
 /// - 0: the input was read to its end, and no reply is `no` or `bad`; or the text was written; or all connections were attended to.
 /// - 1: at least one reply is; or the account isn't there, or its statement, and the line `none` is written.

@@ -46,7 +46,7 @@ impl Model for Desk {
 }
 
 impl Desk {
-    ghost use Rattle.std.specs.Prelude.{◌≡◌, ◌≤◌, ◌<◌, ◌+◌, ◌^◌, ◌++◌, List, [], ◌∷◌, true, Some, None, length, slice_get, slice_index_or, IfOk, IfSome, OnOk, OnErr, IsErrOf};
+    ghost use Rattle.std.specs.Prelude.{◌≡◌, ◌≤◌, ◌<◌, ◌+◌, ◌^◌, ◌++◌, List, [], ◌∷◌, true, Some, None, length, slice_get, slice_index_or, IfOk, IfSome, OnOk, OnErr, IsErrOf, option_copied};
     ghost use Rattle.std.specs.List.{All};
     ghost use Rattle.std.specs.Option.{option_map};
     ghost use Rattle.card_model.specs.declared.entry.Entry.{Entry};
