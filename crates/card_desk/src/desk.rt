@@ -149,9 +149,11 @@ impl Desk {
         self.accounts[place].recorded()
     }
 
-    /// What is recorded of an account. None comes exactly where it isn't there.
+    /// What is recorded of an account: its entries up to the end of the day that it has reached. None comes exactly where it isn't there.
     pub fn entries_of(&self, account: &Name) -> Option<&[Entry]>
-        ensures { option_copied result ≡ option_map (entries_there self.now) (place_from account.now 0 self.now.state.accounts) }
+        ensures entries { option_copied result ≡ option_map (entries_there self.now) (place_from account.now 0 self.now.state.accounts) }
+        ensures value { (d : List Entry) → option_copied result ≡ option_map (λ at. slice_index_or self.now.recorded at d) (place_from account.now 0 self.now.state.accounts) }
+        ensures few { IfSome result (λ entries. length entries.now < 2 ^ 32) }
     {
         match self.place_of(account) {
             Some(at) => Some(self.recorded(at)),
