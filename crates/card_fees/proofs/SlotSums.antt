@@ -1,5 +1,5 @@
 -- Payments counted over the slots of some days are those of the corrected list; and a count that ends at a limit.
-use Rattle.std.proofs.Common.{◌≡◌, ℕ, ◌-◌, ◌<◌, ◌≤◌, Bool, true, false, cond, not, ◌&&◌, nat_le, nat_lt, List, map, min, refl, sym, ap, ◌∙◌, arith}
+use Rattle.std.proofs.Common.{◌≡◌, ℕ, ◌+◌, ◌-◌, ◌<◌, ◌≤◌, Bool, true, false, cond, not, ◌&&◌, nat_le, nat_lt, List, map, min, refl, sym, ap, ◌∙◌, arith}
 use Rattle.std.proofs.lemmas.Bool.Decides.{nat_tests}
 use Rattle.std.proofs.lemmas.List.Elements.{All-weaker}
 use Rattle.card_events.specs.declared.anchor.Anchor.{Anchor}
@@ -74,5 +74,22 @@ below-min limit x = by (nat_lt x limit) refl
 pub less-min : (limit x : ℕ) → limit - min limit x ≡ limit - x
 less-min limit x = omega arith
 
+le-true : (m n : ℕ) → m ≤ n → nat_le m n ≡ true
+le-true m n l = grind (arith, nat_tests)
+
 pub not-below : (limit x : ℕ) → not (nat_lt x limit) ≡ nat_le limit x
 not-below limit x = grind (arith, nat_tests)
+
+-- what payments and credits reach together is told by the payments counted up to it, and by the credits where these don't
+pub one-reaches : (limit part paid credited : ℕ) → part ≡ min limit paid → nat_le limit part ≡ true → true ≡ nat_le limit (paid + credited)
+one-reaches limit part paid credited e l =
+    let low : limit ≤ part = grind (arith, nat_tests) in
+    let high : limit ≤ paid + credited = omega (arith, e, low) in
+    sym (le-true limit (paid + credited) high)
+
+pub both-reach : (limit part more paid credited : ℕ) → part ≡ min limit paid → nat_le limit part ≡ false → more ≡ credited → nat_le limit (part + more) ≡ nat_le limit (paid + credited)
+both-reach limit part more paid credited e l m =
+    let high : part < limit = grind (arith, nat_tests) in
+    let same : part ≡ paid = omega (arith, e, high) in
+    let both : part + more ≡ paid + credited = omega (arith, same, m) in
+    ap (nat_le limit) both

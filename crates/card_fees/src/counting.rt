@@ -1,5 +1,5 @@
 // Sums over the payments of some days.
-ghost use Rattle.std.specs.Prelude.{◌≡◌, ◌≤◌, ◌≤ℤ◌, ℕ, List, min, nat_le, nat_lt, pos, unsigned_abs};
+ghost use Rattle.std.specs.Prelude.{◌≡◌, ◌+◌, ◌≤◌, ◌≤ℤ◌, ℕ, List, min, nat_le, nat_lt, pos, unsigned_abs};
 ghost use Rattle.std.specs.List.{sum_by};
 ghost use Rattle.card_events.specs.History.{at_number};
 ghost use Rattle.card_fees.specs.Counting.{counts, credits, earlier_posts, in_front, is_before, is_credit_at, is_payment_at, since, slots_sum, up_to};
@@ -207,6 +207,27 @@ fn credited_between(posts: &Posts, from: Day, to: Day) -> u64
     ensures value { (holidays : List ℕ) → StandsFor holidays posts.now → result ≡ payments.credited posts.now.corrected from to }
 {
     credits_sum(posts, slots_of(posts, from, to))
+}
+
+// Whether payments and credits reach an amount together.
+fn reach(paid: u64, credited: u64, amount: u64) -> bool
+    requires paid { paid ≤ payments_limit }
+    requires credited { credited ≤ payments_limit }
+    ensures { result ≡ nat_le amount (paid + credited) }
+{
+    amount <= paid + credited
+}
+
+// Whether the payments with effective days from one day to another, less those returned by its end, reach an amount together
+// with the merchants' credits of these days. It looks at no credit where the payments do.
+pub fn repaid_reaches(posts: &Posts, from: Day, to: Day, amount: u64) -> bool
+    ensures { (holidays : List ℕ) → StandsFor holidays posts.now → result ≡ nat_le amount (payments.counted posts.now.corrected from to + payments.credited posts.now.corrected from to) }
+{
+    let paid = counted_up_to(posts, from, to, amount);
+    if is_enough(paid, amount) {
+        return true;
+    }
+    reach(paid, credited_between(posts, from, to), amount)
 }
 
 /// The cents of the merchants' credits with effective days from one day to another (12 CFR 1026.11(a), .54(a)(1)). The
