@@ -13,8 +13,8 @@ pub recorded_book : (shared : SharedRows) (r : Replay) → IsReplay shared r →
 recorded_book shared r h =
     (kept_book_is_the_fold shared r h).entries ∙ ap (λ (o : Option ℕ). (book_through (given_of r.lists shared) o).entries) h.folding.day
 
--- 64 for each of at most 10,000 posts and for each day up to 2099-12-31
-few : (n posts reached opened : ℕ) → n ≤ 64 * (posts + (reached + 1 - opened)) → posts ≤ 10_000 → reached ≤ 47_481 → n < 2 ^ 32
+-- 64 for each of at most 200,000 posts and for each day up to 2099-12-31
+few : (n posts reached opened : ℕ) → n ≤ 64 * (posts + (reached + 1 - opened)) → posts ≤ 200_000 → reached ≤ 47_481 → n < 2 ^ 32
 few n posts reached opened bound count dated = omega arith
 
 pub recorded_few : (shared : SharedRows) (r : Replay) → IsReplay shared r → length r.folding.past.track.entries.items < 2 ^ 32

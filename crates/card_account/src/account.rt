@@ -98,8 +98,8 @@ impl Account {
     }
 
     /// How many of the first entries that are recorded of it stay if it takes a post today, whatever it is then taken back to: those up to
-    /// the last closing, by the day last reached, before the first day that the post changes, or none where that day isn't told
-    /// beforehand. It takes no memory.
+    /// the last closing, by the day last reached, before the first day that the post changes, or none where the post may not be
+    /// accepted. It takes no memory.
     pub fn standing(&self, post: &Post, today: Day, shared: &SharedRows) -> usize
         requires { IsAccount today shared.now self.now }
         ensures { AreStanding result today shared.now post.now (replay_of self.now) }

@@ -23,7 +23,7 @@ recorded_there places common count today rows accounts i b d desk view low is =
     let account = account_at places common count today rows accounts i b desk low is in
     let alike = alike_seen places common count today rows accounts i b desk low is in
     recorded_book common (replay_of b) account.replay
-    ∙ (ap (λ (x : Book). x.entries) (one_book b.named.lists b.folding.reached common (shared_rows rows) alike.posts alike.fees)
+    ∙ (ap (λ (x : Book). x.entries) (one_book b.named.lists b.folding.reached common (shared_rows rows) alike.posts alike.fees alike.index)
     ∙ (ap (λ (a : ReachedLists). entries_on (state_of today rows accounts) a.lists a.reached) (sym (there_is rows today accounts i b low is))
     ∙ ap (λ (x : OpenDesk). entries_there x i) view))
 

@@ -4,7 +4,7 @@ use Rattle.std.proofs.lemmas.List.{get_or-map, get_or-set_same, length-map, leng
 use Rattle.std.proofs.lemmas.List.Elements.{All-cons, All-head, All-nil, All-tail}
 use Rattle.std.proofs.lemmas.Result.{on_err_weaker, on_ok_weaker}
 use Rattle.std.specs.List.{All}
-use Rattle.std.specs.Prelude.{IsErr, OnErr, OnOk}
+use Rattle.std.specs.Prelude.{IsErr, OnOk}
 use Rattle.card_account.specs.Accounts.{AreTold, HasTold, IsAccount, IsTold, OpenAccount}
 use Rattle.card_account.specs.Reached.{StaysNear, StaysOrIsToday}
 use Rattle.card_account.specs.Runs.{AreRunning}

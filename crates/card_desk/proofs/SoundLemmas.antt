@@ -1,9 +1,9 @@
 -- Sound rows.
-use Rattle.std.proofs.Common.{◌≡◌, ℕ, ◌+◌, ◌-◌, ◌<◌, Bool, true, List, [], ◌∷◌, ◌++◌, length, take, get_or, Option, Some, None, refl, ap, sym, ◌∙◌, subst, arith}
-use Rattle.std.specs.Prelude.{if◌then◌else◌, ◌&&◌, slice_get}
+use Rattle.std.proofs.Common.{◌≡◌, ℕ, ◌+◌, ◌-◌, ◌<◌, Bool, List, [], ◌∷◌, ◌++◌, length, take, get_or, Option, Some, None, refl, ap, sym, ◌∙◌, subst, arith}
+use Rattle.std.specs.Prelude.{if◌then◌else◌, slice_get}
 use Rattle.std.proofs.lemmas.List.{length-take-le, take_more}
 use Rattle.card_events.specs.declared.request.Request.{Request}
-use Rattle.card_ports.specs.Rows.{KeepsRows, SameRowsTold, GivesRows, next_seq, next_after}
+use Rattle.card_ports.specs.Rows.{KeepsRows, SameRowsTold, GivesRows, next_seq}
 use Rattle.card_ports.specs.declared.row.Row.{Row}
 use Rattle.card_model.specs.Machine.{State, start, step, run, run_from, is_new, accepted_from}
 use Rattle.card_desk.specs.Kept.{AreSound, AreDamaged, AreRowsFrom, IsNewRow, IsRunOf, Fits, accepted_count}

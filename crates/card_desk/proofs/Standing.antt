@@ -25,7 +25,7 @@ use Rattle.card_replay.specs.Standing as replay
 use Rattle.card_replay.specs.Steps.{IsNear}
 
 alike-back : (today : ℕ) (l : Lists) (a b : SharedRows) → AreAlike today l a b → AreAlike today l b a
-alike-back today l a b h = record { posts = sym h.posts; books = sym h.books; fees = sym h.fees }
+alike-back today l a b h = record { posts = sym h.posts; books = sym h.books; fees = sym h.fees; index = sym h.index }
 
 -- by the parts of a desk
 standing_by : (places : List (List ℕ × ℕ)) (common : SharedRows) (count today : ℕ) (rows : List Shared) (accounts : List OpenAccount) (i : ℕ) (b : OpenAccount) (n : ℕ) (p : Post)
@@ -48,7 +48,7 @@ standing_by places common count today rows accounts i b n p desk low is h =
           let two = alike_timely today lists common (shared_rows rows) timely desk.holidays desk.table desk.index_rows in
           let nearby : IsNear common old lists b.folding.reached day = λ from first. near_here.near from (same_first today old lists (shared_rows rows) common from (alike-back today old common (shared_rows rows) one) (alike-back today lists common (shared_rows rows) two) first) in
           let stays = h.stay key day (subst (λ (l : Lists). IsNear common old l b.folding.reached day) (sym same) nearby) in
-          ap (λ (x : Book). take (suc n) x.entries) (sym (one_book lists day common (shared_rows rows) two.posts two.fees))
+          ap (λ (x : Book). take (suc n) x.entries) (sym (one_book lists day common (shared_rows rows) two.posts two.fees two.index))
           ∙ (subst (λ (l : Lists). take (suc n) (book_on (given_of l common) day).entries ≡ take (suc n) b.folding.past.track.entries.items) same stays
           ∙ ap (take (suc n)) recorded);
     }

@@ -23,7 +23,8 @@ use std::marker::Model;
 use std::sync::ledger::Ledger;
 
 /// Today, the accepted shared requests with the holidays, the fee rows and the index in them, and all accounts in the order of
-/// their opening, each folded to the day that it has reached. Clauses see it as a record of its state and these days.
+/// their opening, each folded to the day that it has reached. Clauses see it as a record of its state, these days and what is
+/// recorded up to them.
 #[derive(Drop)]
 pub struct Desk {
     today: Day,
@@ -45,7 +46,7 @@ impl Model for Desk {
 }
 
 impl Desk {
-    ghost use Rattle.std.specs.Prelude.{◌≡◌, ◌≤◌, ◌<◌, ◌+◌, ◌^◌, ◌++◌, List, [], ◌∷◌, true, Some, None, length, slice_get, slice_index_or, IfOk, IfSome, OnOk, OnErr, IsErrOf};
+    ghost use Rattle.std.specs.Prelude.{◌≡◌, ◌≤◌, ◌<◌, ◌+◌, ◌^◌, ◌++◌, List, [], ◌∷◌, true, Some, None, length, slice_get, slice_index_or, IfOk, IfSome, OnOk, OnErr, IsErrOf, option_copied};
     ghost use Rattle.std.specs.List.{All};
     ghost use Rattle.std.specs.Option.{option_map};
     ghost use Rattle.card_model.specs.declared.entry.Entry.{Entry};
@@ -148,9 +149,11 @@ impl Desk {
         self.accounts[place].recorded()
     }
 
-    /// What is recorded of an account. None comes exactly where it isn't there.
+    /// What is recorded of an account: its entries up to the end of the day that it has reached. None comes exactly where it isn't there.
     pub fn entries_of(&self, account: &Name) -> Option<&[Entry]>
-        ensures { option_copied result ≡ option_map (entries_there self.now) (place_from account.now 0 self.now.state.accounts) }
+        ensures entries { option_copied result ≡ option_map (entries_there self.now) (place_from account.now 0 self.now.state.accounts) }
+        ensures value { (d : List Entry) → option_copied result ≡ option_map (λ at. slice_index_or self.now.recorded at d) (place_from account.now 0 self.now.state.accounts) }
+        ensures few { IfSome result (λ entries. length entries.now < 2 ^ 32) }
     {
         match self.place_of(account) {
             Some(at) => Some(self.recorded(at)),
@@ -159,8 +162,8 @@ impl Desk {
     }
 
     /// How many of the first entries that are recorded of the account at a place stay if it takes a post today, whatever it is then taken
-    /// back to: those up to the last closing, by the day last reached, before the first day that the post changes, or none where that
-    /// day isn't told beforehand. It takes no memory.
+    /// back to: those up to the last closing, by the day last reached, before the first day that the post changes, or none where the
+    /// post may not be accepted. It takes no memory.
     pub fn standing(&self, place: usize, post: &Post) -> usize
         requires { place < length self.now.recorded }
         ensures { AreStanding result place post.now self.now }

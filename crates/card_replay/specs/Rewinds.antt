@@ -1,5 +1,5 @@
 -- Going back to a closing, or to the eve, after one more post. Days are day numbers.
-use Rattle.std.specs.Prelude.{◌≡◌, ℕ, ◌+◌, ◌-◌, ◌<◌, ◌≤◌, true, false, List, [], ◌∷◌, ◌++◌, length, nat_le, Option, Some, None, IfSome}
+use Rattle.std.specs.Prelude.{◌≡◌, ℕ, ◌+◌, ◌-◌, ◌<◌, ◌≤◌, true, false, [], ◌∷◌, ◌++◌, length, nat_le, Option, Some, None, IfSome}
 use Rattle.std.specs.List.{filter}
 use Rattle.card_events.specs.Billing.{cycle_of}
 use Rattle.card_events.specs.Range.{last_request_day}

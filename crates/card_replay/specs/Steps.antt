@@ -10,7 +10,7 @@ use Rattle.card_model.specs.Machine.{accepted}
 use Rattle.card_model.specs.Refusals.{Lists}
 use Rattle.card_posts.specs.Change.{IsFirstChange}
 use Rattle.card_book.specs.Stands.{steps_over}
-use Rattle.card_book.specs.StepCounts.{breaks_from, breaks_with}
+use Rattle.card_book.specs.StepCounts.{breaks_with}
 use Rattle.card_replay.specs.Replays.{Replay, given_of, present_of}
 
 -- from the day after the one last reached to today

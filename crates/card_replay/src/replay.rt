@@ -454,7 +454,8 @@ impl Replay {
         &self.past.track.entries
     }
 
-    // The first day that a post changes, where that is told without entering it, for a post that may be accepted today.
+    // The first day that a post changes, told without entering it. None comes where the account takes no more posts, or where the post
+    // would be refused by what it names or gives.
     fn foretold(&self, post: &Post, today: Day, shared: &SharedRows) -> Option<Day>
         requires replay { IsReplay shared.now self.now }
         requires reach { MayReach today self.now }
@@ -469,8 +470,8 @@ impl Replay {
     }
 
     /// How many of the first entries that are recorded stay if the account takes a post today, whatever it is then taken back to: those up
-    /// to the last closing, by the day last reached, before the first day that the post changes. They are 0 where that day isn't told
-    /// without entering the post, or where the post would be refused by what it names or gives. It takes no memory.
+    /// to the last closing, by the day last reached, before the first day that the post changes. They are 0 where the account takes no
+    /// more posts, or where the post would be refused by what it names or gives. It takes no memory.
     pub fn standing(&self, post: &Post, today: Day, shared: &SharedRows) -> usize
         requires replay { IsReplay shared.now self.now }
         requires reach { MayReach today self.now }

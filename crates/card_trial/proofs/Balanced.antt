@@ -202,7 +202,7 @@ owed-then history issued shared day today low h = by (before-or-since day (ancho
         owes day es (owed (book history issued shared day).entries)
         (ap (sum_of (by_day day)) is ∙ (front-owed history issued shared day (suc n) m low (λ e g. omega arith) (λ e g. omega arith) ∙ ap owed (sym then)))
 
--- and on each day as much is held as is brought back
+-- and on each day the debits of hold are as much as its credits
 pub held-even : (history : List Kept) (issued : List IssuedRow) (shared : SharedRows) (day today : ℕ)
     → sum_between side.Debits day day kind.Hold (book history issued shared today).entries ≡ sum_between side.Credits day day kind.Hold (book history issued shared today).entries
 held-even history issued shared day today = even day (book history issued shared today).entries (by (before-or-since day (anchor_of history).opened) (before-or-since today day))

@@ -24,8 +24,8 @@ abbrev pub owed_on_all : State → ℕ → List NamedAccount → ℤ
 owed_on_all s day [] = pos 0
 owed_on_all s day (a ∷ others) = owed_on s day a +ℤ owed_on_all s day others
 
--- Up to a day that isn't after today, debits less credits are what is owed on all accounts at its end; and on every day as much is
--- held as is brought back
+-- Up to a day that isn't after today, debits less credits are what is owed on all accounts at its end; and on every day the debits
+-- of hold are as much as its credits
 pub record AreBalanced (s : State) : Type 0 where
   pub owed :
       (day : ℕ) → day ≤ s.today

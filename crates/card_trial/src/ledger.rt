@@ -66,7 +66,7 @@ impl LedgerDesk {
     ghost use Rattle.card_trial.specs.Totals.{AreSmall, AreTotals};
     ghost use Rattle.card_trial.specs.declared.side.Side.TheVariants as side;
 
-    /// Takes the desk.
+    /// Takes the desk, and enters all that is recorded of its accounts. It wants 8.6 MB; after want of memory the desk is gone.
     pub fn of(alloc: Global, desk: Desk) -> Result<LedgerDesk, NoMemory>
         ensures { IfOk result (λ l. l.desk ≡ desk) }
     {
@@ -100,14 +100,14 @@ impl LedgerDesk {
         self.totals().debits(from, to, kind)
     }
 
-    /// The credits.
+    /// The credits of a kind from one day to another, in cents, of all that is recorded.
     pub fn credits(&self, from: Day, to: Day, kind: EntryKind) -> i128
         ensures { result ≡ pos (all_between side.Credits from to kind self.now.desk.recorded) }
     {
         self.totals().credits(from, to, kind)
     }
 
-    /// The debits of all kinds.
+    /// The debits of all kinds from one day to another, in cents, of all that is recorded.
     pub fn all_debits(&self, from: Day, to: Day) -> u128
         ensures value { result ≡ of_all_kinds side.Debits from to self.now.desk.recorded }
         ensures bound { result ≤ 2 ^ 123 }
@@ -115,7 +115,7 @@ impl LedgerDesk {
         self.totals().all_debits(from, to)
     }
 
-    /// The credits.
+    /// The credits of all kinds from one day to another, in cents, of all that is recorded.
     pub fn all_credits(&self, from: Day, to: Day) -> u128
         ensures value { result ≡ of_all_kinds side.Credits from to self.now.desk.recorded }
         ensures bound { result ≤ 2 ^ 123 }
@@ -126,7 +126,7 @@ impl LedgerDesk {
     /// One step of the machine, as `Desk::apply` takes it. Of the account that the request names, what a post may change is taken out
     /// of the totals before, and what is recorded of it then is entered, whatever comes of the request: a refusal or a fault may have
     /// folded the account on. It reads no other account's entries, and of these those behind the last closing before the first day
-    /// that the post changes, or all of them where that day isn't told beforehand.
+    /// that the post changes, or all of them where the post may not be accepted.
     pub fn apply<K: Keeper, L: Ledger>(
         &mut self,
         alloc: Global,
@@ -170,7 +170,8 @@ impl LedgerDesk {
         }
     }
 
-    /// What is owed on an account today, as `Desk::show` tells it.
+    /// What is owed on an account today, as `Desk::show` tells it. The account reaches today, and what is recorded of it since is
+    /// entered; after want of memory it may be there or not, and the totals are those of what is recorded then.
     pub fn show<L: Ledger>(
         &mut self,
         alloc: Global,

@@ -26,7 +26,7 @@ impl Totals {
     ghost use Rattle.card_trial.specs.Sums.{all_between, of_all_kinds};
     ghost use Rattle.card_trial.specs.Totals.{AreEntered, AreEnough, AreNothing, AreSmall, AreTotals, HaveRoom, IsTakenOut};
 
-    /// Nothing.
+    /// Nothing is entered yet. It wants 8.6 MB.
     pub fn new(alloc: Global) -> Result<Totals, NoMemory>
         ensures { IfOk result AreNothing }
     {
@@ -44,7 +44,7 @@ impl Totals {
         self.credits.clear();
     }
 
-    /// Enters entries.
+    /// Enters entries, for which there is room: all sums of a side, and 2^63 cents for each entry, come to less than 2^127.
     pub fn put_in(&mut self, entries: &[Entry])
         requires { HaveRoom (length entries.now) self.old }
         ensures { AreEntered entries.now self.old self.new }
@@ -53,7 +53,7 @@ impl Totals {
         self.credits.put_in(Side::Credits, entries);
     }
 
-    /// Takes entries out, which were entered.
+    /// Takes entries out that were entered before.
     pub fn take_out(&mut self, entries: &[Entry])
         requires { AreEnough entries.now self.old }
         ensures { IsTakenOut entries.now self.old self.new }
@@ -69,14 +69,14 @@ impl Totals {
         self.debits.between(from, to, kind)
     }
 
-    /// The credits.
+    /// The credits of a kind from one day to another, in cents: 0 where this one is before that.
     pub fn credits(&self, from: Day, to: Day, kind: EntryKind) -> i128
         ensures { (lists : List (List Entry)) → AreTotals lists self.now → result ≡ pos (all_between Side.Credits from to kind lists) }
     {
         self.credits.between(from, to, kind)
     }
 
-    /// The debits of all kinds from one day to another.
+    /// The debits of all kinds from one day to another, in cents.
     pub fn all_debits(&self, from: Day, to: Day) -> u128
         requires { AreSmall self.now }
         ensures value { (lists : List (List Entry)) → AreTotals lists self.now → result ≡ of_all_kinds Side.Debits from to lists }
@@ -85,7 +85,7 @@ impl Totals {
         self.debits.of_all_kinds(from, to)
     }
 
-    /// The credits.
+    /// The credits of all kinds from one day to another, in cents.
     pub fn all_credits(&self, from: Day, to: Day) -> u128
         requires { AreSmall self.now }
         ensures value { (lists : List (List Entry)) → AreTotals lists self.now → result ≡ of_all_kinds Side.Credits from to lists }

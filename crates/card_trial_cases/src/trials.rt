@@ -289,27 +289,32 @@ fn run_cases<L: Ledger>(
     Ok(())
 }
 
+// With a ledger of their own.
+fn try_cases(rt: &impl Abort, alloc: Global, cases: &[Case]) -> Result<(), Fail> {
+    run_cases::<Brand>(rt, alloc, cases, Blank::new(1))
+}
+
 #[test]
 fn a_charge(rt: HostRuntime) -> Result<(), Fail> {
-    run_cases::<Brand>(&rt, rt.alloc(), &CHARGED, Blank::new(1))
+    try_cases(&rt, rt.alloc(), &CHARGED)
 }
 
 #[test]
 fn a_dispute(rt: HostRuntime) -> Result<(), Fail> {
-    run_cases::<Brand>(&rt, rt.alloc(), &DISPUTED, Blank::new(1))
+    try_cases(&rt, rt.alloc(), &DISPUTED)
 }
 
 #[test]
 fn a_correction(rt: HostRuntime) -> Result<(), Fail> {
-    run_cases::<Brand>(&rt, rt.alloc(), &CORRECTED, Blank::new(1))
+    try_cases(&rt, rt.alloc(), &CORRECTED)
 }
 
 #[test]
 fn a_return(rt: HostRuntime) -> Result<(), Fail> {
-    run_cases::<Brand>(&rt, rt.alloc(), &RETURNED, Blank::new(1))
+    try_cases(&rt, rt.alloc(), &RETURNED)
 }
 
 #[test]
 fn a_credit_balance(rt: HostRuntime) -> Result<(), Fail> {
-    run_cases::<Brand>(&rt, rt.alloc(), &CREDITED, Blank::new(1))
+    try_cases(&rt, rt.alloc(), &CREDITED)
 }
