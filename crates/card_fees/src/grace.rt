@@ -8,7 +8,7 @@ ghost use Rattle.card_posts.specs.Posted.{StandsFor};
 
 use crate::counting::repaid_reaches;
 use crate::due_cycle::{DueCycle, cents_in};
-use card_events::{Anchor, after_closing, due_date};
+use card_events::{Anchor, Day, after_closing, due_date};
 use card_model::GraceCase;
 use card_posts::Posts;
 
