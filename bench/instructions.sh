@@ -135,7 +135,8 @@ def closed(accounts=100):
     for account in range(accounts):
         yield f"open a{account} o {FIRST} {TERMS}"
         yield f"charge a{account} c {FIRST} purchase 50000"
-    yield "roll 2026-01-06"
+    for number in range(1, 25):
+        yield f"roll {2024 + number // 12}-{number % 12 + 1:02}-06"
     for account in range(accounts):
         yield f"show a{account}"
 
