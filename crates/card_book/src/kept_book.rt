@@ -127,7 +127,7 @@ impl Book {
         while first <= to {
             let end = span_end(inputs, &self.state.rates, first, to, &mut cursor);
             steps.tick();
-            self.fold_span(alloc, inputs, track, first, end)?;
+            self.fold_span(alloc, inputs, track, first, end, cursor.posts)?;
             first = end.next();
         }
         self.whole = true;
@@ -306,7 +306,7 @@ impl Book {
         }
     }
 
-    // Folds quiet days, from the first that isn't folded, and the day behind them.
+    // Folds quiet days, from the first that isn't folded, and the day behind them, whose posts are looked for from a place on.
     fn fold_span(
         &mut self,
         alloc: Global,
@@ -314,6 +314,7 @@ impl Book {
         track: &mut Track,
         first: Day,
         end: Day,
+        near: usize,
     ) -> Result<(), NoMemory>
         requires stands { StandsFor inputs.now self.old track.old }
         requires first { first ≡ day_to_fold inputs.now self.old.day }
@@ -327,7 +328,7 @@ impl Book {
         ensures room { KeepsRoom track.old track.new }
     {
         let _opening = opening_day(inputs);
-        next_span(alloc, inputs, first, end, &mut self.state, track)?;
+        next_span(alloc, inputs, first, end, near, &mut self.state, track)?;
         self.credit_since = since_after(has_credit(&self.state.segments), end, self.credit_since);
         self.day = Some(end);
         Ok(())

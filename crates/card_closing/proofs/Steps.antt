@@ -1,9 +1,9 @@
 -- Balances stay in step with entries when a segment is debited within the limit.
-use Rattle.std.proofs.Common.{◌≡◌, ℕ, zero, suc, ◌-◌, ◌<◌, ◌≤◌, Bool, true, false, cond, List, ◌++◌, length, take, refl, sym, ap, ◌∙◌, subst, arith, ℤ, pos, negsuc, ◌+ℤ◌, neg_ℤ, eqb, get_or, Option}
+use Rattle.std.proofs.Common.{◌≡◌, ℕ, zero, suc, ◌-◌, ◌<◌, ◌≤◌, Bool, true, false, cond, List, ◌++◌, length, take, refl, sym, ap, ◌∙◌, subst, arith, ℤ, pos, negsuc, ◌+ℤ◌, neg_ℤ, eqb, get_or, Option, None, Some}
 use Rattle.std.specs.Prelude.{min}
 use Rattle.std.proofs.lemmas.Int.{ints}
 use Rattle.std.proofs.lemmas.Bool.{eqb-true}
-use Rattle.std.proofs.lemmas.List.{length-take, take-append-le, take-take, take_all}
+use Rattle.std.proofs.lemmas.List.{append-nil, length-take, take-append-le, take-take, take_all}
 use Rattle.card_model.specs.Cycles.{Amounts, Cycle}
 use Rattle.card_model.specs.Entries.{AreBalances, at_least_zero, balance, credit_balance, credit_in, debit}
 use Rattle.card_model.specs.Limits.{balance_limit}
@@ -12,7 +12,7 @@ use Rattle.card_model.specs.declared.entry.Note.{Note}
 use Rattle.card_model.proofs.EntryFacts.{balance-debit}
 use Rattle.card_model.proofs.Posted.{are_balances-posted, debit-known, get_or-posted}
 use Rattle.card_segments.specs.Balances.{AreWithin, Balances, IsWithin, after_entries}
-use Rattle.card_closing.specs.Turns.{AreInStep, BeginsWith, Turn, charge_for, charged, debited, with_amount, with_charge}
+use Rattle.card_closing.specs.Turns.{AreInStep, BeginsWith, Turn, charge_for, charged, debited, left_by, with_amount, with_charge}
 
 pub begins-more : (xs ys : List Entry) → BeginsWith xs (xs ++ ys)
 begins-more xs ys = take-append-le (length xs) xs ys (omega arith) ∙ take_all (length xs) xs (omega arith)
@@ -85,3 +85,19 @@ pub begins-trans : (xs ys zs : List Entry) → BeginsWith xs ys → BeginsWith y
 begins-trans xs ys zs h k =
     let short : length xs ≤ length ys = omega (arith, ap length h, length-take (length xs) ys) in
     sym (take-take (length xs) (length ys) zs short) ∙ (ap (take (length xs)) k ∙ h)
+
+-- ---- nothing asked
+pub charge-none : (issued : Option Cycle) (t : Turn) (s asked : ℕ) → asked ≡ 0 → 0 ≡ charge_for issued t s asked
+unfolding charge_for left_by
+charge-none None t s asked none = omega (arith, none)
+charge-none (Some c) t s asked none = omega (arith, none)
+
+pub debited-none : (note : Note) (s : ℕ) (es : List Entry) → es ≡ debited note s 0 es
+unfolding debited debit
+debited-none note s es = sym (rw (least (credit_balance es), less (credit_balance es)) (append-nil es))
+  where
+    least : (c : ℕ) → min 0 c ≡ 0
+    least c = omega arith
+
+    less : (c : ℕ) → 0 - c ≡ 0
+    less c = omega arith

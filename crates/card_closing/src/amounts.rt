@@ -2,14 +2,15 @@ ghost use Rattle.std.specs.Prelude.{◌≡◌, ◌==◌, if◌then◌else◌, []
 ghost use Rattle.card_model.specs.Cycles.{amount_at, amounts_sum};
 
 use card_events::NoMemory;
+use smallvec::SmallVec;
 use std::alloc::Global;
 use std::marker::Model;
 
 /// Amounts by segment: pairs of a segment's number and cents. Those of a closed cycle are in order of segment number,
-/// and none is 0.
+/// and none is 0. Up to four of them take no memory of their own.
 #[derive(Drop)]
 pub struct Amounts {
-    items: Vec<(u8, u64)>,
+    items: SmallVec<(u8, u64), 4>,
 }
 
 impl Model for Amounts {
@@ -55,7 +56,7 @@ impl Amounts {
         ensures { result ≡ [] }
     {
         Amounts {
-            items: Vec::new(alloc),
+            items: SmallVec::new(alloc),
         }
     }
 
@@ -94,7 +95,7 @@ impl Amounts {
         ensures { IfOk result (λ a. a ≡ self.now) }
     {
         Ok(Amounts {
-            items: Vec::from_slice(alloc, &self.items)?,
+            items: SmallVec::from_slice(alloc, &self.items)?,
         })
     }
 }

@@ -94,6 +94,9 @@ pub fn charge(
     ensures begins { BeginsWith out.old.items out.new.items }
     ensures capacity { vec_capacity out.old ≤ vec_capacity out.new }
 {
+    if asked == 0 {
+        return Ok(());
+    }
     let cents = charge_of(issued, done, segments, id, asked);
     debit(segments, note, id, cents, out)?;
     add(done, id, cents)?;

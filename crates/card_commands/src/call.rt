@@ -25,6 +25,7 @@ use card_events::{Day, NoMemory};
 use card_ports::{Door, Keeper, Sink, SinkFault, Source, write_all};
 use card_words::{Command, command_of, usage_line};
 use std::alloc::Global;
+use std::mem::forget;
 
 /// Does what the words say, and answers the exit status. Each command but `demo` begins with the ledger that the kept rows
 /// give. `apply` reads request lines from the input and writes one reply for each to the output, `import` does so with
@@ -113,7 +114,8 @@ fn carry_out<I: Source, O: Sink, K: Keeper, D: Door>(
     }
 }
 
-// Loads the ledger, and runs over the lines of the input.
+// Loads the ledger, and runs over the lines of the input. The ledger goes with the process: to give each of its parts back first
+// takes a part of a run's time.
 fn apply_lines<I: Source, O: Sink, K: Keeper>(
     alloc: Global,
     input: &mut I,
@@ -126,7 +128,9 @@ fn apply_lines<I: Source, O: Sink, K: Keeper>(
     match load(alloc, output, keeper) {
         Ok(desk) => {
             let mut progress = Progress::new(alloc, desk);
-            run(&mut progress, alloc, input, output, keeper)
+            let ended = run(&mut progress, alloc, input, output, keeper);
+            forget(progress);
+            ended
         }
         Err(ended) => ended,
     }
@@ -153,7 +157,7 @@ fn trial_lines<I: Source, O: Sink, K: Keeper>(
     }
 }
 
-// Loads the ledger, and runs over the records of the input.
+// Loads the ledger, and runs over the records of the input. The ledger goes with the process.
 fn import_records<I: Source, O: Sink, K: Keeper>(
     alloc: Global,
     input: &mut I,
@@ -166,7 +170,9 @@ fn import_records<I: Source, O: Sink, K: Keeper>(
     match load(alloc, output, keeper) {
         Ok(desk) => {
             let mut run = Run::new(desk);
-            import(&mut run, alloc, input, output, keeper)
+            let ended = import(&mut run, alloc, input, output, keeper);
+            forget(run);
+            ended
         }
         Err(ended) => ended,
     }

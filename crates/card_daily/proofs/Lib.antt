@@ -11,6 +11,7 @@ pub mod Holding
 pub mod LastThat
 pub mod Lasts
 pub mod Naming
+pub mod Near
 pub mod Penalized
 pub mod PostDay
 pub mod Posting

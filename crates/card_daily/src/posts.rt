@@ -31,13 +31,14 @@ ghost use Rattle.card_daily.specs.Stands.{AreAmid, AreClosedBefore, Begins, befo
 use crate::due::due_cycle;
 use crate::holds::{enter_dispute, enter_resolve};
 use crate::penalties::begin_penalty;
+use crate::place::place_near;
 use crate::returns::enter_return;
 use crate::{Inputs, State, Track};
 use card_closing::Cycle;
 use card_effects::{charge, credit, payment, refund, repay};
 use card_events::{Anchor, Cents, Day, NoMemory, Place, Post, Slot, closing, cycle_of};
 use card_fees::minimum_left;
-use card_rates::{DayPost, first_place, folded_at};
+use card_rates::{DayPost, folded_at};
 use std::alloc::Global;
 
 // The closing after that of a day's cycle.
@@ -268,12 +269,14 @@ fn end_of(slots: &[Slot], first: usize, day: Day) -> usize
 /// Enters the posts of a day, in order of number: charges, refunds, payments, merchants' credits, returned payments, disputes and
 /// their resolutions (12 CFR 1026.10, .11(a), .13, .52(b), .53), and the kinds that change no balance. A Penalty begins 45 days
 /// later where the account is sixty days late (12 CFR 1026.9(g), .55(b)(4)). The day isn't before the opening day and at most
-/// 2099-12-31; the days before it are folded, and what its due date brought. After want of memory state and track are of no
-/// use, but that the track begins with what it held.
+/// 2099-12-31; the days before it are folded, and what its due date brought. Its posts are looked for from a place on, as
+/// `place_near` does: for speed alone. After want of memory state and track are of no use, but that the track begins with what
+/// it held.
 pub fn post_day(
     alloc: Global,
     inputs: &Inputs,
     day: Day,
+    near: usize,
     state: &mut State,
     track: &mut Track,
 ) -> Result<(), NoMemory>
@@ -284,7 +287,7 @@ pub fn post_day(
     ensures room { KeepsRoom track.old track.new }
 {
     let posts = inputs.posts();
-    let first = first_place(posts, day);
+    let first = place_near(posts, near, day);
     let end = end_of(posts.in_order(), first, day);
     for place in first..end {
         enter(alloc, inputs, day, place, state, track)?;

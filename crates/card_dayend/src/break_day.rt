@@ -6,19 +6,17 @@ ghost use Rattle.card_events.specs.Range.{last_request_day};
 ghost use Rattle.card_events.specs.declared.anchor.Anchor.{Anchor};
 ghost use Rattle.card_events.specs.History.{anchor_of, is_variable};
 ghost use Rattle.card_posts.specs.Posted.{StandsFor};
-ghost use Rattle.card_rates.specs.Days.{place_of};
 ghost use Rattle.card_rates.specs.Next.{IsNext};
 ghost use Rattle.card_rates.specs.RateBooks.{rates_of};
-ghost use Rattle.card_rates.specs.SlotLaws.{IsCut};
 ghost use Rattle.card_model.specs.Cycles.{IssuedRow};
 ghost use Rattle.card_daily.specs.Given.{opened_in};
 ghost use Rattle.card_dayend.specs.Spans.{HoldDay, IsCursorOf, IsIssueCut, breaks_by, closes, follows_due, has_issue, has_post};
 
 use crate::cursor::{Cursor, CycleDates, dates_at};
-use card_daily::{Inputs, Issued};
-use card_events::{Day, Slot};
+use card_daily::{Inputs, Issued, place_near};
+use card_events::Day;
 use card_posts::Posts;
-use card_rates::{RateBook, first_place};
+use card_rates::RateBook;
 
 // A day, where it comes before the end.
 fn next_at(first: Day, end: Day, day: Day) -> Day
@@ -26,49 +24,6 @@ fn next_at(first: Day, end: Day, day: Day) -> Day
     ensures { IsNext (λ x. day == x) first end result }
 {
     if first <= day && day < end { day } else { end }
-}
-
-fn is_early(slot: &Slot, day: Day) -> bool
-    ensures { result ≡ nat_lt slot.now.day day }
-{
-    slot.day < day
-}
-
-// Whether the slot in front of a place, where there is one, is of an earlier day.
-fn is_at_most(slots: &[Slot], near: usize, day: Day) -> bool
-    ensures { (place : ℕ) → IsCut slots.now day place → result ≡ true → near ≤ place }
-{
-    if near == 0 {
-        return false;
-    }
-    let before = near - 1;
-    if slots.len() <= before {
-        return false;
-    }
-    is_early(&slots[before], day)
-}
-
-// The place of a day, from a place on that isn't behind it.
-fn place_from(slots: &[Slot], near: usize, day: Day) -> usize
-    ensures { (end : ℕ) → IsCut slots.now day end → near ≤ end → result ≡ end }
-{
-    for place in near..slots.len() {
-        if !is_early(&slots[place], day) {
-            return place;
-        }
-    }
-    slots.len()
-}
-
-// The place of a day among the posts, from a place on where that isn't behind it.
-fn place_near(posts: &Posts, near: usize, day: Day) -> usize
-    ensures { (holidays : List ℕ) → StandsFor holidays posts.now → result ≡ place_of day posts.now.corrected }
-{
-    let slots = posts.in_order();
-    if is_at_most(slots, near, day) {
-        return place_from(slots, near, day);
-    }
-    first_place(posts, day)
 }
 
 // The next day with a post, which is looked for from a place on.

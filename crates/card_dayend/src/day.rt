@@ -10,12 +10,14 @@ use card_events::{Day, NoMemory};
 use std::alloc::Global;
 
 /// Folds a day: what its due date brings, its posts in turn, its row on each segment, and the closing where it is one. The
-/// day isn't before the opening day and at most 2099-12-31, and the days before it are folded. After want of memory state and
+/// day isn't before the opening day and at most 2099-12-31, and the days before it are folded. Its posts are looked for from a
+/// place on, for speed alone. After want of memory state and
 /// track are of no use, but that the track begins with what it held.
 pub fn next_day(
     alloc: Global,
     inputs: &Inputs,
     day: Day,
+    near: usize,
     state: &mut State,
     track: &mut Track,
 ) -> Result<(), NoMemory>
@@ -27,7 +29,7 @@ pub fn next_day(
 {
     let _opening = opening_day(inputs);
     due_day(inputs, day, state, track)?;
-    post_day(alloc, inputs, day, state, track)?;
+    post_day(alloc, inputs, day, near, state, track)?;
     row_day(inputs.index(), day, state)?;
     close_day(alloc, inputs, day, state, track)?;
     Ok(())
@@ -43,13 +45,15 @@ fn days_to(first: Day, end: Day) -> u32
 
 /// Folds a span: days on which nothing happens, from a first one on, each with its row on each segment, and the day that ends
 /// them. That day isn't before the first one and at most 2099-12-31, the first isn't before the opening day, the days between
-/// are no break days by the penalties begun so far, and the days before the first are folded. After want of memory state and
+/// are no break days by the penalties begun so far, and the days before the first are folded. The posts of the last day are looked
+/// for from a place on, for speed alone. After want of memory state and
 /// track are of no use, but that the track begins with what it held.
 pub fn next_span(
     alloc: Global,
     inputs: &Inputs,
     first: Day,
     end: Day,
+    near: usize,
     state: &mut State,
     track: &mut Track,
 ) -> Result<(), NoMemory>
@@ -64,5 +68,5 @@ pub fn next_span(
 {
     let _opening = opening_day(inputs);
     pass_quiet(inputs.index(), first, days_to(first, end), state)?;
-    next_day(alloc, inputs, end, state, track)
+    next_day(alloc, inputs, end, near, state, track)
 }

@@ -9,6 +9,7 @@ use card_events::{Day, NoMemory};
 use card_model::Segment;
 use card_rates::{IndexTable, RateBook};
 use card_segments::{Rank, Segments};
+use smallvec::SmallVec;
 use std::alloc::Global;
 
 // The end of a deferred plan in its period, where it doesn't lie after a day.
@@ -56,14 +57,14 @@ fn no_rank() -> Rank
 }
 
 // Adds a rank.
-fn add(list: &mut Vec<Rank>, rate: u16, last_two: Option<Day>) -> Result<(), NoMemory>
+fn add(list: &mut SmallVec<Rank, 8>, rate: u16, last_two: Option<Day>) -> Result<(), NoMemory>
     ensures { OnOk result (list.new.items ≡ list.old.items ++ record { rate = rate; last_two = last_two } ∷ []) }
 {
     list.push(Rank { rate, last_two })?;
     Ok(())
 }
 
-// The ranks of all segments, where the last two cycles from a day on end on another.
+// The ranks of all segments, where the last two cycles from a day on end on another. Those of up to eight take no memory.
 pub fn ranks(
     alloc: Global,
     segments: &Segments,
@@ -71,12 +72,12 @@ pub fn ranks(
     index: &IndexTable,
     until: Day,
     day: Day,
-) -> Result<Vec<Rank>, NoMemory>
+) -> Result<SmallVec<Rank, 8>, NoMemory>
     requires { AreRated segments.now.segments rates.now }
     ensures items { IfOk result (λ v. v.items ≡ ranks_on index.now rates.now until day) }
     ensures all { IfOk result (λ v. length v.items ≡ length segments.now.balances) }
 {
-    let mut list = Vec::with_capacity(alloc, segments.len() as usize)?;
+    let mut list = SmallVec::new(alloc);
     add(&mut list, 0, None)?;
     add(&mut list, 0, None)?;
     for id in 2..segments.len() {

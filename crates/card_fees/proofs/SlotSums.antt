@@ -1,17 +1,23 @@
 -- Payments counted over the slots of some days are those of the corrected list; and a count that ends at a limit.
-use Rattle.std.proofs.Common.{◌≡◌, ℕ, ◌-◌, ◌<◌, ◌≤◌, Bool, true, false, cond, not, ◌&&◌, nat_le, nat_lt, List, map, min, refl, sym, ap, ◌∙◌, arith}
+use Rattle.std.proofs.Common.{◌≡◌, ℕ, zero, suc, ◌+◌, ◌-◌, ◌<◌, ◌≤◌, Bool, true, false, cond, not, ◌&&◌, nat_le, nat_lt, List, [], ◌∷◌, get_or, length, map, min, take, refl, sym, ap, ◌∙◌, arith}
+use Rattle.std.specs.List.{sum_by}
+use Rattle.std.specs.List.Sorted.{IsPartitionedBy}
 use Rattle.std.proofs.lemmas.Bool.Decides.{nat_tests}
+use Rattle.std.proofs.lemmas.List.{get_or_read_under}
 use Rattle.std.proofs.lemmas.List.Elements.{All-weaker}
+use Rattle.std.proofs.lemmas.List.Sums.{sum_by-cons}
 use Rattle.card_events.specs.declared.anchor.Anchor.{Anchor}
 use Rattle.card_events.specs.History.{CorrectedPost, at_number, corrected, slot_of}
 use Rattle.card_events.specs.declared.kept.Kept.{Kept}
 use Rattle.card_events.specs.declared.kept.Slot.{Slot}
-use Rattle.card_fees.specs.Counting.{counts, is_payment_at, is_returned_until, since, slots_sum, up_to}
+use Rattle.card_fees.specs.Counting.{counts, is_payment_at, is_returned_until, reaches, read_counts, since, slots_sum, up_to}
+use Rattle.card_fees.specs.declared.returning.Until.{Until}
 use Rattle.card_fees.specs.declared.returning.Until.TheVariants as until
 use Rattle.card_fees.proofs.Payments.{Stands, all-stand}
 use Rattle.card_fees.proofs.Returned.{returned-corrected}
-use Rattle.card_fees.proofs.Slots.{sum-filter, sum-in_order, sum-map, sum-same}
+use Rattle.card_fees.proofs.Slots.{parted-by, parted-in_front, sum-filter, sum-in_order, sum-map, sum-same}
 use Rattle.card_model.specs.Payments.{counted, is_between, is_payment, is_returned}
+use Rattle.card_posts.specs.Order.{IsAscending}
 use Rattle.card_posts.specs.Posted.{folding_order}
 
 four : (A B C R S : Bool) (c : ℕ) → R ≡ S → cond B (cond C (cond (A && not R) c 0) 0) 0 ≡ cond (A && (B && C) && not S) c 0
@@ -74,5 +80,63 @@ below-min limit x = by (nat_lt x limit) refl
 pub less-min : (limit x : ℕ) → limit - min limit x ≡ limit - x
 less-min limit x = omega arith
 
+le-true : (m n : ℕ) → m ≤ n → nat_le m n ≡ true
+le-true m n l = grind (arith, nat_tests)
+
 pub not-below : (limit x : ℕ) → not (nat_lt x limit) ≡ nat_le limit x
 not-below limit x = grind (arith, nat_tests)
+
+-- what payments and credits reach together is told by the payments counted up to it, and by the credits where these don't
+pub one-reaches : (limit part paid credited : ℕ) → part ≡ min limit paid → nat_le limit part ≡ true → true ≡ nat_le limit (paid + credited)
+one-reaches limit part paid credited e l =
+    let low : limit ≤ part = grind (arith, nat_tests) in
+    let high : limit ≤ paid + credited = omega (arith, e, low) in
+    sym (le-true limit (paid + credited) high)
+
+pub both-reach : (limit part more paid credited : ℕ) → part ≡ min limit paid → nat_le limit part ≡ false → more ≡ credited → nat_le limit (part + more) ≡ nat_le limit (paid + credited)
+both-reach limit part more paid credited e l m =
+    let high : part < limit = grind (arith, nat_tests) in
+    let same : part ≡ paid = omega (arith, e, high) in
+    let both : part + more ≡ paid + credited = omega (arith, same, m) in
+    ap (nat_le limit) both
+
+-- ---- slots that aren't read
+read-parted : (u : Until) (slots : List Slot) → IsAscending slots → IsPartitionedBy (λ (s : Slot). reaches u s.day s.number) slots
+read-parted (until.Day to) slots h = parted-by to slots h
+read-parted (until.Post day number) slots h = parted-in_front day number slots h
+
+none-sum : (g : Slot → ℕ) (slots : List Slot) → ((k : ℕ) (d : Slot) → k < length slots → g (get_or slots k d) ≡ 0) → 0 ≡ sum_by g slots
+none-sum g [] h = refl
+none-sum g (x ∷ xs) h =
+    let one = sum_by-cons g x xs in
+    let first : g x ≡ 0 = h 0 x (omega arith) in
+    let rest = none-sum g xs (λ k d l. h (suc k) d (omega (arith, l))) in
+    omega (arith, one, first, rest)
+
+front-sum : (g : Slot → ℕ) (slots : List Slot) (i : ℕ) → ((k : ℕ) (d : Slot) → i ≤ k → k < length slots → g (get_or slots k d) ≡ 0) → sum_by g (take i slots) ≡ sum_by g slots
+front-sum g [] zero h = refl
+front-sum g [] (suc i) h = refl
+front-sum g (x ∷ xs) zero h = none-sum g (x ∷ xs) (λ k d l. h k d (omega arith) l)
+front-sum g (x ∷ xs) (suc i) h =
+    sum_by-cons g x (take i xs) ∙ ap (λ n. g x + n) (front-sum g xs i (λ k d l m. h (suc k) d (omega (arith, l)) (omega (arith, m)))) ∙ sym (sum_by-cons g x xs)
+
+-- behind a slot that isn't read none is
+pub read-front : (u : Until) (history : List Kept) (posts : List CorrectedPost) (slots : List Slot) (i : ℕ) (s : Slot)
+    → IsAscending slots → s ≡ get_or slots i s → reaches u s.day s.number ≡ false
+    → sum_by (read_counts u history posts) (take i slots) ≡ sum_by (read_counts u history posts) slots
+read-front u history posts slots i s order at is = front-sum (read_counts u history posts) slots i none
+  where
+    one : (x : Slot) (b : Bool) → reaches u x.day x.number ≡ b → (reaches u x.day x.number ≡ true → false ≡ true) → read_counts u history posts x ≡ 0
+    one x true e other = let never : false ≡ true = other e in absurd (cc)
+    one x false e other = ap (λ b. cond b (counts u history posts x) 0) e
+
+    none : (k : ℕ) (d : Slot) → i ≤ k → k < length slots → read_counts u history posts (get_or slots k d) ≡ 0
+    none k d low less =
+        one (get_or slots k d) (reaches u (get_or slots k d).day (get_or slots k d).number) refl
+        (λ e.
+        let same : s ≡ get_or slots i d = get_or_read_under slots i (length slots) s d at (omega (arith, low, less)) refl in
+        sym is ∙ (ap (λ (x : Slot). reaches u x.day x.number) same ∙ read-parted u slots order i k d low less e))
+
+-- what is read before it is no more than the limit, where it isn't enough
+pub read-below : (limit part whole : ℕ) → nat_le limit part ≡ false → part ≡ whole → part ≡ min limit whole
+read-below limit part whole e same = let low : part < limit = grind (arith, nat_tests) in omega (arith, low, same)

@@ -51,6 +51,10 @@ abbrev pub counts : Until → List Kept → List CorrectedPost → Slot → ℕ
 counts u history posts s =
     if is_payment_at (at_number s.number history) && not (is_returned_until u history posts s.number) then unsigned_abs s.cents else 0
 
+-- the same, where it is read itself
+abbrev pub read_counts : Until → List Kept → List CorrectedPost → Slot → ℕ
+read_counts u history posts s = if reaches u s.day s.number then counts u history posts s else 0
+
 -- what they count together
 abbrev pub slots_sum : Until → List Kept → List CorrectedPost → List Slot → ℕ
 slots_sum u history posts slots = sum_by (counts u history posts) slots

@@ -1,14 +1,14 @@
 // Sums over the payments of some days.
-ghost use Rattle.std.specs.Prelude.{◌≡◌, ◌≤◌, ◌≤ℤ◌, ℕ, List, min, nat_le, nat_lt, pos, unsigned_abs};
+ghost use Rattle.std.specs.Prelude.{◌≡◌, ◌+◌, ◌≤◌, ◌≤ℤ◌, ℕ, List, min, nat_le, nat_lt, pos, unsigned_abs};
 ghost use Rattle.std.specs.List.{sum_by};
 ghost use Rattle.card_events.specs.History.{at_number};
-ghost use Rattle.card_fees.specs.Counting.{counts, credits, earlier_posts, in_front, is_before, is_credit_at, is_payment_at, since, slots_sum, up_to};
+ghost use Rattle.card_fees.specs.Counting.{counts, credits, earlier_posts, is_credit_at, is_payment_at, read_counts, since, up_to};
 ghost use Rattle.card_fees.specs.Limits.{payments_limit};
 ghost use Rattle.card_model.specs.Payments as payments;
 ghost use Rattle.card_posts.specs.Order.{IsAscending};
 ghost use Rattle.card_posts.specs.Posted.{AreBounded, StandsFor, folding_order};
 
-use crate::returning::{Until, is_returned};
+use crate::returning::{Until, is_returned, reaches};
 use card_events::{Cents, Day, Post, Slot};
 use card_posts::Posts;
 
@@ -41,35 +41,21 @@ fn up_to(slots: &[Slot], to: Day) -> &[Slot]
     &slots[..slots.partition_point(|slot| is_by(slot, to))]
 }
 
+// those of all posts
+fn slots_since(posts: &Posts, from: Day) -> &[Slot]
+    ensures value { result.now ≡ since from (folding_order posts.now.corrected) }
+    ensures order { IsAscending result.now }
+    ensures bounded { AreBounded result.now }
+{
+    since(posts.in_order(), from)
+}
+
 // the slots from one day to another
 fn slots_of(posts: &Posts, from: Day, to: Day) -> &[Slot]
     ensures value { result.now ≡ up_to to (since from (folding_order posts.now.corrected)) }
     ensures bounded { AreBounded result.now }
 {
-    up_to(since(posts.in_order(), from), to)
-}
-
-// whether a slot stands in front of the one with a day and a number
-fn is_in_front(slot: &Slot, day: Day, number: u32) -> bool
-    ensures { result ≡ is_before day number slot.now.day slot.now.number }
-{
-    slot.day < day || slot.day == day && slot.number < number
-}
-
-// the slots in front of it
-fn in_front(slots: &[Slot], day: Day, number: u32) -> &[Slot]
-    requires { IsAscending slots.now }
-    ensures { result.now ≡ in_front day number slots.now }
-{
-    &slots[..slots.partition_point(|slot| is_in_front(slot, day, number))]
-}
-
-// the slots from a day on, up to the one with a day and a number, without it
-fn slots_before(posts: &Posts, from: Day, day: Day, number: u32) -> &[Slot]
-    ensures value { result.now ≡ in_front day number (since from (folding_order posts.now.corrected)) }
-    ensures bounded { AreBounded result.now }
-{
-    in_front(since(posts.in_order(), from), day, number)
+    up_to(slots_since(posts, from), to)
 }
 
 fn is_payment(posts: &Posts, number: u32) -> bool
@@ -93,16 +79,29 @@ fn counts(posts: &Posts, until: &Until, slot: &Slot) -> u64
     }
 }
 
+// the same, where the slot is read
+fn read_counts(posts: &Posts, until: &Until, slot: &Slot) -> u64
+    ensures value { result ≡ read_counts until.now posts.now.history posts.now.corrected slot.now }
+    ensures bound { result ≤ unsigned_abs slot.now.cents }
+{
+    if reaches(until, slot) {
+        counts(posts, until, slot)
+    } else {
+        0
+    }
+}
+
 fn is_enough(total: u64, limit: u64) -> bool
     ensures { result ≡ nat_le limit total }
 {
     limit <= total
 }
 
-// what slots count together, up to a limit, behind which no slot is looked at
+// What the slots that are read count together, up to a limit. It looks at no slot behind the limit, and at one that isn't read.
 fn sum(posts: &Posts, slots: &[Slot], until: &Until, limit: u64) -> u64
+    requires order { IsAscending slots.now }
     requires bounded { AreBounded slots.now }
-    ensures value { result ≡ min limit (slots_sum until.now posts.now.history posts.now.corrected slots.now) }
+    ensures value { result ≡ min limit (sum_by (read_counts until.now posts.now.history posts.now.corrected) slots.now) }
     ensures bound { result ≤ payments_limit }
 {
     let mut total = 0;
@@ -110,7 +109,10 @@ fn sum(posts: &Posts, slots: &[Slot], until: &Until, limit: u64) -> u64
         if is_enough(total, limit) {
             return limit;
         }
-        total += counts(posts, until, slot);
+        if !reaches(until, slot) {
+            return total;
+        }
+        total += read_counts(posts, until, slot);
     }
     limit.min(total)
 }
@@ -120,7 +122,7 @@ pub fn counted_up_to(posts: &Posts, from: Day, to: Day, limit: u64) -> u64
     ensures bound { result ≤ payments_limit }
     ensures value { (holidays : List ℕ) → StandsFor holidays posts.now → result ≡ min limit (payments.counted posts.now.corrected from to) }
 {
-    sum(posts, slots_of(posts, from, to), &Until::Day(to), limit)
+    sum(posts, slots_since(posts, from), &Until::Day(to), limit)
 }
 
 // The same without a limit.
@@ -146,7 +148,7 @@ pub fn counted_in_front(posts: &Posts, from: Day, day: Day, number: u32, limit: 
     ensures bound { result ≤ payments_limit }
     ensures value { (holidays : List ℕ) → StandsFor holidays posts.now → result ≡ min limit (payments.counted (earlier_posts day number posts.now.corrected) from day) }
 {
-    let slots = slots_before(posts, from, day, number);
+    let slots = slots_since(posts, from);
     sum(posts, slots, &Until::Post(day, number), limit)
 }
 
@@ -207,6 +209,27 @@ fn credited_between(posts: &Posts, from: Day, to: Day) -> u64
     ensures value { (holidays : List ℕ) → StandsFor holidays posts.now → result ≡ payments.credited posts.now.corrected from to }
 {
     credits_sum(posts, slots_of(posts, from, to))
+}
+
+// Whether payments and credits reach an amount together.
+fn reach(paid: u64, credited: u64, amount: u64) -> bool
+    requires paid { paid ≤ payments_limit }
+    requires credited { credited ≤ payments_limit }
+    ensures { result ≡ nat_le amount (paid + credited) }
+{
+    amount <= paid + credited
+}
+
+// Whether the payments with effective days from one day to another, less those returned by its end, reach an amount together
+// with the merchants' credits of these days. It looks at no credit where the payments do.
+pub fn repaid_reaches(posts: &Posts, from: Day, to: Day, amount: u64) -> bool
+    ensures { (holidays : List ℕ) → StandsFor holidays posts.now → result ≡ nat_le amount (payments.counted posts.now.corrected from to + payments.credited posts.now.corrected from to) }
+{
+    let paid = counted_up_to(posts, from, to, amount);
+    if is_enough(paid, amount) {
+        return true;
+    }
+    reach(paid, credited_between(posts, from, to), amount)
 }
 
 /// The cents of the merchants' credits with effective days from one day to another (12 CFR 1026.11(a), .54(a)(1)). The

@@ -62,6 +62,9 @@ pub fn met(posts: &Posts, a: Anchor, k: u32, minimum: Cents) -> bool
     requires low { pos 0 ≤ℤ minimum }
     ensures { (holidays : List ℕ) → StandsFor holidays posts.now → result ≡ is_met a posts.now.corrected k (unsigned_abs minimum) }
 {
+    if minimum == 0 {
+        return true;
+    }
     !falls_short(posts, &a, k, due_date(&a, k), cents_in(minimum))
 }
 
@@ -78,6 +81,9 @@ pub fn past_due(posts: &Posts, a: Anchor, k: u32, minimum_before: Cents) -> Cent
     ensures { (holidays : List ℕ) → StandsFor holidays posts.now → result ≡ pos (past_due_at a posts.now.corrected k (unsigned_abs minimum_before)) }
 {
     if k == 1 {
+        return 0;
+    }
+    if minimum_before == 0 {
         return 0;
     }
     let end = closing_date(&a, k);

@@ -1,27 +1,27 @@
 // Whether a statement was paid, and how purchases bear interest after it.
-ghost use Rattle.std.specs.Prelude.{◌≡◌, ℕ, ◌+◌, ◌<◌, ◌≤◌, ◌≤ℤ◌, List, Some, pos};
+ghost use Rattle.std.specs.Prelude.{◌≡◌, ℕ, ◌+◌, ◌<◌, ◌≤◌, ◌≤ℤ◌, List, Some, nat_le, pos};
 ghost use Rattle.card_events.specs.Range.{last_calendar_day};
 ghost use Rattle.card_events.specs.Billing.{IsCloseDay, closing, due};
 ghost use Rattle.card_fees.specs.Asked.{IsInCalendar, case_by, is_paid, paid_before, repaid_by};
 ghost use Rattle.card_fees.specs.declared.due_cycle.DueCycle.{DueCycle};
 ghost use Rattle.card_posts.specs.Posted.{StandsFor};
 
-use crate::due_cycle::DueCycle;
-use crate::{counted, credited};
-use card_events::{Anchor, Cents, Day, after_closing, due_date};
+use crate::counting::repaid_reaches;
+use crate::due_cycle::{DueCycle, cents_in};
+use card_events::{Anchor, Day, after_closing, due_date};
 use card_model::GraceCase;
 use card_posts::Posts;
 
-// the payments and credits after the closing of a cycle, up to its due date
-fn repaid_by(posts: &Posts, a: &Anchor, cycle: u32) -> Cents
+// whether the payments and credits after the closing of a cycle, up to its due date, reach an amount
+fn is_repaid(posts: &Posts, a: &Anchor, cycle: u32, amount: u64) -> bool
     requires close_day { IsCloseDay a.now.close_day }
     requires cycle { 1 ≤ cycle }
     requires in_calendar { due a.now cycle ≤ last_calendar_day }
-    ensures { (holidays : List ℕ) → StandsFor holidays posts.now → result ≡ pos (repaid_by a.now posts.now.corrected cycle) }
+    ensures { (holidays : List ℕ) → StandsFor holidays posts.now → result ≡ nat_le amount (repaid_by a.now posts.now.corrected cycle) }
 {
     let from = after_closing(a, cycle);
     let to = due_date(a, cycle);
-    counted(posts, from, to) + credited(posts, from, to)
+    repaid_reaches(posts, from, to, amount)
 }
 
 /// Whether the payments and the merchants' credits with effective days after a cycle's closing and up to its due date,
@@ -34,7 +34,7 @@ pub fn paid(posts: &Posts, a: &Anchor, c: &DueCycle) -> bool
     requires known { IsInCalendar a.now c.now }
     ensures { (holidays : List ℕ) → StandsFor holidays posts.now → result ≡ is_paid a.now posts.now.corrected c.now }
 {
-    !c.has_due_payment || c.grace_amount <= repaid_by(posts, a, c.cycle)
+    !c.has_due_payment || is_repaid(posts, a, c.cycle, cents_in(c.grace_amount))
 }
 
 // whether a statement was paid, where there is one

@@ -34,6 +34,10 @@ pub fn minimum_left(posts: &Posts, a: &Anchor, c: &DueCycle, day: Day, number: u
     ensures { (holidays : List ℕ) → StandsFor holidays posts.now → result ≡ pos (left_by a.now posts.now.corrected c.now day number) }
 {
     let _last = day.number();
+    let amount = asked(c);
+    if amount == 0 {
+        return 0;
+    }
     let from = after_closing(a, c.cycle);
-    left_in_front(posts, from, day, number, asked(c))
+    left_in_front(posts, from, day, number, amount)
 }

@@ -16,8 +16,8 @@ pub enum Until {
     Post(Day, u32),
 }
 
-// whether that is behind a slot
-fn reaches(until: &Until, slot: &Slot) -> bool
+// Whether that is behind a slot.
+pub fn reaches(until: &Until, slot: &Slot) -> bool
     ensures { result ≡ reaches until.now slot.now.day slot.now.number }
 {
     match until {

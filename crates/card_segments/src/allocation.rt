@@ -11,6 +11,7 @@ use crate::rule::Rule;
 use crate::{Parts, Rank, Segments};
 use card_events::{Cents, NoMemory};
 use card_model::Holding;
+use smallvec::SmallVec;
 use std::alloc::Global;
 
 // Cents where they are at least 0, else 0.
@@ -58,7 +59,7 @@ fn holdings(
 }
 
 // Adds a part, where it isn't of 0 cents.
-fn add_part(list: &mut Vec<(u8, u64)>, id: u8, cents: u64) -> Result<(), NoMemory>
+fn add_part(list: &mut SmallVec<(u8, u64), 4>, id: u8, cents: u64) -> Result<(), NoMemory>
     ensures { OnOk result (list.new.items ≡ list.old.items ++ part id cents) }
 {
     if cents > 0 {
@@ -68,10 +69,14 @@ fn add_part(list: &mut Vec<(u8, u64)>, id: u8, cents: u64) -> Result<(), NoMemor
 }
 
 // The parts that were paid, with what goes to Credit.
-fn parts_of(alloc: Global, holdings: &[Holding], credit: u64) -> Result<Vec<(u8, u64)>, NoMemory>
+fn parts_of(
+    alloc: Global,
+    holdings: &[Holding],
+    credit: u64,
+) -> Result<SmallVec<(u8, u64), 4>, NoMemory>
     ensures { IfOk result (λ v. v.items ≡ parts (record { left = holdings.now; credit = credit })) }
 {
-    let mut list = Vec::new(alloc);
+    let mut list = SmallVec::new(alloc);
     add_part(&mut list, 0, credit)?;
     for holding in holdings {
         add_part(&mut list, holding.id, holding.paid)?;

@@ -5,14 +5,15 @@ ghost use Rattle.card_segments.specs.Parts.{parts_in};
 
 use crate::{Entry, EntryKind};
 use card_events::{Cents, NoMemory};
+use smallvec::SmallVec;
 use std::alloc::Global;
 use std::marker::Model;
 
 /// The parts of a payment or a merchant's credit: segments with the cents that reached them, each segment once, ascending.
-/// Segment 0 is Credit.
+/// Segment 0 is Credit. Up to four parts take no memory of their own.
 #[derive(Drop)]
 pub struct Parts {
-    items: Vec<(u8, u64)>,
+    items: SmallVec<(u8, u64), 4>,
 }
 
 impl Model for Parts {
@@ -44,7 +45,7 @@ fn size(cents: Cents) -> u64
 }
 
 // Adds the part that an entry tells, where it is one of the payment.
-fn add_entry(list: &mut Vec<(u8, u64)>, payment: u32, entry: &Entry) -> Result<(), NoMemory>
+fn add_entry(list: &mut SmallVec<(u8, u64), 4>, payment: u32, entry: &Entry) -> Result<(), NoMemory>
     ensures { OnOk result (list.new.items ≡ list.old.items ++ parts_in (filter (is_part_of payment) (entry.now ∷ []))) }
 {
     if is_part_of(payment, entry) {
@@ -57,10 +58,10 @@ fn parts_of_payment(
     alloc: Global,
     entries: &[Entry],
     payment: u32,
-) -> Result<Vec<(u8, u64)>, NoMemory>
+) -> Result<SmallVec<(u8, u64), 4>, NoMemory>
     ensures { IfOk result (λ v. v.items ≡ parts_in (filter (is_part_of payment) entries.now)) }
 {
-    let mut list = Vec::new(alloc);
+    let mut list = SmallVec::new(alloc);
     for entry in entries {
         add_entry(&mut list, payment, entry)?;
     }
@@ -73,7 +74,7 @@ impl Parts {
     ghost use Rattle.card_model.specs.Effects.{is_part_of};
     ghost use Rattle.card_segments.specs.Parts.{Ascend, parts_in};
 
-    pub(crate) fn of(items: Vec<(u8, u64)>) -> Parts
+    pub(crate) fn of(items: SmallVec<(u8, u64), 4>) -> Parts
         requires { Ascend 0 items.items }
         ensures { result ≡ items.items }
     {

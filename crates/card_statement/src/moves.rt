@@ -1,5 +1,5 @@
 // The transactions that the entries of a cycle make up.
-ghost use Rattle.std.specs.Prelude.{◌≡◌, ◌≤◌, ◌+◌, ◌^◌, ◌++◌, [], ◌∷◌, if◌then◌else◌, IfOk, OnOk, nat_abs};
+ghost use Rattle.std.specs.Prelude.{◌≡◌, ◌≤◌, ◌+◌, ◌^◌, [], IfOk, OnOk, nat_abs};
 ghost use Rattle.std.specs.List.{All, filter};
 ghost use Rattle.card_model.specs.Entries as entries;
 ghost use Rattle.card_statement.specs.Gathering.{raised_by, sizes, with_entry, with_if};
@@ -103,25 +103,18 @@ fn gather(alloc: Global, entries: &[Entry]) -> Result<Vec<Move>, NoMemory>
     Ok(moves)
 }
 
-// Keeps a transaction that came to something.
-fn keep(kept: &mut Vec<Move>, line: &Move) -> Result<(), NoMemory>
-    ensures { OnOk result (kept.new.items ≡ kept.old.items ++ (if spec.has_cents line.now then line.now ∷ [] else [])) }
+// Whether a transaction came to something.
+fn has_cents(line: &Move) -> bool
+    ensures { result ≡ spec.has_cents line.now }
 {
-    if line.cents != 0 {
-        kept.push(*line)?;
-    }
-    Ok(())
+    line.cents != 0
 }
 
 // Those of them that came to something.
-fn moved_something(alloc: Global, moves: &[Move]) -> Result<Vec<Move>, NoMemory>
-    ensures { IfOk result (λ kept. kept.items ≡ filter spec.has_cents moves.now) }
+fn keep_moved(moves: &mut Vec<Move>)
+    ensures { moves.new.items ≡ filter spec.has_cents moves.old.items }
 {
-    let mut kept = Vec::new(alloc);
-    for line in moves {
-        keep(&mut kept, line)?;
-    }
-    Ok(kept)
+    moves.retain(|line| has_cents(line));
 }
 
 /// The transactions that the entries of a cycle make up, each where its first entry stands (12 CFR 1026.7(b)(2), (b)(3),
@@ -132,6 +125,7 @@ pub fn moves_of(alloc: Global, entries: &[Entry]) -> Result<Vec<Move>, NoMemory>
     requires small { sizes entries.now ≤ 10 ^ 17 }
     ensures { IfOk result (λ moves. moves.items ≡ spec.moves_of entries.now) }
 {
-    let moves = gather(alloc, entries)?;
-    moved_something(alloc, &moves)
+    let mut moves = gather(alloc, entries)?;
+    keep_moved(&mut moves);
+    Ok(moves)
 }

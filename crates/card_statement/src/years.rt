@@ -1,5 +1,5 @@
 // Sums of the year to date.
-ghost use Rattle.std.specs.Prelude.{◌≡◌, ◌≤◌, ◌==◌, ◌^◌, if◌then◌else◌};
+ghost use Rattle.std.specs.Prelude.{◌≡◌, ◌+◌, ◌≤◌, ◌==◌, ◌^◌, false, if◌then◌else◌, nat_lt, true};
 ghost use Rattle.std.specs.List.{All};
 ghost use Rattle.card_events.specs.Civil.{date_of};
 ghost use Rattle.card_model.specs.Cycles.{amounts_sum};
@@ -9,10 +9,28 @@ ghost use Rattle.card_model.specs.Sheets.{year_sum};
 use card_closing::Cycle;
 use card_events::Day;
 
+// Whether a day lies more than 400 days before another.
+fn is_far_before(day: Day, other: Day) -> bool
+    ensures { result ≡ nat_lt (day + 400) other }
+{
+    day.number() + 400 < other.number()
+}
+
+// The same, which is so of days of an earlier year alone.
+fn is_years_before(day: Day, other: Day) -> bool
+    ensures { result ≡ true → ((date_of day).year == (date_of other).year) ≡ false }
+{
+    let _last = other.number();
+    is_far_before(day, other)
+}
+
 // Whether a cycle closed in the calendar year of a day.
 fn in_year(cycle: &Cycle, closing: Day) -> bool
     ensures { result ≡ ((date_of cycle.now.closing).year == (date_of closing).year) }
 {
+    if is_years_before(cycle.closing, closing) {
+        return false;
+    }
     cycle.closing.ymd().0 == closing.ymd().0
 }
 

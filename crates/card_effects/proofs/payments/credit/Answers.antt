@@ -6,8 +6,8 @@ use Rattle.card_effects.proofs.payments.credit.Goals as goal
 pub returns-clause-stands : goal.returns-clause-stands
 returns-clause-stands c day cents issued a seen p b s is u =
     credit-stands issued a seen p b day cents c.args.place.now c.args.rates.now c.args.segments.now c.take.new.s c.args.out.now.items c.take.new.out.items c.args.slot.now c.args.following_closing _ c.deref.result.now c.deref-2.result.now c.note_of-note.result c.in_ok-parts.parts
-    c.requires.asked.rated.numbers (ap length c.deref.ensures.value ∙ c.in_ok-ranks.ensures.all) s is u.following
-    (c.deref.ensures.value ∙ c.in_ok-ranks.ensures.items ∙ ranks-seen c.args.index.now seen c.args.rates.now c.args.following_closing c.args.slot.now.day (slot-day seen p c.args.slot.now is) u.index)
+    c.requires.asked.rated.numbers (ap length c.deref.ensures ∙ c.in_ok-ranks.ensures.all) s is u.following
+    (c.deref.ensures ∙ c.in_ok-ranks.ensures.items ∙ ranks-seen c.args.index.now seen c.args.rates.now c.args.following_closing c.args.slot.now.day (slot-day seen p c.args.slot.now is) u.index)
     (c.deref-2.ensures.value ∙ c.in_ok-first.ensures c.args.rates.now.segments c.requires.asked.rated.numbers c.requires.asked.rated.kept)
     (handed c.args.slot.now.cents c.requires.asked.amount c.requires.asked.limit) c.in_ok-parts.ensures.parts c.note_of-note.ensures
     (record { whole = c.in_ok-parts.ensures.whole; moved = c.in_ok-take.ensures.ok; grown = c.in_ok-take.ensures.entries })

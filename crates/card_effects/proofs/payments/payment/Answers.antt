@@ -11,7 +11,7 @@ returns-clause-stands c day minute cents by issued a seen p b s is split =
     let high : c.args.minimum_part ≤ℤ pos balance_limit = omega (arith, ints, c.requires.within, c.requires.asked.limit) in
     let low : pos 0 ≤ℤ c.args.slot.now.cents = omega (arith, ints, c.requires.within, c.requires.minimum) in
     payment-stands issued a seen p b day minute cents by c.args.rates.now c.args.segments.now c.take.new.s c.args.out.now.items c.take.new.out.items c.args.slot.now c.args.following_closing _ _ c.args.minimum_part c.deref.result.now c.note_of-note.result c.in_ok-parts.parts
-    c.requires.asked.rated.numbers (ap length c.deref.ensures.value ∙ c.in_ok-ranks.ensures.all) s is split.following split.minimum
-    (c.deref.ensures.value ∙ c.in_ok-ranks.ensures.items ∙ ranks-seen c.args.index.now seen c.args.rates.now c.args.following_closing c.args.slot.now.day (slot-day seen p c.args.slot.now is) split.index)
+    c.requires.asked.rated.numbers (ap length c.deref.ensures ∙ c.in_ok-ranks.ensures.all) s is split.following split.minimum
+    (c.deref.ensures ∙ c.in_ok-ranks.ensures.items ∙ ranks-seen c.args.index.now seen c.args.rates.now c.args.following_closing c.args.slot.now.day (slot-day seen p c.args.slot.now is) split.index)
     (handed c.args.minimum_part c.requires.minimum high) (handed c.args.slot.now.cents low c.requires.asked.limit) c.in_ok-parts.ensures.parts c.note_of-note.ensures
     (record { whole = c.in_ok-parts.ensures.whole; moved = c.in_ok-take.ensures.ok; grown = c.in_ok-take.ensures.entries })

@@ -2,9 +2,11 @@ use Rattle.std.proofs.Common.{min, ap, sym, ◌∙◌}
 use Rattle.card_events.specs.History.{anchor_of}
 use Rattle.card_model.specs.Payments.{counted}
 use Rattle.card_posts.specs.Posted.{folding_order}
-use Rattle.card_fees.specs.Counting.{earlier_posts, in_front, since, slots_sum}
+use Rattle.card_events.specs.declared.kept.Slot.{Slot}
+use Rattle.card_fees.specs.Counting.{counts, earlier_posts, in_front, is_before, since, slots_sum}
 use Rattle.card_fees.specs.declared.returning.Until.TheVariants as until
 use Rattle.card_fees.proofs.Before.{slots-before}
+use Rattle.card_fees.proofs.Slots.{sum-filter}
 use Rattle.card_fees.proofs.counting.counted_in_front.Goals as goal
 
 pub returns-clause-value : goal.returns-clause-value
@@ -13,7 +15,8 @@ returns-clause-value c holidays stands =
     let listed = c.args.posts.now.corrected in
     let day = c.args.day in
     let number = c.args.number in
-    c.sum.ensures.value ∙ ap (λ w. min c.args.limit (slots_sum (until.Post day number) history listed w)) c.slots_before-slots.ensures.value
+    c.sum.ensures.value ∙ ap (min c.args.limit) (sym (sum-filter (counts (until.Post day number) history listed) (λ (s : Slot). is_before day number s.day s.number) c.slots_since-slots.result.now))
+    ∙ ap (λ w. min c.args.limit (slots_sum (until.Post day number) history listed (in_front day number w))) c.slots_since-slots.ensures.value
     ∙ ap (λ l. min c.args.limit (slots_sum (until.Post day number) history l (in_front day number (since c.args.from (folding_order l))))) stands
     ∙ ap (min c.args.limit) (slots-before (anchor_of history) holidays history c.args.from day number)
     ∙ ap (λ l. min c.args.limit (counted (earlier_posts day number l) c.args.from day)) (sym stands)

@@ -5,7 +5,7 @@ use Rattle.card_posts.specs.Posted.{folding_order}
 use Rattle.card_rates.specs.Days.{place_of}
 use Rattle.card_rates.specs.SlotLaws.{IsCut}
 use Rattle.card_rates.proofs.Places.{of_days}
-use Rattle.card_dayend.proofs.break_day.place_near.Goals as goal
+use Rattle.card_daily.proofs.place.place_near.Goals as goal
 
 pub returns-then-is_at_most : goal.returns-then-is_at_most
 returns-then-is_at_most c = λ holidays stands.

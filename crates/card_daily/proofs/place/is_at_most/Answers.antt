@@ -1,6 +1,6 @@
-use Rattle.card_dayend.proofs.Held.{near-at-most}
+use Rattle.card_daily.proofs.Near.{near-at-most}
 use Rattle.std.proofs.Common.{sym, ◌∙◌, arith}
-use Rattle.card_dayend.proofs.break_day.is_at_most.Goals as goal
+use Rattle.card_daily.proofs.place.is_at_most.Goals as goal
 
 pub returns : goal.returns
 returns c place cut is =
