@@ -1,6 +1,6 @@
 -- A run over the records of an input.
-use Rattle.std.proofs.Common.{◌≡◌, ℕ, ◌+◌, ◌<◌, Bool, true, false, ◌||◌, ◌⊎◌, inl, inr, Ok, List, [], ◌∷◌, ◌++◌, length, slice_get, drop, refl, ap, sym, ◌∙◌, subst, arith, append_assoc, append-nil, length-append, Option, None, Some}
-use Rattle.std.proofs.KnownBytes.{Appends-nil, Consumes-nil, Consumes-trans}
+use Rattle.std.proofs.Common.{◌≡◌, ℕ, ◌+◌, ◌||◌, ◌⊎◌, inl, inr, List, [], ◌∷◌, ◌++◌, slice_get, drop, refl, ap, sym, ◌∙◌, subst, arith, append_assoc, append-nil, Option, None, Some}
+use Rattle.std.proofs.KnownBytes.{Appends-nil, Consumes-trans}
 use Rattle.card_desk.specs.Kept.{Fits}
 use Rattle.card_text.specs.Import.{items_of_bytes}
 use Rattle.card_text.specs.declared.item.Item.{Item}
@@ -10,9 +10,9 @@ use Rattle.card_ports.specs.declared.row.Row.{Row}
 use Rattle.card_ports.specs.Bytes.{IsFront}
 use Rattle.card_ports.specs.Counts.{Rose}
 use Rattle.card_commands.specs.Answers.{next, answer_text, is_refused, item_rows}
-use Rattle.card_commands.specs.Statuses.{ended_by, ended_of}
+use Rattle.card_commands.specs.Statuses.{ended_by}
 use Rattle.card_commands.specs.Feed.{Run}
-use Rattle.card_commands.specs.Imported.{SourceSide, source_of, HasTaken, TookMore, TookAllLeft, FellInPiece, FellTaking, HandledAll, DidFront, FellAmong}
+use Rattle.card_commands.specs.Imported.{SourceSide, source_of, HasTaken, TookAllLeft, FellInPiece, FellTaking, HandledAll, DidFront, FellAmong}
 use Rattle.card_commands.specs.Input.{records}
 use Rattle.card_commands.specs.Outside.{Outside, AreFirst, Runs, HasCause, sides_of}
 use Rattle.card_commands.specs.Ran.{Handled}

@@ -10,7 +10,7 @@ use Rattle.card_ports.specs.declared.source.SinkFault.TheVariants as fault
 use Rattle.card_trial.specs.Trial.{trial_text}
 use Rattle.card_commands.specs.Input.{all_items, lines}
 use Rattle.card_commands.specs.Outside.{HasCause, Outside, ReadAllTo, RunsTo, TriedAll, TriedFront, Tries, Unfailed, sides_of}
-use Rattle.card_commands.specs.Run.{after, text_of}
+use Rattle.card_commands.specs.Run.{text_of}
 use Rattle.card_commands.specs.Statuses.{ended_by_sink}
 use Rattle.card_commands.specs.Trials.{is_at_end}
 use Rattle.card_commands.specs.Written.{TookBetween}

@@ -1,7 +1,7 @@
 // What an item comes to, and what is written for it.
 ghost use Rattle.std.specs.Prelude.{◌≡◌, IfOk, OnOk, OnErr};
 ghost use Rattle.std.specs.String.{string_bytes};
-ghost use Rattle.card_desk.specs.Applied.{IsCounted};
+ghost use Rattle.card_desk.specs.Applied as applied;
 ghost use Rattle.card_desk.specs.Kept.{Fits};
 ghost use Rattle.card_desk.specs.Views.{seen};
 ghost use Rattle.card_desk.specs.declared.view.Ask.TheVariants as ask;
@@ -33,7 +33,7 @@ pub fn carry_out<K: Keeper>(
     ensures kept { OnOk result (AddsRows (K.rows keeper.old) (K.rows keeper.new) (item_rows desk.old.state item.now)) }
     ensures fits { OnOk result (Fits (K.rows keeper.new) desk.new.state) }
     ensures rows_stay { OnErr result (KeepsRows (K.rows keeper.old) (K.rows keeper.new)) }
-    ensures counts { IsCounted Fault.Keeper Fault.Memory (K.faults keeper.old) (K.faults keeper.new) result }
+    ensures counts { applied.IsCounted Fault.Keeper Fault.Memory (K.faults keeper.old) (K.faults keeper.new) result }
 {
     match item {
         Item::Request(request) => match uncounted::apply(alloc, desk, keeper, request) {

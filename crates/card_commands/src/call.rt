@@ -1,5 +1,5 @@
 // The top call.
-ghost use Rattle.std.specs.Prelude.{◌≡◌, Some, map, OnOk, OnErr};
+ghost use Rattle.std.specs.Prelude.{Some, map, OnOk, OnErr};
 ghost use Rattle.std.specs.String.{string_bytes};
 ghost use Rattle.card_commands.specs.Statuses.{IsOneOf, statuses_of};
 ghost use Rattle.card_commands.specs.Attended.{parties};

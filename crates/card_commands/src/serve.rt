@@ -1,8 +1,7 @@
 // A server of the ledger.
 ghost use Rattle.std.specs.Prelude.{◌≡◌, OnOk, IfErr};
 ghost use Rattle.card_desk.specs.Kept.{Fits};
-ghost use Rattle.card_commands.specs.Attended.{AttendedOne, FellAttending, HaveCome, HavePassed, Serves, parties};
-ghost use Rattle.card_commands.specs.Attended as spec;
+ghost use Rattle.card_commands.specs.Attended.{AttendedOne, FellAttending, HaveCome, HavePassed, Serves, line_of, parties, status_line};
 
 use crate::ended::{Ended, ended_by_sink};
 use card_desk::Desk;
@@ -13,7 +12,7 @@ use card_wire::Routes;
 use std::alloc::Global;
 
 fn status_line(status: Status) -> &'static str
-    ensures { result.now ≡ spec.status_line status }
+    ensures { result.now ≡ status_line status }
 {
     match status {
         Status::Done => "200\n",
@@ -32,7 +31,7 @@ fn status_line(status: Status) -> &'static str
 // The line of a connection. It takes no memory.
 #[tactic(auto, unfolding(crate::specs::Attended::line_of))]
 fn line_of(served: Served) -> &'static str
-    ensures { result.now ≡ spec.line_of served }
+    ensures { result.now ≡ line_of served }
 {
     match served {
         Served::Answered(status) => status_line(status),

@@ -4,7 +4,7 @@ ghost use Rattle.card_desk.specs.Kept.{Fits};
 ghost use Rattle.card_trial.specs.Trial.{trial_text};
 ghost use Rattle.card_commands.specs.Feed.{new_run};
 ghost use Rattle.card_commands.specs.Outside.{outside, HasCause, Tries};
-ghost use Rattle.card_commands.specs.Trials.{is_at_end};
+ghost use Rattle.card_commands.specs.Trials as spec;
 ghost use Rattle.card_ports.specs.Written.{sink_side, TookAll, TookPart};
 
 use crate::ended::{Ended, ended_by_sink};
@@ -18,7 +18,7 @@ use std::alloc::Global;
 
 // Whether the input was read to its end, and all of its lines were handled.
 fn is_at_end(ended: Ended) -> bool
-    ensures { result ≡ is_at_end ended }
+    ensures { result ≡ spec.is_at_end ended }
 {
     matches!(ended, Ended::Done | Ended::Refused)
 }

@@ -1,7 +1,7 @@
 // A ledger whose rows are kept in memory of its own.
 ghost use Rattle.std.specs.Prelude.{◌≡◌, ◌+◌, ◌^◌, ℕ, true, Some, IfOk, OnOk};
 ghost use Rattle.card_demo.specs.Progress.{is_refusal};
-ghost use Rattle.card_demo.specs.Sums.{AreWithin, entries_seen, with_entries};
+ghost use Rattle.card_demo.specs.Sums as spec;
 ghost use Rattle.card_desk.specs.Kept.{Fits};
 ghost use Rattle.card_desk.specs.Views.{seen};
 ghost use Rattle.card_events.specs.Dated.{is_dated};
@@ -24,14 +24,14 @@ pub struct MemoryLedger {
 
 impl Model for MemoryLedger {
     ghost use Rattle.std.specs.Prelude.{Some};
-    ghost use Rattle.card_desk.specs.Kept.{Fits};
+    ghost use Rattle.card_desk.specs.Kept as kept;
     ghost use Rattle.card_model.specs.Machine.{State};
 
     ghost Value = { State };
 
     ghost view = { λ l. l.desk.state };
 
-    ghost invariant = { λ l. Fits (Some l.keeper) l.desk.state };
+    ghost invariant = { λ l. kept.Fits (Some l.keeper) l.desk.state };
 }
 
 fn is_refusal(reply: &Reply) -> bool
@@ -64,9 +64,9 @@ fn carry_out(
 // The sums with the entries that an answer lists.
 #[tactic(auto, unfolding(crate::specs::Sums::with_entries))]
 fn with_listed(view: &View, sums: &Totals) -> Totals
-    requires room { AreWithin (2 ^ 110) sums.now }
-    ensures sums { result ≡ with_entries (entries_seen view.now) sums.now }
-    ensures bound { (n : ℕ) → AreWithin n sums.now → AreWithin (n + 2 ^ 95) result }
+    requires room { spec.AreWithin (2 ^ 110) sums.now }
+    ensures sums { result ≡ spec.with_entries (spec.entries_seen view.now) sums.now }
+    ensures bound { (n : ℕ) → spec.AreWithin n sums.now → spec.AreWithin (n + 2 ^ 95) result }
 {
     match view {
         View::Entries(list) => with_entries(sums, list.entries()),
@@ -76,10 +76,10 @@ fn with_listed(view: &View, sums: &Totals) -> Totals
 
 // The sums with the entries that the answer to what is asked lists. The state stays.
 fn with_answer(alloc: Global, desk: &mut Desk, ask: &Ask, sums: &Totals) -> Result<Totals, NoMemory>
-    requires room { AreWithin (2 ^ 110) sums.now }
+    requires room { spec.AreWithin (2 ^ 110) sums.now }
     ensures state { desk.new.state ≡ desk.old.state }
-    ensures sums { IfOk result (λ t. t ≡ with_entries (entries_seen (seen desk.old.state ask.now)) sums.now) }
-    ensures bound { IfOk result (λ t. (n : ℕ) → AreWithin n sums.now → AreWithin (n + 2 ^ 95) t) }
+    ensures sums { IfOk result (λ t. t ≡ spec.with_entries (spec.entries_seen (seen desk.old.state ask.now)) sums.now) }
+    ensures bound { IfOk result (λ t. (n : ℕ) → spec.AreWithin n sums.now → spec.AreWithin (n + 2 ^ 95) t) }
 {
     let view = uncounted::see(alloc, desk, ask)?;
     Ok(with_listed(&view, sums))

@@ -1,11 +1,11 @@
 -- Only the header itself is no item.
-use Rattle.std.proofs.Common.{◌≡◌, ◌⊎◌, ◌↔◌, ℕ, zero, suc, ◌+◌, ◌-◌, ◌==◌, Bool, true, false, cond, List, [], ◌∷◌, drop, bytes_eq, ok_or, Option, Some, None, Result, Ok, Err, IfOk, inl, inr, refl, sym, ap, arith, ◌∙◌}
+use Rattle.std.proofs.Common.{◌≡◌, ◌⊎◌, ◌↔◌, ℕ, zero, suc, ◌+◌, ◌-◌, ◌==◌, Bool, true, false, cond, List, [], ◌∷◌, drop, bytes_eq, ok_or, Option, Some, None, Result, Ok, Err, IfOk, inl, inr, refl, ap, arith}
 use Rattle.std.proofs.lemmas.Bool.Decides.{nat_tests}
 use Rattle.std.proofs.lemmas.Slice.Eq.{bytes_eq-Decides}
 use Rattle.csv.specs.Records.{field_at}
 use Rattle.card_lines.specs.Fields.{◌>>=◌}
 use Rattle.card_text.specs.declared.item.Item.{Item}
-use Rattle.card_text.specs.Columns.{absent, column, exactly, in_form, no_column}
+use Rattle.card_text.specs.Columns.{column, exactly, no_column}
 use Rattle.card_text.specs.Import.{exactly_all, header, header_item, header_of, item_of_record, numbered, request_of}
 
 -- a field and the fields behind it, or the end

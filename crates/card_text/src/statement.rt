@@ -2,11 +2,11 @@
 ghost use Rattle.std.specs.Prelude.{◌≡◌, ◌++◌, IfOk, OnOk, codes, if◌then◌else◌, pos};
 ghost use Rattle.std.specs.List.{flat_map};
 ghost use Rattle.std.specs.String.{string_bytes};
-ghost use Rattle.card_events.specs.Civil.{day_text};
-ghost use Rattle.card_model.specs.Cycles.{amounts_sum};
+ghost use Rattle.card_events.specs.Civil as civil;
+ghost use Rattle.card_events.specs.Money.{money_text};
+ghost use Rattle.card_model.specs.Cycles as cycles;
 ghost use Rattle.card_model.specs.Fees.{fees_sum};
 ghost use Rattle.card_text.specs.Statements as spec;
-ghost use Rattle.card_events.specs.Money.{money_text};
 
 use crate::columns::{
     push_amount, push_both, push_cents, push_column, push_end, push_labelled, push_last, push_left,
@@ -237,7 +237,7 @@ fn push_fees(alloc: Global, text: &mut String, cycle: &Cycle) -> Result<(), NoMe
 
 // The interest of the cycle.
 fn push_interest(alloc: Global, text: &mut String, cycle: &Cycle) -> Result<(), NoMemory>
-    ensures { OnOk result (string_bytes text.new ≡ string_bytes text.old ++ spec.labelled (codes "INTEREST THIS PERIOD") (money_text (pos (amounts_sum cycle.now.interest)))) }
+    ensures { OnOk result (string_bytes text.new ≡ string_bytes text.old ++ spec.labelled (codes "INTEREST THIS PERIOD") (money_text (pos (cycles.amounts_sum cycle.now.interest)))) }
 {
     push_sum(alloc, text, "INTEREST THIS PERIOD", cycle.interest.sum())
 }
@@ -300,7 +300,7 @@ fn push_owed(alloc: Global, text: &mut String, cycle: &Cycle) -> Result<(), NoMe
 
 // The due date, a dash where there is no due payment.
 fn due_text(alloc: Global, cycle: &Cycle, sheet: &Sheet) -> Result<String, NoMemory>
-    ensures { IfOk result (λ text. string_bytes text ≡ (if sheet.now.due_payment then day_text cycle.now.due else codes "-")) }
+    ensures { IfOk result (λ text. string_bytes text ≡ (if sheet.now.due_payment then civil.day_text cycle.now.due else codes "-")) }
 {
     if sheet.due_payment {
         Ok(cycle.due.to_string(alloc)?)

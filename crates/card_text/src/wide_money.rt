@@ -1,3 +1,4 @@
+// Amounts of money of any size.
 ghost use Rattle.std.specs.Prelude.{◌≡◌, unsigned_abs, Some};
 ghost use Rattle.card_events.specs.Money.{money_text, sign_text};
 

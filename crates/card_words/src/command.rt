@@ -4,6 +4,7 @@ ghost use Rattle.std.specs.String.{string_bytes};
 ghost use Rattle.card_lines.specs.Forms.{day_of, name_of, number_of};
 ghost use Rattle.card_words.specs.Commands.{demonstration_of};
 ghost use Rattle.card_words.specs.Commands as spec;
+ghost use Rattle.card_words.specs.Usage.{usage_line};
 
 use crate::demonstration::Demonstration;
 use card_events::{Day, Name, NoMemory, Num};
@@ -215,4 +216,12 @@ pub fn command_of(alloc: Global, words: &[String]) -> Result<Option<Command>, No
         )),
         _ => Ok(None),
     }
+}
+
+/// What is said of words that are no command, with its line feed: the ten forms.
+#[tactic(auto, unfolding(crate::specs::Usage::usage_line))]
+pub fn usage_line() -> &'static str
+    ensures { result.now ≡ usage_line }
+{
+    "usage: apply | import | statement ACCOUNT CYCLE | restate ACCOUNT CYCLE | export ACCOUNT | work | demo START ACCOUNTS CYCLES | serve PORT COUNT | repay ACCOUNT CYCLE | trial FROM TO\n"
 }

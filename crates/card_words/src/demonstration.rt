@@ -17,17 +17,17 @@ pub struct Demonstration {
 }
 
 impl Model for Demonstration {
-    ghost use Rattle.card_words.specs.Demonstrations as spec;
+    ghost use Rattle.card_words.specs.Demonstrations.{Demonstration, IsInRange};
 
-    ghost Value = { spec.Demonstration };
+    ghost Value = { Demonstration };
 
     ghost view = { λ d. record { start = d.start; accounts = d.accounts; cycles = d.cycles } };
 
-    ghost invariant = { λ d. spec.IsInRange d.accounts d.cycles };
+    ghost invariant = { λ d. IsInRange d.accounts d.cycles };
 }
 
 impl Demonstration {
-    ghost use Rattle.std.specs.Prelude.{◌≡◌, ◌≤◌};
+    ghost use Rattle.std.specs.Prelude.{◌≡◌};
     ghost use Rattle.card_words.specs.Demonstrations.{demonstration, IsInRange};
 
     /// The demonstration of these numbers, None where there are too many accounts or cycles, or no cycle.

@@ -3,8 +3,6 @@
 
 mod command;
 mod demonstration;
-mod usage;
 
-pub use command::{Command, command_of};
+pub use command::{Command, command_of, usage_line};
 pub use demonstration::Demonstration;
-pub use usage::usage_line;
