@@ -54,7 +54,7 @@ impl Account {
     ghost use Rattle.card_reasons.specs.Reasons.{reads_book};
     ghost use Rattle.card_replay.specs.Changes.{IsChangeOf, IsPrepared};
     ghost use Rattle.card_replay.specs.Replays.{IsToday, given_of, opened_lists, present_of};
-    ghost use Rattle.card_replay.specs.Standing.{AreStanding};
+    ghost use Rattle.card_replay.specs.Standing.{AreStanding, IsStandingCount};
     ghost use Rattle.card_replay.specs.Steps.{AreFewToPrepare};
 
     /// The account that this post begins today, folded to the end of today. What every run leaves holds of its lists.
@@ -98,11 +98,13 @@ impl Account {
     }
 
     /// How many of the first entries that are recorded of it stay if it takes a post today, whatever it is then taken back to: those up to
-    /// the last closing, by the day last reached, before the first day that the post changes, or none where the post may not be
-    /// accepted. It takes no memory.
+    /// the last closing before the earlier of the first day that the post changes and the day last reached. They are 0 where it takes no
+    /// more posts, where the post is about a later one than there is, and for a payment that came in, or an Amend that lies, before the
+    /// opening day or after today. It takes no memory.
     pub fn standing(&self, post: &Post, today: Day, shared: &SharedRows) -> usize
         requires { IsAccount today shared.now self.now }
-        ensures { AreStanding result today shared.now post.now (replay_of self.now) }
+        ensures stay { AreStanding result today shared.now post.now (replay_of self.now) }
+        ensures count { IsStandingCount result today shared.now post.now self.now.named.lists self.now.folding.reached }
     {
         self.replay.standing(post, today, shared)
     }
@@ -263,7 +265,9 @@ impl Account {
         ensures post { IfOk result (λ c. IsChangeOf key today post.now c) }
         ensures most { AreFewToPrepare today shared.now self.old.named.lists self.old.folding.reached key post.now steps.old steps.new }
     {
-        self.replay.prepare(alloc, key, post, today, shared, steps)
+        let from = self.replay.first_change(post, today, shared);
+        self.replay
+            .prepare(alloc, key, post, today, from, shared, steps)
     }
 
     /// Takes a post that was prepared for this account, with the statement that it issues, and answers its number. What it changes is

@@ -115,7 +115,9 @@ fn accept<L: Ledger>(
     let key = name(rt, alloc, "c")?;
     assert!(rt; account.posts().with_key(&key).is_none());
     let today = day(rt, 19_794);
-    let change = account.prepare(alloc, key, &charge(rt), today, shared, steps)?;
+    let post = charge(rt);
+    let from = account.first_change(&post, today, shared);
+    let change = account.prepare(alloc, key, &post, today, from, shared, steps)?;
     Ok(account.commit(change, shared))
 }
 

@@ -51,6 +51,7 @@ impl Desk {
     ghost use Rattle.std.specs.Option.{option_map};
     ghost use Rattle.card_model.specs.declared.entry.Entry.{Entry};
     ghost use Rattle.card_replay.specs.Replays.{present_of};
+    ghost use Rattle.card_replay.specs.Standing.{IsStandingCount};
     ghost use Rattle.card_desk.specs.Steps.{AreFewOn, AreFewToApply, AreFewToKeep, AreFewToOpen, AreFewToSee, AreFewToTell, most_for_all, reached_at, reached_of, reached_there, steps_at};
     ghost use Rattle.card_account.specs.Accounts.{owing_in, restated_statement};
     ghost use Rattle.card_account.specs.Entries.{entries_today};
@@ -58,7 +59,7 @@ impl Desk {
     ghost use Rattle.card_events.specs.Keys.{with_key};
     ghost use Rattle.card_events.specs.SharedRows.{SharedRows, shared_rows};
     ghost use Rattle.card_rows.specs.Held.{is_request};
-    ghost use Rattle.card_desk.specs.Desks.{now_at};
+    ghost use Rattle.card_desk.specs.Desks.{IsRun, now_at};
     ghost use Rattle.card_events.specs.Billing.{IsCloseDay};
     ghost use Rattle.card_events.specs.Dated.{is_dated, is_dated_post};
     ghost use Rattle.card_events.specs.History.{terms_in};
@@ -106,11 +107,13 @@ impl Desk {
         self.count
     }
 
-    /// How many accounts there are. Where all have reached today, what is recorded of them is all that the state has.
+    /// How many accounts there are. The state is that of a run. Where all accounts have reached today, what is recorded of them is all
+    /// that the state has.
     pub fn accounts(&self) -> u32
         ensures value { result ≡ length self.now.state.accounts }
         ensures recorded { result ≡ length self.now.recorded }
         ensures few { result ≤ 1_000_000 }
+        ensures ran { IsRun self.now.state }
         ensures today { All (λ day. day ≡ self.now.state.today) self.now.reached → self.now.recorded ≡ all_entries self.now.state }
     {
         self.accounts.len() as u32
@@ -162,11 +165,13 @@ impl Desk {
     }
 
     /// How many of the first entries that are recorded of the account at a place stay if it takes a post today, whatever it is then taken
-    /// back to: those up to the last closing, by the day last reached, before the first day that the post changes, or none where the
-    /// post may not be accepted. It takes no memory.
+    /// back to: those up to the last closing before the earlier of the first day that the post changes and the day last reached. They are
+    /// 0 where it takes no more posts, where the post is about a later one than there is, and for a payment that came in, or an Amend
+    /// that lies, before the opening day or after today. It takes no memory.
     pub fn standing(&self, place: usize, post: &Post) -> usize
         requires { place < length self.now.recorded }
-        ensures { AreStanding result place post.now self.now }
+        ensures stay { AreStanding result place post.now self.now }
+        ensures count { IsStandingCount result self.now.state.today (shared_rows self.now.state.shared) post.now (reached_there self.now place).lists (reached_there self.now place).reached }
     {
         self.accounts[place].standing(post, self.today, &self.common)
     }

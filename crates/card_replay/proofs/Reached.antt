@@ -10,7 +10,8 @@ use Rattle.card_model.specs.Cycles.{IssuedRow}
 use Rattle.card_model.specs.Machine.{kept_as}
 use Rattle.card_model.proofs.Spans.{spans_are_steps}
 use Rattle.card_model.specs.Refusals.{Lists, book_today}
-use Rattle.card_posts.specs.Posted.{IsReceived, last_accepted, opens}
+use Rattle.card_posts.specs.Draft.{IsFirstWith}
+use Rattle.card_posts.specs.Posted.{IsReceived, Posted, last_accepted, opens}
 use Rattle.card_posts.specs.Stored.{AreTimely}
 use Rattle.card_daily.specs.Given.{Given, IsSound}
 use Rattle.card_book.proofs.Days.{book_is_the_fold}
@@ -20,7 +21,7 @@ use Rattle.card_replay.proofs.Parts.{begins-same, begins-within, same-front}
 use Rattle.card_replay.proofs.Putback.{marks-same, stands-same, within-same}
 use Rattle.card_replay.specs.Changes.{IsReadyFor}
 use Rattle.card_replay.specs.Pasts.{AreEnds, AreSame, PastBegins}
-use Rattle.card_replay.specs.Replays.{Folding, FoldsOn, IsEve, IsFolding, HasClosings, IsReplay, IsToday, MayReach, Replay, SameLists, given_of, opened_lists, present_of}
+use Rattle.card_replay.specs.Replays.{Folding, FoldsOn, IsEve, IsFolding, HasClosings, IsReplay, IsToday, MayReach, Replay, SameLists, given_of, opened_lists, posted_of, present_of}
 use Rattle.card_replay.specs.declared.eve.Eve.{Eve}
 use Rattle.card_replay.specs.declared.past.Ends.{Ends}
 use Rattle.card_replay.specs.declared.past.Past.{Past}
@@ -205,3 +206,12 @@ cycles-today shared today r h =
     let g = given_of r.lists shared in
     (book_is_the_fold g r.folding.book r.folding.past.track h.replay.folding.stands).cycles
     ∙ ap (λ d. (book_through g d).cycles) (h.replay.folding.day ∙ ap Some h.reached)
+
+-- and the first day that a post changes
+pub first-same : (shared : SharedRows) (today : ℕ) (p : Post) (from : ℕ) (old new : Replay) → SameLists old new → IsFirstWith shared.holidays today p (posted_of old) from → IsFirstWith shared.holidays today p (posted_of new) from
+first-same shared today p from old new same first =
+    subst (λ (l : Lists). IsFirstWith shared.holidays today p (posted_in l new.corrected new.has_room) from) (sym same.lists)
+    (subst (λ (cs : List CorrectedPost). IsFirstWith shared.holidays today p (posted_in old.lists cs new.has_room) from) (sym same.corrected) first)
+  where
+    posted_in : Lists → List CorrectedPost → Bool → Posted
+    posted_in l cs has_room = record { history = l.posts; corrected = cs; has_room = has_room }

@@ -10,14 +10,14 @@ use Rattle.card_events.specs.declared.post.Post.{Post}
 use Rattle.card_events.proofs.Cycles.{closing_grows}
 use Rattle.card_model.specs.Books.{Book}
 use Rattle.card_model.specs.Cycles.{Cycle}
-use Rattle.card_model.specs.Folds.{cycle_at}
+use Rattle.card_model.specs.Folds.{book, book_after, cycle_at}
 use Rattle.card_model.specs.Machine.{accepted, kept_as}
 use Rattle.card_model.specs.Unread.{is_unread}
 use Rattle.card_model.specs.declared.entry.Entry.{Entry}
 use Rattle.card_model.proofs.Calendar.{cycles_are_of_the_calendar}
 use Rattle.card_model.proofs.Cuts.{closings_are_cuts}
 use Rattle.card_posts.specs.Draft.{IsFirstWith}
-use Rattle.card_daily.specs.Given.{Given, book_on}
+use Rattle.card_daily.specs.Given.{Given, IsSound, book_in, book_on, opened_in}
 use Rattle.card_book.proofs.Closings.{closing-count}
 use Rattle.card_book.proofs.Days.{book_is_the_fold}
 use Rattle.card_book.specs.GoingOn.{Continues}
@@ -30,7 +30,7 @@ use Rattle.card_replay.proofs.EntryDays.{entries-grow}
 use Rattle.card_replay.proofs.LaterRows.{some-posts}
 use Rattle.card_replay.proofs.Unread.{closed-in, continues-unread}
 use Rattle.card_replay.specs.Replays.{IsReplay, MayReach, Replay, given_of, posted_of}
-use Rattle.card_replay.specs.Standing.{AreStanding, IsForetold, lists_after}
+use Rattle.card_replay.specs.Standing.{AreStanding, IsForetold, IsStandingCount, MayCome, closing_before, lists_after}
 use Rattle.card_replay.specs.Steps.{IsFirstBetween, first_in_cycle}
 
 -- ---- closings
@@ -100,7 +100,7 @@ cycle-stands today shared p r from cycle c h may told at before near =
     let later = may.later in
     record {
       within = omega (arith, length-take c.entries es, ap (λ (l : List Entry). length l) front, counted);
-      received = λ l. told.received;
+      received = λ l. told.may.received;
       stay = λ key day n.
           front-stays g (given_of (lists_after today shared key p r) shared) c.closing day c.entries
           (reaches (first_in_cycle (anchor_of r.lists.posts) from) c.closing reached day near early (n from (first-between shared today key p r from h told.first)))
@@ -150,3 +150,52 @@ stands today shared p r from cycle count h may told number none some = by (cycle
         let last = left from r.folding.reached in
         let up = closing-later a least from last in
         subst (λ n. AreStanding n today shared p r) (sym same) (cycle-stands today shared p r from cycle c h may told at (omega (arith, on, before, last)) (omega (arith, on, up)))
+
+-- ---- how many there are
+-- none before the opening
+no-entries : (g : Given) (day : ℕ) → day + 1 ≡ opened_in g → length (book_on g day).entries ≡ 0
+unfolding book book_after
+no-entries g day e =
+    let none : day + 1 - opened_in g ≡ 0 = omega (arith, e) in
+    ap (λ n. length (book_in g n).entries) none
+
+-- in the first cycle there is no closing
+first-cycle : (g : Given) (cycle : ℕ) → IsSound g → cycle ≡ 0 → length (book_on g (closing (anchor_of g.history) cycle)).entries ≡ 0
+unfolding closing
+first-cycle g cycle sound e =
+    let first = sound.opening.first in
+    let before : closing (anchor_of g.history) cycle ≡ opened_in g - 1 = ap (closing (anchor_of g.history)) e in
+    no-entries g (closing (anchor_of g.history) cycle) (omega (arith, before, first))
+
+pub counted : (today : ℕ) (shared : SharedRows) (p : Post) (r : Replay) (from cycle count : ℕ) → IsReplay shared r → IsForetold shared today p r from
+    → cycle ≡ cycle_of (anchor_of r.lists.posts) (min from r.folding.reached) - 1 → (cycle ≡ 0 → count ≡ 0)
+    → ((d : Cycle) → 1 ≤ cycle → count ≡ (get_or r.folding.past.track.cycles.items (cycle - 1) d).entries) → IsStandingCount count today shared p r.lists r.folding.reached
+counted today shared p r from cycle count h told number none some = record {
+  some = λ may. record { from = from; first = λ key. first-between shared today key p r from h told.first; entries = by (cycle-there cycles cycle (least-closed shared r from cycle h number)) };
+  none = λ never. absurd (never told.may);
+}
+  where
+    cycles : List Cycle
+    cycles = r.folding.past.track.cycles.items
+
+    least : ℕ
+    least = min from r.folding.reached
+
+    at-number : (n : ℕ) → length (book_on (given_of r.lists shared) (closing (anchor_of r.lists.posts) cycle)).entries ≡ n → n ≡ length (book_on (given_of r.lists shared) (closing_before r.lists.posts least)).entries
+    at-number n e = sym e ∙ ap (λ k. length (book_on (given_of r.lists shared) (closing (anchor_of r.lists.posts) k)).entries) number
+
+    by : (cycle ≡ 0) ⊎ ((c : Cycle) × (cycle_at cycle cycles ≡ Some c)) → count ≡ length (book_on (given_of r.lists shared) (closing_before r.lists.posts least)).entries
+    by (inl e) = at-number count (first-cycle (given_of r.lists shared) cycle h.sound e ∙ sym (none e))
+    by (inr (c, at)) =
+        let g = given_of r.lists shared in
+        let read = cycle-read cycles cycle c at in
+        let same : count ≡ c.entries = some c read.0 ∙ ap (λ (x : Cycle). x.entries) read.1 in
+        let fold = book_is_the_fold g r.folding.book r.folding.past.track h.folding.stands in
+        let there : cycle_at cycle (book_on g r.folding.reached).cycles ≡ Some c = ap (cycle_at cycle) (sym (fold.cycles ∙ ap (λ d. (book_through g d).cycles) h.folding.day)) ∙ at in
+        let dated = h.dated in
+        let days = cycles_are_of_the_calendar.days g.history g.issued g.shared r.folding.reached cycle c h.sound.opening (omega (arith, dated)) there in
+        at-number count (ap (λ day. length (book_on g day).entries) (sym days.closing) ∙ (closing-count g r.folding.reached cycle c there ∙ sym same))
+
+-- where the post may not come
+pub none-told : (today : ℕ) (shared : SharedRows) (p : Post) (r : Replay) (count : ℕ) → count ≡ 0 → (MayCome today p r.lists.posts → ⊥) → IsStandingCount count today shared p r.lists r.folding.reached
+none-told today shared p r count none never = record { some = λ may. absurd (never may); none = λ e. none }

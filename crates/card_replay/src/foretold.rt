@@ -1,5 +1,5 @@
 // What may be told of a post before it is judged.
-ghost use Rattle.std.specs.Prelude.{◌≡◌, ◌≤◌, true, min};
+ghost use Rattle.std.specs.Prelude.{◌≡◌, ◌≤◌, true, false, min};
 ghost use Rattle.card_posts.specs.Posted as posted;
 
 use card_events::{Day, Post};
@@ -16,7 +16,8 @@ pub fn earlier(one: Day, other: Day) -> Day
 
 // Whether a day lies from the opening day to today.
 fn is_past(opened: Day, today: Day, day: Day) -> bool
-    ensures { result ≡ true → posted.IsPastDay opened today day }
+    ensures past { result ≡ true → posted.IsPastDay opened today day }
+    ensures other { result ≡ false → posted.IsPastDay opened today day → ⊥ }
 {
     opened <= day && day <= today
 }
@@ -26,6 +27,7 @@ fn is_past(opened: Day, today: Day, day: Day) -> bool
 pub fn may_come(post: &Post, opened: Day, today: Day, count: u32) -> bool
     ensures target { result ≡ true → posted.target_of post.now ≤ count }
     ensures received { result ≡ true → posted.IsReceived opened today post.now }
+    ensures other { result ≡ false → posted.target_of post.now ≤ count → posted.IsReceived opened today post.now → ⊥ }
 {
     match *post {
         Post::Return { target, .. } => target.get() <= count as u64,

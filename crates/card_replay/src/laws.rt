@@ -12,7 +12,9 @@ pub fn kept_closings_are_the_fold()
     ensures { KeptClosingsAreTheFold }
 {}
 
-/// Holidays, fee rows and index rows of days after the one last reached leave what was folded.
+/// Holidays, fee rows and index rows leave an account standing, where they are of days after one that comes neither before the day last
+/// reached nor before a post was accepted, and it may be folded with them. An account with fixed opening rates follows no index row, so
+/// index rows of all days leave it.
 pub fn later_rows_leave_it()
     ensures { LaterRowsLeaveIt }
 {}

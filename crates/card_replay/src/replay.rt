@@ -95,7 +95,7 @@ impl Replay {
     ghost use Rattle.card_replay.specs.Changes.{IsChangeOf, IsCommitted, IsPrepared, IsReadyFor, IsRewoundBy, MayPrepare, issued_as};
     ghost use Rattle.card_posts.specs.Draft.{IsFirstWith};
     ghost use Rattle.card_replay.specs.Replays.{IsReplay, IsToday, MayReach, SameLists, given_of, opened_lists, posted_of, present_of};
-    ghost use Rattle.card_replay.specs.Standing.{AreStanding, IsForetold};
+    ghost use Rattle.card_replay.specs.Standing.{AreStanding, IsForetold, IsStandingCount, MayCome};
     ghost use Rattle.card_replay.specs.Steps.{AreFewToPrepare, IsNear, steps_to};
 
     /// The account that a post opens today, folded to the end of today. What every run leaves holds of its lists.
@@ -231,10 +231,12 @@ impl Replay {
         key: &Name,
         post: &Post,
         today: Day,
+        from: Day,
         shared: &SharedRows,
         steps: &mut Steps<L>,
     ) -> Result<Option<TakenBack>, NoMemory>
         requires may { MayPrepare shared.now today key.now post.now self.old }
+        requires first { IsFirstWith shared.now.holidays today post.now (posted_of self.old) from }
         ensures same { SameLists self.old self.new }
         ensures folding { self.new.folding ≡ self.old.folding }
         ensures rewound { IfOk result (λ made. IsRewoundBy shared.now today key.now post.now made self.old) }
@@ -249,7 +251,7 @@ impl Replay {
             alloc,
             &inputs,
             post,
-            draft.from(),
+            from,
             self.reached,
             &self.book,
             &self.past,
@@ -267,16 +269,18 @@ impl Replay {
         key: &Name,
         post: &Post,
         today: Day,
+        from: Day,
         shared: &SharedRows,
         steps: &mut Steps<L>,
     ) -> Result<TakenBackIfAny, NoMemory>
         requires may { MayPrepare shared.now today key.now post.now self.old }
+        requires first { IsFirstWith shared.now.holidays today post.now (posted_of self.old) from }
         ensures same { SameLists self.old self.new }
         ensures folding { self.new.folding ≡ self.old.folding }
         ensures rewound { IfOk result (λ made. IsRewoundBy shared.now today key.now post.now made self.old) }
         ensures most { steps.new ≤ steps.old + 1 }
     {
-        match self.drafted(alloc, key, post, today, shared, steps)? {
+        match self.drafted(alloc, key, post, today, from, shared, steps)? {
             Some(earlier) => TakenBackIfAny::of(alloc, earlier),
             None => Ok(TakenBackIfAny::none()),
         }
@@ -306,7 +310,7 @@ impl Replay {
         let back = go_back(alloc, post, from, cycle, &self.book, &self.past, &self.eve)?;
         match back {
             Some(earlier) => TakenBackIfAny::of(alloc, earlier),
-            None => self.drafted_if_any(alloc, key, post, today, shared, steps),
+            None => self.drafted_if_any(alloc, key, post, today, from, shared, steps),
         }
     }
 
@@ -341,6 +345,7 @@ impl Replay {
         key: &Name,
         post: &Post,
         today: Day,
+        from: Day,
         shared: &SharedRows,
         steps: &mut Steps<L>,
     ) -> Result<TakenBackIfAny, NoMemory>
@@ -350,6 +355,7 @@ impl Replay {
         requires room { self.old.has_room ≡ true }
         requires fresh { with_key key.now self.old.lists.posts ≡ None }
         requires no_reason { reason_against (present_of today shared.now self.old.lists) post.now ≡ None }
+        requires first { IsFirstWith shared.now.holidays today post.now (posted_of self.old) from }
         requires sound { IsSound (given_of (accepted (present_of today shared.now self.old.lists) key.now post.now) shared.now) }
         ensures same { SameLists self.old self.new }
         ensures folding { self.new.folding ≡ self.old.folding }
@@ -359,14 +365,23 @@ impl Replay {
         if is_unread(post) {
             return Ok(TakenBackIfAny::none());
         }
-        let from = self.posts.first_change(today, post, shared.calendar());
         self.rewound_from(alloc, key, post, today, from, shared, steps)
     }
 
-    /// Prepares a post against which there is no reason, under a new key: there is room for it, and the Book is there that it takes
-    /// the account back to, where it changes a day up to the one last reached: that of the eve, of the closing before the cycle in
-    /// which the first changed day lies, or of the opening day. The account reaches today for a Bill, whose row is read off the
-    /// book of today, and for a Plan, a Notice or a Lower; for any other post nothing is folded but that opening day.
+    /// The first day that a post changes against which there is no reason, told without entering it. It takes no memory.
+    pub fn first_change(&self, post: &Post, today: Day, shared: &SharedRows) -> Day
+        requires replay { IsReplay shared.now self.now }
+        requires reach { MayReach today self.now }
+        requires no_reason { reason_against (present_of today shared.now self.now.lists) post.now ≡ None }
+        ensures { IsFirstWith shared.now.holidays today post.now (posted_of self.now) result }
+    {
+        self.posts.first_change(today, post, shared.calendar())
+    }
+
+    /// Prepares a post against which there is no reason, under a new key, with the first day that it changes: there is room for it, and
+    /// the Book is there that it takes the account back to, where that day isn't after the one last reached: that of the eve, of the
+    /// closing before the cycle in which the day lies, or of the opening day. The account reaches today for a Bill, whose row is read
+    /// off the book of today, and for a Plan, a Notice or a Lower; for any other post nothing is folded but that opening day.
     /// The posts and the issued statements stay as they are; with the post, they are as every run leaves them. The day last reached
     /// is as before, or today.
     pub fn prepare<L: Ledger>(
@@ -375,6 +390,7 @@ impl Replay {
         key: Name,
         post: &Post,
         today: Day,
+        from: Day,
         shared: &SharedRows,
         steps: &mut Steps<L>,
     ) -> Result<Change, NoMemory>
@@ -384,6 +400,7 @@ impl Replay {
         requires not_open { is_open post.now ≡ false }
         requires fresh { with_key key self.old.lists.posts ≡ None }
         requires no_reason { reason_against (present_of today shared.now self.old.lists) post.now ≡ None }
+        requires first { IsFirstWith shared.now.holidays today post.now (posted_of self.old) from }
         requires sound { IsSound (given_of (accepted (present_of today shared.now self.old.lists) key post.now) shared.now) }
         ensures same { SameLists self.old self.new }
         ensures replay { IsReplay shared.now self.new }
@@ -395,7 +412,7 @@ impl Replay {
         self.reach_for(alloc, post, today, shared, steps)?;
         let issued = self.issued_today(alloc, post, today, shared)?;
         self.make_room(alloc)?;
-        let rewound = self.rewound(alloc, &key, post, today, shared, steps)?;
+        let rewound = self.rewound(alloc, &key, post, today, from, shared, steps)?;
         Ok(Change {
             key,
             post: *post,
@@ -459,7 +476,8 @@ impl Replay {
     fn foretold(&self, post: &Post, today: Day, shared: &SharedRows) -> Option<Day>
         requires replay { IsReplay shared.now self.now }
         requires reach { MayReach today self.now }
-        ensures { IfSome result (IsForetold shared.now today post.now self.now) }
+        ensures some { IfSome result (IsForetold shared.now today post.now self.now) }
+        ensures none { result ≡ None → MayCome today post.now self.now.lists.posts → ⊥ }
     {
         let count = self.posts.len();
         if count < POST_LIMIT && may_come(post, self.posts.anchor().opened, today, count) {
@@ -470,12 +488,14 @@ impl Replay {
     }
 
     /// How many of the first entries that are recorded stay if the account takes a post today, whatever it is then taken back to: those up
-    /// to the last closing, by the day last reached, before the first day that the post changes. They are 0 where the account takes no
-    /// more posts, or where the post would be refused by what it names or gives. It takes no memory.
+    /// to the last closing before the earlier of the first day that the post changes and the day last reached. They are 0 where the account
+    /// takes no more posts, where the post is about a later one than there is, and for a payment that came in, or an Amend that lies,
+    /// before the opening day or after today. It takes no memory.
     pub fn standing(&self, post: &Post, today: Day, shared: &SharedRows) -> usize
         requires replay { IsReplay shared.now self.now }
         requires reach { MayReach today self.now }
-        ensures { AreStanding result today shared.now post.now self.now }
+        ensures stay { AreStanding result today shared.now post.now self.now }
+        ensures count { IsStandingCount result today shared.now post.now self.now.lists self.now.folding.reached }
     {
         match self.foretold(post, today, shared) {
             Some(from) => {

@@ -55,7 +55,7 @@ impl LedgerDesk {
     ghost use Rattle.card_desk.specs.Apart.{IsApart};
     ghost use Rattle.card_desk.specs.Applied.{IsCounted};
     ghost use Rattle.card_desk.specs.Applied as applied;
-    ghost use Rattle.card_desk.specs.Desks.{OpenDesk};
+    ghost use Rattle.card_desk.specs.Desks.{IsRun, OpenDesk};
     ghost use Rattle.card_desk.specs.Kept.{Fits};
     ghost use Rattle.card_desk.specs.Places.{place_from};
     ghost use Rattle.card_desk.specs.Reached.{AllMove, MovesNamed, MovesToApply};
@@ -82,12 +82,14 @@ impl LedgerDesk {
         &self.desk
     }
 
-    /// The totals, which are those of all that is recorded; and, where all accounts are at today, those of all that the ledger has.
+    /// The totals, which are those of all that is recorded; and, where all accounts are at today, those of all that the ledger has. Its
+    /// state is that of a run, so the laws of trial balances hold of it.
     pub fn totals(&self) -> &Totals
         ensures value { result.now ≡ self.now.totals }
         ensures all { AreTotals self.now.desk.recorded self.now.totals }
         ensures today { All (λ day. day ≡ self.now.desk.state.today) self.now.desk.reached → AreTotals (all_entries self.now.desk.state) self.now.totals }
         ensures small { AreSmall self.now.totals }
+        ensures ran { IsRun self.now.desk.state }
     {
         let _count = self.desk.accounts();
         &self.totals
@@ -123,10 +125,8 @@ impl LedgerDesk {
         self.totals().all_credits(from, to)
     }
 
-    /// One step of the machine, as `Desk::apply` takes it. Of the account that the request names, what a post may change is taken out
-    /// of the totals before, and what is recorded of it then is entered, whatever comes of the request: a refusal or a fault may have
-    /// folded the account on. It reads no other account's entries, and of these those behind the last closing before the first day
-    /// that the post changes, or all of them where the post may not be accepted.
+    /// One step of the machine, as `Desk::apply` takes it. The totals are those of what is recorded then, whatever comes of the request:
+    /// a refusal or a fault may have folded the account on.
     pub fn apply<K: Keeper, L: Ledger>(
         &mut self,
         alloc: Global,
@@ -151,6 +151,7 @@ impl LedgerDesk {
             Request::Post { account, post, .. } => match self.desk.place_of(account) {
                 Some(at) => {
                     let _few = self.desk.accounts();
+                    // What stays recorded, whatever the account is taken back to, stays entered.
                     let standing = self.desk.standing(at, post);
                     self.totals
                         .take_out(behind(self.desk.recorded(at), standing));

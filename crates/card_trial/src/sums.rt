@@ -8,6 +8,9 @@ use card_model::{Entry, EntryKind};
 use std::alloc::Global;
 use std::marker::Model;
 
+// 2011-01-01, the first day that an entry may have.
+const FIRST_DAY: usize = 14_975;
+
 const DAYS: usize = 33_602;
 
 const CELLS: usize = 268_816;
@@ -52,7 +55,7 @@ fn place(day: Day, kind: EntryKind) -> usize
     ensures first { first_calendar_day ≤ day }
     ensures last { day ≤ last_calendar_day }
 {
-    kind_number(kind) * DAYS + (day.number() as usize - 14_975)
+    kind_number(kind) * DAYS + (day.number() as usize - FIRST_DAY)
 }
 
 // So many sums, each 0.
@@ -62,7 +65,8 @@ fn zeros(alloc: Global, count: usize) -> Result<Vec<u128>, NoMemory>
     Ok(vec![in alloc; 0; count]?)
 }
 
-fn signed(sum: u128) -> i128
+/// A sum as a signed number.
+pub fn signed(sum: u128) -> i128
     requires { sum < 2 ^ 127 }
     ensures { result ≡ pos sum }
 {

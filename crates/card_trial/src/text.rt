@@ -9,7 +9,7 @@ ghost use Rattle.card_trial.specs.Trial as spec;
 
 use crate::ledger::LedgerDesk;
 use crate::side::Side;
-use crate::sums::kinds;
+use crate::sums::{kinds, signed};
 use card_desk::Desk;
 use card_events::{Day, NoMemory, Steps};
 use card_model::EntryKind;
@@ -68,13 +68,6 @@ fn kind_lines(alloc: Global, ledger: &LedgerDesk, from: Day, to: Day) -> Result<
         push_kind(&mut text, ledger, from, to, kinds[i])?;
     }
     Ok(text)
-}
-
-fn signed(cents: u128) -> i128
-    requires { cents ≤ 2 ^ 123 }
-    ensures { result ≡ pos cents }
-{
-    cents as i128
 }
 
 fn less(debits: u128, credits: u128) -> i128

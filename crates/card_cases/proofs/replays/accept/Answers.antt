@@ -3,19 +3,19 @@ use Rattle.card_cases.proofs.Reached.{charge-dated, may-reach, no-reason, sound-
 use Rattle.card_cases.proofs.replays.accept.Goals as goal
 
 pub prepare-requires-clause-dated : goal.prepare-requires-clause-dated
-prepare-requires-clause-dated g c = charge-dated c.charge.result c.charge.ensures
+prepare-requires-clause-dated g c = charge-dated c.charge-post.result c.charge-post.ensures
 
 pub prepare-requires-clause-no_reason : goal.prepare-requires-clause-no_reason
-prepare-requires-clause-no_reason g c = no-reason c.day-today.result c.args.shared.now c.args.account.now.lists c.charge.result c.day-today.ensures c.requires.nothing c.requires.alone c.charge.ensures
+prepare-requires-clause-no_reason g c = no-reason c.day-today.result c.args.shared.now c.args.account.now.lists c.charge-post.result c.day-today.ensures c.requires.nothing c.requires.alone c.charge-post.ensures
 
 pub prepare-requires-clause-sound : goal.prepare-requires-clause-sound
-prepare-requires-clause-sound g c = sound-with c.day-today.result c.args.shared.now c.args.account.now.lists c.in_ok-key.key c.charge.result c.day-today.ensures c.requires.nothing c.requires.alone c.charge.ensures
+prepare-requires-clause-sound g c = sound-with c.day-today.result c.args.shared.now c.args.account.now.lists c.in_ok-key.key c.charge-post.result c.day-today.ensures c.requires.nothing c.requires.alone c.charge-post.ensures
 
 pub returns : goal.returns
 returns g c =
     record {
-      three = three-steps c.day-today.result c.args.shared.now c.args.account.now.lists c.args.account.now.folding.reached c.in_ok-key.key c.charge.result c.args.steps.now c.prepare.new.steps
-          c.day-today.ensures c.requires.nothing c.requires.alone c.requires.today.reached c.charge.ensures c.prepare.ensures.most;
+      three = three-steps c.day-today.result c.args.shared.now c.args.account.now.lists c.args.account.now.folding.reached c.in_ok-key.key c.charge-post.result c.args.steps.now c.prepare.new.steps
+          c.day-today.ensures c.requires.nothing c.requires.alone c.requires.today.reached c.charge-post.ensures c.prepare.ensures.most;
     }
 
 pub prepare-requires-clause-reach : goal.prepare-requires-clause-reach
@@ -23,3 +23,12 @@ prepare-requires-clause-reach g c =
     let day = c.day-today.ensures in
     let reached = c.requires.today.reached in
     may-reach c.day-today.result c.args.account.now c.requires.alone (omega (arith, day, reached)) (omega (arith, day)) (omega (arith, day))
+
+pub first_change-from-requires-clause-reach : goal.first_change-from-requires-clause-reach
+first_change-from-requires-clause-reach g c =
+    let day = c.day-today.ensures in
+    let reached = c.requires.today.reached in
+    may-reach c.day-today.result c.args.account.now c.requires.alone (omega (arith, day, reached)) (omega (arith, day)) (omega (arith, day))
+
+pub first_change-from-requires-clause-no_reason : goal.first_change-from-requires-clause-no_reason
+first_change-from-requires-clause-no_reason g c = no-reason c.day-today.result c.args.shared.now c.args.account.now.lists c.charge-post.result c.day-today.ensures c.requires.nothing c.requires.alone c.charge-post.ensures

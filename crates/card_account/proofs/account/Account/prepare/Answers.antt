@@ -19,6 +19,16 @@ prepare-requires-clause-replay g c = subst (λ (a : OpenAccount). IsReplay c.arg
 pub prepare-requires-clause-reach : goal.prepare-requires-clause-reach
 prepare-requires-clause-reach g c = subst (λ (a : OpenAccount). MayReach c.args.today (replay_of a)) (sym c.self.view_is) c.requires.account.reach
 
+pub first_change-from-requires-clause-replay : goal.first_change-from-requires-clause-replay
+first_change-from-requires-clause-replay g c = subst (λ (a : OpenAccount). IsReplay c.args.shared.now (replay_of a)) (sym c.self.view_is) c.requires.account.replay
+
+pub first_change-from-requires-clause-reach : goal.first_change-from-requires-clause-reach
+first_change-from-requires-clause-reach g c = subst (λ (a : OpenAccount). MayReach c.args.today (replay_of a)) (sym c.self.view_is) c.requires.account.reach
+
+pub first_change-from-requires-clause-no_reason : goal.first_change-from-requires-clause-no_reason
+first_change-from-requires-clause-no_reason g c =
+    subst (λ (a : OpenAccount). reason_against (present_of c.args.today c.args.shared.now a.named.lists) c.args.post.now ≡ None) (sym c.self.view_is) c.requires.no_reason
+
 pub prepare-requires-clause-fresh : goal.prepare-requires-clause-fresh
 prepare-requires-clause-fresh g c = subst (λ (a : OpenAccount). with_key c.args.key a.named.lists.posts ≡ None) (sym c.self.view_is) c.requires.fresh
 

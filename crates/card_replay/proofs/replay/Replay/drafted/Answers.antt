@@ -7,9 +7,9 @@ use Rattle.card_daily.specs.Given.{IsSound}
 use Rattle.card_posts.specs.Posted.{IsReceived, Posted, StandsFor}
 use Rattle.card_reasons.proofs.Accepted.{few, received, target_there}
 use Rattle.card_replay.proofs.Committing.{lists_by, with_post}
-use Rattle.card_replay.proofs.Drafting.{drafted, may-rewind, result-rewound}
-use Rattle.card_replay.specs.Rewinds.{IsAgain, IsOneMore, MayRewindOn}
-use Rattle.card_replay.specs.Replays.{Replay, given_of, present_of}
+use Rattle.card_replay.proofs.Drafting.{drafted, may-rewind, more-told, result-rewound}
+use Rattle.card_replay.specs.Rewinds.{IsAgain, MayRewindOn}
+use Rattle.card_replay.specs.Replays.{Replay, present_of}
 use Rattle.card_replay.proofs.replay.Replay.drafted.Goals as goal
 
 -- ---- the post for a while
@@ -72,12 +72,12 @@ rewind_if_reached-made-requires g c =
     let u = c.requires.may.read in
     let h = drafted shared today key c.in_ok-key.key p r posts new c.deref.result.now c.in_ok-draft.draft c.requires.may.replay u c.requires.may.sound (ap (λ (x : Replay). x.lists.posts) c.self.view_is) (ap (λ (x : Replay). x.corrected) c.self.view_is)
     (c.deref.ensures.value ∙ ap (λ (x : Replay). x.lists.issued) c.self.view_is) c.in_ok-key.ensures c.in_ok-draft.ensures.draft (subst (λ holidays. StandsFor holidays new) c.calendar.ensures c.in_ok-draft.ensures.stands) in
-    let at : IsOneMore (given_of r.lists shared) (with_post r.lists key today p shared) p c.from.result = subst (λ f. IsOneMore (given_of r.lists shared) (with_post r.lists key today p shared) p f) (sym c.from.ensures) h.more in
+    let at = more-told shared today key p r c.args.from c.requires.may c.requires.first in
     let inputs = c.new-inputs.ensures ∙ h.inputs in
     record {
-      change = subst (λ given. c.from.result ≤ c.self.inside.reached → MayRewindOn given p c.from.result c.self.inside.reached c.self.inside.book c.self.inside.past c.self.inside.eve) (sym inputs)
-          (subst (λ (x : Replay). c.from.result ≤ x.folding.reached → MayRewindOn (with_post r.lists key today p shared) p c.from.result x.folding.reached x.folding.book x.folding.past x.folding.eve) (sym c.self.view_is)
-          (λ l. may-rewind shared today key p r c.from.result c.requires.may.replay at l));
+      change = subst (λ given. c.args.from ≤ c.self.inside.reached → MayRewindOn given p c.args.from c.self.inside.reached c.self.inside.book c.self.inside.past c.self.inside.eve) (sym inputs)
+          (subst (λ (x : Replay). c.args.from ≤ x.folding.reached → MayRewindOn (with_post r.lists key today p shared) p c.args.from x.folding.reached x.folding.book x.folding.past x.folding.eve) (sym c.self.view_is)
+          (λ l. may-rewind shared today key p r c.args.from c.requires.may.replay at l));
     }
 
 pub withdraw-requires : goal.withdraw-requires
@@ -107,14 +107,14 @@ returns g c =
     let u = c.requires.may.read in
     let h = drafted shared today key c.in_ok-key.key p r posts new c.deref.result.now c.in_ok-draft.draft c.requires.may.replay u c.requires.may.sound (ap (λ (x : Replay). x.lists.posts) c.self.view_is) (ap (λ (x : Replay). x.corrected) c.self.view_is)
     (c.deref.ensures.value ∙ ap (λ (x : Replay). x.lists.issued) c.self.view_is) c.in_ok-key.ensures c.in_ok-draft.ensures.draft (subst (λ holidays. StandsFor holidays new) c.calendar.ensures c.in_ok-draft.ensures.stands) in
-    let at : IsOneMore (given_of r.lists shared) (with_post r.lists key today p shared) p c.from.result = subst (λ f. IsOneMore (given_of r.lists shared) (with_post r.lists key today p shared) p f) (sym c.from.ensures) h.more in
+    let at = more-told shared today key p r c.args.from c.requires.may c.requires.first in
     let inputs = c.new-inputs.ensures ∙ h.inputs in
     let made = c.rewind_if_reached-made.result in
     let did = c.rewind_if_reached-made.ensures in
     let back = c.withdraw.ensures (kept_as (length r.lists.posts + 1) key today p) posts h.draft in
-    let later = subst (λ (x : Replay). IfOk made (λ o. o ≡ None → x.folding.reached < c.from.result)) c.self.view_is did.later in
-    let again = subst (λ (x : Replay). IfOk made (λ o. IfSome o (IsAgain (with_post r.lists key today p shared) c.from.result x.folding.reached x.folding.past))) c.self.view_is
-    (subst (λ given. IfOk made (λ o. IfSome o (IsAgain given c.from.result c.self.inside.reached c.self.inside.past))) inputs did.again) in
+    let later = subst (λ (x : Replay). IfOk made (λ o. o ≡ None → x.folding.reached < c.args.from)) c.self.view_is did.later in
+    let again = subst (λ (x : Replay). IfOk made (λ o. IfSome o (IsAgain (with_post r.lists key today p shared) c.args.from x.folding.reached x.folding.past))) c.self.view_is
+    (subst (λ given. IfOk made (λ o. IfSome o (IsAgain given c.args.from c.self.inside.reached c.self.inside.past))) inputs did.again) in
     record {
       same = record {
         lists = ap (λ (w : Posted). lists_by w.history c.self.inside.issued.items) back ∙ ap (λ (x : Replay). x.lists) c.self.view_is;
@@ -122,6 +122,6 @@ returns g c =
         room = λ e. ap (λ (x : Replay). x.has_room) c.self.view_is ∙ e;
       };
       folding = ap (λ (x : Replay). x.folding) c.self.view_is;
-      rewound = result-rewound shared today key p r c.from.result made u c.requires.may.no_reason c.requires.may.replay c.requires.may.ready at later again;
+      rewound = result-rewound shared today key p r c.args.from made u c.requires.may.no_reason c.requires.may.replay c.requires.may.ready at later again;
       most = did.most;
     }

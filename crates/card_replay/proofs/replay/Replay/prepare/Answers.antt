@@ -4,7 +4,7 @@ use Rattle.card_model.specs.Machine.{accepted, issues}
 use Rattle.card_model.specs.Refusals.{Lists, reason_against}
 use Rattle.card_daily.specs.Given.{IsSound}
 use Rattle.card_replay.proofs.Committing.{is-prepared, rewound-same}
-use Rattle.card_replay.proofs.Reached.{either-same, ready-same, reach-same, replay-same, same-lists, within-today}
+use Rattle.card_replay.proofs.Reached.{either-same, first-same, ready-same, reach-same, replay-same, same-lists, within-today}
 use Rattle.card_replay.specs.Replays.{given_of, present_of}
 use Rattle.card_replay.specs.declared.change.Change.{Change}
 use Rattle.card_replay.proofs.replay.Replay.prepare.Goals as goal
@@ -41,6 +41,11 @@ rewound-requires-clause-fresh g c = ap (λ (l : Lists). with_key c.args.key l.po
 pub rewound-requires-clause-no_reason : goal.rewound-requires-clause-no_reason
 rewound-requires-clause-no_reason g c =
     subst (λ (l : Lists). reason_against (present_of c.args.today c.args.shared.now l) c.args.post.now ≡ None) (sym (c.make_room.ensures.same.lists ∙ c.reach_for.ensures.same.lists)) c.requires.no_reason
+
+pub rewound-requires-clause-first : goal.rewound-requires-clause-first
+rewound-requires-clause-first g c =
+    let new = c.make_room.new.self in
+    first-same c.args.shared.now c.args.today c.args.post.now c.args.from c.args.self.now new (same-lists c.args.self.now c.reach_for.new.self new c.reach_for.ensures.same c.make_room.ensures.same) c.requires.first
 
 pub rewound-requires-clause-sound : goal.rewound-requires-clause-sound
 rewound-requires-clause-sound g c =

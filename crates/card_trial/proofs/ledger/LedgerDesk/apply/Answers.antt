@@ -16,7 +16,7 @@ invariant_of-self g c =
 
 -- ---- a post of an account that is there
 pub behind-requires : goal.behind-requires
-behind-requires g c = omega (arith, c.standing-standing.ensures.within, ap (λ (l : List Entry). length l) c.recorded.ensures.entries)
+behind-requires g c = omega (arith, c.standing-standing.ensures.stay.within, ap (λ (l : List Entry). length l) c.recorded.ensures.entries)
 
 pub take_out-requires : goal.take_out-requires
 take_out-requires g c =
@@ -37,9 +37,9 @@ behind-requires-in-Some g c =
     let es = c.recorded.result.now in
     let fs = c.recorded-in-Some.result.now in
     let n = c.standing-standing.result in
-    let front = applied-front _ _ c.self.inside.desk c.apply-result.new.self c.args.request.now c.in-Post.account c.in-Post.key c.in-Post.post c.in-Some.at n c.apply-result.result es fs c.in-Post.is (sym c.in-Some.ensures.value) c.standing-standing.ensures
+    let front = applied-front _ _ c.self.inside.desk c.apply-result.new.self c.args.request.now c.in-Post.account c.in-Post.key c.in-Post.post c.in-Some.at n c.apply-result.result es fs c.in-Post.is (sym c.in-Some.ensures.value) c.standing-standing.ensures.stay
     c.apply-result.ensures.ok c.apply-result.ensures.err c.apply-result.ensures.reached c.recorded.ensures.entries c.recorded-in-Some.ensures.entries in
-    as-many n es fs (omega (arith, c.standing-standing.ensures.within, ap (λ (l : List Entry). length l) c.recorded.ensures.entries)) front
+    as-many n es fs (omega (arith, c.standing-standing.ensures.stay.within, ap (λ (l : List Entry). length l) c.recorded.ensures.entries)) front
 
 pub put_in-requires : goal.put_in-requires
 put_in-requires g c =
@@ -58,7 +58,7 @@ invariant_of-self-in-Some g c =
     let fs = c.recorded-in-Some.result.now in
     let within = c.in-Some.ensures.within in
     let change : ChangesAt at d.recorded new.recorded = changed d new c.args.request.now c.in-Post.account c.in-Post.key c.in-Post.post at c.in-Post.is (sym c.in-Some.ensures.value) c.apply-result.ensures.recorded in
-    let front = applied-front _ _ d new c.args.request.now c.in-Post.account c.in-Post.key c.in-Post.post at n c.apply-result.result es fs c.in-Post.is (sym c.in-Some.ensures.value) c.standing-standing.ensures
+    let front = applied-front _ _ d new c.args.request.now c.in-Post.account c.in-Post.key c.in-Post.post at n c.apply-result.result es fs c.in-Post.is (sym c.in-Some.ensures.value) c.standing-standing.ensures.stay
     c.apply-result.ensures.ok c.apply-result.ensures.err c.apply-result.ensures.reached c.recorded.ensures.entries c.recorded-in-Some.ensures.entries in
     let out = subst (λ (l : List Entry). IsTakenOut l c.self.inside.totals c.take_out.new.self) c.behind.ensures c.take_out.ensures in
     let entered = subst (λ (l : List Entry). AreEntered l c.take_out.new.self c.put_in.new.self) c.behind-in-Some.ensures c.put_in.ensures in
