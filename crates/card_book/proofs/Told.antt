@@ -10,22 +10,20 @@ use Rattle.card_events.specs.Limits.{post_limit}
 use Rattle.card_closing.specs.Accruals.{Accrued}
 use Rattle.card_model.specs.Books.{Book}
 use Rattle.card_model.specs.Cycles.{Cycle}
-use Rattle.card_model.specs.Entries.{AreBalances, at_least_zero, balance, owed}
+use Rattle.card_model.specs.Entries.{AreBalances, at_least_zero}
 use Rattle.card_model.specs.Folds.{cycle_at}
 use Rattle.card_model.specs.Limits.{balance_limit}
 use Rattle.card_model.specs.declared.entry.Entry.{Entry}
 use Rattle.card_model.specs.declared.fee.Fee.{Fee}
 use Rattle.card_model.specs.declared.segment.Interval.{Interval}
 use Rattle.card_rates.specs.RateBooks.{Rates, rates_of}
-use Rattle.card_segments.proofs.Totals.{total-owed}
-use Rattle.card_segments.specs.Balances.{AreWithin, Balances, total}
+use Rattle.card_segments.specs.Balances.{AreWithin, Balances}
 use Rattle.card_daily.proofs.Standing.{within}
 use Rattle.card_daily.specs.Given.{Given, IsSound, book_on, opened_in}
 use Rattle.card_daily.specs.Stands.{AreBefore, HaveAccrued, before, first_in, rows_through}
 use Rattle.card_daily.specs.declared.state.State.{State}
 use Rattle.card_daily.specs.declared.track.Track.{Track}
 use Rattle.card_book.specs.Stands.{StandsFor, Summary, book_through, day_to_fold, recorded}
-use Rattle.card_book.proofs.Balances.{each-any}
 use Rattle.card_book.proofs.Days.{book_is_the_fold, through-is}
 
 -- ---- a Book that begins, and a copy
@@ -61,13 +59,6 @@ copy-before g day s from t c h =
 
 pub copy-stands : (g : Given) (b : Summary) (s : State) (t : Track) → IsCopy s b.state → StandsFor g b t → StandsFor g (record { day = b.day; state = s; credit_since = b.credit_since; whole = b.whole }) t
 copy-stands g b s t c h = record { opened = h.opened; folded = copy-before g (day_to_fold g b.day) s b.state t c h.folded; since = h.since }
-
--- ---- amounts
-pub balance-is : (g : Given) (b : Summary) (t : Track) (s : ℕ) → StandsFor g b t → get_or b.state.segments.balances s (pos 0) ≡ balance s (book_through g b.day).entries
-balance-is g b t s h = each-any (book_through g b.day).entries b.state.segments.balances s (book_is_the_fold g b t h).balances
-
-pub owed-is : (g : Given) (b : Summary) (t : Track) → StandsFor g b t → total b.state.segments.balances ≡ owed (book_through g b.day).entries
-owed-is g b t h = total-owed (book_through g b.day).entries b.state.segments.balances (book_is_the_fold g b t h).balances
 
 -- ---- cycles
 pub cycle-place : (n : ℕ) (cs : List Cycle) (d : Cycle) → 1 ≤ n → n ≤ length cs → cycle_at n cs ≡ Some (get_or cs (n - 1) d)

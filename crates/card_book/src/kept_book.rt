@@ -8,12 +8,11 @@ use crate::earlier::{renewed_state, state_at};
 use crate::marks::{Accruing, push_accruing};
 use crate::statement::cycle_in;
 use card_closing::Accrual;
-use card_daily::{Inputs, State, Track, is_sixty_days_late};
+use card_daily::{Inputs, State, Track};
 use card_dayend::{Cursor, next_span, opening_day, span_end, start};
-use card_events::{Cents, Day, NoMemory, Steps};
+use card_events::{Day, NoMemory, Steps};
 use card_rates::RateBook;
 use card_segments::Segments;
-use card_statement::balance_on;
 use std::alloc::Global;
 use std::marker::Model;
 use std::sync::ledger::Ledger;
@@ -65,13 +64,12 @@ impl Book {
     ghost use Rattle.card_book.specs.Renewed.{AwaitsPosts, HasNewPosts};
     ghost use Rattle.card_book.specs.Rewound.{AreFolded, GoesBack};
     ghost use Rattle.card_book.specs.Stands.{IsRequestDay, StandsFor, book_through, day_to_fold, days_through, since_after, steps_over};
-    ghost use Rattle.card_daily.specs.Given.{Given, book_on, opened_in, seen_in};
+    ghost use Rattle.card_daily.specs.Given.{Given, opened_in};
     ghost use Rattle.card_daily.specs.Stands.{AreBefore, Begins, IsBlank, KeepsRoom};
     ghost use Rattle.card_model.specs.Cycles.{Cycle};
     ghost use Rattle.card_daily.specs.declared.track.Track.{Track};
-    ghost use Rattle.card_model.specs.Entries.{AreBalances, balance, credit_in, owed};
+    ghost use Rattle.card_model.specs.Entries.{AreBalances, credit_in};
     ghost use Rattle.card_model.specs.Folds.{cycle_at};
-    ghost use Rattle.card_model.specs.Payments.{sixty_days_late};
     ghost use Rattle.card_rates.specs.Laws.{AreQuiet};
     ghost use Rattle.card_rates.specs.Segments.{account_segments};
 
@@ -243,20 +241,6 @@ impl Book {
         self.credit_since
     }
 
-    /// What is owed in all, in cents; below 0 where a credit balance is left.
-    pub fn owed(&self) -> Cents
-        ensures { (g : Given) (t : Track) → StandsFor g self.now t → result ≡ owed (book_through g self.now.day).entries }
-    {
-        self.state.segments.owed()
-    }
-
-    /// The balance of a segment in cents, 0 where there is no such segment.
-    pub fn balance(&self, segment: u8) -> Cents
-        ensures { (g : Given) (t : Track) → StandsFor g self.now t → result ≡ balance segment (book_through g self.now.day).entries }
-    {
-        balance_on(&self.state.segments, segment)
-    }
-
     /// The segments of the account's posts, with their balances.
     pub fn segments(&self) -> &Segments
         ensures kept { result.now ≡ self.now.state.segments }
@@ -278,21 +262,6 @@ impl Book {
         ensures { result.now ≡ self.now.state.accruals.items }
     {
         &self.state.accruals
-    }
-
-    /// Whether the account is sixty days late at the end of the last day folded (12 CFR 1026.55(b)(4)): some due date lies more
-    /// than 60 days back, and the payments since its closing are below its minimum payment. False where no day is folded. The
-    /// Book and the track stand for the book of these inputs. It takes no memory.
-    pub fn late_today(&self, inputs: &Inputs, track: &Track) -> bool
-        requires stands { StandsFor inputs.now self.now track.now }
-        ensures late { (day : ℕ) → self.now.day ≡ Some day → result ≡ sixty_days_late (seen_in inputs.now day) (book_on inputs.now day).cycles }
-        ensures none { self.now.day ≡ None → result ≡ false }
-    {
-        let _opened = opening_day(inputs);
-        match self.day {
-            Some(day) => is_sixty_days_late(inputs, day, &track.cycles),
-            None => false,
-        }
     }
 
     // The first day that isn't folded.

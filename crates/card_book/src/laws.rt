@@ -28,7 +28,8 @@ pub fn issued_caps()
     ensures { IssuedCaps }
 {}
 
-/// The book of a day depends on the corrected posts, the fee rows and the index rows up to that day alone.
+/// The book of a day depends on the corrected posts and the fee rows up to that day alone, and, of an account with a variable rate, on
+/// the index rows up to it.
 pub fn past_is_enough()
     ensures { PastIsEnough }
 {}
@@ -80,7 +81,8 @@ pub fn later_changes_agree()
     ensures { LaterChangesAgree }
 {}
 
-/// Holidays after the last day of acceptance, and fee rows and index rows after a day, leave what is folded up to that day.
+/// Holidays after the last day of acceptance, and fee rows and index rows after a day, leave what is folded up to that day. Of an
+/// account with fixed rates all index rows do.
 pub fn later_rows_agree()
     ensures { LaterRowsAgree }
 {}

@@ -16,7 +16,7 @@ pub enum Until {
     Post(Day, u32),
 }
 
-// Whether that is behind a slot.
+/// Whether that is behind a slot.
 pub fn reaches(until: &Until, slot: &Slot) -> bool
     ensures { result ≡ reaches until.now slot.now.day slot.now.number }
 {

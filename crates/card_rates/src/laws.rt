@@ -19,8 +19,8 @@ pub fn rates_of_a_day()
     ensures { RatesOfADay }
 {}
 
-/// Over days without a break day, from the opening on, a segment's rate, the rate at which it accrues and the newest vintages are
-/// those of the first of these days.
+/// Over days without a break day, a segment's rate, the rate at which it accrues and the newest vintages are those of the first of
+/// these days; a variable rate so far as they don't begin before the opening.
 pub fn spans_keep_rates()
     ensures { SpansKeepRates }
 {}

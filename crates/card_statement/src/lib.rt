@@ -16,6 +16,6 @@ pub use earlier::{
     corrections, cycle_entries, has_due_payment, late_up_to, owed_before, previous_balance,
 };
 pub use moves::moves_of;
-pub use rate::{balance_on, rate_lines};
+pub use rate::rate_lines;
 pub use sheet::Sheet;
 pub use years::{fees_year, interest_year};

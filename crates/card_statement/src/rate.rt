@@ -30,8 +30,8 @@ fn line_of(rates: &RateBook, index: &IndexTable, cycle: &Cycle, g: &RatedSegment
     }
 }
 
-/// The balance of a segment in cents, 0 where it isn't there.
-pub fn balance_on(segments: &Segments, id: u8) -> Cents
+// The balance of a segment in cents, 0 where it isn't there.
+fn balance_on(segments: &Segments, id: u8) -> Cents
     ensures { result ≡ slice_index_or segments.now.balances id (pos 0) }
 {
     if id < segments.len() {
