@@ -3,9 +3,9 @@
 # random bytes, runs of one byte, and lines, records and requests of examples/ in which bytes are changed, doubled, cut and left out. Each
 # run has to end by itself with status 0 or 1 in a minute of the processor, with a reply for each line, and an answer or a cut for each connection. A
 # part of each kind is also given to the independent model of the rules (audit/): it has to reply the same.
-# It prints its seed, and takes how many bytes there are and the seed.
+# It prints its seed, and takes how many bytes there are, the seed, and one of lines, CSV and connections where only that part is wanted.
 #
-#     bench/hostile-bytes.sh [BYTES [SEED]]
+#     bench/hostile-bytes.sh [BYTES [SEED [PART]]]
 top=$(cd "$(dirname "$0")/.." && pwd) || exit 1
 exec python3 - "$top" "${PROGRAM:-$top/crates/billctl/out/billctl}" "$@" <<'END'
 import glob
@@ -27,6 +27,8 @@ from audit.program import Program
 
 TOTAL = int(sys.argv[3]) if len(sys.argv) > 3 else 100_000_000
 SEED = int(sys.argv[4]) if len(sys.argv) > 4 else random.randrange(10**6)
+ALL = ["lines", "CSV", "connections"]
+PARTS = sys.argv[5:] or ALL
 PIECE = 1_000_000  # bytes of a run of lines or records
 SAMPLE = 20_000  # bytes of a run that the model is given too
 EVERY = 5  # one run in so many has such a sample behind it
@@ -63,6 +65,8 @@ def corpus():
     return lines, records
 
 
+if not set(PARTS) <= set(ALL):
+    fail(f"the parts are {ALL}")
 LINES, RECORDS = corpus()
 
 
@@ -236,6 +240,8 @@ def sampled_connections():
 
 
 def go(name, total, one, sample):
+    if name not in PARTS:
+        return
     sent = compared = runs = 0
     slowest = 0
     while sent < total:

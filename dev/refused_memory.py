@@ -8,7 +8,8 @@ lines whose replies stand whole, or of one line more; and the same input, sent a
 reply, has to give the rest of the replies and of the rows. It prints how many growths were refused.
 
 A growth is a call of malloc, calloc, realloc or posix_memalign by the program; a small library, which this script compiles with `cc` and
-has the system load before the C library, counts them. It is no part of the gate, and takes some minutes."""
+has the system load before the C library, counts them. It is no part of the gate, and takes some minutes. Several can run side by side,
+each over one path, over some of its growths, and with the rows in one place."""
 import argparse
 import csv
 import os
@@ -87,10 +88,16 @@ def paths():
 def main():
     words = argparse.ArgumentParser(description=__doc__, formatter_class=argparse.RawDescriptionHelpFormatter)
     words.add_argument("--program", default=os.path.join(TOP, "crates/billctl/out/billctl"))
-    program = words.parse_args().program
+    words.add_argument("--path", help="only the path of this name")
+    words.add_argument("--rows", choices=("file", "memory"), help="only with the rows there")
+    words.add_argument("--first", type=int, default=1, help="the first growth that is refused")
+    words.add_argument("--last", type=int, default=10**9, help="and the last one")
+    given = words.parse_args()
+    if given.path not in [None, *(path.name for path in paths())]:
+        words.error("the paths are " + ", ".join(path.name for path in paths()))
     work = tempfile.mkdtemp(dir="/dev/shm" if os.path.isdir("/dev/shm") else None)
     try:
-        sweep(program, work)
+        sweep(given, work)
     finally:
         shutil.rmtree(work)
 
@@ -218,7 +225,16 @@ def in_memory(program, path, work, refused, whole):
     return True
 
 
-def sweep(program, work):
+def counted(given, meets):
+    """How many growths were refused, from the first on, until a run meets no refusal or the last was."""
+    refused = given.first - 1
+    while refused < given.last and meets(refused + 1):
+        refused += 1
+    return refused - given.first + 1
+
+
+def sweep(given, work):
+    program = given.program
     source = os.path.join(work, "refuse.c")
     with open(source, "w") as out:
         out.write(SHIM)
@@ -232,17 +248,15 @@ def sweep(program, work):
                     os.remove(before + end)
             if path.before:
                 run(program, before, "apply", path.before, work)
-        usual, replies, rows, counts = rows_after(program, before, path, work)
-        refused = 0
-        while one(program, before, path, work, refused + 1, usual, replies, rows, counts):
-            refused += 1
-        print(f"{path.name}: {refused} growths refused over a file of rows", flush=True)
-        total += refused
-        if path.before == "":
-            held = 0
+        is_wanted = given.path in (None, path.name)
+        if is_wanted and given.rows != "memory":
+            usual, replies, rows, counts = rows_after(program, before, path, work)
+            refused = counted(given, lambda growth: one(program, before, path, work, growth, usual, replies, rows, counts))
+            print(f"{path.name}: {refused} growths refused over a file of rows", flush=True)
+            total += refused
+        if is_wanted and given.rows != "file" and path.before == "":
             _, whole, _ = run(program, "-", path.command, path.text, work)
-            while in_memory(program, path, work, held + 1, whole):
-                held += 1
+            held = counted(given, lambda growth: in_memory(program, path, work, growth, whole))
             print(f"{path.name}: {held} growths refused with rows in memory", flush=True)
             total += held
         if path.command == "import":

@@ -2,12 +2,14 @@
 # Kills runs over a file of rows, each at a random moment: of four kills two hit `apply`, one `import`, and one `serve` with four clients
 # at it. Each time the file then loads, every reply that was written whole has its row, at most one row more is there, and a stock SQLite
 # (Python's own) reads the same rows and finds the file sound. What was sent is then sent again, and gets its old numbers. It prints its
-# seed, and takes one, and how many kills there are (60).
+# seed, and takes one, how many kills there are (60), and how many at once (1).
 #
-#     tests/durable.sh [SEED [KILLS]]
+#     tests/durable.sh [SEED [KILLS [LANES]]]
 top=$(cd "$(dirname "$0")/.." && pwd) || exit 1
 exec python3 - "$top/crates/billctl/out/billctl" "$@" <<'END'
+import concurrent.futures
 import http.client
+import itertools
 import json
 import os
 import random
@@ -23,9 +25,11 @@ import time
 PROGRAM = sys.argv[1]
 SEED = int(sys.argv[2]) if len(sys.argv) > 2 else random.randrange(10**6)
 KILLS = int(sys.argv[3]) if len(sys.argv) > 3 else 60
+LANES = int(sys.argv[4]) if len(sys.argv) > 4 else 1
 ACCOUNTS = 10
 CHARGES = 390
 CLIENTS = 4
+PORTS = range(20000, 32000)  # below those that a system gives to clients
 HEADER = "account,key,kind,day,place,cents,minute,channel"
 
 
@@ -102,7 +106,6 @@ class Whole:
     """What runs that aren't killed come to, and how long they take."""
 
     def __init__(self, work):
-        self.work = work
         self.opened = os.path.join(work, "opened")
         file = os.path.join(work, "whole")
         start = time.monotonic()
@@ -115,50 +118,50 @@ class Whole:
         if status != 0 or rows_of(self.opened, work, True) != self.rows[: len(OPENING)]:
             fail(f"the opening ends with {status}")
 
-    def begun(self, name):
+    def begun(self, work):
         """A file with the opening's rows."""
-        file = os.path.join(self.work, name)
+        file = os.path.join(work, "rows")
         shutil.copyfile(self.opened, file)
         return file
 
-    def by_apply(self, name, after, is_finished):
-        file = os.path.join(self.work, name)
+    def by_apply(self, name, work, after, is_finished):
+        file = os.path.join(work, "rows")
         lines = OPENING + LINES
-        replies = killed(file, "apply", lines, self.work, after * self.seconds)
+        replies = killed(file, "apply", lines, work, after * self.seconds)
         if replies != self.replies[: len(replies)]:
             fail(f"{name}: the replies aren't those of a run that isn't killed")
-        rows = rows_of(file, self.work, replies)
+        rows = rows_of(file, work, replies)
         self.at_most_one_more(name, len(replies), rows, self.rows)
         # `roll` has no key, so it isn't sent again
         status, again = run(file, "apply", lines[1 : len(replies)])
         if status != 0 or again != self.replies[1 : len(replies)]:
             fail(f"{name}: sent again, the lines end with {status}")
-        if rows and rows_of(file, self.work, replies) != rows:
+        if rows and rows_of(file, work, replies) != rows:
             fail(f"{name}: lines that were sent again changed the rows")
         if is_finished:
             status, again = run(file, "apply", lines[1:] if rows else lines)
-            if status != 0 or again != self.replies[1 if rows else 0 :] or rows_of(file, self.work, again) != self.rows:
+            if status != 0 or again != self.replies[1 if rows else 0 :] or rows_of(file, work, again) != self.rows:
                 fail(f"{name}: the file doesn't come to the same rows as one that was never killed")
         return len(replies), len(rows) - len(replies)
 
-    def by_import(self, name, after, _):
-        file = self.begun(name)
+    def by_import(self, name, work, after, _):
+        file = self.begun(work)
         records = [HEADER] + RECORDS
         wanted = self.replies[len(OPENING) :]
-        replies = killed(file, "import", records, self.work, after * self.seconds)
+        replies = killed(file, "import", records, work, after * self.seconds)
         if replies != wanted[: len(replies)]:
             fail(f"{name}: the replies aren't those of an import that isn't killed")
-        rows = rows_of(file, self.work, True)
+        rows = rows_of(file, work, True)
         self.at_most_one_more(name, len(OPENING) + len(replies), rows, self.rows)
         status, again = run(file, "import", records)
-        if status != 0 or again != wanted or rows_of(file, self.work, True) != self.rows:
+        if status != 0 or again != wanted or rows_of(file, work, True) != self.rows:
             fail(f"{name}: sent again, the import ends with {status}")
         return len(replies), len(rows) - len(OPENING) - len(replies)
 
-    def by_serve(self, name, after, _):
-        file = self.begun(name)
+    def by_serve(self, name, work, after, _):
+        file = self.begun(work)
         answered = served(file, after * self.seconds)
-        rows = rows_of(file, self.work, True)
+        rows = rows_of(file, work, True)
         count = sum(map(len, answered))
         if rows[: len(OPENING)] != self.rows[: len(OPENING)] or len(rows) - len(OPENING) not in (count, count + 1):
             fail(f"{name}: {count} answers of 200 and {len(rows) - len(OPENING)} rows")
@@ -183,10 +186,18 @@ class Whole:
             fail(f"{name}: {count} replies and {len(rows)} rows")
 
 
+CALLS = itertools.count()
+
+
 def free_port():
-    with socket.socket() as free:
-        free.bind(("127.0.0.1", 0))
-        return free.getsockname()[1]
+    """A port on which nothing listens, another one at each call."""
+    while True:
+        port = PORTS[(31 * os.getpid() + next(CALLS)) % len(PORTS)]
+        try:
+            socket.create_server(("127.0.0.1", port)).close()
+            return port
+        except OSError:
+            pass
 
 
 def served(file, after):
@@ -233,19 +244,30 @@ def post(port, client, answered):
         answered.append((number, text))
 
 
+def kill(whole, work, number, after):
+    """One kill, in a folder of its own: the whole replies, and how many rows more there are."""
+    ways = whole.by_apply, whole.by_import, whole.by_apply, whole.by_serve
+    room = os.path.join(work, f"kill{number}")
+    os.mkdir(room)
+    found = ways[number % len(ways)](f"kill {number}", room, after, number % 8 == 0)
+    shutil.rmtree(room)
+    return found
+
+
 def main():
     rng = random.Random(SEED)
     work = tempfile.mkdtemp()
     try:
         whole = Whole(work)
-        ways = whole.by_apply, whole.by_import, whole.by_apply, whole.by_serve
-        cut = more = 0
-        for number in range(KILLS):
-            replies, ahead = ways[number % len(ways)](f"rows{number}", rng.uniform(0, 1), number % 8 == 0)
-            cut += 0 < replies < CHARGES
-            more += ahead
-            for end in ("", "-wal"):
-                os.remove(os.path.join(work, f"rows{number}{end}"))
+        moments = [rng.uniform(0, 1) for _ in range(KILLS)]
+        with concurrent.futures.ThreadPoolExecutor(LANES) as lanes:
+            runs = [lanes.submit(kill, whole, work, number, after) for number, after in enumerate(moments)]
+            try:
+                found = [run.result() for run in runs]
+            finally:
+                lanes.shutdown(cancel_futures=True)
+        cut = sum(0 < replies < CHARGES for replies, _ in found)
+        more = sum(ahead for _, ahead in found)
         print(f"durable: seed {SEED}: {KILLS} kills, {cut} amid the replies, {more} with a row whose reply wasn't whole; no row is lost")
     finally:
         shutil.rmtree(work)

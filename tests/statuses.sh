@@ -69,7 +69,7 @@ for words in 'export nobody' 'statement nobody 1' 'restate nobody 1' 'repay nobo
     fi
 done
 python3 - "$program" "$rows" <<'END' || exit 1
-import os, resource, shutil, signal, sqlite3, subprocess, sys, threading
+import datetime, os, resource, shutil, signal, sqlite3, subprocess, sys, threading
 
 program, room = sys.argv[1:]
 ROLL, OPEN, CHARGE = map(bytes.fromhex, (
@@ -196,6 +196,22 @@ status, replies = apply("-", posts)
 replies = replies.splitlines()
 expect("200,000 posts of an account", (status, replies[:2], replies[10_001], replies[200_000:]), (1, ["ok", "ok 1"], "ok 10001", ["ok 200000", "no 25 AccountFull", "ok 5"]))
 expect("each of them", replies[1:200_001] == [f"ok {count}" for count in range(1, 200_001)], True)
+
+# the same over a thousand days, ten posts a day
+lines, wanted = ["feerow 2011-01-02 3000 4100", "roll 2024-01-10", "open a o 2024-01-06 5 1999 2499 2199 2999 2500 100"], ["ok", "ok", "ok 1"]
+count = 1
+for number in range(1000):
+    day = datetime.date(2024, 1, 10) + datetime.timedelta(number)
+    if number > 0:
+        lines.append(f"roll {day}")
+        wanted.append("ok")
+    for _ in range(9 if number == 0 else 10):
+        count += 1
+        lines.append(f"askrefund a k{count} {day}")
+        wanted.append(f"ok {count}")
+expect("10,000 posts of an account", count, 10_000)
+status, replies = apply("-", [*lines, f"askrefund a last {day}"])
+expect("one post more", (status, replies.splitlines() == [*wanted, "ok 10001"]), (0, True))
 
 # an index row that comes after what was worked out, in this process and in the next
 file = os.path.join(room, "variable")

@@ -4,3 +4,4 @@ pub mod Order
 pub mod Loading
 pub mod Tells
 pub mod Fit
+pub mod Flushed

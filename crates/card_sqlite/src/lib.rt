@@ -5,13 +5,16 @@ mod append;
 mod fault;
 mod file;
 mod fits;
+mod flush;
 mod keeper;
 pub mod laws;
 mod load;
 mod opening;
 mod store;
 mod told;
+mod waiting;
 
 pub use file::SqliteKeeper;
 pub use store::StoreKeeper;
 pub use told::Told;
+pub use waiting::{Waiting, WaitingKeeper};

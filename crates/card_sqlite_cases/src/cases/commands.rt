@@ -10,18 +10,23 @@ use std::test::Fail;
 static RUNS: [(&str, &[u8], &[u8]); 3] = [
     (
         "apply",
-        b"roll 2024-03-01\nopen a o 2024-03-01 5 1999 2499 2199 2999 2500 100\ncharge a c1 2024-03-01 purchase 1250\nshow a\n",
+        LINES,
         b"ok\nok 1\nok 2\nshow a 2024-03-01 owed 1250 credit 0 held 0\n",
     ),
     ("import", RECORDS, b"ok 3\nok 4\n"),
     ("import", RECORDS, b"ok 3\nok 4\n"),
 ];
 
-const RECORDS: &[u8] =
+pub(crate) const LINES: &[u8] =
+    b"roll 2024-03-01\nopen a o 2024-03-01 5 1999 2499 2199 2999 2500 100\ncharge a c1 2024-03-01 purchase 1250\nshow a\n";
+
+pub(crate) const SHOWN: &[u8] = b"show a 2024-03-01 owed 1250 credit 0 held 0\n";
+
+pub(crate) const RECORDS: &[u8] =
     b"account,key,kind,day,place,cents,minute,channel\na,c2,charge,2024-03-01,purchase,1100,,\na,p1,payment,2024-03-01,,500,600,online\n";
 
 // The bodies of the rows that they leave.
-static ROWS: [&[u8]; 5] = [
+pub(crate) static ROWS: [&[u8]; 5] = [
     b"\x02\x01\x12\xc8",
     b"\x02\x04\x01\x61\x01\x6f\x12\xc8\x01\x05\x02\x07\xcf\x02\x09\xc3\x02\x08\x97\x02\x0b\xb7\x02\x09\xc4\x01\x64",
     b"\x02\x05\x01\x61\x02\x63\x31\x12\xc8\x00\x02\x04\xe2",

@@ -1,6 +1,7 @@
 ghost use Rattle.std.specs.Prelude.{All, IfOk};
 ghost use Rattle.card_ports.specs.Forms.{IsFresh};
 
+use crate::cases::commands::are_rows;
 use card_commands::billctl;
 use card_ports::{FailingKeeper, MemoryDoor, MemoryLink, MemorySink, MemorySource};
 use std::alloc::Global;
@@ -13,6 +14,9 @@ const ROLL: &[u8] =
     b"POST /posts HTTP/1.1\r\nContent-Length: 34\r\n\r\n{\"kind\":\"roll\",\"day\":\"2024-01-28\"}";
 
 const WORK: &[u8] = b"GET /work HTTP/1.1\r\n\r\n";
+
+// The row that the day is kept as.
+static ROW: [&[u8]; 1] = [b"\x02\x01\x12\xa7"];
 
 // Their answers, and that of a keeper that fails.
 const ROLLED: &[u8] =
@@ -114,6 +118,14 @@ fn have_taken(links: &[MemoryLink], answers: &[&[u8]]) -> bool {
     links.len() == answers.len()
 }
 
+// Whether so many rows are kept, of which the first is that of the day.
+fn are_kept(left: &Left, rows: usize) -> bool {
+    match ROW.get(..rows) {
+        Some(bodies) => are_rows(left.keeper.rows(), bodies),
+        None => false,
+    }
+}
+
 // Whether a server ends so: its status, its lines, how many rows are kept, and the answers.
 fn ends(
     alloc: Global,
@@ -127,7 +139,7 @@ fn ends(
     Ok(
         left.status == status
             && left.output.taken() == lines
-            && left.keeper.rows().len() == rows
+            && are_kept(&left, rows)
             && have_taken(left.door.closed(), answers),
     )
 }
@@ -148,7 +160,7 @@ fn first_is_cut(left: &Left) -> bool {
     let rows = if first.left().is_empty() { 1 } else { 0 };
     left.status == 0
         && left.output.taken() == b"cut\n200\n".as_slice()
-        && left.keeper.rows().len() == rows
+        && are_kept(left, rows)
         && is_cut(first, ROLLED)
         && second.taken() == NO_TASKS
 }
@@ -160,7 +172,7 @@ fn second_is_cut(left: &Left) -> bool {
     };
     left.status == 0
         && left.output.taken() == b"200\ncut\n".as_slice()
-        && left.keeper.rows().len() == 1
+        && are_kept(left, 1)
         && first.taken() == ROLLED
         && is_cut(second, NO_TASKS)
 }
