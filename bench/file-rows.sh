@@ -1,8 +1,8 @@
 #!/bin/sh
-# What a row in a file costs: `apply` over a file, one commit a line, against as many single commits of the same rows to the
-# same table by a stock SQLite (Python's own) with the same journal mode and synchronous, in turn, three times each; and how
-# long the rows of a file take to load. It isn't part of the gate, and wants the built program. The files lie in the folder
-# that is given, or where temporary files do: the medium decides.
+# What a row in a file costs: `apply` over a file, whose lines are given one by one, so that each is a commit, against as many single
+# commits of the same rows to the same table by a stock SQLite (Python's own) with the same journal mode and synchronous, in turn, three
+# times each; the same lines all at once, whose rows wait for common commits; and how long the rows of a file take to load. It isn't part
+# of the gate, and wants the built program. The files lie in the folder that is given, or where temporary files do: the medium decides.
 #
 #     bench/file-rows.sh [LINES [LOADED [FOLDER]]]
 top=$(cd "$(dirname "$0")/.." && pwd) || exit 1
@@ -42,6 +42,19 @@ def applied(file, lines):
     return seconds
 
 
+def one_by_one(file, lines):
+    """The same, where each line is given once the one before is answered."""
+    start = time.monotonic()
+    with open(lines) as source, subprocess.Popen([PROGRAM, file, "apply"], stdin=subprocess.PIPE, stdout=subprocess.PIPE) as running:
+        for line in source:
+            os.write(running.stdin.fileno(), line.encode())
+            os.read(running.stdout.fileno(), 4096)
+        running.stdin.close()
+    if running.returncode != 0:
+        sys.exit(f"file-rows: apply ends with {running.returncode}")
+    return time.monotonic() - start
+
+
 def stock(file, rows):
     """Single commits by the stock SQLite, its opening and closing included."""
     start = time.monotonic()
@@ -72,13 +85,15 @@ def main():
     lines = os.path.join(work, "lines")
     try:
         write(lines, request_lines(LINES))
-        ours, theirs = [], []
+        ours, theirs, together = [], [], []
         for turn in range(3):
             file = os.path.join(work, f"ours{turn}")
-            ours.append(applied(file, lines))
+            ours.append(one_by_one(file, lines))
+            together.append(applied(os.path.join(work, f"together{turn}"), lines))
             theirs.append(stock(os.path.join(work, f"theirs{turn}"), rows_of(file)))
         print(f"cores {os.cpu_count()} sqlite {sqlite3.sqlite_version}")
         print(f"{LINES} lines, one commit each: apply {LINES / min(ours):.0f} a second, sqlite3 {LINES / min(theirs):.0f} a second, time {min(ours) / min(theirs):.2f} of sqlite3's")
+        print(f"{LINES} lines at once: apply {LINES / min(together):.0f} a second")
         if LOADED:
             write(lines, request_lines(LOADED))
             fast = os.path.join(work, "loaded")

@@ -1,24 +1,32 @@
 #!/bin/sh
-# Kills runs over a file of rows, each at a random moment: of four kills two hit `apply`, one `import`, and one `serve` with four clients
-# at it. Each time the file then loads, every reply that was written whole has its row, at most one row more is there, and a stock SQLite
-# (Python's own) reads the same rows and finds the file sound. What was sent is then sent again, and gets its old numbers. It prints its
-# seed, and takes one, how many kills there are (60), and how many at once (1).
+# Kills runs over a file of rows, each at a random moment: of five kills two hit `apply`, one `import`, one an `import` whose replies
+# nobody reads, and one `serve` with four clients at it. Each time the file then loads, every reply that was written whole has its row, no
+# more rows are there than may wait with their replies (of `serve` one), and a stock SQLite (Python's own) reads the same rows and finds
+# the file sound. What was sent is then sent again, and gets its old numbers. Then, not killed: lines of which each is answered before the
+# next is sent, and lines that come in pieces, where the rows of replies are there as soon as these are; disks that are full after so
+# many bytes, and outputs that are full, which leave whole replies and their rows. It prints its seed, and takes one, how many kills there
+# are (60), and how many at once (1).
 #
 #     tests/durable.sh [SEED [KILLS [LANES]]]
 top=$(cd "$(dirname "$0")/.." && pwd) || exit 1
 exec python3 - "$top/crates/billctl/out/billctl" "$@" <<'END'
 import concurrent.futures
+import fcntl
 import http.client
 import itertools
 import json
 import os
 import random
+import resource
 import shutil
+import signal
 import socket
 import sqlite3
+import struct
 import subprocess
 import sys
 import tempfile
+import termios
 import threading
 import time
 
@@ -27,9 +35,12 @@ SEED = int(sys.argv[2]) if len(sys.argv) > 2 else random.randrange(10**6)
 KILLS = int(sys.argv[3]) if len(sys.argv) > 3 else 60
 LANES = int(sys.argv[4]) if len(sys.argv) > 4 else 1
 ACCOUNTS = 10
-CHARGES = 390
+CHARGES = 7990
 CLIENTS = 4
 PORTS = range(20000, 32000)  # below those that a system gives to clients
+WAITING = 1025  # so many rows may be kept before their replies are written: 1,024 of a commit, and one behind an output that failed
+FULL = 6
+PAGE = 4096
 HEADER = "account,key,kind,day,place,cents,minute,channel"
 
 
@@ -102,6 +113,33 @@ def killed(file, command, lines, work, after):
         return [line[:-1] for line in written if line.endswith("\n")]
 
 
+def unread(file, command, lines):
+    """Runs with an output that holds a page and that nobody reads, and is killed once it is full: the replies that were written whole."""
+    taken, given = os.pipe()
+    fcntl.fcntl(given, fcntl.F_SETPIPE_SZ, PAGE)
+    started = subprocess.Popen([PROGRAM, file, command], stdin=subprocess.PIPE, stdout=given)
+    os.close(given)
+    try:
+        started.stdin.write("".join(line + "\n" for line in lines).encode())
+        started.stdin.close()
+    except BrokenPipeError:
+        fail(f"{command} ends before its output is read")
+    for _ in range(600):
+        if struct.unpack("i", fcntl.ioctl(taken, termios.FIONREAD, bytes(4)))[0] == PAGE:
+            break
+        time.sleep(0.05)
+    started.kill()
+    started.wait()
+    with os.fdopen(taken, "rb") as written:
+        return [line[:-1].decode() for line in written if line.endswith(b"\n")]
+
+
+def bounded(size):
+    """From now on no file takes a byte behind its first ones."""
+    signal.signal(signal.SIGXFSZ, signal.SIG_IGN)
+    resource.setrlimit(resource.RLIMIT_FSIZE, (size, size))
+
+
 class Whole:
     """What runs that aren't killed come to, and how long they take."""
 
@@ -131,7 +169,7 @@ class Whole:
         if replies != self.replies[: len(replies)]:
             fail(f"{name}: the replies aren't those of a run that isn't killed")
         rows = rows_of(file, work, replies)
-        self.at_most_one_more(name, len(replies), rows, self.rows)
+        self.has_rows(name, len(replies), rows)
         # `roll` has no key, so it isn't sent again
         status, again = run(file, "apply", lines[1 : len(replies)])
         if status != 0 or again != self.replies[1 : len(replies)]:
@@ -146,14 +184,25 @@ class Whole:
 
     def by_import(self, name, work, after, _):
         file = self.begun(work)
-        records = [HEADER] + RECORDS
+        replies = killed(file, "import", [HEADER] + RECORDS, work, after * self.seconds)
+        return self.imported(name, work, file, replies)
+
+    def by_unread_import(self, name, work, *_):
+        file = self.begun(work)
+        replies = unread(file, "import", [HEADER] + RECORDS)
+        count, ahead = self.imported(name, work, file, replies)
+        if not ahead:
+            fail(f"{name}: {count} replies that nobody read, and no row more")
+        return count, ahead
+
+    def imported(self, name, work, file, replies):
+        """Whether the rows are those of an import with these replies, and a second one comes to all of them."""
         wanted = self.replies[len(OPENING) :]
-        replies = killed(file, "import", records, work, after * self.seconds)
         if replies != wanted[: len(replies)]:
             fail(f"{name}: the replies aren't those of an import that isn't killed")
         rows = rows_of(file, work, True)
-        self.at_most_one_more(name, len(OPENING) + len(replies), rows, self.rows)
-        status, again = run(file, "import", records)
+        self.has_rows(name, len(OPENING) + len(replies), rows)
+        status, again = run(file, "import", [HEADER] + RECORDS)
         if status != 0 or again != wanted or rows_of(file, work, True) != self.rows:
             fail(f"{name}: sent again, the import ends with {status}")
         return len(replies), len(rows) - len(OPENING) - len(replies)
@@ -181,9 +230,51 @@ class Whole:
             fail(f"{name}: sent again as lines, a request has another number")
         return count, len(rows) - len(OPENING) - count
 
-    def at_most_one_more(self, name, count, rows, wanted):
-        if len(rows) not in (count, count + 1) or rows != wanted[: len(rows)]:
+    def has_rows(self, name, count, rows, most=WAITING):
+        """Whether the rows are those of so many replies and of the next lines, no more than the most."""
+        if not count <= len(rows) <= count + most or rows != self.rows[: len(rows)]:
             fail(f"{name}: {count} replies and {len(rows)} rows")
+
+    def answered(self, name, work, pieces):
+        """Sends the lines in pieces, each once the one before is answered: the rows of the replies are there when these are."""
+        file = self.begun(work)
+        started = subprocess.Popen([PROGRAM, file, "apply"], stdin=subprocess.PIPE, stdout=subprocess.PIPE, text=True, bufsize=1 << 16)
+        sent = 0
+        for piece in pieces:
+            started.stdin.write("".join(line + "\n" for line in LINES[sent : sent + piece]))
+            started.stdin.flush()
+            for number in range(sent, sent + piece):
+                reply = started.stdout.readline()
+                if reply != self.replies[len(OPENING) + number] + "\n":
+                    fail(f"{name}: line {number} is answered {reply!r}")
+            sent += piece
+            self.has_rows(name, len(OPENING) + sent, rows_of(file, work, True), 0)
+        started.stdin.close()
+        if started.wait() != 0 or started.stdout.read():
+            fail(f"{name}: it ends with {started.returncode}")
+
+    def full_disk(self, name, work, command, size):
+        """A disk that takes so many bytes of each file (a log grows by 256 kB at once): whole replies were written, and exactly their rows are there."""
+        file = self.begun(work)
+        lines = LINES if command == "apply" else [HEADER] + RECORDS
+        done = subprocess.run([PROGRAM, file, command], input="".join(line + "\n" for line in lines), capture_output=True, text=True, preexec_fn=lambda: bounded(size))
+        replies = done.stdout.splitlines()
+        if done.returncode != 5 or replies != self.replies[len(OPENING) : len(OPENING) + len(replies)] or not done.stdout.endswith("\n" if replies else ""):
+            fail(f"{name}: {command} over a disk of {size} bytes ends with {done.returncode}")
+        self.has_rows(name, len(OPENING) + len(replies), rows_of(file, work, True), 0)
+        self.imported(name, work, file, replies)
+        return len(replies)
+
+    def full_output(self, name, work, command):
+        """An output that takes nothing: no row is there but those that waited with the first replies."""
+        file = self.begun(work)
+        lines = LINES if command == "apply" else [HEADER] + RECORDS
+        with open("/dev/full", "wb") as sink:
+            done = subprocess.run([PROGRAM, file, command], input="".join(line + "\n" for line in lines), stdout=sink, text=True)
+        if done.returncode != 4:
+            fail(f"{name}: {command} into a full output ends with {done.returncode}")
+        if not self.imported(name, work, file, [])[1]:
+            fail(f"{name}: {command} into a full output keeps no row")
 
 
 CALLS = itertools.count()
@@ -244,14 +335,19 @@ def post(port, client, answered):
         answered.append((number, text))
 
 
-def kill(whole, work, number, after):
-    """One kill, in a folder of its own: the whole replies, and how many rows more there are."""
-    ways = whole.by_apply, whole.by_import, whole.by_apply, whole.by_serve
-    room = os.path.join(work, f"kill{number}")
+def in_a_room(work, name, called, *given):
+    """What a call comes to with a folder of its own."""
+    room = os.path.join(work, name)
     os.mkdir(room)
-    found = ways[number % len(ways)](f"kill {number}", room, after, number % 8 == 0)
+    found = called(name, room, *given)
     shutil.rmtree(room)
     return found
+
+
+def kill(whole, work, number, after):
+    """One kill: the whole replies, and how many rows more there are."""
+    ways = whole.by_apply, whole.by_import, whole.by_apply, whole.by_unread_import, whole.by_serve
+    return in_a_room(work, f"kill{number}", ways[number % len(ways)], after, number % 8 == 0)
 
 
 def main():
@@ -268,7 +364,14 @@ def main():
                 lanes.shutdown(cancel_futures=True)
         cut = sum(0 < replies < CHARGES for replies, _ in found)
         more = sum(ahead for _, ahead in found)
-        print(f"durable: seed {SEED}: {KILLS} kills, {cut} amid the replies, {more} with a row whose reply wasn't whole; no row is lost")
+        in_a_room(work, "typed", whole.answered, [1] * 40)
+        in_a_room(work, "pieces", whole.answered, [rng.randrange(1, 200) for _ in range(20)])
+        full = 0
+        for number in range(FULL):
+            full += in_a_room(work, f"full{number}", whole.full_disk, ("apply", "import")[number % 2], rng.randrange(200_000, 400_000))
+        for command in ("apply", "import") if os.access("/dev/full", os.W_OK) else ():
+            in_a_room(work, f"unwritten-{command}", whole.full_output, command)
+        print(f"durable: seed {SEED}: {KILLS} kills, {cut} amid the replies, {more} rows ahead of them; {FULL} full disks, {full} replies; no row is lost")
     finally:
         shutil.rmtree(work)
 
