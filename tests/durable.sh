@@ -4,8 +4,8 @@
 # more rows are there than may wait with their replies (of `serve` one), and a stock SQLite (Python's own) reads the same rows and finds
 # the file sound. What was sent is then sent again, and gets its old numbers. Then, not killed: lines of which each is answered before the
 # next is sent, and lines that come in pieces, where the rows of replies are there as soon as these are; disks that are full after so
-# many bytes, and outputs that are full, which leave whole replies and their rows. It prints its seed, and takes one, how many kills
-# there are (60), and how many at once (1).
+# many bytes, and outputs that are full, which leave whole replies and their rows. It prints its seed, and takes one, how many kills there
+# are (60), and how many at once (1).
 #
 #     tests/durable.sh [SEED [KILLS [LANES]]]
 top=$(cd "$(dirname "$0")/.." && pwd) || exit 1
@@ -335,19 +335,19 @@ def post(port, client, answered):
         answered.append((number, text))
 
 
-def in_room(work, name, what, *given):
-    """What comes of it in a folder of its own."""
+def in_a_room(work, name, called, *given):
+    """What a call comes to with a folder of its own."""
     room = os.path.join(work, name)
     os.mkdir(room)
-    found = what(name, room, *given)
+    found = called(name, room, *given)
     shutil.rmtree(room)
     return found
 
 
-def kill(name, room, whole, number, after):
+def kill(whole, work, number, after):
     """One kill: the whole replies, and how many rows more there are."""
     ways = whole.by_apply, whole.by_import, whole.by_apply, whole.by_unread_import, whole.by_serve
-    return ways[number % len(ways)](name, room, after, number % 8 == 0)
+    return in_a_room(work, f"kill{number}", ways[number % len(ways)], after, number % 8 == 0)
 
 
 def main():
@@ -357,20 +357,20 @@ def main():
         whole = Whole(work)
         moments = [rng.uniform(0, 1) for _ in range(KILLS)]
         with concurrent.futures.ThreadPoolExecutor(LANES) as lanes:
-            runs = [lanes.submit(in_room, work, f"kill {number}", kill, whole, number, after) for number, after in enumerate(moments)]
+            runs = [lanes.submit(kill, whole, work, number, after) for number, after in enumerate(moments)]
             try:
                 found = [run.result() for run in runs]
             finally:
                 lanes.shutdown(cancel_futures=True)
         cut = sum(0 < replies < CHARGES for replies, _ in found)
         more = sum(ahead for _, ahead in found)
-        in_room(work, "typed", whole.answered, [1] * 40)
-        in_room(work, "pieces", whole.answered, [rng.randrange(1, 200) for _ in range(20)])
+        in_a_room(work, "typed", whole.answered, [1] * 40)
+        in_a_room(work, "pieces", whole.answered, [rng.randrange(1, 200) for _ in range(20)])
         full = 0
         for number in range(FULL):
-            full += in_room(work, f"full disk {number}", whole.full_disk, ("apply", "import")[number % 2], rng.randrange(200_000, 400_000))
+            full += in_a_room(work, f"full{number}", whole.full_disk, ("apply", "import")[number % 2], rng.randrange(200_000, 400_000))
         for command in ("apply", "import") if os.access("/dev/full", os.W_OK) else ():
-            in_room(work, f"full output of {command}", whole.full_output, command)
+            in_a_room(work, f"unwritten-{command}", whole.full_output, command)
         print(f"durable: seed {SEED}: {KILLS} kills, {cut} amid the replies, {more} rows ahead of them; {FULL} full disks, {full} replies; no row is lost")
     finally:
         shutil.rmtree(work)
