@@ -2,7 +2,7 @@
 ghost use Rattle.std.specs.Prelude.{◌≡◌, IfOk};
 ghost use Rattle.card_events.specs.History.{anchor_of};
 ghost use Rattle.card_model.specs.Deadlines.{credit_since};
-ghost use Rattle.card_model.specs.Refusals as refusals;
+ghost use Rattle.card_model.specs.Refusals.{book_today};
 ghost use Rattle.card_model.specs.Work.{tasks_in};
 
 use card_book::{Folded, Present};
@@ -17,9 +17,9 @@ pub fn tasks_today(
     now: &Present,
     folded: &Folded,
 ) -> Result<Vec<Task>, NoMemory>
-    requires book { folded.now.book ≡ refusals.book_today now.now }
-    requires since { folded.now.since ≡ credit_since (refusals.book_today now.now).entries (anchor_of now.now.lists.posts).opened now.now.today }
-    ensures { IfOk result (λ tasks. tasks.items ≡ tasks_in name.now now.now (refusals.book_today now.now)) }
+    requires book { folded.now.book ≡ book_today now.now }
+    requires since { folded.now.since ≡ credit_since (book_today now.now).entries (anchor_of now.now.lists.posts).opened now.now.today }
+    ensures { IfOk result (λ tasks. tasks.items ≡ tasks_in name.now now.now (book_today now.now)) }
 {
     work_of(
         alloc,

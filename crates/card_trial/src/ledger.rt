@@ -53,9 +53,10 @@ impl LedgerDesk {
     ghost use Rattle.card_ports.specs.Rows.{KeepsRows, SameRowsTold};
     ghost use Rattle.card_model.specs.Machine.{lists_of};
     ghost use Rattle.card_desk.specs.Apart.{IsApart};
+    ghost use Rattle.card_desk.specs.Applied.{IsCounted};
     ghost use Rattle.card_desk.specs.Applied as applied;
     ghost use Rattle.card_desk.specs.Desks.{IsRun, OpenDesk};
-    ghost use Rattle.card_desk.specs.Kept as kept;
+    ghost use Rattle.card_desk.specs.Kept.{Fits};
     ghost use Rattle.card_desk.specs.Places.{place_from};
     ghost use Rattle.card_desk.specs.Reached.{AllMove, MovesNamed, MovesToApply};
     ghost use Rattle.card_desk.specs.Recorded.{AppliedStays, MayChange, all_entries};
@@ -134,13 +135,13 @@ impl LedgerDesk {
         steps: &mut Steps<L>,
     ) -> Result<Reply, Fault>
         requires dated { is_dated request.now ≡ true }
-        requires fits { kept.Fits (K.rows keeper.old) self.old.desk.state }
+        requires fits { Fits (K.rows keeper.old) self.old.desk.state }
         ensures ok { IfOk result (applied.Steps (K.rows keeper.old) (K.rows keeper.new) self.old.desk.state request.now self.new.desk.state) }
         ensures apart { IfOk result (IsApart self.old.desk.state request.now self.new.desk.state) }
         ensures err { OnErr result (self.new.desk.state ≡ self.old.desk.state) }
         ensures rows_stay { OnErr result (KeepsRows (K.rows keeper.old) (K.rows keeper.new)) }
         ensures told { SameRowsTold (K.rows keeper.old) (K.rows keeper.new) }
-        ensures counts { applied.IsCounted Fault.Keeper Fault.Memory (K.faults keeper.old) (K.faults keeper.new) result }
+        ensures counts { IsCounted Fault.Keeper Fault.Memory (K.faults keeper.old) (K.faults keeper.new) result }
         ensures reached { MovesToApply request.now result self.old.desk self.new.desk }
         ensures most { AreFewToApply self.old.desk request.now steps.old steps.new }
         ensures recorded { AppliedStays self.old.desk request.now self.new.desk }

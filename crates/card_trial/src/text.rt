@@ -2,7 +2,7 @@
 ghost use Rattle.std.specs.Prelude.{◌≡◌, ◌≤◌, ◌^◌, ◌++◌, ◌-ℤ◌, pos, IfOk, OnOk};
 ghost use Rattle.std.specs.List.{All};
 ghost use Rattle.std.specs.String.{string_bytes};
-ghost use Rattle.card_events.specs.Blanks as blanks;
+ghost use Rattle.card_events.specs.Blanks.{IsBlankOf};
 ghost use Rattle.card_events.specs.Money.{money_text};
 ghost use Rattle.card_trial.specs.Sums.{all_between, of_all_kinds};
 ghost use Rattle.card_trial.specs.Trial as spec;
@@ -118,7 +118,7 @@ fn trial_counted<L: Ledger>(
     to: Day,
     blank: Blank,
 ) -> Result<String, NoMemory>
-    requires own { blanks.IsBlankOf L.name L.parts blank.name blank.parts }
+    requires own { IsBlankOf L.name L.parts blank.name blank.parts }
     ensures { IfOk result (λ text. string_bytes text ≡ spec.trial_text from to desk.state) }
 {
     let mut steps = Steps::<L>::new(blank);
