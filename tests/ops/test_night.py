@@ -16,15 +16,15 @@ from common import PROGRAM, TOP, Case, ledger, start_ledger, start_program
 from issuer import FIRST, HEADER, Issuer
 
 DAYS = 31
-BIG = 1500
-MUCH = 600
+BIG = 8000
+MUCH = 8000
 PAGE = 4096
 
-# A log of so many bytes is that of some hundred records.
-LOG = 1_500_000
+# A log grows by 256 kB at once, and so many bytes are that of some thousand records.
+LOG = 300_000
 
-# What is left on the small disk: too little for the log of an import of 600 records.
-ROOM = 600_000
+# What is left on the small disk: enough for the log of a few rows, and too little for that of an import of 8,000 records.
+ROOM = 400_000
 
 
 # A billctl that is killed as soon as one of its files is too large, and that has the caller killed with it.
@@ -163,8 +163,8 @@ class Month(Nights):
         os.mkdir(disk)
         libc = ctypes.CDLL(None, use_errno=True)
         size = os.path.getsize(self.file)
-        taken = sum(len(data) // PAGE + 2 for data in self.listing().values()) * PAGE
-        if os.geteuid() == 0 and libc.mount(b"tmpfs", disk.encode(), b"tmpfs", 0, f"size={taken + 4 * size + ROOM}".encode()) == 0:
+        taken = sum(len(data) // PAGE + 1 for data in self.listing().values()) * PAGE
+        if os.geteuid() == 0 and libc.mount(b"tmpfs", disk.encode(), b"tmpfs", 0, f"size={taken + ROOM}".encode()) == 0:
             try:
                 home, self.home = self.home, os.path.join(disk, "home")
                 shutil.copytree(home, self.home)
