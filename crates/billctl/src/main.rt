@@ -9,21 +9,41 @@ use card_ports::{
 };
 use card_sqlite::{SqliteKeeper, Waiting, WaitingKeeper};
 use std::cell::RefCell;
-use std::io::{self, ErrorKind, Write};
+use std::io::{self, ErrorKind, Read, Write};
 use std::mem::forget;
 use std::process::ExitCode;
 
 // How many bytes of replies may wait until more is read, where the rows are in memory.
 const REPLY_ROOM: usize = 8192;
 
-// The statuses of a run that was refused something, whose output failed, whose rows couldn't be kept, and that wanted memory.
+// The statuses of a run that was refused something, whose input failed, whose output failed, whose rows couldn't be kept, that wanted
+// memory, and whose input was too large.
 const REFUSED: u8 = 1;
+
+const INPUT_FAILED: u8 = 3;
 
 const OUTPUT_FAILED: u8 = 4;
 
 const NOT_KEPT: u8 = 5;
 
 const NO_MEMORY: u8 = 6;
+
+const TOO_LARGE: u8 = 9;
+
+// A reader that has what waits kept and written before it waits for more. Where that fails it reads no more, so that a line whose row
+// can't be kept ends the run at once.
+#[derive(Drop)]
+struct Settling<'a, R: Read, W: Write> {
+    reader: R,
+    waiting: Lent<'a, W>,
+}
+
+impl<'a, R: Read, W: Write> Read for Settling<'a, R, W> {
+    fn read(&mut self, buf: &mut [u8]) -> io::Result<usize> {
+        self.waiting.flush()?;
+        self.reader.read(buf)
+    }
+}
 
 // The first word, which says where the rows are kept, and the words behind it. An empty list and words that aren't text give
 // no words, and no words are no command. Where memory is wanted for them, the run ends with that.
@@ -60,14 +80,20 @@ fn reply_room(words: &Vec<String>) -> usize {
     }
 }
 
+// Whether a status says that each reply stands.
+fn tells_replies(status: u8) -> bool {
+    status <= REFUSED || status == INPUT_FAILED || status == TOO_LARGE
+}
+
 // Runs the command. Where its last replies can't be written, that is its status, unless it has ended by something else.
-fn over<W: Write, K: Keeper>(
+fn over<R: Read, W: Write, K: Keeper>(
     rt: &HostRuntime,
     words: &Vec<String>,
+    reader: R,
     replies: &RefCell<W>,
     keeper: &mut K,
 ) -> u8 {
-    let mut input = StdSource::new(Asking::new(rt.reader(), replies));
+    let mut input = StdSource::new(reader);
     let mut output = StdSink::new(Lent::new(replies));
     let mut door = TcpDoor::new(rt);
     let status = billctl(
@@ -79,7 +105,7 @@ fn over<W: Write, K: Keeper>(
         &mut door,
     );
     match Lent::new(replies).flush() {
-        Err(_) if status <= REFUSED => OUTPUT_FAILED,
+        Err(_) if tells_replies(status) => OUTPUT_FAILED,
         _ => status,
     }
 }
@@ -91,10 +117,12 @@ fn over_keeper<K: Keeper>(
     room: usize,
     keeper: &mut K,
 ) -> u8 {
-    match Replies::new(rt.alloc(), io::writer(rt), room) {
-        Ok(replies) => over(rt, words, &RefCell::new(replies), keeper),
-        Err(_) => NO_MEMORY,
-    }
+    let Ok(replies) = Replies::new(rt.alloc(), io::writer(rt), room) else {
+        return NO_MEMORY;
+    };
+    let replies = RefCell::new(replies);
+    let reader = Asking::new(rt.reader(), &replies);
+    over(rt, words, reader, &replies, keeper)
 }
 
 // Rows in memory, for this run alone. They go with the process: to give each back first takes a part of a run's time.
@@ -113,7 +141,11 @@ fn over_waiting(rt: &HostRuntime, words: &Vec<String>, keeper: SqliteKeeper) -> 
     };
     let waiting = RefCell::new(waiting);
     let mut keeper = WaitingKeeper::new(&waiting);
-    let status = over(rt, words, &waiting, &mut keeper);
+    let reader = Settling {
+        reader: rt.reader(),
+        waiting: Lent::new(&waiting),
+    };
+    let status = over(rt, words, reader, &waiting, &mut keeper);
     match waiting.into_inner().end() {
         Ok(()) => status,
         Err(KeeperFault::Failed) => NOT_KEPT,

@@ -41,7 +41,7 @@ impl<W: Write + Drop> Waiting<W> {
     }
 
     // Has the rows kept and the replies written. After rows were lost none is kept. After replies were lost none waits, and rows are
-    // kept as before.
+    // kept as before; the first loss stands.
     fn settle(&mut self) -> Result<(), Lost> {
         if let Some(Lost::Rows(fault)) = self.lost {
             return Err(Lost::Rows(fault));
@@ -54,7 +54,7 @@ impl<W: Write + Drop> Waiting<W> {
             &mut self.replies,
         );
         if let Err(lost) = settled {
-            self.lost = Some(lost);
+            self.lost = Some(self.lost.unwrap_or(lost));
         }
         match self.lost {
             Some(lost) => Err(lost),
@@ -91,7 +91,7 @@ impl<W: Write + Drop> Waiting<W> {
     }
 
     /// Has the rows kept that still wait, and the replies written, and closes the keeper as `SqliteKeeper::close` does, passing over
-    /// its failure. An error is the fault for which rows weren't kept, now or before.
+    /// its failure. An error is the fault for which rows weren't kept, now or before; after replies were lost none is told.
     pub fn end(self) -> Result<(), KeeperFault> {
         let mut last = self;
         let _ = last.settle();
