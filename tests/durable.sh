@@ -1,6 +1,6 @@
 #!/bin/sh
-# Kills runs over a file of rows, each at a random moment: of five kills two hit `apply`, one `import`, one an `import` whose replies
-# nobody reads, and one `serve` with four clients at it. Each time the file then loads, every reply that was written whole has its row, no
+# Kills runs over a file of rows, each at a random moment: of six kills two hit `apply`, one `import`, one an `import` whose replies
+# nobody reads, and two `serve` with four clients at it. Each time the file then loads, every reply that was written whole has its row, no
 # more rows are there than may wait with their replies (of `serve` one), and a stock SQLite (Python's own) reads the same rows and finds
 # the file sound. What was sent is then sent again, and gets its old numbers. Then, not killed: lines of which each is answered before the
 # next is sent, and lines that come in pieces, where the rows of replies are there as soon as these are; disks that are full after so
@@ -38,8 +38,9 @@ ACCOUNTS = 10
 CHARGES = 7990
 CLIENTS = 4
 PORTS = range(20000, 32000)  # below those that a system gives to clients
-WAITING = 1025  # so many rows may be kept before their replies are written: 1,024 of a commit, and one behind an output that failed
+WAITING = 1024  # so many rows may be kept before their replies are written
 FULL = 6
+ROOMS = 200_000, 600_000  # bytes of a file: below 262,144 there is no room for a log
 PAGE = 4096
 HEADER = "account,key,kind,day,place,cents,minute,channel"
 
@@ -155,6 +156,12 @@ class Whole:
         status, _ = run(self.opened, "apply", OPENING)
         if status != 0 or rows_of(self.opened, work, True) != self.rows[: len(OPENING)]:
             fail(f"the opening ends with {status}")
+        file = self.begun(work)
+        start = time.monotonic()
+        status, _ = run(file, "import", [HEADER] + RECORDS)
+        self.seconds_of_import = time.monotonic() - start
+        if status != 0 or rows_of(file, work, True) != self.rows:
+            fail(f"an import that isn't killed ends with {status}")
 
     def begun(self, work):
         """A file with the opening's rows."""
@@ -184,7 +191,7 @@ class Whole:
 
     def by_import(self, name, work, after, _):
         file = self.begun(work)
-        replies = killed(file, "import", [HEADER] + RECORDS, work, after * self.seconds)
+        replies = killed(file, "import", [HEADER] + RECORDS, work, after * self.seconds_of_import)
         return self.imported(name, work, file, replies)
 
     def by_unread_import(self, name, work, *_):
@@ -195,13 +202,13 @@ class Whole:
             fail(f"{name}: {count} replies that nobody read, and no row more")
         return count, ahead
 
-    def imported(self, name, work, file, replies):
+    def imported(self, name, work, file, replies, most=WAITING):
         """Whether the rows are those of an import with these replies, and a second one comes to all of them."""
         wanted = self.replies[len(OPENING) :]
         if replies != wanted[: len(replies)]:
             fail(f"{name}: the replies aren't those of an import that isn't killed")
         rows = rows_of(file, work, True)
-        self.has_rows(name, len(OPENING) + len(replies), rows)
+        self.has_rows(name, len(OPENING) + len(replies), rows, most)
         status, again = run(file, "import", [HEADER] + RECORDS)
         if status != 0 or again != wanted or rows_of(file, work, True) != self.rows:
             fail(f"{name}: sent again, the import ends with {status}")
@@ -273,7 +280,8 @@ class Whole:
             done = subprocess.run([PROGRAM, file, command], input="".join(line + "\n" for line in lines), stdout=sink, text=True)
         if done.returncode != 4:
             fail(f"{name}: {command} into a full output ends with {done.returncode}")
-        if not self.imported(name, work, file, [])[1]:
+        # an import's first commit has all that may wait, and the record that finds the output failed was taken
+        if not self.imported(name, work, file, [], WAITING + 1)[1]:
             fail(f"{name}: {command} into a full output keeps no row")
 
 
@@ -346,8 +354,8 @@ def in_a_room(work, name, called, *given):
 
 def kill(whole, work, number, after):
     """One kill: the whole replies, and how many rows more there are."""
-    ways = whole.by_apply, whole.by_import, whole.by_apply, whole.by_unread_import, whole.by_serve
-    return in_a_room(work, f"kill{number}", ways[number % len(ways)], after, number % 8 == 0)
+    ways = whole.by_apply, whole.by_import, whole.by_serve, whole.by_apply, whole.by_unread_import, whole.by_serve
+    return in_a_room(work, f"kill{number}", ways[number % len(ways)], after, number % len(ways) == 0)
 
 
 def main():
@@ -368,7 +376,9 @@ def main():
         in_a_room(work, "pieces", whole.answered, [rng.randrange(1, 200) for _ in range(20)])
         full = 0
         for number in range(FULL):
-            full += in_a_room(work, f"full{number}", whole.full_disk, ("apply", "import")[number % 2], rng.randrange(200_000, 400_000))
+            full += in_a_room(work, f"full{number}", whole.full_disk, ("apply", "import")[number % 2], rng.randrange(*ROOMS))
+        if not full:
+            fail("no disk took a row before it was full")
         for command in ("apply", "import") if os.access("/dev/full", os.W_OK) else ():
             in_a_room(work, f"unwritten-{command}", whole.full_output, command)
         print(f"durable: seed {SEED}: {KILLS} kills, {cut} amid the replies, {more} rows ahead of them; {FULL} full disks, {full} replies; no row is lost")

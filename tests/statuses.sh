@@ -245,6 +245,14 @@ def room_for(size):
 file = os.path.join(room, "full")
 expect("one line", apply(file, LINES[:1]), (0, "ok\n"))
 expect("a disk that is full", apply(file, ["show a"] + LINES[1:], preexec_fn=lambda: room_for(4096)), (5, ""))
+typed = subprocess.Popen([program, file, "apply"], stdin=subprocess.PIPE, stdout=subprocess.PIPE, text=True, bufsize=1, preexec_fn=lambda: room_for(4096))
+typed.stdin.write("show a\n")
+expect("a line typed to a disk that is full", typed.stdout.readline(), "no 1 UnknownAccount\n")
+typed.stdin.write(LINES[1] + "\n")
+try:
+    expect("the end of a run whose row isn't kept, though its input goes on", (typed.wait(60), typed.stdout.read()), (5, ""))
+finally:
+    typed.kill()
 expect("the same lines with room", apply(file, LINES[1:] + ["show a"]), (0, "ok 1\nok 2\n" + SHOWN))
 
 # a second run waits for the file that one has, and doesn't get it; the one that has it goes on

@@ -151,7 +151,7 @@ class Month(Nights):
         self.put("much.csv", HEADER + "".join(f"card-{n % 50 + 1:02},much{n},charge,{late},purchase,{n},,\n" for n in range(1, MUCH + 1)))
         done = self.with_full_disk(day)
         self.assertEqual(done[0], 5, done)
-        self.assertIn("much.csv: billctl ended with 5: the rows couldn't be loaded, or one couldn't be kept", done[2])
+        self.assertIn("much.csv: billctl ended with 5: the rows couldn't be loaded, or some couldn't be kept", done[2])
         self.assertIn("the first one without a reply", done[2])
         self.assertEqual(self.night(day)[0], 0)
         lines = ledger("rows", self.file)[1]

@@ -164,7 +164,7 @@ status 1: something was refused; those lines had no effect, and the others stand
         kept = out.count("ok ")
         self.assertEqual(status, 5, err)
         self.assertIn(f"line {kept + 1}: charge anna d{kept + 1} 2024-02-06 purchase {kept + 1}: the first one without a reply\n", err)
-        self.assertIn("billctl ended with 5: the rows couldn't be loaded, or one couldn't be kept", err)
+        self.assertIn("billctl ended with 5: the rows couldn't be loaded, or some couldn't be kept", err)
         self.assertEqual(len(self.rows()), 5 + kept)
         self.assertEqual(ledger("run", self.file, given=given)[0], 0)
         self.assertEqual(len(self.rows()), 5 + 3999)
