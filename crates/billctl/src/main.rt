@@ -86,7 +86,7 @@ fn tells_replies(status: u8) -> bool {
 }
 
 // Runs the command. Where its last replies can't be written, that is its status, unless it has ended by something else.
-fn over<R: Read, W: Write, K: Keeper>(
+fn over<R: Read + Drop, W: Write, K: Keeper>(
     rt: &HostRuntime,
     words: &Vec<String>,
     reader: R,
