@@ -40,7 +40,7 @@ CLIENTS = 4
 PORTS = range(20000, 32000)  # below those that a system gives to clients
 WAITING = 1024  # so many rows may be kept before their replies are written
 FULL = 6
-ROOMS = 200_000, 600_000  # bytes of a file: below 262,144 there is no room for a log
+ROOMS = 200_000, 500_000  # bytes of a file: below 262,144 there is no room for a log, and below 524,288 none for all rows
 PAGE = 4096
 HEADER = "account,key,kind,day,place,cents,minute,channel"
 
@@ -376,7 +376,8 @@ def main():
         in_a_room(work, "pieces", whole.answered, [rng.randrange(1, 200) for _ in range(20)])
         full = 0
         for number in range(FULL):
-            full += in_a_room(work, f"full{number}", whole.full_disk, ("apply", "import")[number % 2], rng.randrange(*ROOMS))
+            size = rng.randrange(*ROOMS) if number else ROOMS[1]
+            full += in_a_room(work, f"full{number}", whole.full_disk, ("apply", "import")[number % 2], size)
         if not full:
             fail("no disk took a row before it was full")
         for command in ("apply", "import") if os.access("/dev/full", os.W_OK) else ():
