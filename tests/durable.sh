@@ -59,6 +59,8 @@ def charges():
 
 OPENING = list(opening())
 LINES = [f"charge {account} {key} 2024-03-01 purchase {cents}" for account, key, cents in charges()]
+# with lines between them that keep nothing and have long replies, of which more than may wait come before the rows are too many
+SHOWING = [line for number, charge in enumerate(LINES) for line in ([charge] if number % 32 else [charge, f"show a{number % ACCOUNTS}"])]
 RECORDS = [f"{account},{key},charge,2024-03-01,purchase,{cents},," for account, key, cents in charges()]
 BODIES = [
     json.dumps({"kind": "charge", "account": account, "key": key, "day": "2024-03-01", "place": "purchase", "cents": cents})
@@ -135,6 +137,11 @@ def unread(file, command, lines):
         return [line[:-1].decode() for line in written if line.endswith(b"\n")]
 
 
+def keeping(replies):
+    """Those of them whose lines keep a row."""
+    return [reply for reply in replies if reply.startswith("ok")]
+
+
 def bounded(size):
     """From now on no file takes a byte behind its first ones."""
     signal.signal(signal.SIGXFSZ, signal.SIG_IGN)
@@ -162,6 +169,12 @@ class Whole:
         self.seconds_of_import = time.monotonic() - start
         if status != 0 or rows_of(file, work, True) != self.rows:
             fail(f"an import that isn't killed ends with {status}")
+        file = self.begun(work)
+        status, shown = run(file, "apply", SHOWING)
+        if status != 0 or keeping(shown) != self.replies[len(OPENING) :] or rows_of(file, work, True) != self.rows:
+            fail(f"a run that also shows accounts ends with {status}")
+        replies = self.replies[len(OPENING) :]
+        self.ways = ("apply", LINES, replies), ("import", [HEADER] + RECORDS, replies), ("apply", SHOWING, shown)
 
     def begun(self, work):
         """A file with the opening's rows."""
@@ -260,17 +273,18 @@ class Whole:
         if started.wait() != 0 or started.stdout.read():
             fail(f"{name}: it ends with {started.returncode}")
 
-    def full_disk(self, name, work, command, size):
+    def full_disk(self, name, work, way, size):
         """A disk that takes so many bytes of each file (a log grows by 256 kB at once): whole replies were written, and exactly their rows are there."""
         file = self.begun(work)
-        lines = LINES if command == "apply" else [HEADER] + RECORDS
+        command, lines, wanted = way
         done = subprocess.run([PROGRAM, file, command], input="".join(line + "\n" for line in lines), capture_output=True, text=True, preexec_fn=lambda: bounded(size))
         replies = done.stdout.splitlines()
-        if done.returncode != 5 or replies != self.replies[len(OPENING) : len(OPENING) + len(replies)] or not done.stdout.endswith("\n" if replies else ""):
+        if done.returncode != 5 or replies != wanted[: len(replies)] or not done.stdout.endswith("\n" if replies else ""):
             fail(f"{name}: {command} over a disk of {size} bytes ends with {done.returncode}")
-        self.has_rows(name, len(OPENING) + len(replies), rows_of(file, work, True), 0)
-        self.imported(name, work, file, replies)
-        return len(replies)
+        kept = keeping(replies)
+        self.has_rows(name, len(OPENING) + len(kept), rows_of(file, work, True), 0)
+        self.imported(name, work, file, kept)
+        return len(kept)
 
     def full_output(self, name, work, command):
         """An output that takes nothing: no row is there but those that waited with the first replies."""
@@ -376,8 +390,8 @@ def main():
         in_a_room(work, "pieces", whole.answered, [rng.randrange(1, 200) for _ in range(20)])
         full = 0
         for number in range(FULL):
-            size = rng.randrange(*ROOMS) if number else ROOMS[1]
-            full += in_a_room(work, f"full{number}", whole.full_disk, ("apply", "import")[number % 2], size)
+            size = ROOMS[1] if number < len(whole.ways) else rng.randrange(*ROOMS)
+            full += in_a_room(work, f"full{number}", whole.full_disk, whole.ways[number % len(whole.ways)], size)
         if not full:
             fail("no disk took a row before it was full")
         for command in ("apply", "import") if os.access("/dev/full", os.W_OK) else ():

@@ -12,10 +12,12 @@ const ROWS: usize = 1024;
 const REPLIES: usize = 8192;
 
 /// Rows on their way to a file, and replies on their way to a writer of std, which wait for one another: the rows are kept by one
-/// commit, and the replies are written after it. So no reply is written whose row isn't kept. It comes when 1,024 rows wait, when
-/// more than 8,192 bytes of replies would, and at each `flush`. Where the rows can't be kept, the replies that waited go with them.
-/// After that no row and no reply is taken any more; where replies couldn't be written, no reply is, and rows are kept as before. Like
-/// the adapters over std's writers, it tells no bytes.
+/// commit, and the replies are written after it. So no reply is written whose row isn't kept. It comes before a row is taken where
+/// 1,024 wait, behind a reply where more than 8,192 bytes of them then wait, and at each `flush`. So where each reply is one `write`,
+/// between its row and the next one, rows and replies that wait are those of the same lines, and no row is kept whose reply waits for
+/// another commit. Where the rows can't be kept, the replies that waited go with them. After that no row and no reply is taken any
+/// more; where replies couldn't be written, no reply is, and rows are kept as before. Like the adapters over std's writers, it tells
+/// no bytes.
 #[derive(Drop)]
 pub struct Waiting<W: Write + Drop> {
     alloc: Global,
@@ -29,7 +31,7 @@ pub struct Waiting<W: Write + Drop> {
 impl<W: Write + Drop> Waiting<W> {
     /// Nothing waits yet. An error is want of memory.
     pub fn new(alloc: Global, keeper: SqliteKeeper, writer: W) -> io::Result<Waiting<W>> {
-        let replies = Vec::with_capacity(alloc, REPLIES)?;
+        let replies = Vec::with_capacity(alloc, 2 * REPLIES)?;
         Ok(Waiting {
             alloc,
             keeper,
@@ -105,17 +107,17 @@ impl<W: Write + Drop> Waiting<W> {
 }
 
 impl<W: Write + Drop> Write for Waiting<W> {
-    // Takes as many of the bytes as may wait.
+    // Takes the whole reply, and then has what waits kept and written where it is too much. After an error the reply is lost with
+    // those that waited, if they were lost then or before; and alone, if memory was wanted for it.
     fn write(&mut self, bytes: &[u8]) -> io::Result<usize> {
-        let front = bytes.get(..REPLIES).unwrap_or(bytes);
-        if self.replies.len().saturating_add(front.len()) > REPLIES {
-            let _ = self.settle();
-        }
         if self.lost.is_some() {
             return Err(Error::from(ErrorKind::BrokenPipe));
         }
-        self.replies.extend_from_slice(front)?;
-        Ok(front.len())
+        self.replies.extend_from_slice(bytes)?;
+        if self.replies.len() > REPLIES {
+            self.flush()?;
+        }
+        Ok(bytes.len())
     }
 
     fn flush(&mut self) -> io::Result<()> {
