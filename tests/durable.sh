@@ -59,9 +59,9 @@ def charges():
 
 OPENING = list(opening())
 LINES = [f"charge {account} {key} 2024-03-01 purchase {cents}" for account, key, cents in charges()]
-# with lines between them that keep nothing and have long replies, of which more than may wait come before the rows are too many
-SHOWING = [line for number, charge in enumerate(LINES) for line in ([charge] if number % 32 else [charge, f"show a{number % ACCOUNTS}"])]
 RECORDS = [f"{account},{key},charge,2024-03-01,purchase,{cents},," for account, key, cents in charges()]
+# with records between them that keep no row and have longer replies, of which more than may wait come before the rows are too many
+MIXED = [record for number, charge in enumerate(RECORDS) for record in ([charge] if number % 12 else [charge, "nobody" + charge[charge.index(",") :]])]
 BODIES = [
     json.dumps({"kind": "charge", "account": account, "key": key, "day": "2024-03-01", "place": "purchase", "cents": cents})
     for account, key, cents in charges()
@@ -137,8 +137,8 @@ def unread(file, command, lines):
         return [line[:-1].decode() for line in written if line.endswith(b"\n")]
 
 
-def keeping(replies):
-    """Those of them whose lines keep a row."""
+def accepted(replies):
+    """Those of lines and records that keep a row."""
     return [reply for reply in replies if reply.startswith("ok")]
 
 
@@ -170,11 +170,11 @@ class Whole:
         if status != 0 or rows_of(file, work, True) != self.rows:
             fail(f"an import that isn't killed ends with {status}")
         file = self.begun(work)
-        status, shown = run(file, "apply", SHOWING)
-        if status != 0 or keeping(shown) != self.replies[len(OPENING) :] or rows_of(file, work, True) != self.rows:
-            fail(f"a run that also shows accounts ends with {status}")
+        status, mixed = run(file, "import", [HEADER] + MIXED)
         replies = self.replies[len(OPENING) :]
-        self.ways = ("apply", LINES, replies), ("import", [HEADER] + RECORDS, replies), ("apply", SHOWING, shown)
+        if status != 1 or len(mixed) != len(MIXED) or accepted(mixed) != replies or rows_of(file, work, True) != self.rows:
+            fail(f"an import with records that are refused ends with {status}")
+        self.ways = ("apply", LINES, replies), ("import", [HEADER] + RECORDS, replies), ("import", [HEADER] + MIXED, mixed)
 
     def begun(self, work):
         """A file with the opening's rows."""
@@ -281,7 +281,7 @@ class Whole:
         replies = done.stdout.splitlines()
         if done.returncode != 5 or replies != wanted[: len(replies)] or not done.stdout.endswith("\n" if replies else ""):
             fail(f"{name}: {command} over a disk of {size} bytes ends with {done.returncode}")
-        kept = keeping(replies)
+        kept = accepted(replies)
         self.has_rows(name, len(OPENING) + len(kept), rows_of(file, work, True), 0)
         self.imported(name, work, file, kept)
         return len(kept)
