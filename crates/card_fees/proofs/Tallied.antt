@@ -1,5 +1,5 @@
 -- What is counted of payments and credits goes on from one post to a later one.
-use Rattle.std.proofs.Common.{◌≡◌, ℕ, suc, ◌+◌, ◌*◌, ◌<◌, ◌≤◌, ◌⊎◌, inl, inr, Bool, true, false, cond, not, ◌&&◌, nat_le, nat_lt, List, [], ◌∷◌, drop, get_or, length, map, take, refl, sym, ap, ◌∙◌, arith}
+use Rattle.std.proofs.Common.{◌≡◌, ℕ, suc, ◌+◌, ◌*◌, ◌<◌, ◌≤◌, ◌⊎◌, inl, inr, Bool, true, false, cond, not, ◌&&◌, nat_le, nat_lt, List, [], ◌∷◌, drop, get_or, length, map, take, refl, sym, ap, ◌∙◌, subst, arith}
 use Rattle.std.specs.Prelude.{unsigned_abs}
 use Rattle.std.specs.List.{All, filter, list_any, sum_by}
 use Rattle.std.proofs.lemmas.Bool.Decides.{nat_tests}
@@ -15,14 +15,14 @@ use Rattle.card_model.specs.Payments.{counted, credited, is_between, is_credit, 
 use Rattle.card_posts.specs.Order.{IsAscending}
 use Rattle.card_posts.specs.Posted.{folding_order}
 use Rattle.card_fees.specs.Counting.{counts, credits, earlier_posts, in_front, is_before, is_credit_at, is_payment_at, is_returned_until, reaches, since}
-use Rattle.card_fees.specs.Tallied.{Leads, credited_before, credited_since, is_return, is_return_at, not_before, paid_before, paid_since, return_read}
+use Rattle.card_fees.specs.Tallied.{IsBy, Leads, credited_before, credited_since, is_return, is_return_at, not_before, paid_before, paid_since, return_read}
 use Rattle.card_fees.specs.declared.returning.Until.{Until}
 use Rattle.card_fees.specs.declared.returning.Until.TheVariants as until
 use Rattle.card_fees.proofs.Before.{front-by, slots-before}
 use Rattle.card_fees.proofs.Payments.{Stands, all-stand, return-shape}
 use Rattle.card_fees.proofs.Returned.{returned-corrected}
 use Rattle.card_fees.proofs.SlotSums.{front-sum, read-parted}
-use Rattle.card_fees.proofs.Slots.{any-filter, any-same, drop-passes, sum-filter, sum-in_order, sum-map, sum-same}
+use Rattle.card_fees.proofs.Slots.{any-filter, any-same, drop-passes, parted-in_front, sum-filter, sum-in_order, sum-map, sum-same}
 
 -- ---- sums
 sum-add : {X : Type 0} (f g h : X → ℕ) (xs : List X) → ((x : X) → f x + g x ≡ h x) → sum_by f xs + sum_by g xs ≡ sum_by h xs
@@ -54,6 +54,14 @@ each-two P Q R (x ∷ xs) f p q =
 goes-on : (day number later last d n : ℕ) → Leads day number later last → is_before day number d n ≡ true → is_before later last d n ≡ true
 goes-on day number later last d n (inl l) e = grind (arith, nat_tests)
 goes-on day number later last d n (inr (l, m)) e = grind (arith, nat_tests)
+
+-- a day from which nothing is counted yet
+pub begins-by : (day last : ℕ) → day ≤ last + 1 → IsBy last day 0
+begins-by day last l = by (nat_le day last) refl
+  where
+    by : (b : Bool) → nat_le day last ≡ b → IsBy last day 0
+    by true e = let low : day ≤ last = grind (arith, nat_tests) in inl low
+    by false e = let high : last < day = grind (arith, nat_tests) in let next : day ≡ last + 1 = omega (arith, high, l) in inr (next, refl)
 
 -- ---- what is returned, where no Return comes between
 returning : (n : ℕ) (p : Post) → returns n p ≡ true → is_return p ≡ true
@@ -300,3 +308,30 @@ credited-unread u history from x e = unread (nat_le from x.day) (reaches u x.day
 
 pub return-unread : (u : Until) (history : List Kept) (x : Slot) → reaches u x.day x.number ≡ false → return_read u history x ≡ 0
 return-unread u history x e = ap (λ b. cond b (cond (is_return_at (at_number x.number history)) 1 0) 0) e
+
+-- the slots in front of one that is read are read
+pub front-at : (u : Until) (day number : ℕ) (slots : List Slot) (i : ℕ) (s : Slot) → IsAscending slots → u ≡ until.Post day number → i < length slots → s ≡ get_or slots i s
+    → reaches u s.day s.number ≡ true → (k : ℕ) (d : Slot) → k ≤ i → is_before day number (get_or slots k d).day (get_or slots k d).number ≡ true
+front-at u day number slots i s order e less at is k d low =
+    let same : s ≡ get_or slots i d = get_or_read_under slots i (length slots) s d at less refl in
+    let here : is_before day number s.day s.number ≡ true = subst (λ v. reaches v s.day s.number ≡ true) e is in
+    parted-in_front day number slots order k i d low less (sym (ap (λ (x : Slot). is_before day number x.day x.number) same) ∙ here)
+
+-- and those behind one that isn't read aren't
+pub back-at : (u : Until) (day number : ℕ) (slots : List Slot) (i : ℕ) (s : Slot) → IsAscending slots → u ≡ until.Post day number → s ≡ get_or slots i s
+    → reaches u s.day s.number ≡ false → (k : ℕ) (d : Slot) → i ≤ k → k < length slots → is_before day number (get_or slots k d).day (get_or slots k d).number ≡ false
+back-at u day number slots i s order e at is k d low less = by (is_before day number (get_or slots k d).day (get_or slots k d).number) refl
+  where
+    here : is_before day number s.day s.number ≡ false
+    here = subst (λ v. reaches v s.day s.number ≡ false) e is
+
+    by : (b : Bool) → is_before day number (get_or slots k d).day (get_or slots k d).number ≡ b → b ≡ false
+    by false f = refl
+    by true f =
+        let same : s ≡ get_or slots i d = get_or_read_under slots i (length slots) s d at (omega (arith, low, less)) refl in
+        let read = parted-in_front day number slots order i k d low less f in
+        sym (sym here ∙ (ap (λ (x : Slot). is_before day number x.day x.number) same ∙ read))
+
+pub not-true : (b : Bool) → not b ≡ true → b ≡ false
+not-true false e = refl
+not-true true e = absurd (cc)

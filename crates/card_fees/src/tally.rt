@@ -1,5 +1,5 @@
 // What is counted of payments and credits, kept from one question to the next.
-ghost use Rattle.std.specs.Prelude.{◌≡◌, ℕ, ◌≤◌, IfSome, List, drop, nat_lt, true, unsigned_abs};
+ghost use Rattle.std.specs.Prelude.{◌≡◌, ℕ, ◌≤◌, IfSome, List, drop, length, min, nat_lt, true, unsigned_abs};
 ghost use Rattle.std.specs.List.{sum_by};
 ghost use Rattle.card_events.specs.History.{CorrectedPost, at_number};
 ghost use Rattle.card_fees.specs.declared.returning.Until.TheVariants as variants;
@@ -99,6 +99,7 @@ fn bring(posts: &Posts, slots: &[Slot], from: Day, until: &Until) -> Brought
     ensures paid { result.paid ≡ sum_by (paid_since until.now posts.now.history posts.now.corrected from) slots.now }
     ensures credited { result.credited ≡ sum_by (credited_since until.now posts.now.history from) slots.now }
     ensures returns { result.returns ≡ sum_by (return_read until.now posts.now.history) slots.now }
+    ensures read { result.read ≤ length slots.now }
 {
     let mut brought = Brought {
         paid: 0,
@@ -121,7 +122,8 @@ fn bring(posts: &Posts, slots: &[Slot], from: Day, until: &Until) -> Brought
 // Whether the slot in front of a place, where there is one, is read, and the one at it isn't.
 fn is_cut(slots: &[Slot], place: usize, until: &Until) -> bool
     requires { IsAscending slots.now }
-    ensures { (day number : ℕ) → result ≡ true → until.now ≡ variants.Post day number → drop place slots.now ≡ not_before day number slots.now }
+    ensures within { result ≡ true → place ≤ length slots.now }
+    ensures rest { (day number : ℕ) → result ≡ true → until.now ≡ variants.Post day number → drop place slots.now ≡ not_before day number slots.now }
 {
     if place == 0 || slots.len() < place {
         return false;
@@ -135,7 +137,8 @@ fn is_cut(slots: &[Slot], place: usize, until: &Until) -> bool
 // The first place that isn't in front of a post, which may be near another one.
 fn place_of(slots: &[Slot], near: usize, day: Day, number: u32) -> usize
     requires { IsAscending slots.now }
-    ensures { drop result slots.now ≡ not_before day number slots.now }
+    ensures rest { drop result slots.now ≡ not_before day number slots.now }
+    ensures within { result ≤ length slots.now }
 {
     let until = Until::Post(day, number);
     if is_cut(slots, near, &until) {
@@ -161,8 +164,16 @@ fn of_days(sum: &Option<Sum>, from: Day, to: Day) -> Option<Sum>
     }
 }
 
+// The earlier of two days.
+fn sooner(a: Day, b: Day) -> Day
+    ensures { result ≡ min a b }
+{
+    if b < a { b } else { a }
+}
+
 impl Tally {
-    ghost use Rattle.std.specs.Prelude.{◌≡◌, ◌≤◌, ◌+◌, ℕ, true, IfSome, List};
+    ghost use Rattle.std.specs.Prelude.{◌≡◌, ◌<◌, ◌≤◌, ◌+◌, ℕ, true, IfSome, List};
+    ghost use Rattle.card_events.specs.Range.{last_calendar_day};
     ghost use Rattle.card_events.specs.History.{CorrectedPost};
     ghost use Rattle.card_fees.specs.Tallied.{IsBy, IsSumOf, IsTallyOf, Leads, StaysRight};
     ghost use Rattle.card_posts.specs.Posted.{StandsFor};
@@ -192,7 +203,7 @@ impl Tally {
     {
         Tally {
             from,
-            day: if day < from { day } else { from },
+            day: sooner(from, day),
             number: 0,
             near: self.near,
             paid: 0,
@@ -261,6 +272,7 @@ impl Tally {
 
     /// What was paid from one day to another, which it holds from then on.
     pub fn hold(&mut self, posts: &Posts, from: Day, to: Day) -> Sum
+        requires { to < last_calendar_day }
         ensures right { StaysRight posts.now to self.old self.new }
         ensures sum { (holidays : List ℕ) (last : ℕ) → StandsFor holidays posts.now → to ≤ last → IsTallyOf posts.now.corrected last self.old → IsSumOf posts.now.corrected last result }
         ensures from { result.from ≡ from }
