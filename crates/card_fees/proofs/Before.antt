@@ -19,7 +19,7 @@ use Rattle.card_fees.proofs.Payments.{Stands, all-stand}
 use Rattle.card_fees.proofs.Returned.{returned-corrected}
 use Rattle.card_fees.proofs.Slots.{any-filter, any-same, sum-filter, sum-in_order, sum-map, sum-same}
 
-front-by : (day number d n : ℕ) → is_before day number d n ≡ true → nat_le d day ≡ true
+pub front-by : (day number d n : ℕ) → is_before day number d n ≡ true → nat_le d day ≡ true
 front-by day number d n e = grind (arith, nat_tests)
 
 -- ---- what is returned in front of a post
