@@ -1,4 +1,4 @@
-use Rattle.std.proofs.Common.{◌≡◌, w64, ◌+◌, ◌-◌, ◌≤◌, pos, ap, ◌∙◌, arith}
+use Rattle.std.proofs.Common.{◌≡◌, suc, w64, ◌+◌, ◌-◌, ◌≤◌, pos, ap, ◌∙◌, arith}
 use Rattle.std.specs.Prelude.{unsigned_abs}
 use Rattle.std.proofs.lemmas.Int.{to_z-of_z}
 use Rattle.card_events.specs.Billing.{closing}
@@ -9,7 +9,13 @@ use Rattle.card_fees.proofs.Tallies.{tallies-stay, tally-sum, whole-by}
 use Rattle.card_fees.proofs.due.past_due.Goals as goal
 
 pub next-requires : goal.next-requires
-next-requires c = let g = closing_grows c.args._a.now c.args.c.now.cycle in omega (arith, g, c.requires.closing, c.requires.end, c.requires.in_calendar)
+next-requires c =
+    let a = c.args._a.now in
+    let k = c.args.c.now.cycle in
+    let on : k + 1 ≡ suc k = omega arith in
+    let end = c.requires.end ∙ ap (closing a) on in
+    let g = closing_grows a k in
+    omega (arith, g, end, c.requires.closing, c.requires.in_calendar)
 
 pub returns-clause-value : goal.returns-clause-value
 returns-clause-value c holidays last stands t =
