@@ -100,7 +100,13 @@ pub(crate) fn fees_of(issued: Option<&Issued>) -> Option<&[Fee]>
 }
 
 // The late fee for the due date of the last closed cycle, on the day after it.
-fn late_fee(inputs: &Inputs, day: Day, fees: &[Fee], cycle: &Cycle, tally: &mut Tally) -> Option<Fee>
+fn late_fee(
+    inputs: &Inputs,
+    day: Day,
+    fees: &[Fee],
+    cycle: &Cycle,
+    tally: &mut Tally,
+) -> Option<Fee>
     requires dated { IsDayOf inputs.now day }
     requires cycle { last_cycle (before inputs.now day).cycles ≡ Some cycle.now }
     requires due { day ≡ cycle.now.due + 1 }
@@ -112,7 +118,15 @@ fn late_fee(inputs: &Inputs, day: Day, fees: &[Fee], cycle: &Cycle, tally: &mut 
     let anchor = inputs.anchor();
     let due = due_cycle(inputs, day, cycle);
     let issued = fees_of(inputs.issued_since(cycle.number as u64 + 1, day));
-    due_fee(inputs.fees(), fees, inputs.posts(), &anchor, &due, issued, tally)
+    due_fee(
+        inputs.fees(),
+        fees,
+        inputs.posts(),
+        &anchor,
+        &due,
+        issued,
+        tally,
+    )
 }
 
 pub(crate) fn is_day_after(due: Day, day: Day) -> bool
@@ -123,7 +137,13 @@ pub(crate) fn is_day_after(due: Day, day: Day) -> bool
 
 // The late fee that a day begins with.
 #[tactic(auto, unfolding(crate::specs::Due::fee_due))]
-fn fee_due(inputs: &Inputs, day: Day, fees: &[Fee], last: Option<&Cycle>, tally: &mut Tally) -> Option<Fee>
+fn fee_due(
+    inputs: &Inputs,
+    day: Day,
+    fees: &[Fee],
+    last: Option<&Cycle>,
+    tally: &mut Tally,
+) -> Option<Fee>
     requires dated { IsDayOf inputs.now day }
     requires last { option_copied last ≡ last_cycle (before inputs.now day).cycles }
     requires fees { fees.now ≡ (before inputs.now day).fees }

@@ -77,7 +77,13 @@ fn left_of(inputs: &Inputs, day: Day, number: u32, cycle: &Cycle, tally: &mut Ta
 }
 
 // The same, 0 where no cycle is closed.
-fn left_if_any(inputs: &Inputs, day: Day, number: u32, last: Option<&Cycle>, tally: &mut Tally) -> Cents
+fn left_if_any(
+    inputs: &Inputs,
+    day: Day,
+    number: u32,
+    last: Option<&Cycle>,
+    tally: &mut Tally,
+) -> Cents
     requires dated { IsDayOf inputs.now day }
     requires last { option_copied last ≡ last_cycle (before inputs.now day).cycles }
     requires tally { Tallies inputs.now day tally.old }
