@@ -46,6 +46,7 @@ pub record IsRenewed (g : Given) (closed : ℕ) (b renewed : Summary) : Type 0 w
       renewed.state.accruals.items
       ≡ b.state.accruals.items ++ replicate (length renewed.state.rates.segments - length b.state.accruals.items) nothing_accrued
   pub since : renewed.credit_since ≡ b.credit_since
+  pub tally : renewed.tally ≡ b.tally
 
 -- then it stands for the new book
 abbrev pub RenewedBooksStand : Type 0

@@ -1,6 +1,9 @@
 -- What a Book keeps of an account, and how it stands beside a track for the book of a day. Days are day numbers.
 use Rattle.std.specs.Prelude.{ℕ, ◌+◌, ◌-◌, ◌==◌, ◌≡◌, ◌≤◌, Bool, if◌then◌else◌, unwrap_or, List, Option, Some, None, ℤ, ⊤}
+use Rattle.card_events.specs.History.{CorrectedPost}
 use Rattle.card_events.specs.Range.{last_request_day}
+use Rattle.card_fees.specs.Tallied.{IsTallyOf}
+use Rattle.card_fees.specs.declared.tally.Tally.{Tally}
 use Rattle.card_closing.specs.Accruals.{Accrued}
 use Rattle.card_model.specs.Books.{Book, empty_book}
 use Rattle.card_model.specs.Cuts.{is_break_by}
@@ -14,15 +17,17 @@ use Rattle.card_model.specs.declared.segment.Interval.{Interval}
 use Rattle.card_model.specs.declared.segment.Segment.{Segment}
 use Rattle.card_rates.specs.RateBooks.{Rates, rates_of}
 use Rattle.card_rates.specs.Segments.{account_segments}
-use Rattle.card_daily.specs.Given.{Given, book_on, opened_in}
+use Rattle.card_daily.specs.Given.{Given, Tallies, book_on, opened_in}
 use Rattle.card_daily.specs.Stands.{AreBefore, HaveAccrued}
 use Rattle.card_daily.specs.declared.state.State.{State}
 use Rattle.card_daily.specs.declared.track.Track.{Track}
 
--- the last day folded, what is kept after it, since when there is a credit balance, and whether no fold was broken off
+-- the last day folded, what is kept after it, what was counted of payments and credits by then, since when there is a credit
+-- balance, and whether no fold was broken off
 pub record Summary : Type 0 where
   pub day : Option ℕ
   pub state : State
+  pub tally : Tally
   pub credit_since : Option ℕ
   pub whole : Bool
 
@@ -85,11 +90,17 @@ since_through g (Some day) = credit_since (book_on g day).entries (opened_in g) 
 abbrev pub days_through : Given → Option ℕ → ℕ → ℕ
 days_through g day to = to + 1 - day_to_fold g day
 
+-- what was counted by the end of the last day folded is right; where none was, nothing was counted, which is right for all posts
+abbrev pub HasTally : Given → Option ℕ → Tally → Type 0
+HasTally g None t = (posts : List CorrectedPost) (last : ℕ) → opened_in g ≤ last + 1 → IsTallyOf posts last t
+HasTally g (Some day) t = Tallies g day t
+
 -- a Book and a track stand for the book at the end of the last day folded
 pub record StandsFor (g : Given) (b : Summary) (t : Track) : Type 0 where
   pub opened : (day : ℕ) → b.day ≡ Some day → opened_in g ≤ day
   pub folded : AreBefore g (day_to_fold g b.day) b.state t
   pub since : b.credit_since ≡ since_through g b.day
+  pub tally : HasTally g b.day b.tally
 
 -- what that says of the track and the balances
 pub record IsTheFold (g : Given) (b : Summary) (t : Track) : Type 0 where

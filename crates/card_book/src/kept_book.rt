@@ -11,6 +11,7 @@ use card_closing::Accrual;
 use card_daily::{Inputs, State, Track};
 use card_dayend::{Cursor, next_span, opening_day, span_end, start};
 use card_events::{Day, NoMemory, Steps};
+use card_fees::Tally;
 use card_rates::RateBook;
 use card_segments::Segments;
 use std::alloc::Global;
@@ -42,6 +43,7 @@ fn since_after(has_credit: bool, day: Day, since: Option<Day>) -> Option<Day>
 #[derive(Drop)]
 pub struct Book {
     state: State,
+    tally: Tally,
     day: Option<Day>,
     credit_since: Option<Day>,
     whole: bool,
@@ -52,7 +54,7 @@ impl Model for Book {
 
     ghost Value = { Summary };
 
-    ghost view = { λ b. record { day = b.day; state = b.state; credit_since = b.credit_since; whole = b.whole } };
+    ghost view = { λ b. record { day = b.day; state = b.state; tally = b.tally; credit_since = b.credit_since; whole = b.whole } };
 
     ghost invariant = { λ b. IsRequestDay b.day };
 }
@@ -81,6 +83,7 @@ impl Book {
     {
         Ok(Book {
             state: start(alloc, inputs)?,
+            tally: Tally::start(opening_day(inputs)),
             day: None,
             credit_since: None,
             whole: true,
@@ -141,6 +144,7 @@ impl Book {
     {
         Ok(Book {
             state: copy_state(&self.state, alloc)?,
+            tally: self.tally,
             day: self.day,
             credit_since: self.credit_since,
             whole: self.whole,
@@ -192,6 +196,7 @@ impl Book {
         let behind = &track.entries[cycle.entries..];
         Ok(Book {
             state: state_at(alloc, &self.state, behind, cycle.closing, number, accrued)?,
+            tally: Tally::start(cycle.closing),
             day: Some(cycle.closing),
             credit_since: since,
             whole: true,
@@ -210,6 +215,7 @@ impl Book {
         match self.day {
             Some(day) => Ok(Book {
                 state: renewed_state(alloc, inputs, &self.state, day.next())?,
+                tally: self.tally,
                 day: self.day,
                 credit_since: self.credit_since,
                 whole: true,
@@ -297,7 +303,7 @@ impl Book {
         ensures room { KeepsRoom track.old track.new }
     {
         let _opening = opening_day(inputs);
-        next_span(alloc, inputs, first, end, near, &mut self.state, track)?;
+        next_span(alloc, inputs, first, end, near, &mut self.state, track, &mut self.tally)?;
         self.credit_since = since_after(has_credit(&self.state.segments), end, self.credit_since);
         self.day = Some(end);
         Ok(())

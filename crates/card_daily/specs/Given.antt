@@ -6,12 +6,14 @@ use Rattle.card_events.specs.Billing.{closing}
 use Rattle.card_events.specs.Civil.{day_of_month}
 use Rattle.card_events.specs.Range.{last_request_day}
 use Rattle.card_events.specs.declared.anchor.Anchor.{Anchor}
-use Rattle.card_events.specs.History.{anchor_of, at_number}
+use Rattle.card_events.specs.History.{CorrectedPost, anchor_of, at_number, corrected}
 use Rattle.card_events.specs.SharedRows.{SharedRows}
 use Rattle.card_events.specs.declared.kept.Kept.{Kept}
 use Rattle.card_events.specs.declared.post.Post.{Post}
 use Rattle.card_events.specs.declared.post.Post.TheVariants as post
 use Rattle.card_fees.specs.Counting.{is_payment_at}
+use Rattle.card_fees.specs.Tallied.{IsTallyOf}
+use Rattle.card_fees.specs.declared.tally.Tally.{Tally}
 use Rattle.card_model.specs.Accepted.{AreAccepted, HasFewFees, HasFewSegments}
 use Rattle.card_model.specs.Books.{Account, Book, account_of, present_cycle}
 use Rattle.card_model.specs.Caps.{row_for}
@@ -52,6 +54,15 @@ book_on g day = book g.history g.issued g.shared day
 -- the issued statement of the cycle that the book is in after so many days
 abbrev pub row_in : Given → ℕ → Option IssuedRow
 row_in g n = row_for (present_cycle (book_in g n)) g.issued
+
+-- ---- what was counted
+-- the corrected list of the account
+abbrev pub posts_in : Given → List CorrectedPost
+posts_in g = corrected (anchor_of g.history) g.shared.holidays g.history
+
+-- what is kept of payments and credits is right, and has looked at no post after a day
+abbrev pub Tallies : Given → ℕ → Tally → Type 0
+Tallies g day t = IsTallyOf (posts_in g) day t
 
 -- ---- what is asked of them
 -- a day that may be folded: from the opening day on, and at most 2099-12-31

@@ -16,7 +16,7 @@ ghost use Rattle.card_fees.specs.DueLaws.{due_cycle_of, issue_day, issued_fees};
 ghost use Rattle.card_model.specs.Caps.{row_for};
 ghost use Rattle.card_model.specs.Cycles.{Cycle, Seen, last_cycle};
 ghost use Rattle.card_model.specs.DueDates as model;
-ghost use Rattle.card_daily.specs.Given.{IsDayOf, opened_in, row_in, seen_in};
+ghost use Rattle.card_daily.specs.Given.{IsDayOf, Tallies, opened_in, row_in, seen_in};
 ghost use Rattle.card_daily.specs.Stands.{AreAmid, AreBefore, Begins, before, KeepsRoom};
 
 use crate::penalties::end_penalties;
@@ -24,7 +24,7 @@ use crate::{Inputs, Issued, State, Track};
 use card_closing::Cycle;
 use card_effects::fee;
 use card_events::{Cents, Day, NoMemory};
-use card_fees::{DueCycle, due_fee};
+use card_fees::{DueCycle, Tally, due_fee};
 use card_model::Fee;
 use card_statement::has_due_payment;
 
@@ -54,10 +54,12 @@ fn grace_of(cycle: &Cycle) -> Cents
 
 // A closed cycle with its due payment.
 fn with_due_payment(cycle: &Cycle, has_due_payment: bool) -> DueCycle
-    ensures { result ≡ record { cycle = cycle.now.number; minimum = pos cycle.now.minimum; grace_amount = pos cycle.now.grace_amount; has_due_payment = has_due_payment } }
+    ensures { result ≡ record { cycle = cycle.now.number; closing = cycle.now.closing; due = cycle.now.due; minimum = pos cycle.now.minimum; grace_amount = pos cycle.now.grace_amount; has_due_payment = has_due_payment } }
 {
     DueCycle {
         cycle: cycle.number,
+        closing: cycle.closing,
+        due: cycle.due,
         minimum: minimum_of(cycle),
         grace_amount: grace_of(cycle),
         has_due_payment,
@@ -98,17 +100,33 @@ pub(crate) fn fees_of(issued: Option<&Issued>) -> Option<&[Fee]>
 }
 
 // The late fee for the due date of the last closed cycle, on the day after it.
-fn late_fee(inputs: &Inputs, day: Day, fees: &[Fee], cycle: &Cycle) -> Option<Fee>
+fn late_fee(
+    inputs: &Inputs,
+    day: Day,
+    fees: &[Fee],
+    cycle: &Cycle,
+    tally: &mut Tally,
+) -> Option<Fee>
     requires dated { IsDayOf inputs.now day }
     requires cycle { last_cycle (before inputs.now day).cycles ≡ Some cycle.now }
     requires due { day ≡ cycle.now.due + 1 }
     requires fees { fees.now ≡ (before inputs.now day).fees }
-    ensures { result ≡ model.late_fee (row_in inputs.now (day - opened_in inputs.now)) (seen_in inputs.now day) (before inputs.now day) cycle.now }
+    requires tally { Tallies inputs.now day tally.old }
+    ensures value { result ≡ model.late_fee (row_in inputs.now (day - opened_in inputs.now)) (seen_in inputs.now day) (before inputs.now day) cycle.now }
+    ensures tally { Tallies inputs.now day tally.new }
 {
     let anchor = inputs.anchor();
     let due = due_cycle(inputs, day, cycle);
     let issued = fees_of(inputs.issued_since(cycle.number as u64 + 1, day));
-    due_fee(inputs.fees(), fees, inputs.posts(), &anchor, &due, issued)
+    due_fee(
+        inputs.fees(),
+        fees,
+        inputs.posts(),
+        &anchor,
+        &due,
+        issued,
+        tally,
+    )
 }
 
 pub(crate) fn is_day_after(due: Day, day: Day) -> bool
@@ -119,16 +137,24 @@ pub(crate) fn is_day_after(due: Day, day: Day) -> bool
 
 // The late fee that a day begins with.
 #[tactic(auto, unfolding(crate::specs::Due::fee_due))]
-fn fee_due(inputs: &Inputs, day: Day, fees: &[Fee], last: Option<&Cycle>) -> Option<Fee>
+fn fee_due(
+    inputs: &Inputs,
+    day: Day,
+    fees: &[Fee],
+    last: Option<&Cycle>,
+    tally: &mut Tally,
+) -> Option<Fee>
     requires dated { IsDayOf inputs.now day }
     requires last { option_copied last ≡ last_cycle (before inputs.now day).cycles }
     requires fees { fees.now ≡ (before inputs.now day).fees }
-    ensures { result ≡ spec.fee_due inputs.now day }
+    requires tally { Tallies inputs.now day tally.old }
+    ensures value { result ≡ spec.fee_due inputs.now day }
+    ensures tally { Tallies inputs.now day tally.new }
 {
     match last {
         Some(cycle) => {
             if is_day_after(cycle.due, day) {
-                late_fee(inputs, day, fees, cycle)
+                late_fee(inputs, day, fees, cycle, tally)
             } else {
                 None
             }
@@ -170,15 +196,18 @@ fn charge_late(
     day: Day,
     state: &mut State,
     track: &mut Track,
+    tally: &mut Tally,
 ) -> Result<(), NoMemory>
     requires dated { IsDayOf inputs.now day }
     requires before { AreBefore inputs.now day state.old track.old }
+    requires tally { Tallies inputs.now day tally.old }
     ensures charged { OnOk result (AreCharged inputs.now day state.new track.new) }
     ensures begins { Begins track.old track.new }
     ensures room { KeepsRoom track.old track.new }
+    ensures tally { Tallies inputs.now day tally.new }
 {
     let _anchor = inputs.anchor();
-    if let Some(late) = fee_due(inputs, day, &track.fees, track.cycles.last()) {
+    if let Some(late) = fee_due(inputs, day, &track.fees, track.cycles.last(), tally) {
         charge(day, late, state, track)?;
     }
     Ok(())
@@ -186,21 +215,25 @@ fn charge_late(
 
 /// On the day after the last cycle's due date, charges the late fee where it wasn't met (12 CFR 1026.52(b)(1)(ii)), and ends
 /// with that due date each penalty rate without an end whose six due dates were met (12 CFR 1026.55(b)(4)(ii)); on other
-/// days it does nothing. The day isn't before the opening day and at most 2099-12-31, and the days before it are folded. After
-/// want of memory state and track are of no use, but that the track begins with what it held.
+/// days it does nothing. The day isn't before the opening day and at most 2099-12-31, and the days before it are folded. What the
+/// tally counted of payments and credits is right for the account's posts up to the day, and stays so, also after want of memory;
+/// state and track are then of no use, but that the track begins with what it held.
 pub fn due_day(
     inputs: &Inputs,
     day: Day,
     state: &mut State,
     track: &mut Track,
+    tally: &mut Tally,
 ) -> Result<(), NoMemory>
     requires dated { IsDayOf inputs.now day }
     requires before { AreBefore inputs.now day state.old track.old }
+    requires tally { Tallies inputs.now day tally.old }
     ensures amid { OnOk result (AreAmid inputs.now day [] state.new track.new) }
     ensures begins { Begins track.old track.new }
     ensures room { KeepsRoom track.old track.new }
+    ensures tally { Tallies inputs.now day tally.new }
 {
-    charge_late(inputs, day, state, track)?;
+    charge_late(inputs, day, state, track, tally)?;
     end_penalties(inputs, day, &track.cycles, &mut state.rates);
     Ok(())
 }

@@ -23,7 +23,7 @@ ghost use Rattle.card_model.specs.Segments.{SegmentTerms};
 ghost use Rattle.card_segments.specs.Balances.{AreWithin};
 ghost use Rattle.card_rates.specs.Days.{day_post};
 ghost use Rattle.card_rates.specs.SlotLaws.{IsCut};
-ghost use Rattle.card_daily.specs.Given.{IsDayOf, seen_in};
+ghost use Rattle.card_daily.specs.Given.{IsDayOf, Tallies, seen_in};
 ghost use Rattle.card_daily.specs.Posts.{EntersIf, EntersPost, EntersWith, HasBegun, IsUnreturned, LeavesRest, done_by, is_penalty, place_in};
 ghost use Rattle.card_daily.specs.Returns.{SeesPayment};
 ghost use Rattle.card_daily.specs.Stands.{AreAmid, AreClosedBefore, Begins, before, posts_of, KeepsRoom};
@@ -37,7 +37,7 @@ use crate::{Inputs, State, Track};
 use card_closing::Cycle;
 use card_effects::{charge, credit, payment, refund, repay};
 use card_events::{Anchor, Cents, Day, NoMemory, Place, Post, Slot, closing, cycle_of};
-use card_fees::minimum_left;
+use card_fees::{Tally, minimum_left};
 use card_rates::{DayPost, folded_at};
 use std::alloc::Global;
 
@@ -63,26 +63,36 @@ fn lesser(cents: Cents, left: Cents) -> Cents
 }
 
 // What is left of the minimum payment of the last closed cycle for the payment of a day with this number.
-fn left_of(inputs: &Inputs, day: Day, number: u32, cycle: &Cycle) -> Cents
+fn left_of(inputs: &Inputs, day: Day, number: u32, cycle: &Cycle, tally: &mut Tally) -> Cents
     requires dated { IsDayOf inputs.now day }
     requires cycle { last_cycle (before inputs.now day).cycles ≡ Some cycle.now }
+    requires tally { Tallies inputs.now day tally.old }
     ensures value { (p : CorrectedPost) → p.day ≡ day → p.number ≡ number → result ≡ pos (model.minimum_left (seen_in inputs.now day) p (Some cycle.now)) }
     ensures low { pos 0 ≤ℤ result }
+    ensures tally { Tallies inputs.now day tally.new }
 {
     let anchor = inputs.anchor();
     let due = due_cycle(inputs, day, cycle);
-    minimum_left(inputs.posts(), &anchor, &due, day, number)
+    minimum_left(inputs.posts(), &anchor, &due, day, number, tally)
 }
 
 // The same, 0 where no cycle is closed.
-fn left_if_any(inputs: &Inputs, day: Day, number: u32, last: Option<&Cycle>) -> Cents
+fn left_if_any(
+    inputs: &Inputs,
+    day: Day,
+    number: u32,
+    last: Option<&Cycle>,
+    tally: &mut Tally,
+) -> Cents
     requires dated { IsDayOf inputs.now day }
     requires last { option_copied last ≡ last_cycle (before inputs.now day).cycles }
+    requires tally { Tallies inputs.now day tally.old }
     ensures value { (p : CorrectedPost) → p.day ≡ day → p.number ≡ number → result ≡ pos (model.minimum_left (seen_in inputs.now day) p (last_cycle (before inputs.now day).cycles)) }
     ensures low { pos 0 ≤ℤ result }
+    ensures tally { Tallies inputs.now day tally.new }
 {
     match last {
-        Some(cycle) => left_of(inputs, day, number, cycle),
+        Some(cycle) => left_of(inputs, day, number, cycle, tally),
         None => 0,
     }
 }
@@ -125,16 +135,19 @@ fn enter_payment(
     slot: &Slot,
     state: &mut State,
     track: &mut Track,
+    tally: &mut Tally,
 ) -> Result<(), NoMemory>
     requires closed { AreClosedBefore inputs.now slot.now.day track.old.cycles.items }
     requires asked { MayMove state.old.segments state.old.rates slot.now.cents }
     requires rows { length state.old.rows.items + 2 ≡ length state.old.segments.balances }
+    requires tally { Tallies inputs.now slot.now.day tally.old }
     ensures stands { OnOk result ((on minute cents : ℕ) (by : Channel) → EntersIf IsUnreturned inputs.now (post.Payment on minute by cents) slot.now state.old state.new track.old track.new) }
     ensures left { LeavesRest result state.old state.new track.old track.new }
     ensures room { KeepsRoom track.old track.new }
+    ensures tally { Tallies inputs.now slot.now.day tally.new }
 {
     let anchor = inputs.anchor();
-    let left = left_if_any(inputs, slot.day, slot.number, track.cycles.last());
+    let left = left_if_any(inputs, slot.day, slot.number, track.cycles.last(), tally);
     let parts = payment(
         alloc,
         &mut state.segments,
@@ -187,6 +200,7 @@ fn enter_post(
     post: &DayPost,
     state: &mut State,
     track: &mut Track,
+    tally: &mut Tally,
 ) -> Result<(), NoMemory>
     requires closed { AreClosedBefore inputs.now post.now.slot.day track.old.cycles.items }
     requires asked { MayMove state.old.segments state.old.rates post.now.slot.cents }
@@ -197,15 +211,17 @@ fn enter_post(
     requires moved { moved track.old.entries.items ≤ balance_limit }
     requires held { (n : ℕ) → resolves n post.now.post ≡ true → pos (moved_by n track.old.entries.items) ≤ℤ slice_index_or state.old.segments.balances 1 (pos 0) }
     requires named { (n : ℕ) → returns n post.now.post ≡ true → (n ≤ post_limit) × SeesPayment inputs.now post.now.slot.day n }
+    requires tally { Tallies inputs.now post.now.slot.day tally.old }
     ensures stands { OnOk result (EntersPost inputs.now post.now state.old state.new track.old track.new) }
     ensures left { LeavesRest result state.old state.new track.old track.new }
     ensures room { KeepsRoom track.old track.new }
+    ensures tally { Tallies inputs.now post.now.slot.day tally.new }
 {
     let slot = &post.slot;
     match &post.post {
         Post::Charge { place, .. } => enter_charge(slot, place, state, track),
         Post::Credit { place, .. } => enter_credit(alloc, inputs, slot, place, state, track),
-        Post::Payment { .. } => enter_payment(alloc, inputs, slot, state, track),
+        Post::Payment { .. } => enter_payment(alloc, inputs, slot, state, track, tally),
         Post::Refund { .. } => enter_refund(slot, state, track),
         Post::Return { target, .. } => {
             enter_return(alloc, inputs, slot, target.get() as u32, state, track)
@@ -226,14 +242,17 @@ fn enter(
     place: usize,
     state: &mut State,
     track: &mut Track,
+    tally: &mut Tally,
 ) -> Result<(), NoMemory>
     requires dated { IsDayOf inputs.now day }
     requires from { place_in inputs.now day ≤ place }
     requires within { place < place_in inputs.now day + length (posts_of inputs.now day) }
     requires amid { AreAmid inputs.now day (done_by inputs.now day place) state.old track.old }
+    requires tally { Tallies inputs.now day tally.old }
     ensures amid { OnOk result (AreAmid inputs.now day (done_by inputs.now day (place + 1)) state.new track.new) }
     ensures begins { Begins track.old track.new }
     ensures room { KeepsRoom track.old track.new }
+    ensures tally { Tallies inputs.now day tally.new }
 {
     let _anchor = inputs.anchor();
     // what the length says is needed as a fact: a balance for each segment, five of them at least, and at most 64
@@ -241,7 +260,7 @@ fn enter(
     match folded_at(inputs.posts(), place) {
         Some(post) => match &post.post {
             Post::Penalty => begin_penalty(inputs, day, &track.cycles, &mut state.rates),
-            _ => enter_post(alloc, inputs, &post, state, track),
+            _ => enter_post(alloc, inputs, &post, state, track, tally),
         },
         None => Ok(()),
     }
@@ -270,8 +289,8 @@ fn end_of(slots: &[Slot], first: usize, day: Day) -> usize
 /// their resolutions (12 CFR 1026.10, .11(a), .13, .52(b), .53), and the kinds that change no balance. A Penalty begins 45 days
 /// later where the account is sixty days late (12 CFR 1026.9(g), .55(b)(4)). The day isn't before the opening day and at most
 /// 2099-12-31; the days before it are folded, and what its due date brought. Its posts are looked for from a place on, as
-/// `place_near` does: for speed alone. After want of memory state and track are of no use, but that the track begins with what
-/// it held.
+/// `place_near` does: for speed alone. What the tally counted of payments and credits is right for the account's posts up to the
+/// day, and stays so, also after want of memory; state and track are then of no use, but that the track begins with what it held.
 pub fn post_day(
     alloc: Global,
     inputs: &Inputs,
@@ -279,18 +298,21 @@ pub fn post_day(
     near: usize,
     state: &mut State,
     track: &mut Track,
+    tally: &mut Tally,
 ) -> Result<(), NoMemory>
     requires dated { IsDayOf inputs.now day }
     requires amid { AreAmid inputs.now day [] state.old track.old }
+    requires tally { Tallies inputs.now day tally.old }
     ensures posted { OnOk result (AreAmid inputs.now day (posts_of inputs.now day) state.new track.new) }
     ensures begins { Begins track.old track.new }
     ensures room { KeepsRoom track.old track.new }
+    ensures tally { Tallies inputs.now day tally.new }
 {
     let posts = inputs.posts();
     let first = place_near(posts, near, day);
     let end = end_of(posts.in_order(), first, day);
     for place in first..end {
-        enter(alloc, inputs, day, place, state, track)?;
+        enter(alloc, inputs, day, place, state, track, tally)?;
     }
     Ok(())
 }

@@ -6,6 +6,9 @@ pub mod Returned
 pub mod SlotSums
 pub mod Fold
 pub mod Before
+pub mod Tallied
+pub mod Tallies
+pub mod TallyBounds
 pub mod Charges
 pub mod OneFee
 pub mod Repaid

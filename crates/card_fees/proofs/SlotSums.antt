@@ -101,7 +101,7 @@ both-reach limit part more paid credited e l m =
     ap (nat_le limit) both
 
 -- ---- slots that aren't read
-read-parted : (u : Until) (slots : List Slot) → IsAscending slots → IsPartitionedBy (λ (s : Slot). reaches u s.day s.number) slots
+pub read-parted : (u : Until) (slots : List Slot) → IsAscending slots → IsPartitionedBy (λ (s : Slot). reaches u s.day s.number) slots
 read-parted (until.Day to) slots h = parted-by to slots h
 read-parted (until.Post day number) slots h = parted-in_front day number slots h
 
@@ -113,7 +113,7 @@ none-sum g (x ∷ xs) h =
     let rest = none-sum g xs (λ k d l. h (suc k) d (omega (arith, l))) in
     omega (arith, one, first, rest)
 
-front-sum : (g : Slot → ℕ) (slots : List Slot) (i : ℕ) → ((k : ℕ) (d : Slot) → i ≤ k → k < length slots → g (get_or slots k d) ≡ 0) → sum_by g (take i slots) ≡ sum_by g slots
+pub front-sum : (g : Slot → ℕ) (slots : List Slot) (i : ℕ) → ((k : ℕ) (d : Slot) → i ≤ k → k < length slots → g (get_or slots k d) ≡ 0) → sum_by g (take i slots) ≡ sum_by g slots
 front-sum g [] zero h = refl
 front-sum g [] (suc i) h = refl
 front-sum g (x ∷ xs) zero h = none-sum g (x ∷ xs) (λ k d l. h k d (omega arith) l)

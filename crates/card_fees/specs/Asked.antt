@@ -1,6 +1,6 @@
 -- What a closed cycle asks for at its due date and what was paid for it, by the cycle's numbers: the words of the fold
 -- without the fold's records (12 CFR 1026.5(b)(2)(ii), .53(a), .54(a)(1)). Days are effective days, amounts cents.
-use Rattle.std.specs.Prelude.{ℕ, ◌+◌, ◌-◌, ◌≤◌, ◌≤ℤ◌, pos, Bool, true, false, ◌&&◌, not, ◌||◌, nat_le, nat_lt, if◌then◌else◌, List, Option, Some, None, unsigned_abs}
+use Rattle.std.specs.Prelude.{ℕ, ◌+◌, ◌-◌, ◌≡◌, ◌≤◌, ◌≤ℤ◌, pos, Bool, true, false, ◌&&◌, not, ◌||◌, nat_le, nat_lt, if◌then◌else◌, List, Option, Some, None, unsigned_abs}
 use Rattle.card_events.specs.Billing.{closing, due}
 use Rattle.card_events.specs.Range.{last_calendar_day}
 use Rattle.card_events.specs.declared.anchor.Anchor.{Anchor}
@@ -14,7 +14,9 @@ use Rattle.card_fees.specs.declared.due_cycle.DueCycle.{DueCycle}
 -- a cycle's due date is there, and its grace amount isn't below 0
 pub record IsInCalendar (a : Anchor) (c : DueCycle) : Type 0 where
   pub number : 1 ≤ c.cycle
-  pub due : due a c.cycle ≤ last_calendar_day
+  pub closing : c.closing ≡ closing a c.cycle
+  pub day : c.due ≡ due a c.cycle
+  pub last : c.due ≤ last_calendar_day
   pub low : pos 0 ≤ℤ c.grace_amount
 
 -- the minimum payment that is due

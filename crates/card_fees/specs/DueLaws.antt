@@ -24,7 +24,7 @@ use Rattle.card_fees.specs.declared.due_cycle.DueCycle.{DueCycle}
 -- a closed cycle of the fold as its due date sees it
 abbrev pub due_cycle_of : Seen → Cycle → DueCycle
 due_cycle_of seen c =
-    record { cycle = c.number; minimum = pos c.minimum; grace_amount = pos c.grace_amount; has_due_payment = has_due_payment seen.issued c }
+    record { cycle = c.number; closing = c.closing; due = c.due; minimum = pos c.minimum; grace_amount = pos c.grace_amount; has_due_payment = has_due_payment seen.issued c }
 
 -- whether it was paid
 abbrev pub PaidOfTheFold : Type 0

@@ -6,3 +6,4 @@ pub mod Limits
 pub mod Asked
 pub mod DueFee
 pub mod DueLaws
+pub mod Tallied

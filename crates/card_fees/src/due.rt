@@ -2,12 +2,15 @@
 ghost use Rattle.std.specs.Prelude.{◌≡◌, ℕ, ◌+◌, ◌-◌, ◌<◌, ◌≤◌, min, nat_lt, List, Some, ◌≤ℤ◌, pos, unsigned_abs};
 ghost use Rattle.card_events.specs.Range.{last_calendar_day};
 ghost use Rattle.card_events.specs.Billing.{IsCloseDay, closing, due};
+ghost use Rattle.card_fees.specs.Asked.{asks};
 ghost use Rattle.card_fees.specs.Due.{is_met, owes_sixty_days, past_due_at};
+ghost use Rattle.card_fees.specs.Tallied.{IsTallyOf, StaysRight};
 ghost use Rattle.card_model.specs.Payments as payments;
 ghost use Rattle.card_posts.specs.Posted.{StandsFor};
 
 use crate::counting::counted_up_to;
-use crate::due_cycle::{cents_in, left_of};
+use crate::due_cycle::{DueCycle, asked, cents_in, left_of};
+use crate::tally::Tally;
 use card_events::{Anchor, Cents, Day, closing_date, due, due_date};
 use card_posts::Posts;
 
@@ -39,18 +42,6 @@ fn falls_short(posts: &Posts, a: &Anchor, k: u32, to: Day, minimum: u64) -> bool
     is_below(since_closing(posts, a, k, to, minimum), minimum)
 }
 
-// what they leave of it
-fn left_since(posts: &Posts, a: &Anchor, k: u32, to: Day, minimum: Cents) -> Cents
-    requires close_day { IsCloseDay a.now.close_day }
-    requires cycle { 1 ≤ k }
-    requires closed { closing a.now k < to }
-    requires low { pos 0 ≤ℤ minimum }
-    ensures { (holidays : List ℕ) → StandsFor holidays posts.now → result ≡ pos (unsigned_abs minimum - payments.counted posts.now.corrected (closing a.now k + 1) to) }
-{
-    let limit = cents_in(minimum);
-    left_of(minimum, since_closing(posts, a, k, to, limit))
-}
-
 /// Whether the payments credited after closing k and up to its due date, without those returned by then, reach the
 /// minimum payment in cents, which is at least 0, and 0 where the statement has no due payment (12 CFR
 /// 1026.5(b)(2)(ii)). Cycle k is at least 1, and its closing and due date are there. The corrected list is that of the
@@ -68,26 +59,42 @@ pub fn met(posts: &Posts, a: Anchor, k: u32, minimum: Cents) -> bool
     !falls_short(posts, &a, k, due_date(&a, k), cents_in(minimum))
 }
 
-/// What is past due at closing k, in cents: the minimum payment of the cycle before less the payments credited in cycle
-/// k, without those returned by its closing, not below 0. Cycle k is at least 1, and its closing is there. The minimum
-/// payment before is at least 0; it is 0 where that statement has no due payment, and before the first. The corrected
-/// list is that of the posts under some calendar. It takes no memory.
-pub fn past_due(posts: &Posts, a: Anchor, k: u32, minimum_before: Cents) -> Cents
-    requires close_day { IsCloseDay a.close_day }
-    requires cycle { 1 ≤ k }
-    requires in_calendar { closing a k ≤ last_calendar_day }
-    requires low { pos 0 ≤ℤ minimum_before }
-    requires first { k ≡ 1 → minimum_before ≡ pos 0 }
-    ensures { (holidays : List ℕ) → StandsFor holidays posts.now → result ≡ pos (past_due_at a posts.now.corrected k (unsigned_abs minimum_before)) }
+/// Whether the payments credited after the closing of a cycle and up to its due date, without those returned by then, reach the
+/// minimum payment that it asks for, at least 0 (12 CFR 1026.5(b)(2)(ii)). The cycle's days are those of the calendar. The tally
+/// holds the sums of these days from then on. The corrected list is that of the posts under some calendar. It takes no memory.
+pub fn met_in_time(posts: &Posts, _a: &Anchor, c: &DueCycle, tally: &mut Tally) -> bool
+    requires closing { c.now.closing ≡ closing _a.now c.now.cycle }
+    requires due { c.now.due ≡ due _a.now c.now.cycle }
+    requires in_calendar { c.now.due < last_calendar_day }
+    requires low { pos 0 ≤ℤ c.now.minimum }
+    ensures value { (holidays : List ℕ) (last : ℕ) → StandsFor holidays posts.now → IsTallyOf posts.now.corrected last tally.old → result ≡ is_met _a.now posts.now.corrected c.now.cycle (asks c.now) }
+    ensures tally { StaysRight posts.now c.now.due tally.old tally.new }
 {
-    if k == 1 {
+    let minimum = asked(c);
+    if minimum == 0 {
+        return true;
+    }
+    let sum = tally.hold(posts, c.closing.next(), c.due);
+    !is_below(sum.paid, cents_in(minimum))
+}
+
+/// What is past due at the closing after a closed cycle, in cents: the minimum payment that the cycle asks for, at least 0, less
+/// the payments credited since, without those returned by that closing, not below 0. The cycle's days are those of the calendar.
+/// What was counted is kept in the tally. The corrected list is that of the posts under some calendar. It takes no memory.
+pub fn past_due(posts: &Posts, _a: &Anchor, c: &DueCycle, end: Day, tally: &mut Tally) -> Cents
+    requires closing { c.now.closing ≡ closing _a.now c.now.cycle }
+    requires end { end ≡ closing _a.now (c.now.cycle + 1) }
+    requires in_calendar { end < last_calendar_day }
+    requires low { pos 0 ≤ℤ c.now.minimum }
+    ensures value { (holidays : List ℕ) (last : ℕ) → StandsFor holidays posts.now → IsTallyOf posts.now.corrected last tally.old → result ≡ pos (past_due_at _a.now posts.now.corrected (c.now.cycle + 1) (asks c.now)) }
+    ensures tally { StaysRight posts.now end tally.old tally.new }
+{
+    let minimum = asked(c);
+    if minimum == 0 {
         return 0;
     }
-    if minimum_before == 0 {
-        return 0;
-    }
-    let end = closing_date(&a, k);
-    left_since(posts, &a, k - 1, end, minimum_before)
+    tally.reach(posts, c.closing.next(), end.next(), 0);
+    left_of(minimum, tally.paid)
 }
 
 // whether a due date lies more than 60 days back (12 CFR 1026.55(b)(4))

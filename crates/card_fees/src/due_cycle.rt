@@ -2,13 +2,15 @@
 ghost use Rattle.std.specs.Prelude.{◌≡◌, ◌-◌, ◌≤ℤ◌, pos, unsigned_abs};
 ghost use Rattle.card_fees.specs.Asked.{asks};
 
-use card_events::Cents;
+use card_events::{Cents, Day};
 
 /// A closed cycle as its due date sees it: its number, from 1, and its minimum payment and grace amount in cents, at least
 /// 0.
 #[derive(Clone, Copy)]
 pub struct DueCycle {
     pub cycle: u32,
+    pub closing: Day,
+    pub due: Day,
     pub minimum: Cents,
     pub grace_amount: Cents,
     /// Whether its statement was issued at least 21 days before its due date (12 CFR 1026.5(b)(2)(ii)).

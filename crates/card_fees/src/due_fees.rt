@@ -1,14 +1,15 @@
 // The late fee for a due date that wasn't met.
 ghost use Rattle.std.specs.Prelude.{◌≡◌, ℕ, ◌+◌, ◌<◌, ◌≤◌, ◌≤ℤ◌, List, Some, min, pos, option_copied};
-ghost use Rattle.card_events.specs.Billing.{IsCloseDay, due};
+ghost use Rattle.card_events.specs.Billing.{IsCloseDay, closing, due};
 ghost use Rattle.card_events.specs.Range.{last_reckoned_day};
 ghost use Rattle.card_fees.specs.DueFee.{capped, cents_for, fee_sum, late_by};
+ghost use Rattle.card_fees.specs.Tallied.{IsTallyOf, StaysRight};
 ghost use Rattle.card_model.specs.Caps.{fee_above};
 ghost use Rattle.card_model.specs.Fees.{fee_cents};
 ghost use Rattle.card_posts.specs.Posted.{StandsFor};
 
-use crate::due_cycle::{DueCycle, asked};
-use crate::{FeeTable, late_fee, met};
+use crate::due_cycle::DueCycle;
+use crate::{FeeTable, Tally, late_fee, met_in_time};
 use card_events::{Anchor, Cents};
 use card_model::Fee;
 use card_posts::Posts;
@@ -92,14 +93,18 @@ pub fn due_fee(
     a: &Anchor,
     c: &DueCycle,
     issued: Option<&[Fee]>,
+    tally: &mut Tally,
 ) -> Option<Fee>
     requires close_day { IsCloseDay a.now.close_day }
     requires cycle { 1 ≤ c.now.cycle }
+    requires closing { c.now.closing ≡ closing a.now c.now.cycle }
+    requires due { c.now.due ≡ due a.now c.now.cycle }
     requires last { due a.now c.now.cycle < last_reckoned_day }
     requires low { pos 0 ≤ℤ c.now.minimum }
-    ensures { (holidays : List ℕ) → StandsFor holidays posts.now → result ≡ late_by table.now (option_copied issued.entry) fees.now a.now posts.now.corrected c.now }
+    ensures value { (holidays : List ℕ) (last : ℕ) → StandsFor holidays posts.now → IsTallyOf posts.now.corrected last tally.old → result ≡ late_by table.now (option_copied issued.entry) fees.now a.now posts.now.corrected c.now }
+    ensures tally { StaysRight posts.now c.now.due tally.old tally.new }
 {
-    if met(posts, *a, c.cycle, asked(c)) {
+    if met_in_time(posts, a, c, tally) {
         return None;
     }
     match late_fee(table, fees, *a, c.cycle, c.minimum) {

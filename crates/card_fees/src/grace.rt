@@ -1,27 +1,34 @@
 // Whether a statement was paid, and how purchases bear interest after it.
-ghost use Rattle.std.specs.Prelude.{◌≡◌, ℕ, ◌+◌, ◌<◌, ◌≤◌, ◌≤ℤ◌, List, Some, nat_le, pos};
-ghost use Rattle.card_events.specs.Range.{last_calendar_day};
-ghost use Rattle.card_events.specs.Billing.{IsCloseDay, closing, due};
+ghost use Rattle.std.specs.Prelude.{◌≡◌, ℕ, ◌+◌, ◌≤◌, List, Some, nat_le};
 ghost use Rattle.card_fees.specs.Asked.{IsInCalendar, case_by, is_paid, paid_before, repaid_by};
+ghost use Rattle.card_fees.specs.Tallied.{IsTallyOf};
 ghost use Rattle.card_fees.specs.declared.due_cycle.DueCycle.{DueCycle};
 ghost use Rattle.card_posts.specs.Posted.{StandsFor};
 
 use crate::counting::repaid_reaches;
 use crate::due_cycle::{DueCycle, cents_in};
-use card_events::{Anchor, Day, after_closing, due_date};
+use crate::tally::{Sum, Tally};
+use card_events::{Anchor, Day};
 use card_model::GraceCase;
 use card_posts::Posts;
 
-// whether the payments and credits after the closing of a cycle, up to its due date, reach an amount
-fn is_repaid(posts: &Posts, a: &Anchor, cycle: u32, amount: u64) -> bool
-    requires close_day { IsCloseDay a.now.close_day }
-    requires cycle { 1 ≤ cycle }
-    requires in_calendar { due a.now cycle ≤ last_calendar_day }
-    ensures { (holidays : List ℕ) → StandsFor holidays posts.now → result ≡ nat_le amount (repaid_by a.now posts.now.corrected cycle) }
+// whether the sums of some days reach an amount
+fn reaches(sum: &Sum, amount: u64) -> bool
+    ensures { result ≡ nat_le amount (sum.now.paid + sum.now.credited) }
 {
-    let from = after_closing(a, cycle);
-    let to = due_date(a, cycle);
-    repaid_reaches(posts, from, to, amount)
+    amount <= sum.paid || amount - sum.paid <= sum.credited
+}
+
+// whether the payments and credits after the closing of a cycle, up to its due date, reach an amount
+fn is_repaid(posts: &Posts, _a: &Anchor, c: &DueCycle, amount: u64, tally: &Tally) -> bool
+    requires known { IsInCalendar _a.now c.now }
+    ensures { (holidays : List ℕ) (day : ℕ) → StandsFor holidays posts.now → IsTallyOf posts.now.corrected day tally.now → result ≡ nat_le amount (repaid_by _a.now posts.now.corrected c.now.cycle) }
+{
+    let from = c.closing.next();
+    match tally.held(from, c.due) {
+        Some(sum) => reaches(&sum, amount),
+        None => repaid_reaches(posts, from, c.due, amount),
+    }
 }
 
 /// Whether the payments and the merchants' credits with effective days after a cycle's closing and up to its due date,
@@ -29,22 +36,20 @@ fn is_repaid(posts: &Posts, a: &Anchor, cycle: u32, amount: u64) -> bool
 /// CFR 1026.54(a)(1)). The cycle is at least 1, and its due date is there. The corrected list is that of the posts under
 /// some calendar. It takes no memory.
 #[tactic(auto, unfolding(crate::specs::Asked::is_paid))]
-pub fn paid(posts: &Posts, a: &Anchor, c: &DueCycle) -> bool
-    requires close_day { IsCloseDay a.now.close_day }
+pub fn paid(posts: &Posts, a: &Anchor, c: &DueCycle, tally: &Tally) -> bool
     requires known { IsInCalendar a.now c.now }
-    ensures { (holidays : List ℕ) → StandsFor holidays posts.now → result ≡ is_paid a.now posts.now.corrected c.now }
+    ensures { (holidays : List ℕ) (day : ℕ) → StandsFor holidays posts.now → IsTallyOf posts.now.corrected day tally.now → result ≡ is_paid a.now posts.now.corrected c.now }
 {
-    !c.has_due_payment || is_repaid(posts, a, c.cycle, cents_in(c.grace_amount))
+    !c.has_due_payment || is_repaid(posts, a, c, cents_in(c.grace_amount), tally)
 }
 
 // whether a statement was paid, where there is one
-fn paid_before(posts: &Posts, a: &Anchor, before: Option<DueCycle>) -> bool
-    requires close_day { IsCloseDay a.now.close_day }
+fn paid_before(posts: &Posts, a: &Anchor, before: Option<DueCycle>, tally: &Tally) -> bool
     requires known { (c : DueCycle) → before ≡ Some c → IsInCalendar a.now c }
-    ensures { (holidays : List ℕ) → StandsFor holidays posts.now → result ≡ paid_before a.now posts.now.corrected before }
+    ensures { (holidays : List ℕ) (day : ℕ) → StandsFor holidays posts.now → IsTallyOf posts.now.corrected day tally.now → result ≡ paid_before a.now posts.now.corrected before }
 {
     match before {
-        Some(c) => paid(posts, a, &c),
+        Some(c) => paid(posts, a, &c, tally),
         None => true,
     }
 }
@@ -59,30 +64,35 @@ pub fn purchase_case(
     a: &Anchor,
     before: Option<DueCycle>,
     last: Option<DueCycle>,
+    tally: &Tally,
 ) -> GraceCase
-    requires close_day { IsCloseDay a.now.close_day }
     requires before { (c : DueCycle) → before ≡ Some c → IsInCalendar a.now c }
     requires last { (c : DueCycle) → last ≡ Some c → IsInCalendar a.now c }
-    ensures { (holidays : List ℕ) → StandsFor holidays posts.now → result ≡ case_by a.now posts.now.corrected before last }
+    ensures { (holidays : List ℕ) (day : ℕ) → StandsFor holidays posts.now → IsTallyOf posts.now.corrected day tally.now → result ≡ case_by a.now posts.now.corrected before last }
 {
     match last {
-        Some(c) => case_after(posts, a, before, &c),
+        Some(c) => case_after(posts, a, before, &c, tally),
         None => GraceCase::None,
     }
 }
 
 // how purchases bear interest after a statement
-fn case_after(posts: &Posts, a: &Anchor, before: Option<DueCycle>, last: &DueCycle) -> GraceCase
-    requires close_day { IsCloseDay a.now.close_day }
+fn case_after(
+    posts: &Posts,
+    a: &Anchor,
+    before: Option<DueCycle>,
+    last: &DueCycle,
+    tally: &Tally,
+) -> GraceCase
     requires before { (c : DueCycle) → before ≡ Some c → IsInCalendar a.now c }
     requires last { IsInCalendar a.now last.now }
-    ensures { (holidays : List ℕ) → StandsFor holidays posts.now → result ≡ case_by a.now posts.now.corrected before (Some last.now) }
+    ensures { (holidays : List ℕ) (day : ℕ) → StandsFor holidays posts.now → IsTallyOf posts.now.corrected day tally.now → result ≡ case_by a.now posts.now.corrected before (Some last.now) }
 {
-    if !paid_before(posts, a, before) {
+    if !paid_before(posts, a, before, tally) {
         return GraceCase::Plain;
     }
-    if paid(posts, a, last) {
+    if paid(posts, a, last, tally) {
         return GraceCase::None;
     }
-    GraceCase::Lowered(due_date(a, last.cycle))
+    GraceCase::Lowered(last.due)
 }

@@ -13,6 +13,8 @@ pub mod laws;
 mod left;
 mod required;
 mod returning;
+mod tally;
+pub mod tally_laws;
 
 pub use card_model::{Fee, FeeKind, GraceCase};
 pub use card_shared::{
@@ -20,9 +22,10 @@ pub use card_shared::{
 };
 pub use charge::{late_fee, returned_fee};
 pub use counting::{counted, counted_before, credited};
-pub use due::{met, owes_sixty_days, past_due};
+pub use due::{met, met_in_time, owes_sixty_days, past_due};
 pub use due_cycle::{DueCycle, asked};
 pub use due_fees::{capped_fee, due_fee};
 pub use grace::{paid, purchase_case};
 pub use left::minimum_left;
 pub use required::minimum;
+pub use tally::{Sum, Tally};
