@@ -194,9 +194,10 @@ impl Book {
         let _count = self.state.segments.len();
         let cycle = cycle_in(track, number);
         let behind = &track.entries[cycle.entries..];
+        let uncounted = Tally::start(cycle.closing);
         Ok(Book {
             state: state_at(alloc, &self.state, behind, cycle.closing, number, accrued)?,
-            tally: Tally::start(cycle.closing),
+            tally: uncounted,
             day: Some(cycle.closing),
             credit_since: since,
             whole: true,
