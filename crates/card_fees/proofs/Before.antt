@@ -204,3 +204,23 @@ before-past day number posts from =
   where
     worth : List CorrectedPost → CorrectedPost → ℕ
     worth all p = cond (is_payment p.post && is_between from day p && not (is_returned (earlier_posts day number all) day p.number)) p.cents 0
+
+nine : (F D T A B : Bool) (c : ℕ) → (A ≡ true → F ≡ true) → cond F (cond D (cond T (cond (A && (B && D)) c 0) 0) 0) 0 ≡ cond T (cond (A && (B && D)) c 0) 0
+nine F true T true true c h = rw (h refl) refl
+nine F false T true true c h = zero-all F false T 0
+nine F D T true false c h = zero-all F D T 0
+nine F D T false B c h = zero-all F D T 0
+
+pub credited-before-past : (day number : ℕ) (posts : List CorrectedPost) (from : ℕ) → credited (earlier_posts day number (seen_of day posts)) from day ≡ credited (earlier_posts day number posts) from day
+unfolding credited
+credited-before-past day number posts from =
+    sum-filter worth (λ p. is_before day number p.day p.number) (seen_of day posts)
+    ∙ sum-filter (λ p. cond (is_before day number p.day p.number) (worth p) 0) (λ p. nat_le p.day day) (filter (λ p. is_folded p.post) posts)
+    ∙ sum-filter (λ p. cond (nat_le p.day day) (cond (is_before day number p.day p.number) (worth p) 0) 0) (λ p. is_folded p.post) posts
+    ∙ sum-same (λ p. cond (is_folded p.post) (cond (nat_le p.day day) (cond (is_before day number p.day p.number) (worth p) 0) 0) 0) (λ p. cond (is_before day number p.day p.number) (worth p) 0) posts
+    (each (λ p. cond (is_folded p.post) (cond (nat_le p.day day) (cond (is_before day number p.day p.number) (worth p) 0) 0) 0 ≡ cond (is_before day number p.day p.number) (worth p) 0)
+    (λ p. nine (is_folded p.post) (nat_le p.day day) (is_before day number p.day p.number) (is_credit p.post) (nat_le from p.day) p.cents (credit-folded p.post)) posts)
+    ∙ sym (sum-filter worth (λ p. is_before day number p.day p.number) posts)
+  where
+    worth : CorrectedPost → ℕ
+    worth p = cond (is_credit p.post && is_between from day p) p.cents 0

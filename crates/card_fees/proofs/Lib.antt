@@ -7,6 +7,8 @@ pub mod SlotSums
 pub mod Fold
 pub mod Before
 pub mod Tallied
+pub mod Tallies
+pub mod TallyBounds
 pub mod Charges
 pub mod OneFee
 pub mod Repaid

@@ -45,7 +45,7 @@ none-each f (x ∷ xs) e =
     let one = sum_by-cons f x xs in
     All-cons (λ x. f x ≡ 0) x xs (omega (arith, one, e)) (none-each f xs (omega (arith, one, e)))
 
-each-two : {X : Type 0} (P Q R : X → Type 0) (xs : List X) → ((x : X) → P x → Q x → R x) → All P xs → All Q xs → All R xs
+pub each-two : {X : Type 0} (P Q R : X → Type 0) (xs : List X) → ((x : X) → P x → Q x → R x) → All P xs → All Q xs → All R xs
 each-two P Q R [] f p q = All-nil R
 each-two P Q R (x ∷ xs) f p q =
     All-cons R x xs (f x (All-head P x xs p) (All-head Q x xs q)) (each-two P Q R xs f (All-tail P x xs p) (All-tail Q x xs q))
@@ -232,7 +232,7 @@ none-credited posts from day l =
     worth p = cond (is_credit p.post && is_between from day p) p.cents 0
 
 -- ---- whole days
-by-next : (to d n : ℕ) → is_before (to + 1) 0 d n ≡ nat_le d to
+pub by-next : (to d n : ℕ) → is_before (to + 1) 0 d n ≡ nat_le d to
 by-next to d n = grind (arith, nat_tests)
 
 within : (F D : Bool) → (F ≡ true → D ≡ true) → (F && D) ≡ F
@@ -240,7 +240,7 @@ within true true g = refl
 within true false g = let no : false ≡ true = g refl in absurd (cc)
 within false D g = refl
 
-returned-days : (posts : List CorrectedPost) (to n : ℕ) → is_returned (earlier_posts (to + 1) 0 posts) (to + 1) n ≡ is_returned posts to n
+pub returned-days : (posts : List CorrectedPost) (to n : ℕ) → is_returned (earlier_posts (to + 1) 0 posts) (to + 1) n ≡ is_returned posts to n
 returned-days posts to n =
     any-filter (λ p. returns n p.post && nat_le p.day (to + 1)) (λ p. is_before (to + 1) 0 p.day p.number) posts
     ∙ any-same (λ p. is_before (to + 1) 0 p.day p.number && (returns n p.post && nat_le p.day (to + 1))) (λ p. returns n p.post && nat_le p.day to) posts (all posts)
@@ -260,7 +260,7 @@ returned-days posts to n =
     all (p ∷ ps) = All-cons (λ p. (is_before (to + 1) 0 p.day p.number && (returns n p.post && nat_le p.day (to + 1))) ≡ (returns n p.post && nat_le p.day to)) p ps (one p) (all ps)
 
 -- ---- the bound of what is counted
-sum-most : (f : Slot → ℕ) (xs : List Slot) → ((s : Slot) → f s ≤ unsigned_abs s.cents) → All (λ (s : Slot). unsigned_abs s.cents ≤ 999_999_999_999) xs → sum_by f xs ≤ length xs * 999_999_999_999
+pub sum-most : (f : Slot → ℕ) (xs : List Slot) → ((s : Slot) → f s ≤ unsigned_abs s.cents) → All (λ (s : Slot). unsigned_abs s.cents ≤ 999_999_999_999) xs → sum_by f xs ≤ length xs * 999_999_999_999
 sum-most f [] h b = omega arith
 sum-most f (x ∷ xs) h b =
     let one = sum_by-cons f x xs in

@@ -14,6 +14,7 @@ mod left;
 mod required;
 mod returning;
 mod tally;
+pub mod tally_laws;
 
 pub use card_model::{Fee, FeeKind, GraceCase};
 pub use card_shared::{
