@@ -1,7 +1,7 @@
 -- What is counted of payments and credits goes on from one post to a later one.
-use Rattle.std.proofs.Common.{◌≡◌, ℕ, suc, ◌+◌, ◌*◌, ◌<◌, ◌≤◌, ◌⊎◌, inl, inr, Bool, true, false, cond, not, ◌&&◌, nat_le, nat_lt, List, [], ◌∷◌, drop, get_or, length, map, take, refl, sym, ap, ◌∙◌, subst, arith}
+use Rattle.std.proofs.Common.{◌≡◌, ℕ, ◌+◌, ◌*◌, ◌<◌, ◌≤◌, inl, inr, Bool, true, false, cond, not, ◌&&◌, nat_le, List, [], ◌∷◌, drop, get_or, length, map, take, refl, sym, ap, ◌∙◌, subst, arith}
 use Rattle.std.specs.Prelude.{unsigned_abs}
-use Rattle.std.specs.List.{All, filter, list_any, sum_by}
+use Rattle.std.specs.List.{All, sum_by}
 use Rattle.std.proofs.lemmas.Bool.Decides.{nat_tests}
 use Rattle.std.proofs.lemmas.List.{get_or_read_under}
 use Rattle.std.proofs.lemmas.List.Elements.{All-cons, All-head, All-nil, All-tail, All-weaker}
@@ -14,7 +14,7 @@ use Rattle.card_events.specs.declared.post.Post.{Post}
 use Rattle.card_model.specs.Payments.{counted, credited, is_between, is_credit, is_payment, is_returned, returns}
 use Rattle.card_posts.specs.Order.{IsAscending}
 use Rattle.card_posts.specs.Posted.{folding_order}
-use Rattle.card_fees.specs.Counting.{counts, credits, earlier_posts, in_front, is_before, is_credit_at, is_payment_at, is_returned_until, reaches, since}
+use Rattle.card_fees.specs.Counting.{counts, credits, earlier_posts, is_before, is_credit_at, is_payment_at, is_returned_until, reaches, since}
 use Rattle.card_fees.specs.Tallied.{IsBy, Leads, credited_before, credited_since, is_return, is_return_at, not_before, paid_before, paid_since, return_read}
 use Rattle.card_fees.specs.declared.returning.Until.{Until}
 use Rattle.card_fees.specs.declared.returning.Until.TheVariants as until

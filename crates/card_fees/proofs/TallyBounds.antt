@@ -1,5 +1,5 @@
 -- What is counted of an account's posts is brought on, and fits its numbers.
-use Rattle.std.proofs.Common.{◌≡◌, ℕ, ◌+◌, ◌*◌, ◌<◌, ◌≤◌, Bool, true, false, cond, not, ◌&&◌, nat_le, List, length, ℤ, pos, ◌≤ℤ◌, sym, ap, ◌∙◌, subst, arith}
+use Rattle.std.proofs.Common.{◌≡◌, ℕ, ◌+◌, ◌≤◌, Bool, true, false, cond, not, ◌&&◌, nat_le, List, ℤ, pos, ◌≤ℤ◌, sym, ap, ◌∙◌, subst, arith}
 use Rattle.std.specs.Prelude.{unsigned_abs}
 use Rattle.std.specs.List.{All, sum_by}
 use Rattle.std.proofs.lemmas.Int.{ints}
@@ -11,7 +11,6 @@ use Rattle.card_posts.specs.Posted.{AreBounded, folding_order}
 use Rattle.card_fees.specs.Counting.{is_credit_at, is_payment_at, is_returned_until, reaches}
 use Rattle.card_fees.specs.Limits.{payments_limit}
 use Rattle.card_fees.specs.Tallied.{Leads, credited_before, credited_since, not_before, paid_before, paid_since, return_read}
-use Rattle.card_fees.specs.declared.returning.Until.{Until}
 use Rattle.card_fees.specs.declared.returning.Until.TheVariants as until
 use Rattle.card_fees.proofs.Tallied.{credited-on, credited-whole, each-two, paid-on, paid-whole, sum-most}
 

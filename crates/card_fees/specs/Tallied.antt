@@ -1,6 +1,6 @@
 -- What is counted of payments and credits, kept from one question to the next. Days are effective days, amounts cents.
-use Rattle.std.specs.Prelude.{ℕ, ◌+◌, ◌≡◌, ◌<◌, ◌≤◌, ◌⊎◌, Bool, true, false, not, ◌&&◌, nat_le, if◌then◌else◌, IfSome, List, Option, Some, None}
-use Rattle.std.specs.List.{filter, sum_by}
+use Rattle.std.specs.Prelude.{ℕ, ◌+◌, ◌≡◌, ◌<◌, ◌≤◌, ◌⊎◌, Bool, true, false, not, nat_le, if◌then◌else◌, IfSome, List, Option, Some, None}
+use Rattle.std.specs.List.{filter}
 use Rattle.card_events.specs.History.{CorrectedPost, at_number}
 use Rattle.card_events.specs.declared.kept.Kept.{Kept}
 use Rattle.card_events.specs.declared.kept.Slot.{Slot}

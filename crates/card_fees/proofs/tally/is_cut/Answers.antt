@@ -1,5 +1,4 @@
 use Rattle.std.proofs.Common.{sym, ◌∙◌, ◌-◌, arith}
-use Rattle.std.proofs.lemmas.Bool.Decides.{nat_tests}
 use Rattle.card_fees.proofs.Tallied.{back-at, cut-drop, front-at, not-true}
 use Rattle.card_fees.proofs.tally.is_cut.Goals as goal
 

@@ -1,9 +1,8 @@
-use Rattle.std.proofs.Common.{◌≡◌, ◌+◌, ◌≤◌, ap, ◌∙◌, subst, sym, arith}
-use Rattle.std.specs.List.{sum_by}
+use Rattle.std.proofs.Common.{ap, ◌∙◌, subst, sym, arith}
 use Rattle.card_events.specs.History.{anchor_of}
 use Rattle.card_posts.specs.Order.{IsAscending}
 use Rattle.card_posts.proofs.Ordered.{ascending-in_order}
-use Rattle.card_fees.specs.Tallied.{credited_before, not_before, paid_before}
+use Rattle.card_fees.specs.Tallied.{not_before}
 use Rattle.card_fees.proofs.Slots.{ascending-drop, take-rest}
 use Rattle.card_fees.proofs.TallyBounds.{credited-bound, credited-brought, paid-bound, paid-brought}
 use Rattle.card_fees.proofs.tally.Tally.count_on.Goals as goal
@@ -29,13 +28,14 @@ returns-clause-right c holidays last stands by t =
     record {
       paid =
           elim c.if-brought-eq0.branch [
-          then-brought-eq0 w ↦
-              (let none = sym c.bring-brought.ensures.returns ∙ w.if-brought-eq0.true in
-              let on = paid-brought a holidays posts.history posts.corrected _ old.from old.day old.number c.args.day c.args.number old.paid stands parts c.requires.leads t.paid none in
-              omega (arith, on, most, w.self-is, w.saturating_add-self.ensures, c.bring-brought.ensures.paid))
-          | else-brought-eq0 w ↦
-              (let value = w.counted_in_front-self.ensures.value holidays stands in
-              omega (arith, value, most, w.self-is)) ];
+            | then-brought-eq0 w ↦
+                (let none = sym c.bring-brought.ensures.returns ∙ w.if-brought-eq0.true in
+                let on = paid-brought a holidays posts.history posts.corrected _ old.from old.day old.number c.args.day c.args.number old.paid stands parts c.requires.leads t.paid none in
+                omega (arith, on, most, w.self-is, w.saturating_add-self.ensures, c.bring-brought.ensures.paid))
+            | else-brought-eq0 w ↦
+                (let value = w.counted_in_front-self.ensures.value holidays stands in
+                omega (arith, value, most, w.self-is))
+          ];
       credited = omega (arith, credits, high, c.saturating_add-self-2.ensures, c.bring-brought.ensures.credited);
       stands = by;
       due = t.due;

@@ -9,5 +9,6 @@ returns-clause-right c holidays last stands by t =
     let listed = c.args.posts.now.corrected in
     c.count_on.ensures.right holidays last stands by
     (elim c.if-not-leads_to.branch [
-    then-not-leads_to w ↦ subst (IsTallyOf listed last) (sym w.self-is) (w.restarted.ensures.right listed last (by-end last c.args.day c.args.number by) t)
-    | else-not-leads_to w ↦ subst (IsTallyOf listed last) (sym w.self-is) t ])
+      | then-not-leads_to w ↦ subst (IsTallyOf listed last) (sym w.self-is) (w.restarted.ensures.right listed last (by-end last c.args.day c.args.number by) t)
+      | else-not-leads_to w ↦ subst (IsTallyOf listed last) (sym w.self-is) t
+    ])
