@@ -22,12 +22,12 @@ use Rattle.card_daily.specs.declared.track.Track.{Track}
 use Rattle.card_dayend.proofs.Each.{same-map}
 use Rattle.card_dayend.proofs.NextDay.{first-next}
 use Rattle.card_book.proofs.Days.{after-is}
-use Rattle.card_book.proofs.GoingOn.{accrual-seen, same-opened}
+use Rattle.card_book.proofs.GoingOn.{accrual-seen, same-opened, tally-on}
 use Rattle.card_book.proofs.NewSegments.{accrues-none, known-on, none-on, rated-grow, rated-numbered}
 use Rattle.card_book.proofs.Rewound.{rows-none}
 use Rattle.card_book.specs.Marks.{rated_in}
 use Rattle.card_book.specs.Renewed.{HasNewPosts, IsRenewed, RenewedBooksStand}
-use Rattle.card_book.specs.Stands.{Summary, day_to_fold, since_through}
+use Rattle.card_book.specs.Stands.{HasTally, Summary, day_to_fold, since_through}
 
 -- balances with nothing owed on more segments
 more-nothing : (n : ℕ) (bs : List ℤ) → bs ++ replicate (suc n) (pos 0) ≡ (bs ++ pos 0 ∷ []) ++ replicate n (pos 0)
@@ -152,6 +152,8 @@ renewed_books_stand old g day b renewed t h r =
                 });
           });
       since = r.since ∙ (h.stands.since ∙ (ap (since_through old) h.day ∙ (since-same ∙ ap (since_through g) (sym dated))));
+      tally = subst (λ o. HasTally g o renewed.tally) (sym dated)
+          (subst (λ x. HasTally g (Some day) x) (sym r.tally) (tally-on old g (Some day) b.tally h.continues (subst (λ o. HasTally old o b.tally) h.day h.stands.tally)));
     }
   where
     below : (d : ℕ) → Some day ≡ Some d → opened_in g ≤ day → opened_in g ≤ d

@@ -8,6 +8,7 @@ use Rattle.card_bounds.proofs.Whole.{balances_small}
 use Rattle.card_bounds.specs.Bounds.{IsLimited, IsOrderly}
 use Rattle.card_events.specs.Range.{last_request_day}
 use Rattle.card_events.specs.Limits.{post_limit}
+use Rattle.card_fees.specs.declared.tally.Tally.{Tally}
 use Rattle.card_closing.specs.Accruals.{Accrued}
 use Rattle.card_closing.specs.Rows.{no_rows}
 use Rattle.card_model.specs.Books.{Book}
@@ -39,7 +40,7 @@ use Rattle.card_book.proofs.Rewound.{rewound_books_stand}
 use Rattle.card_book.proofs.Told.{small-on, sums-on}
 use Rattle.card_book.specs.Marks.{IsMark, accrued_by, rated_in}
 use Rattle.card_book.specs.Rewound.{AreFolded, GoesBack, IsCutTrack, IsRewound}
-use Rattle.card_book.specs.Stands.{StandsFor, Summary, book_through, day_to_fold}
+use Rattle.card_book.specs.Stands.{IsBlankFrom, StandsFor, Summary, book_through, day_to_fold}
 use Rattle.card_book.specs.declared.marks.Accruing.{Accruing}
 
 -- ---- what a Book and its track tell by themselves
@@ -70,9 +71,9 @@ pub record IsStateAt (k : ℕ) (c : Cycle) (kept : List Accruing) (b : Summary) 
 segments-rated : (g : Given) (b : Summary) (t : Track) → StandsFor g b t → b.state.rates.segments ≡ rated_in g
 segments-rated g b t h = ap (λ (r : Rates). r.segments) h.folded.stand.rates
 
-rewound-is : (g : Given) (k : ℕ) (c : Cycle) (since : Option ℕ) (kept : List Accruing) (b : Summary) (t cut : Track) (s : State) → StandsFor g b t → IsStateAt k c kept b t s
-    → IsMark g k c since kept → IsCutTrack k c t cut → IsRewound g k c b t (record { day = Some c.closing; state = s; credit_since = since; whole = Bool.true }) cut
-rewound-is g k c since kept b t cut s h at mark is =
+rewound-is : (g : Given) (k : ℕ) (c : Cycle) (since : Option ℕ) (kept : List Accruing) (b : Summary) (t cut : Track) (s : State) (tally : Tally) → StandsFor g b t → IsStateAt k c kept b t s
+    → IsBlankFrom c.closing tally → IsMark g k c since kept → IsCutTrack k c t cut → IsRewound g k c b t (record { day = Some c.closing; state = s; tally = tally; credit_since = since; whole = Bool.true }) cut
+rewound-is g k c since kept b t cut s tally h at blank mark is =
     let same : s.rates.segments ≡ b.state.rates.segments = ap (λ (r : Rates). r.segments) at.rates in
     let rated = segments-rated g b t h in
     let all : AreBalances t.entries.items b.state.segments.balances = subst (λ es. AreBalances es b.state.segments.balances) (sym h.folded.stand.entries) h.folded.stand.sums in
@@ -91,40 +92,42 @@ rewound-is g k c since kept b t cut s h at mark is =
       accrued = subst (λ (ts : List SegmentTerms). HaveAccrued g c.closing (book_on g c.closing) ts s.accruals.items) (sym (same ∙ rated))
           (subst (HaveAccrued g c.closing (book_on g c.closing) (rated_in g)) (sym (at.accruals ∙ ap (accrued_by k kept) rated)) mark.accrued);
       since = mark.since;
+      tally = blank;
     }
 
-back-by : (g : Given) (k : ℕ) (c : Cycle) (since : Option ℕ) (kept : List Accruing) (b : Summary) (t cut : Track) (s : State) (o : Option ℕ) → b.day ≡ o → IsSound g
-    → ((day : ℕ) → b.day ≡ Some day → day ≤ last_request_day) → StandsFor g b t → cycle_at k t.cycles.items ≡ Some c → IsStateAt k c kept b t s → IsMark g k c since kept → IsCutTrack k c t cut
-    → StandsFor g (record { day = Some c.closing; state = s; credit_since = since; whole = Bool.true }) cut
-back-by g k c since kept b t cut s None e sound last h there at mark is =
+back-by : (g : Given) (k : ℕ) (c : Cycle) (since : Option ℕ) (kept : List Accruing) (b : Summary) (t cut : Track) (s : State) (tally : Tally) (o : Option ℕ) → b.day ≡ o → IsSound g
+    → ((day : ℕ) → b.day ≡ Some day → day ≤ last_request_day) → StandsFor g b t → cycle_at k t.cycles.items ≡ Some c → IsStateAt k c kept b t s → IsBlankFrom c.closing tally → IsMark g k c since kept → IsCutTrack k c t cut
+    → StandsFor g (record { day = Some c.closing; state = s; tally = tally; credit_since = since; whole = Bool.true }) cut
+back-by g k c since kept b t cut s tally None e sound last h there at blank mark is =
     let empty : t.cycles.items ≡ [] = h.folded.stand.cycles ∙ (ap (λ o. (before g (day_to_fold g o)).cycles) e ∙ ap (λ (x : Book). x.cycles) (before-opening g)) in
     absurd (none-closed k t.cycles.items c empty there)
-back-by g k c since kept b t cut s (Some day) e sound last h there at mark is =
-    rewound_books_stand g b t day k c _ cut sound.opening (let l = last day e in omega (arith, l)) e h there (rewound-is g k c since kept b t cut s h at mark is)
+back-by g k c since kept b t cut s tally (Some day) e sound last h there at blank mark is =
+    rewound_books_stand g b t day k c _ cut sound.opening (let l = last day e in omega (arith, l)) e h there (rewound-is g k c since kept b t cut s tally h at blank mark is)
 
-pub goes-back : (k : ℕ) (c : Cycle) (since : Option ℕ) (kept : List Accruing) (b : Summary) (t : Track) (s : State) → ((day : ℕ) → b.day ≡ Some day → day ≤ last_request_day)
-    → cycle_at k t.cycles.items ≡ Some c → IsStateAt k c kept b t s → GoesBack k b t since kept (record { day = Some c.closing; state = s; credit_since = since; whole = Bool.true })
-goes-back k c since kept b t s last there at = λ g d cut sound h e mark is.
+pub goes-back : (k : ℕ) (c : Cycle) (since : Option ℕ) (kept : List Accruing) (b : Summary) (t : Track) (s : State) (tally : Tally) → ((day : ℕ) → b.day ≡ Some day → day ≤ last_request_day)
+    → cycle_at k t.cycles.items ≡ Some c → IsStateAt k c kept b t s → IsBlankFrom c.closing tally → GoesBack k b t since kept (record { day = Some c.closing; state = s; tally = tally; credit_since = since; whole = Bool.true })
+goes-back k c since kept b t s tally last there at blank = λ g d cut sound h e mark is.
     let same : c ≡ d = some-is (sym there ∙ e) in
-    back-by g k c since kept b t cut s b.day refl sound last h there at (subst (λ x. IsMark g k x since kept) (sym same) mark) (subst (λ x. IsCutTrack k x t cut) (sym same) is)
+    back-by g k c since kept b t cut s tally b.day refl sound last h there at blank (subst (λ x. IsMark g k x since kept) (sym same) mark) (subst (λ x. IsCutTrack k x t cut) (sym same) is)
   where
     some-is : {x y : Cycle} → Some x ≡ Some y → x ≡ y
     some-is e = cc
 
 -- by the parts that were made, with the day and the entries as the code has them
-pub rewound-goes : (k : ℕ) (c : Cycle) (d : ℕ) (es : List Entry) (since : Option ℕ) (kept : List Accruing) (b : Summary) (t : Track) (s : State) → d ≡ c.closing → es ≡ drop c.entries t.entries.items
+pub rewound-goes : (k : ℕ) (c : Cycle) (d : ℕ) (es : List Entry) (since : Option ℕ) (kept : List Accruing) (b : Summary) (t : Track) (s : State) (tally : Tally) → d ≡ c.closing → es ≡ drop c.entries t.entries.items
     → ((day : ℕ) → b.day ≡ Some day → day ≤ last_request_day) → cycle_at k t.cycles.items ≡ Some c → unposted.AreBefore es b.state.segments s.segments
     → s.rates ≡ with_penalties (penalties_at d b.state.rates.penalties) b.state.rates → s.rows.items ≡ map (λ x. no_rows (d + 1)) b.state.rates.segments
-    → s.accruals.items ≡ accrued_by k kept b.state.rates.segments → GoesBack k b t since kept (record { day = Some d; state = s; credit_since = since; whole = Bool.true })
-rewound-goes k c d es since kept b t s e f last there segments rates rows accruals =
-    subst (λ (n : ℕ). GoesBack k b t since kept (record { day = Some n; state = s; credit_since = since; whole = Bool.true })) (sym e)
-    (goes-back k c since kept b t s last there
+    → s.accruals.items ≡ accrued_by k kept b.state.rates.segments → IsBlankFrom d tally → GoesBack k b t since kept (record { day = Some d; state = s; tally = tally; credit_since = since; whole = Bool.true })
+rewound-goes k c d es since kept b t s tally e f last there segments rates rows accruals blank =
+    subst (λ (n : ℕ). GoesBack k b t since kept (record { day = Some n; state = s; tally = tally; credit_since = since; whole = Bool.true })) (sym e)
+    (goes-back k c since kept b t s tally last there
     (record {
       segments = subst (λ (l : List Entry). unposted.AreBefore l b.state.segments s.segments) f segments;
       rates = rates ∙ ap (λ (n : ℕ). with_penalties (penalties_at n b.state.rates.penalties) b.state.rates) e;
       rows = rows ∙ ap (λ (n : ℕ). map (λ x. no_rows (n + 1)) b.state.rates.segments) e;
       accruals = accruals;
-    }))
+    })
+    (subst (λ (n : ℕ). IsBlankFrom n tally) e blank))
 
 -- ---- the entries behind a closing
 -- those in front of it are the entries of the book of that day

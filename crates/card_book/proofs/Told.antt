@@ -8,6 +8,7 @@ use Rattle.card_bounds.specs.Bounds.{IsLimited}
 use Rattle.card_events.specs.Range.{last_request_day}
 use Rattle.card_events.specs.Limits.{post_limit}
 use Rattle.card_closing.specs.Accruals.{Accrued}
+use Rattle.card_fees.specs.declared.tally.Tally.{Tally}
 use Rattle.card_model.specs.Books.{Book}
 use Rattle.card_model.specs.Cycles.{Cycle}
 use Rattle.card_model.specs.Entries.{AreBalances, at_least_zero}
@@ -23,12 +24,13 @@ use Rattle.card_daily.specs.Given.{Given, IsSound, book_on, opened_in}
 use Rattle.card_daily.specs.Stands.{AreBefore, HaveAccrued, before, first_in, rows_through}
 use Rattle.card_daily.specs.declared.state.State.{State}
 use Rattle.card_daily.specs.declared.track.Track.{Track}
-use Rattle.card_book.specs.Stands.{StandsFor, Summary, book_through, day_to_fold, recorded}
+use Rattle.card_book.specs.Stands.{IsBlankFrom, StandsFor, Summary, book_through, day_to_fold, recorded}
 use Rattle.card_book.proofs.Days.{book_is_the_fold, through-is}
 
 -- ---- a Book that begins, and a copy
-pub start-stands : (g : Given) (s : State) (t : Track) → AreBefore g (opened_in g) s t → StandsFor g (record { day = None; state = s; credit_since = None; whole = Bool.true }) t
-start-stands g s t h = record { opened = λ d e. absurd (no d e); folded = h; since = refl }
+pub start-stands : (g : Given) (s : State) (tally : Tally) (t : Track) → AreBefore g (opened_in g) s t → IsBlankFrom (opened_in g) tally
+    → StandsFor g (record { day = None; state = s; tally = tally; credit_since = None; whole = Bool.true }) t
+start-stands g s tally t h blank = record { opened = λ d e. absurd (no d e); folded = h; since = refl; tally = blank }
   where
     no : (d : ℕ) → None ≡ Some d → ⊥
     no d e = cc
@@ -57,8 +59,9 @@ copy-before g day s from t c h =
       accrued = subst (λ (r : Rates). HaveAccrued g (day - 1) (before g day) r.segments s.accruals.items) (sym c.rates) (subst (HaveAccrued g (day - 1) (before g day) from.rates.segments) (sym c.accruals) h.accrued);
     }
 
-pub copy-stands : (g : Given) (b : Summary) (s : State) (t : Track) → IsCopy s b.state → StandsFor g b t → StandsFor g (record { day = b.day; state = s; credit_since = b.credit_since; whole = b.whole }) t
-copy-stands g b s t c h = record { opened = h.opened; folded = copy-before g (day_to_fold g b.day) s b.state t c h.folded; since = h.since }
+pub copy-stands : (g : Given) (b : Summary) (s : State) (t : Track) → IsCopy s b.state → StandsFor g b t
+    → StandsFor g (record { day = b.day; state = s; tally = b.tally; credit_since = b.credit_since; whole = b.whole }) t
+copy-stands g b s t c h = record { opened = h.opened; folded = copy-before g (day_to_fold g b.day) s b.state t c h.folded; since = h.since; tally = h.tally }
 
 -- ---- cycles
 pub cycle-place : (n : ℕ) (cs : List Cycle) (d : Cycle) → 1 ≤ n → n ≤ length cs → cycle_at n cs ≡ Some (get_or cs (n - 1) d)

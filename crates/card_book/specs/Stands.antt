@@ -90,9 +90,13 @@ since_through g (Some day) = credit_since (book_on g day).entries (opened_in g) 
 abbrev pub days_through : Given → Option ℕ → ℕ → ℕ
 days_through g day to = to + 1 - day_to_fold g day
 
--- what was counted by the end of the last day folded is right; where none was, nothing was counted, which is right for all posts
+-- nothing was counted yet, from a day on: that is right for all posts
+abbrev pub IsBlankFrom : ℕ → Tally → Type 0
+IsBlankFrom from t = (posts : List CorrectedPost) (last : ℕ) → from ≤ last + 1 → IsTallyOf posts last t
+
+-- what was counted by the end of the last day folded is right, and where none was, nothing was counted
 abbrev pub HasTally : Given → Option ℕ → Tally → Type 0
-HasTally g None t = (posts : List CorrectedPost) (last : ℕ) → opened_in g ≤ last + 1 → IsTallyOf posts last t
+HasTally g None t = IsBlankFrom (opened_in g) t
 HasTally g (Some day) t = Tallies g day t
 
 -- a Book and a track stand for the book at the end of the last day folded

@@ -38,8 +38,8 @@ fn since_after(has_credit: bool, day: Day, since: Option<Day>) -> Option<Day>
 }
 
 /// The book of an account at the end of a day: balances, rates and the rows of the open cycle, with the day since
-/// which there is a credit balance. Its entries, closed cycles and fees lie in a track beside it. Only `advance` moves
-/// it. Clauses see it as a summary, which with a track stands for the account's book.
+/// which there is a credit balance and what was counted of payments by then. Its entries, closed cycles and fees lie in
+/// a track beside it. Only `advance` moves it. Clauses see it as a summary, which with a track stands for the account's book.
 #[derive(Drop)]
 pub struct Book {
     state: State,
@@ -174,8 +174,8 @@ impl Book {
     }
 
     /// The Book at the end of the day on which a closed cycle closed, in memory of its own, by what was kept of that closing:
-    /// since when there was a credit balance, and what deferred plans had accrued. It costs what the entries behind the closing
-    /// cost. It stands beside the track cut behind that cycle.
+    /// since when there was a credit balance, and what deferred plans had accrued. Payments are counted anew from there on. It
+    /// costs what the entries behind the closing cost. It stands beside the track cut behind that cycle.
     pub fn rewound(
         &self,
         alloc: Global,
@@ -194,9 +194,10 @@ impl Book {
         let _count = self.state.segments.len();
         let cycle = cycle_in(track, number);
         let behind = &track.entries[cycle.entries..];
+        let uncounted = Tally::start(cycle.closing);
         Ok(Book {
             state: state_at(alloc, &self.state, behind, cycle.closing, number, accrued)?,
-            tally: Tally::start(cycle.closing),
+            tally: uncounted,
             day: Some(cycle.closing),
             credit_since: since,
             whole: true,
@@ -303,7 +304,16 @@ impl Book {
         ensures room { KeepsRoom track.old track.new }
     {
         let _opening = opening_day(inputs);
-        next_span(alloc, inputs, first, end, near, &mut self.state, track, &mut self.tally)?;
+        next_span(
+            alloc,
+            inputs,
+            first,
+            end,
+            near,
+            &mut self.state,
+            track,
+            &mut self.tally,
+        )?;
         self.credit_since = since_after(has_credit(&self.state.segments), end, self.credit_since);
         self.day = Some(end);
         Ok(())

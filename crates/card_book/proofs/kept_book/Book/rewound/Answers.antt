@@ -1,5 +1,6 @@
 use Rattle.std.proofs.Common.{◌≡◌, ℕ, ◌-◌, ◌≤◌, ◌∙◌, List, drop, length, take, sym, ap, subst, arith, rules, true, Option, Some}
 use Rattle.std.proofs.lemmas.List.{take_rest}
+use Rattle.card_fees.specs.declared.tally.Tally.{Tally}
 use Rattle.card_model.specs.Cycles.{Cycle}
 use Rattle.card_model.specs.declared.entry.Entry.{Entry}
 use Rattle.card_rates.specs.RateBooks.{AreByNumber}
@@ -15,8 +16,8 @@ use Rattle.card_book.proofs.kept_book.Book.rewound.Goals as goal
 part : (xs es : List Entry) (n m : ℕ) → xs ≡ es → n ≡ m → take (length xs - n) (drop n xs) ≡ drop m es
 part xs es n m e f = take_rest xs n ∙ (ap (λ (l : List Entry). drop n l) e ∙ ap (λ (k : ℕ). drop k es) f)
 
-abbrev made : ℕ → State → Option ℕ → Summary
-made day state since = record { day = Some day; state = state; credit_since = since; whole = true }
+abbrev made : ℕ → State → Tally → Option ℕ → Summary
+made day state tally since = record { day = Some day; state = state; tally = tally; credit_since = since; whole = true }
 
 some-is : {x y : Cycle} → Some x ≡ Some y → x ≡ y
 some-is e = cc
@@ -114,6 +115,6 @@ returns-clause-stands c =
     let at = cycle-place c.args.number t.cycles.items cycle c.requires.first c.requires.closed ∙ ap Some (sym (c.cycle_in-cycle.ensures cycle)) in
     let did = c.in_ok-state_at.ensures in
     let those = part c.deref.result.now t.entries.items c.cycle.inside.entries cycle.entries c.deref.ensures.value (ap (λ (x : Cycle). x.entries) c.cycle.view_is) in
-    subst (λ (b : Summary). GoesBack c.args.number b t c.args.since c.args.accrued.now (made c.cycle.inside.closing c.in_ok-state_at.field-0 c.args.since)) c.self.view_is
-    (rewound-goes c.args.number cycle c.cycle.inside.closing _ c.args.since c.args.accrued.now _ t c.in_ok-state_at.field-0 (ap (λ (x : Cycle). x.closing) c.cycle.view_is) those
-    (λ day e. c.requires.folded.last day (ap (λ (b : Summary). b.day) (sym c.self.view_is) ∙ e)) at did.segments did.rates did.rows did.accruals)
+    subst (λ (b : Summary). GoesBack c.args.number b t c.args.since c.args.accrued.now (made c.cycle.inside.closing c.in_ok-state_at.field-0 c.start-uncounted.result c.args.since)) c.self.view_is
+    (rewound-goes c.args.number cycle c.cycle.inside.closing _ c.args.since c.args.accrued.now _ t c.in_ok-state_at.field-0 c.start-uncounted.result (ap (λ (x : Cycle). x.closing) c.cycle.view_is) those
+    (λ day e. c.requires.folded.last day (ap (λ (b : Summary). b.day) (sym c.self.view_is) ∙ e)) at did.segments did.rates did.rows did.accruals c.start-uncounted.ensures)
