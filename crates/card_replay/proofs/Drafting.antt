@@ -66,7 +66,7 @@ drafted shared today key name p r old new rows d h u sound posts kept issued nam
       };
     }
 
-before-change : (shared : SharedRows) (today : ℕ) (key : List ℕ) (p : Post) (r : Replay) (from : ℕ) → IsReplay shared r → IsOneMore (given_of r.lists shared) (with_post r.lists key today p shared) p from → from ≤ r.folding.reached
+pub before-change : (shared : SharedRows) (today : ℕ) (key : List ℕ) (p : Post) (r : Replay) (from : ℕ) → IsReplay shared r → IsOneMore (given_of r.lists shared) (with_post r.lists key today p shared) p from → from ≤ r.folding.reached
     → IsBeforeChange (given_of r.lists shared) (with_post r.lists key today p shared) p from r.folding.reached r.folding.book r.folding.past
 before-change shared today key p r from h more l =
     let folding = h.folding in

@@ -1,9 +1,7 @@
-use Rattle.std.proofs.Common.{◌≡◌, ◌+◌, ap, sym, subst, ◌∙◌, arith}
+use Rattle.std.proofs.Common.{ap, ◌∙◌, arith}
 use Rattle.card_events.specs.History.{opening_in}
-use Rattle.card_model.specs.Refusals.{Lists}
 use Rattle.card_replay.specs.Replays.{opened_lists}
-use Rattle.card_cases.proofs.Reached.{may-reach, one-step-first, opened-alone, sound-alone}
-use Rattle.card_cases.specs.Alone.{HasOpeningAlone}
+use Rattle.card_cases.proofs.Reached.{one-step-first, opened-alone, sound-alone}
 use Rattle.card_cases.proofs.replays.opened.Goals as goal
 
 pub start-requires-clause-sound : goal.start-requires-clause-sound

@@ -1,5 +1,4 @@
 use Rattle.std.proofs.Common.{◌≡◌, ℕ, ◌-◌, ◌≤◌, length, sym, ap, subst, ◌∙◌, arith}
-use Rattle.card_book.specs.Rewound.{AreFolded}
 use Rattle.card_daily.specs.Given.{Given, IsSound}
 use Rattle.card_events.specs.History.{anchor_of, corrected}
 use Rattle.card_events.specs.declared.post.Post.{Post}
@@ -28,23 +27,12 @@ new-inputs-requires-clause-sound c =
     subst IsSound (sym parts) c.requires.may.replay.sound
 
 -- ---- a change that isn't after the day reached
-pub go_back-made-requires-clause-folded : goal.go_back-made-requires-clause-folded
-go_back-made-requires-clause-folded c =
-    let r = c.args.self.now in
-    let is = told c.args.shared.now c.args._today c.args._key.now c.args._post.now r c.args.from c.requires.may c.requires.first (omega (arith, c.requires.within, c.requires.reached)) c.cycles_before-cycle.ensures
-    (c.anchor.ensures.value ∙ ap (λ (x : Replay). anchor_of x.lists.posts) c.self.view_is) in
-    subst (λ (x : Replay). AreFolded x.folding.book x.folding.past.track) (sym c.self.view_is) is.folded
-
-pub go_back-made-requires-clause-closed : goal.go_back-made-requires-clause-closed
-go_back-made-requires-clause-closed c =
+pub go_back-requires-clause-closed : goal.go_back-requires-clause-closed
+go_back-requires-clause-closed c =
     let r = c.args.self.now in
     let is = told c.args.shared.now c.args._today c.args._key.now c.args._post.now r c.args.from c.requires.may c.requires.first (omega (arith, c.requires.within, c.requires.reached)) c.cycles_before-cycle.ensures
     (c.anchor.ensures.value ∙ ap (λ (x : Replay). anchor_of x.lists.posts) c.self.view_is) in
     subst (λ (x : Replay). c.cycles_before-cycle.result ≤ length x.folding.past.track.cycles.items) (sym c.self.view_is) is.closed
-
-pub go_back-made-requires-clause-marked : goal.go_back-made-requires-clause-marked
-go_back-made-requires-clause-marked c =
-    subst (λ (x : Replay). length x.folding.past.since.items ≡ length x.folding.past.track.cycles.items) (sym c.self.view_is) c.requires.may.replay.folding.marks.count
 
 pub returns : goal.returns
 returns c =

@@ -14,8 +14,8 @@ rewound_to-requires-clause-reached c =
 pub rewound_to-requires-clause-within : goal.rewound_to-requires-clause-within
 rewound_to-requires-clause-within c = (c.folded_since.ensures.some c.in-Some.reached c.in-Some.is).1
 
-pub returns-in-Some-clause-rewound : goal.returns-in-Some-clause-rewound
-returns-in-Some-clause-rewound c =
+pub returns-in_ok-made-in-Some-clause-rewound : goal.returns-in_ok-made-in-Some-clause-rewound
+returns-in_ok-made-in-Some-clause-rewound c =
     if-any-rewound c.args.shared.now c.args.today c.args.key.now c.args.post.now c.args.self.now c.in_ok-made.made c.of.result c.of.ensures c.in_ok-made.ensures.rewound
 
 -- ---- what changes only days that aren't folded

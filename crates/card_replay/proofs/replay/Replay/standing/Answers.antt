@@ -1,4 +1,4 @@
-use Rattle.std.proofs.Common.{◌≡◌, ℕ, ◌-◌, ◌≤◌, min, length, get_or, refl, ap, sym, subst, ◌∙◌}
+use Rattle.std.proofs.Common.{◌≡◌, ◌-◌, ◌≤◌, min, length, get_or, refl, ap, sym, subst, ◌∙◌}
 use Rattle.card_events.specs.Billing.{cycle_of}
 use Rattle.card_events.specs.History.{anchor_of}
 use Rattle.card_events.specs.declared.anchor.Anchor.{Anchor}
