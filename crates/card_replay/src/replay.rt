@@ -268,7 +268,9 @@ impl Replay {
     {
         let cycle = cycles_before(&self.posts.anchor(), from);
         let inputs = Inputs::new(&self.posts, &self.issued, shared);
-        let made = go_back(alloc, &inputs, from, cycle, &self.book, &self.past, &self.eve)?;
+        let made = go_back(
+            alloc, &inputs, from, cycle, &self.book, &self.past, &self.eve,
+        )?;
         Ok(made)
     }
 

@@ -89,13 +89,7 @@ pub fn folded_since(book: &Book, from: Day) -> Option<Day>
     ensures none { result ≡ None → (day : ℕ) → book.now.day ≡ Some day → day < from }
 {
     match book.day() {
-        Some(day) => {
-            if from <= day {
-                Some(day)
-            } else {
-                None
-            }
-        }
+        Some(day) => { if from <= day { Some(day) } else { None } }
         None => None,
     }
 }

@@ -20,12 +20,7 @@ fn take_boxed(book: &mut Book, past: &mut Past, eve: &mut Option<Eve>, boxed: Bo
 
 /// Takes a Book and its past back to an earlier day, or before the opening, where a post asks for it; the eve is dropped. Else all stays.
 /// It takes no memory.
-pub fn take_if_any(
-    book: &mut Book,
-    past: &mut Past,
-    eve: &mut Option<Eve>,
-    rewound: TakenBackIfAny,
-)
+pub fn take_if_any(book: &mut Book, past: &mut Past, eve: &mut Option<Eve>, rewound: TakenBackIfAny)
     ensures { (opened : ℕ) → IsTaken opened rewound (record { reached = day_reached opened book.old.day; book = book.old; past = past.old; eve = eve.old }) (record { reached = day_reached opened book.new.day; book = book.new; past = past.new; eve = eve.new }) }
 {
     if let Some(boxed) = rewound.into_boxed() {

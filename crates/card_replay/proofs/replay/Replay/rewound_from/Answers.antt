@@ -16,7 +16,7 @@ rewound_to-requires-clause-within c = (c.folded_since.ensures.some c.in-Some.rea
 
 pub returns-in_ok-made-in-Some-clause-rewound : goal.returns-in_ok-made-in-Some-clause-rewound
 returns-in_ok-made-in-Some-clause-rewound c =
-    if-any-rewound c.args.shared.now c.args.today c.args.key.now c.args.post.now c.args.self.now c.in_ok-made.made c.of.result c.of.ensures c.in_ok-made.ensures.rewound
+    if-any-rewound c.args.shared.now c.args.today c.args.key.now c.args.post.now c.args.self.now c.in_ok-made-in-Some.made c.of.result c.of.ensures c.in_ok-made-in-Some.ensures.rewound
 
 -- ---- what changes only days that aren't folded
 pub returns-in-None-clause-rewound : goal.returns-in-None-clause-rewound
