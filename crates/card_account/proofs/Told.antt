@@ -13,14 +13,11 @@ use Rattle.card_posts.specs.Posted.{Posted, StandsFor, last_accepted}
 use Rattle.card_replay.specs.Replays.{IsReplay, IsToday, MayReach, Replay, SameLists, given_of}
 
 pub may-be-folded : (today : ℕ) (shared : SharedRows) (a : OpenAccount) → IsAccount today shared a → MayBeFolded today shared a
-may-be-folded today shared a h =
-    let later = h.reach.later in
-    let opened = h.replay.opened in
-    record {
-      stands = h.replay.corrected;
-      sound = h.replay.sound;
-      reached = record { opened = omega (arith, opened, later); accepted = h.reach.accepted; dated = h.reach.last };
-    }
+may-be-folded today shared a h = record {
+  stands = h.replay.corrected;
+  sound = h.replay.sound;
+  reached = record { opened = h.reach.opened; accepted = h.reach.accepted; dated = h.reach.last };
+}
 
 -- ---- results
 pub on-both : {T E : Type 0} (r : Result T E) (P Q R : Type 0) → (P → Q → R) → OnOk r P → OnOk r Q → OnOk r R
@@ -65,7 +62,15 @@ pub told-by : (today : ℕ) (shared : SharedRows) (name : List ℕ) (old new : R
 told-by today shared name old new reach same replay reached = record {
   named = ap (λ (l : Lists). record { name = name; lists = l }) same.lists;
   corrected = same.corrected;
-  account = record { replay = replay; reach = record { later = later reached; accepted = subst (λ (l : Lists). last_accepted l.posts ≤ today) (sym same.lists) reach.accepted; last = reach.last } };
+  account = record {
+    replay = replay;
+    reach = record {
+      opened = subst (λ (l : Lists). (anchor_of l.posts).opened ≤ today) (sym same.lists) reach.opened;
+      later = later reached;
+      accepted = subst (λ (l : Lists). last_accepted l.posts ≤ today) (sym same.lists) reach.accepted;
+      last = reach.last;
+    };
+  };
   reached = reached;
 }
   where
@@ -78,7 +83,7 @@ has-told today shared old new told reached = record { told = told; reached = rea
 
 -- what has reached today, as its replay says it
 pub is-today : (today : ℕ) (shared : SharedRows) (old new : OpenAccount) → HasTold today shared old new → IsToday today shared (replay_of new)
-is-today today shared old new h = record { replay = h.told.account.replay; reached = h.reached }
+is-today today shared old new h = record { replay = h.told.account.replay; reached = h.reached; opened = h.told.account.reach.opened }
 
 -- ---- steps
 no-more : (before after x y : ℕ) → after ≡ before + x → y ≡ 0 → after + y ≤ before + x

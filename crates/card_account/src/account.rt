@@ -19,7 +19,8 @@ use std::alloc::Global;
 use std::marker::Model;
 use std::sync::ledger::Ledger;
 
-/// An account: its name, and its posts and issued statements with its book folded to the day last reached.
+/// An account: its name, and its posts and issued statements with its book folded to the day last reached. One that was just opened has
+/// reached none.
 #[derive(Drop)]
 pub struct Account {
     name: Name,
@@ -44,7 +45,6 @@ impl Account {
     ghost use Rattle.card_account.specs.Verdicts.{verdict_of};
     ghost use Rattle.card_account.specs.Works.{tasks_of};
     ghost use Rattle.card_daily.specs.Given.{IsSound};
-    ghost use Rattle.card_book.specs.Stands.{steps_over};
     ghost use Rattle.card_events.specs.Dated.{is_dated_post};
     ghost use Rattle.card_events.specs.History.{at_number, opening_in, terms_in};
     ghost use Rattle.card_events.specs.Keys.{with_key};
@@ -57,15 +57,14 @@ impl Account {
     ghost use Rattle.card_replay.specs.Standing.{AreStanding, IsStandingCount};
     ghost use Rattle.card_replay.specs.Steps.{AreFewToPrepare};
 
-    /// The account that this post begins today, folded to the end of today. What every run leaves holds of its lists.
-    pub fn open<L: Ledger>(
+    /// The account that this post begins today. It has reached no day: nothing is folded. What every run leaves holds of its lists.
+    pub fn open(
         alloc: Global,
         name: Name,
         key: &Name,
         today: Day,
         post: &Post,
         shared: &SharedRows,
-        steps: &mut Steps<L>,
     ) -> Result<Account, NoMemory>
         requires opens { opens post.now ≡ true }
         requires close_day { IsCloseDay (terms_in post.now).close }
@@ -74,12 +73,11 @@ impl Account {
         requires sound { IsSound (given_of (opened_lists key.now today post.now) shared.now) }
         ensures named { IfOk result (λ a. a.named ≡ record { name = name; lists = opened_lists key.now today post.now }) }
         ensures account { IfOk result (IsAccount today shared.now) }
-        ensures today { IfOk result (λ a. a.folding.reached ≡ today) }
-        ensures most { steps.new ≤ steps.old + steps_over (given_of (opened_lists key.now today post.now) shared.now) today (opening_in post.now) }
+        ensures reached { IfOk result (λ a. a.folding.reached + 1 ≡ opening_in post.now) }
     {
         Ok(Account {
             name,
-            replay: Replay::start(alloc, key, today, post, shared, steps)?,
+            replay: Replay::start(alloc, key, today, post, shared)?,
         })
     }
 
@@ -99,8 +97,8 @@ impl Account {
 
     /// How many of the first entries that are recorded of it stay if it takes a post today, whatever it is then taken back to: those up to
     /// the last closing before the earlier of the first day that the post changes and the day last reached. They are 0 where it takes no
-    /// more posts, where the post is about a later one than there is, and for a payment that came in, or an Amend that lies, before the
-    /// opening day or after today. It takes no memory.
+    /// more posts, where the post is about a later one than there is, for a payment at a minute above 1,439, and for a payment that came in,
+    /// or an Amend that lies, before the opening day or after today. It takes no memory.
     pub fn standing(&self, post: &Post, today: Day, shared: &SharedRows) -> usize
         requires { IsAccount today shared.now self.now }
         ensures stay { AreStanding result today shared.now post.now (replay_of self.now) }
@@ -242,9 +240,8 @@ impl Account {
     }
 
     /// Prepares a post against which there is no reason, under a new key: there is room for the post, and the Book is there that it
-    /// takes the account back to. For a Bill and for what sets rates the account reaches today; else nothing is folded but the
-    /// opening day. Its posts and issued statements stay; with the post, they are as every run leaves them. After want of memory it
-    /// is the same account too.
+    /// takes the account back to. For a Bill and for what sets rates the account reaches today; else nothing is folded. Its posts and
+    /// issued statements stay; with the post, they are as every run leaves them. After want of memory it is the same account too.
     pub fn prepare<L: Ledger>(
         &mut self,
         alloc: Global,
@@ -272,7 +269,8 @@ impl Account {
 
     /// Takes a post that was prepared for this account, with the statement that it issues, and answers its number. What it changes is
     /// folded when the account is next asked. The day that it has reached isn't after today, nor before the last closing before the
-    /// first day that the post changes, or before the day that it had reached. It takes no memory and can't fail.
+    /// first day that the post changes, or the day before the opening, or before the day that it had reached. It takes no memory and
+    /// can't fail.
     #[tactic(auto, unfolding(card_model::specs::Machine::accepted))]
     pub fn commit(&mut self, change: Change, shared: &SharedRows) -> u32
         requires prepared { IsPrepared shared.now change (replay_of self.old) }

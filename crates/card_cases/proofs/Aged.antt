@@ -209,7 +209,7 @@ six-at : (recorded : List (List Entry)) (before after : ℕ) → AreFewToApply (
 unfolding AreFewToApply
 six-at recorded before after few =
     let s = ledger 21187 later_rolls opened in
-    let placed = subst (λ (o : Option ℕ). AreFewOn s late_charge (reached_at (before_charge recorded) o) (outcome_in s account second_key late_charge) before after) (place-is 21187 later_rolls opened) few in
+    let placed = subst (λ (o : Option ℕ). AreFewOn s (reached_at (before_charge recorded) o) (outcome_in s account second_key late_charge) before after) (place-is 21187 later_rolls opened) few in
     let most = subst (λ (o : Outcome). AreFewToPost s reached_before o before after) accepts placed in
     let first : breaks_changed 21187 no_rows (lists_of opened) (lists_of charged) 21186 21187 ≡ 2 = ap (λ (n : ℕ). breaks_with given_opened given_charged (min n 21186) 21187) cycle-begins ∙ two-breaks in
     least before after (breaks_changed 21187 no_rows (lists_of opened) (lists_of charged) 21186 21187) (most 21187 first-changed) first
@@ -268,19 +268,19 @@ four name d before after named state near few =
     four-at d.recorded near.day before after near.first
     (subst (λ (x : OpenDesk). AreFewToTell x.state (reached_of account x) before after) (desk-is d (ledger 21187 later_rolls charged) (near.day ∷ []) state near.is) own)
 
--- ---- it was opened
-opened-then : {T : Type 0} (E : Type 0) (x : T) (d new : OpenDesk) (r : Request) → d.state ≡ first_day → d.reached ≡ [] → r ≡ request.Post account first_key opening → MovesToApply {T = T} {E = E} r (Ok x) d new → new.reached ≡ 19728 ∷ []
+-- ---- it was opened, and has reached the day before
+opened-then : {T : Type 0} (E : Type 0) (x : T) (d new : OpenDesk) (r : Request) → d.state ≡ first_day → d.reached ≡ [] → r ≡ request.Post account first_key opening → MovesToApply {T = T} {E = E} r (Ok x) d new → new.reached ≡ 19727 ∷ []
 unfolding MovesToApply place_from
 opened-then {T} E x d new r state reached is moves =
     let there = subst (λ (y : OpenDesk). MovesToApply {T = T} {E = E} r (Ok x) y new) (desk-is d first_day [] state reached) moves in
     let absent = subst (λ (q : Request). MovesToApply {T = T} {E = E} q (Ok x) (record { state = first_day; reached = []; recorded = d.recorded }) new) is there in
     subst (λ (o : Outcome). MovesBy None o (record { state = first_day; reached = []; recorded = d.recorded }) new) accepts-first absent.done
 
-pub opened-today : {T E : Type 0} (result : Result T E) (d new : OpenDesk) (r : Request) (key : List ℕ) (p : Post) → d.state ≡ first_day → d.reached ≡ [] → r ≡ request.Post account key p → key ≡ first_key → p ≡ opening
-    → OnOk result (MovesToApply r result d new) → OnOk result (new.reached ≡ 19728 ∷ [])
-opened-today (Ok x) d new r key p state reached is k post moves =
+pub opened-before : {T E : Type 0} (result : Result T E) (d new : OpenDesk) (r : Request) (key : List ℕ) (p : Post) → d.state ≡ first_day → d.reached ≡ [] → r ≡ request.Post account key p → key ≡ first_key → p ≡ opening
+    → OnOk result (MovesToApply r result d new) → OnOk result (new.reached ≡ 19727 ∷ [])
+opened-before (Ok x) d new r key p state reached is k post moves =
     opened-then _ x d new r state reached (is ∙ (ap (λ (l : List ℕ). request.Post account l p) k ∙ ap (request.Post account first_key) post)) moves
-opened-today (Err e) d new r key p state reached is k post moves = tt
+opened-before (Err e) d new r key p state reached is k post moves = tt
 
 -- ---- whatever is answered
 pub stays-there : {T E : Type 0} (result : Result T E) (d new : OpenDesk) (r : Shared) → MovesToApply (request.Shared r) result d new → new.reached ≡ d.reached

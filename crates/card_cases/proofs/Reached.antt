@@ -43,6 +43,7 @@ accepted-early n key since today early later = omega (arith, early, later)
 
 pub may-reach : (today : ℕ) (r : Replay) → HasOpeningAlone r.lists → r.folding.reached ≤ today → 19728 ≤ today → today ≤ last_request_day → MayReach today r
 may-reach today r h reached later last = record {
+  opened = subst (λ (l : Lists). (anchor_of l.posts).opened ≤ today) (sym h.is) later;
   later = reached;
   accepted = subst (λ (l : Lists). last_accepted l.posts ≤ today) (sym h.is) (accepted-early h.number h.key h.accepted today h.early later);
   last = last;
@@ -55,8 +56,11 @@ from-lists P lists shared h e each = subst (λ s. P (given_of lists s)) (sym e) 
 pub sound-alone : (lists : Lists) (shared : SharedRows) → HasOpeningAlone lists → shared ≡ no_rows → IsSound (given_of lists shared)
 sound-alone lists shared h e = from-lists IsSound lists shared h e sound
 
-pub one-step-first : (lists : Lists) (shared : SharedRows) → steps_over (given_of lists shared) 19728 19728 ≡ 1
-one-step-first lists shared = one-step-alone (given_of lists shared) 19728
+-- from the day before on
+pub one-step-first : (shared : SharedRows) (r : Replay) (day : ℕ) → day ≡ 19728 → r.folding.reached + 1 ≡ 19728 → steps_to day shared r ≡ 1
+one-step-first shared r day is before =
+    let g = given_of r.lists shared in
+    ap (λ d. steps_over g d (r.folding.reached + 1)) is ∙ (ap (steps_over g 19728) before ∙ one-step-alone g 19728)
 
 -- ---- on later days
 on-day : (to reached count : ℕ) (shared : SharedRows) (r : Replay) → HasOpeningAlone r.lists → shared ≡ no_rows → r.folding.reached ≡ reached

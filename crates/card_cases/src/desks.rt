@@ -77,7 +77,7 @@ fn post_of(rt: &impl Abort, alloc: Global, key: &str, post: Post) -> Result<Requ
     })
 }
 
-// It is opened on 2024-01-06.
+// It is opened on 2024-01-06, and has reached the day before.
 fn open_account<L: Ledger>(
     rt: &impl Abort,
     alloc: Global,
@@ -90,7 +90,7 @@ fn open_account<L: Ledger>(
     requires fits { Fits (Some keeper.old) desk.old.state }
     ensures state { OnOk result (desk.new.state ≡ ledger 19_728 first_rolls opened) }
     ensures fits { OnOk result (Fits (Some keeper.new) desk.new.state) }
-    ensures reached { OnOk result (desk.new.reached ≡ 19_728 ∷ []) }
+    ensures reached { OnOk result (desk.new.reached ≡ 19_727 ∷ []) }
 {
     let request = post_of(rt, alloc, "o", opening(rt))?;
     carry(alloc, desk, keeper, &request, steps)
@@ -124,7 +124,7 @@ fn ask<L: Ledger>(
     steps: &mut Steps<L>,
 ) -> Result<View, Fail>
     requires state { desk.old.state ≡ ledger 21_186 rolls opened }
-    requires reached { desk.old.reached ≡ 19_728 ∷ [] }
+    requires reached { desk.old.reached ≡ 19_727 ∷ [] }
     ensures state { desk.new.state ≡ desk.old.state }
     ensures reached { OnOk result (desk.new.reached ≡ 21_186 ∷ []) }
 {

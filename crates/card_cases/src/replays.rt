@@ -15,7 +15,7 @@ use std::process::Abort;
 use std::sync::ledger::{Blank, Ledger};
 use std::test::Fail;
 
-// One step for the opening day, 2024-01-06.
+// Nothing is folded when it is opened, and one step for the opening day, 2024-01-06.
 fn opened<L: Ledger>(
     rt: &impl Abort,
     alloc: Global,
@@ -29,7 +29,9 @@ fn opened<L: Ledger>(
 {
     let key = name(rt, alloc, "o")?;
     let opened = day(rt, 19_728);
-    Ok(Replay::start(alloc, &key, opened, &opening(rt), shared, steps)?)
+    let mut account = Replay::start(alloc, &key, opened, &opening(rt), shared)?;
+    account.to_day(alloc, opened, shared, steps)?;
+    Ok(account)
 }
 
 // Four steps to 2024-03-10: for 2024-02-05 and 2024-03-05, which close cycles, 2024-03-02, the day after a due date, and the

@@ -361,7 +361,9 @@ pub accounts_rolled : (today day : ℕ) (common : SharedRows) (accounts : List O
 accounts_rolled today day common [] later last stand = All-nil (IsAccount day common)
 accounts_rolled today day common (a ∷ rest) later last stand =
     let h = All-head (IsAccount today common) a rest stand in
+    let opened = h.reach.opened in
     let low = h.reach.later in
     let accepted = h.reach.accepted in
-    All-cons (IsAccount day common) a rest (record { replay = h.replay; reach = record { later = omega (arith, low, later); accepted = omega (arith, accepted, later); last = last } })
+    All-cons (IsAccount day common) a rest
+    (record { replay = h.replay; reach = record { opened = omega (arith, opened, later); later = omega (arith, low, later); accepted = omega (arith, accepted, later); last = last } })
     (accounts_rolled today day common rest later last (All-tail (IsAccount today common) a rest stand))

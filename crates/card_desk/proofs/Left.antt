@@ -10,9 +10,9 @@ use Rattle.card_book.specs.Stands.{steps_over}
 use Rattle.card_posts.specs.Change.{IsFirstChange}
 use Rattle.card_desk.proofs.FoldLemmas.{alike_at}
 use Rattle.card_desk.specs.Desks.{IsDesk, OpenDesk, named_all, open_desk, reached_all, state_of}
-use Rattle.card_desk.specs.Steps.{AreFewOn, AreFewToApply, AreFewToKeep, AreFewToOpen, AreFewToPost, AreFewToTell, ReachedLists, breaks_left, most_for_all, reached_at, reached_of, reached_there, steps_at, steps_left}
+use Rattle.card_desk.specs.Steps.{AreFewOn, AreFewToApply, AreFewToKeep, AreFewToPost, AreFewToTell, ReachedLists, breaks_left, most_for_all, reached_at, reached_of, reached_there, steps_at, steps_left}
 use Rattle.card_desk.specs.Places.{place_from}
-use Rattle.card_events.specs.History.{CorrectedPost, anchor_of, corrected, opening_in}
+use Rattle.card_events.specs.History.{CorrectedPost, anchor_of, corrected}
 use Rattle.card_events.specs.SharedRows.{IndexRow, SharedRows, shared_rows}
 use Rattle.card_events.specs.declared.post.Post.{Post}
 use Rattle.card_events.specs.declared.request.Request.TheVariants as request
@@ -195,21 +195,6 @@ few_kept s a mid new before now after same spent few = λ from is.
     (steps_add_up.few old low (a.reached + 1) s.today (least-next first a.reached)) (steps_add_up.before old other low s.today))
     (steps_add_up.wider old other low first s.today (least-left first a.reached))
 
--- of one that isn't there
-pub none_to_open : (s : State) (p : Post) (o : Outcome) (n : ℕ) → AreFewToOpen s p o n n
-none_to_open s p (Refuses r) n = refl
-none_to_open s p (Repeats m) n = refl
-none_to_open s p (Accepts new) n = no-less n (2 * breaks_from (given_of new (shared_rows s.shared)) (opening_in p) s.today + 2)
-
-pub few_to_open : (s : State) (p : Post) (o : Outcome) (new : Lists) (common : SharedRows) (before after : ℕ) → o ≡ Accepts new → AreAlike s.today new common (shared_rows s.shared)
-    → after ≤ before + steps_over (given_of new common) s.today (opening_in p) → AreFewToOpen s p o before after
-few_to_open s p o new common before after is alike l =
-    let g = given_of new (shared_rows s.shared) in
-    subst (λ (x : Outcome). AreFewToOpen s p x before after) (sym is)
-    (twice-more before after (steps_over g s.today (opening_in p)) (breaks_from g (opening_in p) s.today)
-    (subst (λ (n : ℕ). after ≤ before + n) (same_steps s.today new common (shared_rows s.shared) (opening_in p) alike) l)
-    (steps_add_up.few g (opening_in p) (opening_in p) s.today (omega arith)))
-
 -- of one that is kept: what is left, and what is folded again
 pub none_to_keep : (s : State) (r : Option ReachedLists) (o : Outcome) (n : ℕ) → AreFewToKeep s r o n n
 none_to_keep s None o n = tt
@@ -228,22 +213,22 @@ few_to_keep d i o a new common before after there is one two few =
 -- and of one that was judged before
 pub few_judged : (d mid : OpenDesk) (name key : List ℕ) (p : Post) (i : ℕ) (new : Lists) (before now after : ℕ) → mid.state ≡ d.state → outcome_in d.state name key p ≡ Accepts new
     → now + steps_at mid i ≤ before + steps_at d i → AreFewToKeep mid.state (reached_at mid (Some i)) (outcome_in mid.state name key p) now after
-    → AreFewOn d.state p (reached_at d (Some i)) (outcome_in d.state name key p) before after
+    → AreFewOn d.state (reached_at d (Some i)) (outcome_in d.state name key p) before after
 few_judged d mid name key p i new before now after state accepts spent few =
     let none : NamedAccount = record { name = []; lists = record { posts = []; issued = [] } } in
     let there = reached_there mid i in
     let same : there.lists ≡ (reached_there d i).lists = ap (λ (x : State). (get_or x.accounts i none).lists) state in
     let left = subst (λ (x : State). now + steps_left x there ≤ before + steps_at d i) state spent in
     let most = subst (λ (o : Outcome). AreFewToKeep d.state (Some there) o now after) accepts (subst (λ (x : State). AreFewToKeep x (Some there) (outcome_in x name key p) now after) state few) in
-    subst (λ (o : Outcome). AreFewOn d.state p (reached_at d (Some i)) o before after) (sym accepts) (few_kept d.state (reached_there d i) there new before now after same left most)
+    subst (λ (o : Outcome). AreFewOn d.state (reached_at d (Some i)) o before after) (sym accepts) (few_kept d.state (reached_there d i) there new before now after same left most)
 
 -- by the account's name
-pub few_on_there : (d : OpenDesk) (name key : List ℕ) (p : Post) (i before after : ℕ) → place_from name 0 d.state.accounts ≡ Some i → AreFewOn d.state p (reached_at d (Some i)) (outcome_in d.state name key p) before after
+pub few_on_there : (d : OpenDesk) (name key : List ℕ) (p : Post) (i before after : ℕ) → place_from name 0 d.state.accounts ≡ Some i → AreFewOn d.state (reached_at d (Some i)) (outcome_in d.state name key p) before after
     → AreFewToApply d (request.Post name key p) before after
 unfolding AreFewToApply
-few_on_there d name key p i before after place few = subst (λ (o : Option ℕ). AreFewOn d.state p (reached_at d o) (outcome_in d.state name key p) before after) (sym place) few
+few_on_there d name key p i before after place few = subst (λ (o : Option ℕ). AreFewOn d.state (reached_at d o) (outcome_in d.state name key p) before after) (sym place) few
 
-pub few_on_absent : (d : OpenDesk) (name key : List ℕ) (p : Post) (before after : ℕ) → place_from name 0 d.state.accounts ≡ None → AreFewToOpen d.state p (outcome_in d.state name key p) before after
-    → AreFewToApply d (request.Post name key p) before after
+-- where it isn't there
+pub none_on_absent : (d : OpenDesk) (name key : List ℕ) (p : Post) (n : ℕ) → place_from name 0 d.state.accounts ≡ None → AreFewToApply d (request.Post name key p) n n
 unfolding AreFewToApply
-few_on_absent d name key p before after absent few = subst (λ (o : Option ℕ). AreFewOn d.state p (reached_at d o) (outcome_in d.state name key p) before after) (sym absent) few
+none_on_absent d name key p n absent = subst (λ (o : Option ℕ). AreFewOn d.state (reached_at d o) (outcome_in d.state name key p) n n) (sym absent) refl

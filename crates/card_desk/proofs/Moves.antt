@@ -13,7 +13,7 @@ use Rattle.card_desk.proofs.FoldLemmas.{account_at, alike_at, alike_run}
 use Rattle.card_desk.proofs.Left.{same_first, there_is}
 use Rattle.card_desk.specs.Desks.{IsDesk, OpenDesk, open_desk, reached_all, state_of}
 use Rattle.card_desk.specs.Places.{place_from}
-use Rattle.card_desk.specs.Reached.{AllMove, IsDayAfter, MovesBy, MovesByOpen, MovesNamed, MovesOn, MovesToApply, MovesToTell, NoneMoves, OneMoves, OneReaches, OneStays, day_there}
+use Rattle.card_desk.specs.Reached.{AllMove, IsDayAfter, MovesBy, MovesByOpen, MovesNamed, MovesOn, MovesToApply, MovesToTell, NoneMoves, OneMoves, OneReaches, OneStays, day_before_opening, day_there}
 use Rattle.card_desk.specs.Steps.{ReachedLists, reached_there}
 use Rattle.card_events.specs.History.{anchor_of}
 use Rattle.card_events.specs.SharedRows.{SharedRows, shared_rows}
@@ -210,12 +210,13 @@ judged-moves result d mid new name key p i l state accepts judged kept = record 
 
 -- ---- an account that is opened
 pub opened-moves : (rows : List Shared) (today : ℕ) (accounts list : List OpenAccount) (made : OpenAccount) (d : OpenDesk) (o : Outcome) (l : Lists) → open_desk today rows accounts ≡ d → list ≡ accounts ++ made ∷ []
-    → made.folding.reached ≡ today → o ≡ Accepts l → MovesBy None o d (open_desk today rows list)
-opened-moves rows today accounts list made d o l view is reached accepts =
+    → made.folding.reached + 1 ≡ (anchor_of l.posts).opened → o ≡ Accepts l → MovesBy None o d (open_desk today rows list)
+opened-moves rows today accounts list made d o l view is before accepts =
     let new = open_desk today rows list in
+    let reached : made.folding.reached ≡ day_before_opening l = omega (arith, before) in
     let grown : reached_all list ≡ reached_all accounts ++ made.folding.reached ∷ [] = ap reached_all is ∙ map-append (λ (x : OpenAccount). x.folding.reached) accounts (made ∷ []) in
     subst (λ (x : Outcome). MovesByOpen x d new) (sym accepts)
-    (grown ∙ (ap (λ (n : ℕ). reached_all accounts ++ n ∷ []) reached ∙ ap (λ (x : OpenDesk). x.reached ++ x.state.today ∷ []) view))
+    (grown ∙ (ap (λ (n : ℕ). reached_all accounts ++ n ∷ []) reached ∙ ap (λ (x : OpenDesk). x.reached ++ day_before_opening l ∷ []) view))
 
 -- one that isn't there, and stays away
 pub away-moves : (d : OpenDesk) (o : Outcome) (r : Refusal) → o ≡ Refuses r → MovesBy None o d d

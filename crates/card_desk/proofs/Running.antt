@@ -1,21 +1,18 @@
 -- What a run leaves in an account that a post opens, or that takes one more, and the steps that these take.
-use Rattle.std.proofs.Common.{◌≡◌, ℕ, ◌+◌, ◌<◌, ◌≤◌, true, List, [], ◌∷◌, ◌++◌, length, get_or, set, None, Some, refl, ap, sym, ◌∙◌, subst, arith}
+use Rattle.std.proofs.Common.{◌≡◌, ℕ, ◌+◌, ◌<◌, true, List, [], ◌∷◌, ◌++◌, length, get_or, set, None, Some, refl, ap, sym, ◌∙◌, subst, arith}
 use Rattle.std.proofs.lemmas.List.{get_or-set_same, length-set}
 use Rattle.std.proofs.lemmas.List.Elements.{All-get_or, All-head, All-tail}
 use Rattle.std.specs.List.{All}
 use Rattle.card_account.specs.Accounts.{OpenAccount}
 use Rattle.card_account.specs.Runs.{AreRunning}
-use Rattle.card_book.specs.Stands.{steps_over}
 use Rattle.card_daily.specs.Given.{IsSound}
 use Rattle.card_desk.proofs.FoldLemmas.{accepted_in, alike_at, alike_run, all_running, sound_under}
 use Rattle.card_desk.proofs.KeptLemmas.{opened_is, posted_is, run_on}
-use Rattle.card_desk.proofs.Left.{few_to_keep, few_to_open, there_is}
-use Rattle.card_desk.proofs.OutcomeLemmas.{open_accepted, opening_reason}
-use Rattle.card_desk.proofs.PlaceLemmas.{no_place}
+use Rattle.card_desk.proofs.Left.{few_to_keep, there_is}
+use Rattle.card_desk.proofs.OutcomeLemmas.{opening_reason}
 use Rattle.card_desk.specs.Desks.{IsDesk, IsRun, OpenDesk, named_all, now_of, open_desk, state_of}
 use Rattle.card_desk.specs.Places.{IsPlace, place_from}
-use Rattle.card_desk.specs.Steps.{AreFewToKeep, AreFewToOpen, ReachedLists, reached_at}
-use Rattle.card_events.specs.History.{opening_in}
+use Rattle.card_desk.specs.Steps.{AreFewToKeep, ReachedLists, reached_at}
 use Rattle.card_events.specs.SharedRows.{FeeRow, SharedRows, shared_rows}
 use Rattle.card_events.specs.declared.post.Post.{Post}
 use Rattle.card_events.specs.declared.reply.Reply.TheVariants as reply
@@ -56,20 +53,6 @@ pub opened_sound : (places : List (List ℕ × ℕ)) (common : SharedRows) (coun
     → IsDesk places common count today rows accounts → AreRunning (state_of today rows accounts) l → IsSound (given_of l common)
 opened_sound places common count today rows accounts l desk one =
     sound_under (state_of today rows accounts) l common one (subst (λ (f : List FeeRow). All HasFewFees f) (sym desk.table) one.sound.fees)
-
--- and its steps are few
-pub few_opened : (places : List (List ℕ × ℕ)) (common : SharedRows) (count today : ℕ) (rows : List Shared) (accounts : List OpenAccount) (s : State) (name key : List ℕ) (p : Post) (before after : ℕ)
-    → IsDesk places common count today rows accounts → state_of today rows accounts ≡ s → is_request (request.Post name key p) ≡ true → place_from name 0 s.accounts ≡ None → is_open p ≡ true
-    → opening_reason s p ≡ None → after ≤ before + steps_over (given_of (opened_lists key today p) common) today (opening_in p)
-    → AreFewToOpen s p (outcome_in s name key p) before after
-few_opened places common count today rows accounts s name key p before after desk state taken absent opens none l =
-    let t = state_of today rows accounts in
-    let one = opened_is_running places common count today rows accounts s name key p desk state taken absent opens none in
-    let gone = ap (λ (x : State). place_from name 0 x.accounts) state ∙ absent in
-    let fine = ap (λ (x : State). opening_reason x p) state ∙ none in
-    let outcome = open_accepted t name key p (no_place name 0 t.accounts gone).0 opens fine in
-    subst (λ (x : State). AreFewToOpen x p (outcome_in x name key p) before after) state
-    (few_to_open t p (outcome_in t name key p) (opened_lists key today p) common before after outcome (alike_run t (opened_lists key today p) common one desk.holidays desk.table desk.index_rows) l)
 
 -- ---- an account with one post more
 posted_running : (s : State) (name key : List ℕ) (p : Post) (i : ℕ) (l : Lists) (d : NamedAccount) → IsRun s → is_request (request.Post name key p) ≡ true → IsPlace name s.accounts i

@@ -1,5 +1,5 @@
 -- The day that each account of a desk has reached, before a call and after it. Days are day numbers.
-use Rattle.std.specs.Prelude.{◌≡◌, ◌<◌, ◌++◌, ℕ, [], ◌∷◌, List, length, slice_index_or, slice_set, Option, Some, None, Result, OnOk, OnErr}
+use Rattle.std.specs.Prelude.{◌≡◌, ◌-◌, ◌<◌, ◌++◌, ℕ, [], ◌∷◌, List, length, slice_index_or, slice_set, Option, Some, None, Result, OnOk, OnErr}
 use Rattle.std.specs.List.{All}
 use Rattle.card_account.specs.Reached.{StaysNear, StaysOrIsToday}
 use Rattle.card_desk.specs.Desks.{OpenDesk}
@@ -7,10 +7,12 @@ use Rattle.card_desk.specs.Places.{place_from}
 use Rattle.card_desk.specs.Steps.{ReachedLists, reached_there}
 use Rattle.card_desk.specs.declared.view.Ask.{Ask}
 use Rattle.card_desk.specs.declared.view.Ask.TheVariants as ask
+use Rattle.card_events.specs.History.{anchor_of}
 use Rattle.card_events.specs.SharedRows.{shared_rows}
 use Rattle.card_events.specs.declared.request.Request.{Request}
 use Rattle.card_events.specs.declared.request.Request.TheVariants as request
 use Rattle.card_model.specs.Machine.{Accepts, Outcome, Refuses, Repeats, State, outcome_in}
+use Rattle.card_model.specs.Refusals.{Lists}
 
 -- every account's day stays
 abbrev pub NoneMoves : OpenDesk → OpenDesk → Type 0
@@ -66,9 +68,13 @@ IsDayAfter s a (Accepts new) after = StaysNear s.today (shared_rows s.shared) a.
 IsDayAfter s a (Refuses r) after = StaysOrIsToday s.today a.reached after
 IsDayAfter s a (Repeats n) after = StaysOrIsToday s.today a.reached after
 
--- an accepted Open adds an account that has reached today
+-- the day before the opening of an account, which it has where it has reached no day
+abbrev pub day_before_opening : Lists → ℕ
+day_before_opening lists = (anchor_of lists.posts).opened - 1
+
+-- an accepted Open adds an account that has reached no day
 abbrev pub MovesByOpen : Outcome → OpenDesk → OpenDesk → Type 0
-MovesByOpen (Accepts lists) old new = new.reached ≡ old.reached ++ old.state.today ∷ []
+MovesByOpen (Accepts lists) old new = new.reached ≡ old.reached ++ day_before_opening lists ∷ []
 MovesByOpen (Refuses r) old new = NoneMoves old new
 MovesByOpen (Repeats n) old new = NoneMoves old new
 

@@ -2,9 +2,7 @@
 -- are day numbers.
 use Rattle.std.specs.Prelude.{ℕ, ◌+◌, ◌*◌, ◌≡◌, ◌≤◌, List, [], slice_index_or, Option, Some, None}
 use Rattle.std.specs.List.{sum_by, zip}
-use Rattle.card_events.specs.History.{opening_in}
 use Rattle.card_events.specs.SharedRows.{shared_rows}
-use Rattle.card_events.specs.declared.post.Post.{Post}
 use Rattle.card_events.specs.declared.request.Request.{Request}
 use Rattle.card_events.specs.declared.request.Request.TheVariants as request
 use Rattle.card_model.specs.Machine.{Accepts, NamedAccount, Outcome, Refuses, Repeats, State, outcome_in}
@@ -84,17 +82,12 @@ abbrev pub AreFewToKeep : State → Option ReachedLists → Outcome → ℕ → 
 AreFewToKeep s (Some a) (Accepts new) before after = AreFewSteps s.today (shared_rows s.shared) a.lists new a.reached before after
 AreFewToKeep s _ _ before after = Unit {0}
 
--- an accepted Open: the same of the days from the opening day on
-abbrev pub AreFewToOpen : State → Post → Outcome → ℕ → ℕ → Type 0
-AreFewToOpen s p (Accepts new) before after = after ≤ before + (2 * breaks_from (given_of new (shared_rows s.shared)) (opening_in p) s.today + 2)
-AreFewToOpen s p _ before after = after ≡ before
-
--- a post of an account that is there, or isn't
-abbrev pub AreFewOn : State → Post → Option ReachedLists → Outcome → ℕ → ℕ → Type 0
-AreFewOn s p None o before after = AreFewToOpen s p o before after
-AreFewOn s p (Some a) o before after = AreFewToPost s a o before after
+-- a post of an account that is there; an Open takes none, nor does another post of one that isn't
+abbrev pub AreFewOn : State → Option ReachedLists → Outcome → ℕ → ℕ → Type 0
+AreFewOn s None o before after = after ≡ before
+AreFewOn s (Some a) o before after = AreFewToPost s a o before after
 
 -- a shared request takes none
 unfoldable pub AreFewToApply : OpenDesk → Request → ℕ → ℕ → Type 0
 AreFewToApply d (request.Shared r) before after = after ≡ before
-AreFewToApply d (request.Post name key p) before after = AreFewOn d.state p (reached_of name d) (outcome_in d.state name key p) before after
+AreFewToApply d (request.Post name key p) before after = AreFewOn d.state (reached_of name d) (outcome_in d.state name key p) before after

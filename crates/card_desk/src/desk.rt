@@ -23,8 +23,8 @@ use std::marker::Model;
 use std::sync::ledger::Ledger;
 
 /// Today, the accepted shared requests with the holidays, the fee rows and the index in them, and all accounts in the order of
-/// their opening, each folded to the day that it has reached. Clauses see it as a record of its state, these days and what is
-/// recorded up to them.
+/// their opening, each folded to the day that it has reached, if it has reached one. Clauses see it as a record of its state, these
+/// days and what is recorded up to them; without one, the day is that before the opening.
 #[derive(Drop)]
 pub struct Desk {
     today: Day,
@@ -52,7 +52,7 @@ impl Desk {
     ghost use Rattle.card_model.specs.declared.entry.Entry.{Entry};
     ghost use Rattle.card_replay.specs.Replays.{present_of};
     ghost use Rattle.card_replay.specs.Standing.{IsStandingCount};
-    ghost use Rattle.card_desk.specs.Steps.{AreFewOn, AreFewToApply, AreFewToKeep, AreFewToOpen, AreFewToSee, AreFewToTell, most_for_all, reached_at, reached_of, reached_there, steps_at};
+    ghost use Rattle.card_desk.specs.Steps.{AreFewOn, AreFewToApply, AreFewToKeep, AreFewToSee, AreFewToTell, most_for_all, reached_at, reached_of, reached_there, steps_at};
     ghost use Rattle.card_account.specs.Accounts.{owing_in, restated_statement};
     ghost use Rattle.card_account.specs.Entries.{entries_today};
     ghost use Rattle.card_account.specs.Verdicts.{verdict_of};
@@ -166,8 +166,8 @@ impl Desk {
 
     /// How many of the first entries that are recorded of the account at a place stay if it takes a post today, whatever it is then taken
     /// back to: those up to the last closing before the earlier of the first day that the post changes and the day last reached. They are
-    /// 0 where it takes no more posts, where the post is about a later one than there is, and for a payment that came in, or an Amend
-    /// that lies, before the opening day or after today. It takes no memory.
+    /// 0 where it takes no more posts, where the post is about a later one than there is, for a payment at a minute above 1,439, and for
+    /// a payment that came in, or an Amend that lies, before the opening day or after today. It takes no memory.
     pub fn standing(&self, place: usize, post: &Post) -> usize
         requires { place < length self.now.recorded }
         ensures stay { AreStanding result place post.now self.now }
@@ -246,7 +246,7 @@ impl Desk {
     }
 
     // Keeps the row of an opening, and opens the account.
-    fn keep_open<K: Keeper, L: Ledger>(
+    fn keep_open<K: Keeper>(
         &mut self,
         alloc: Global,
         keeper: &mut K,
@@ -254,7 +254,6 @@ impl Desk {
         account: &Name,
         key: &Name,
         post: &Post,
-        steps: &mut Steps<L>,
     ) -> Result<Reply, Fault>
         requires request { request.now ≡ Request.Post account.now key.now post.now }
         requires open { opens post.now ≡ true }
@@ -265,12 +264,11 @@ impl Desk {
         requires no_reason { reason_to_open self.old.state.today (length self.old.state.accounts) (shared_rows self.old.state.shared) post.now ≡ None }
         ensures carried { Carried (K.rows keeper.old) (K.rows keeper.new) (K.faults keeper.old) (K.faults keeper.new) self.old.state request.now self.new.state result }
         ensures reached { MovesOn None (outcome_in self.old.state account.now key.now post.now) result self.old self.new }
-        ensures most { AreFewToOpen self.old.state post.now (outcome_in self.old.state account.now key.now post.now) steps.old steps.new }
         ensures recorded { MayGrow self.old.recorded self.new.recorded }
     {
         let row = self.next_row(alloc, request)?;
         let name = account.copy(alloc)?;
-        let made = Account::open(alloc, name, key, self.today, post, &self.common, steps)?;
+        let made = Account::open(alloc, name, key, self.today, post, &self.common)?;
         self.accounts.reserve(1)?;
         let place = self.accounts.len() as u32;
         self.index.insert(alloc, account.bytes(), place)?;
@@ -289,7 +287,7 @@ impl Desk {
     }
 
     // A post of an account that isn't there.
-    fn post_unknown<K: Keeper, L: Ledger>(
+    fn post_unknown<K: Keeper>(
         &mut self,
         alloc: Global,
         keeper: &mut K,
@@ -297,14 +295,12 @@ impl Desk {
         account: &Name,
         key: &Name,
         post: &Post,
-        steps: &mut Steps<L>,
     ) -> Result<Reply, Fault>
         requires request { request.now ≡ Request.Post account.now key.now post.now }
         requires asked { IsAsked (K.rows keeper.old) self.old.state request.now }
         requires absent { place_from account.now 0 self.old.state.accounts ≡ None }
         ensures carried { Carried (K.rows keeper.old) (K.rows keeper.new) (K.faults keeper.old) (K.faults keeper.new) self.old.state request.now self.new.state result }
         ensures reached { MovesOn None (outcome_in self.old.state account.now key.now post.now) result self.old self.new }
-        ensures most { AreFewToOpen self.old.state post.now (outcome_in self.old.state account.now key.now post.now) steps.old steps.new }
         ensures recorded { MayGrow self.old.recorded self.new.recorded }
     {
         if !is_open(post) {
@@ -312,7 +308,7 @@ impl Desk {
         }
         match open_reason(self.today, self.accounts.len(), &self.common, post) {
             Some(refusal) => Ok(Reply::Refused(refusal)),
-            None => self.keep_open(alloc, keeper, request, account, key, post, steps),
+            None => self.keep_open(alloc, keeper, request, account, key, post),
         }
     }
 
@@ -387,7 +383,7 @@ impl Desk {
         requires place { IsPlace account.now self.old.state.accounts at }
         ensures carried { Carried (K.rows keeper.old) (K.rows keeper.new) (K.faults keeper.old) (K.faults keeper.new) self.old.state request.now self.new.state result }
         ensures reached { MovesOn (Some at) (outcome_in self.old.state account.now key.now post.now) result self.old self.new }
-        ensures most { AreFewOn self.old.state post.now (reached_at self.old (Some at)) (outcome_in self.old.state account.now key.now post.now) steps.old steps.new }
+        ensures most { AreFewOn self.old.state (reached_at self.old (Some at)) (outcome_in self.old.state account.now key.now post.now) steps.old steps.new }
         ensures recorded { ChangesAt at self.old.recorded self.new.recorded }
     {
         match self.judge_at(alloc, at, key, post, steps) {
@@ -431,7 +427,7 @@ impl Desk {
                     steps,
                 )
             }
-            None => self.post_unknown(alloc, keeper, request, account, key, post, steps),
+            None => self.post_unknown(alloc, keeper, request, account, key, post),
         }
     }
 
@@ -439,8 +435,8 @@ impl Desk {
     /// memory; a refusal or a repeat changes nothing. No account but the one that the request names is touched, and the reply
     /// depends on no other. After a fault the state and the rows are as they were. It takes at most two steps more than twice the
     /// break days, before or after the request, from the first day of the cycle in which the first changed day lies, or from the day
-    /// last reached where that is earlier, to today; of a request that isn't accepted, from the day last reached on; of an opening,
-    /// from the opening day on. A shared request takes none.
+    /// last reached where that is earlier, to today; of a request that isn't accepted, from the day last reached on. An opening and a
+    /// shared request take none.
     ///
     /// `Keeper`: the keeper failed, which alone raises its count. `Memory`: memory was wanted and isn't there.
     #[tactic(auto, using(crate::proofs::Apart::apart_of_step), unfolding(crate::specs::Reached::MovesToApply, crate::specs::Recorded::AppliedStays, crate::specs::Steps::AreFewToApply))]

@@ -1,6 +1,6 @@
 -- Where an account is taken back after a post: the Book at the closing before the change, with the front of the past.
 use Rattle.std.proofs.Common.{◌≡◌, ℕ, ◌+◌, ◌-◌, ◌<◌, ◌≤◌, ◌⊎◌, inl, inr, false, true, nat_le, List, [], ◌∷◌, length, take, refl, sym, ap, ◌∙◌, subst, arith, Option, Some, None, Result, Ok, Err, get_or}
-use Rattle.std.specs.Prelude.{IfOk, IfSome, slice_get}
+use Rattle.std.specs.Prelude.{IfOk, slice_get}
 use Rattle.std.specs.List.{filter}
 use Rattle.std.proofs.lemmas.Option.{slice_get_read}
 use Rattle.card_events.specs.Billing.{closing, cycle_of}
@@ -16,28 +16,31 @@ use Rattle.card_model.proofs.Calendar.{cycles_are_of_the_calendar}
 use Rattle.card_daily.proofs.ClosingDay.{grows-to}
 use Rattle.card_daily.specs.Given.{Given, opened_in}
 use Rattle.card_daily.specs.declared.track.Track.{Track}
-use Rattle.card_book.proofs.Days.{book_is_the_fold}
 use Rattle.card_book.proofs.FeeOrder.{fees_stand_in_order}
+use Rattle.card_book.proofs.GoingOn.{books_go_on}
 use Rattle.card_book.proofs.MarksGoOn.{marks_go_on}
 use Rattle.card_book.proofs.Passing.{few-pass}
 use Rattle.card_book.proofs.Rewinding.{behind}
-use Rattle.card_book.specs.GoingOn.{sets_rates}
+use Rattle.card_book.specs.GoingOn.{Continues, sets_rates}
 use Rattle.card_book.specs.Marks.{AreMarks, IsMark, accrued_to}
 use Rattle.card_book.specs.Renewed.{AwaitsPosts, HasNewPosts}
 use Rattle.card_book.specs.Rewound.{AreFolded, GoesBack, IsCutTrack}
-use Rattle.card_book.specs.Stands.{StandsFor, Summary, book_through}
+use Rattle.card_book.specs.Stands.{StandsFor, Summary, day_to_fold}
 use Rattle.card_book.specs.declared.marks.Accruing.{Accruing}
-use Rattle.card_replay.proofs.Changed.{anchor-stays, continues-before, plain-stands, terms-stay}
+use Rattle.card_replay.proofs.Changed.{anchor-stays, continues-before, continues-none, plain-stands, terms-stay}
 use Rattle.card_replay.proofs.CycleBefore.{closed-before, closed-then, cycle-read, cycle-there}
 use Rattle.card_replay.proofs.CutTrack.{cut-track}
 use Rattle.card_replay.proofs.MarksFront.{among-front, marks-front}
 use Rattle.card_replay.proofs.NextClosing.{closing-dated, closing-none}
+use Rattle.card_replay.proofs.LaterRows.{some-posts}
+use Rattle.card_replay.proofs.Parts.{first-front}
+use Rattle.card_replay.proofs.Reaching.{none-marked, none-recorded}
+use Rattle.card_replay.proofs.Through.{cycles-through, last-is, opened-through}
 use Rattle.card_replay.specs.Pasts.{AreWithin, IsFront}
-use Rattle.card_replay.proofs.Unread.{eve-on}
-use Rattle.card_replay.specs.Rewinds.{AreEndsOf, IsAgain, IsAtClosing, IsAtOpening, IsBeforeChange, MayBegin, MayGoBack, MayGoBackOn, cycle_before}
+use Rattle.card_replay.proofs.Unread.{eve-on, same-rates}
+use Rattle.card_replay.specs.Rewinds.{AreEndsOf, IsAgain, IsAtBeginning, IsAtClosing, IsBeforeChange, MayBegin, MayGoBackOn, cycle_before}
 use Rattle.card_replay.specs.Replays.{BeginsAgain, HasMarks, IsEve}
 use Rattle.card_replay.specs.Steps.{first_in_cycle}
-use Rattle.card_replay.specs.declared.change.Recorded.TheVariants as recorded
 use Rattle.card_replay.specs.declared.change.TakenBack.{TakenBack}
 use Rattle.card_replay.specs.declared.eve.Eve.{Eve}
 use Rattle.card_replay.specs.declared.past.Ends.{Ends}
@@ -60,9 +63,6 @@ ends-are g from p e {k = k} number same none some fees accrued = record {
   accrued = accrued ∙ ap (λ n. length (filter (λ (x : Accruing). nat_le x.cycle n) p.accrued.items)) (sym same);
 }
 
-same-day : (x y : ℕ) → Some x ≡ Some y → x ≡ y
-same-day x y e = cc
-
 -- the Book was taken back to the closing of the cycle before the change, by what was kept of it
 pub record IsEarlier (old : Given) (k : ℕ) (b : Summary) (past : Past) (c : Cycle) (earlier : Summary) : Type 0 where
   pub there : cycle_at k past.track.cycles.items ≡ Some c
@@ -78,15 +78,12 @@ module _ {old g : Given} {p : Post} {from reached : ℕ} {b : Summary} {past : P
   folded-before = record {
     given = old;
     sound = h.changes.more.sound_before;
-    last = λ day e. let same = same-day reached day (sym h.folding.day ∙ e) in let l = h.changes.last in omega (arith, same, l);
+    last = λ day e. let same = last-is old b.day reached day h.folding.day e in let l = h.changes.last in omega (arith, same, l);
     stands = h.folding.stands;
   }
 
-  pub opened-before-reached : opened_in g ≤ reached
-  opened-before-reached =
-      let same = ap (λ (a : Anchor). a.opened) (anchor-stays old g p from h.changes.more) in
-      let low = h.folding.stands.opened reached h.folding.day in
-      omega (arith, same, low)
+  same-opened : opened_in g ≡ opened_in old
+  same-opened = ap (λ (a : Anchor). a.opened) (anchor-stays old g p from h.changes.more)
 
   -- the cycle before the change is closed by the day reached
   closed-of : cycle_before g from ≤ length past.track.cycles.items
@@ -103,7 +100,7 @@ module _ {old g : Given} {p : Post} {from reached : ℕ} {b : Summary} {past : P
       → c.closing ≡ closing (anchor_of g.history) k
   closing-of k c at =
       let l = h.changes.last in
-      let cycles = (book_is_the_fold old b past.track h.folding.stands).cycles ∙ ap (λ d. (book_through old d).cycles) h.folding.day in
+      let cycles = cycles-through old b past.track reached h.folding.stands h.folding.day in
       let days = cycles_are_of_the_calendar.days old.history old.issued old.shared reached k c h.changes.more.sound_before.opening (omega (arith, l)) (ap (cycle_at k) (sym cycles) ∙ at) in
       days.closing ∙ ap (λ (a : Anchor). closing a k) (sym (anchor-stays old g p from h.changes.more))
 
@@ -259,49 +256,65 @@ module _ {old g : Given} {p : Post} {from reached : ℕ} {b : Summary} {past : P
   first-closing : (c : Cycle) → cycle_at (cycle_before g from) past.track.cycles.items ≡ Some c → first_in_cycle (anchor_of g.history) from ≡ c.closing + 1
   first-closing c at = ap (λ d. d + 1) (sym (closing-of (cycle_before g from) c at))
 
-  pub closing-again : {k : ℕ} (day : ℕ) (again : Summary) (e : Ends) → k ≡ cycle_before g from → 1 ≤ k → BeginsAgain g e past again
-      → ((c : Cycle) → cycle_at k past.track.cycles.items ≡ Some c → again.day ≡ Some c.closing)
-      → ((c : Cycle) → cycle_at k past.track.cycles.items ≡ Some c → day ≡ c.closing)
-      → IsAgain g from reached past (record { book = again; reached = day; recorded = recorded.Front e })
-  closing-again {k = k} day again e number some begins dated is = by (cycle-there past.track.cycles.items k (closed-at number))
+  pub closing-again : {k : ℕ} (again : Summary) (e : Ends) → k ≡ cycle_before g from → 1 ≤ k → BeginsAgain g e past again
+      → ((c : Cycle) → cycle_at k past.track.cycles.items ≡ Some c → again.day ≡ Some c.closing) → IsAgain g from reached past (record { book = again; ends = e })
+  closing-again {k = k} again e number some begins dated = by (cycle-there past.track.cycles.items k (closed-at number))
     where
-      by : (k ≡ 0) ⊎ ((c : Cycle) × (cycle_at k past.track.cycles.items ≡ Some c)) → IsAgain g from reached past (record { book = again; reached = day; recorded = recorded.Front e })
+      by : (k ≡ 0) ⊎ ((c : Cycle) × (cycle_at k past.track.cycles.items ≡ Some c)) → IsAgain g from reached past (record { book = again; ends = e })
       by (inl z) = absurd (omega (arith, some, z))
       by (inr (c, at)) =
           let there : cycle_at (cycle_before g from) past.track.cycles.items ≡ Some c = ap (λ n. cycle_at n past.track.cycles.items) (sym number) ∙ at in
           let early = early-closing (cycle_before g from) c there (omega (arith, some, number)) (omega arith) in
           let first = first-closing c there in
-          let same = is c at in
+          let here : day_to_fold g again.day ≡ c.closing + 1 = ap (day_to_fold g) (dated c at) in
           let within = h.changes.within in
           record {
-            near = omega (arith, first, same);
-            earlier = omega (arith, same, early, within);
-            folding = λ new front. record {
-              day = dated c at ∙ ap Some (sym same);
-              whole = begins.whole;
-              stands = begins.stands new front;
-              marks = begins.marks new front;
-              eve = tt;
-            };
+            near = omega (arith, first, here);
+            earlier = omega (arith, here, early, within);
+            whole = begins.whole;
+            closings = λ new front. record { stands = begins.stands new front; marks = begins.marks new front };
           }
 
-  -- the opening day, where none closed before it
-  pub opening-again : (r : TakenBack) → cycle_before g from ≡ 0 → IsAtOpening g r → IsAgain g from reached past r
-  opening-again r none is =
+  -- before the opening day, where none closed before it
+  pub beginning-again : (r : TakenBack) → cycle_before g from ≡ 0 → IsAtBeginning g r → IsAgain g from reached past r
+  beginning-again r none is =
       let a = anchor_of g.history in
       let first : closing a (cycle_before g from) ≡ a.opened - 1 = ap (closing a) none ∙ closing-none a in
-      let low = opened-before-reached in
-      let day = is.day in
-      record { near = omega (arith, first, day); earlier = omega (arith, low, day); folding = λ new rec. is.folding past new rec }
+      let some = h.changes.more.sound.opening.first in
+      let here : day_to_fold g r.book.day ≡ opened_in g = ap (day_to_fold g) is.day in
+      let low = opened-through old b past.track reached h.folding.stands h.folding.day in
+      let same = same-opened in
+      record {
+        near = omega (arith, first, some, here);
+        earlier = omega (arith, here, same, low);
+        whole = is.whole;
+        closings = λ new front.
+            let empty = first-front r.ends past new is.ends front in
+            record { stands = is.stands new.track (none-recorded new empty); marks = none-marked g new empty };
+      }
+
+  -- a post that sets no rate leaves a Book that has just begun
+  pub beginning-on : (r : TakenBack) → sets_rates p ≡ false → IsAtBeginning old r → IsAtBeginning g r
+  beginning-on r plain is =
+      let more = h.changes.more in
+      record {
+        day = is.day;
+        whole = is.whole;
+        stands = λ t blank.
+            books_go_on old g r.book t more.sound.opening (is.stands t blank)
+            (subst (Continues old g) (sym is.day) (continues-none old g more.kept (some-posts old.history more.sound_before.opening) more.history))
+            (same-rates old g more.kept more.sound_before more.history (ap sets_rates more.post ∙ plain));
+        ends = is.ends;
+      }
 
   -- the eve
-  module _ (e : Eve) (m : MayBegin past p from (cycle_before g from) e) (s : IsEve old reached past e) where
+  module _ (e : Eve) (m : MayBegin past from (cycle_before g from) e) (plain : sets_rates p ≡ false) (s : IsEve old reached past e) where
     -- it stands for the account with the post
     eve-stands : IsEve g reached past e
     eve-stands =
         let more = h.changes.more in
         let before = m.earlier in
-        eve-on old g reached past e more.kept more.sound_before more.sound more.history (ap sets_rates more.post ∙ m.plain)
+        eve-on old g reached past e more.kept more.sound_before more.sound more.history (ap sets_rates more.post ∙ plain)
         (λ y l. continues-before old g p from more y (omega (arith, l, before))) s
 
     first-by-eve : closing (anchor_of g.history) (cycle_before g from) ≤ e.day
@@ -321,20 +334,17 @@ module _ {old g : Given} {p : Post} {from reached : ℕ} {b : Summary} {past : P
 
     -- and so does a copy of its Book
     pub eve-again : (copy : Summary) → copy.day ≡ e.book.day → copy.whole ≡ e.book.whole → ((t : Track) → StandsFor g e.book t → StandsFor g copy t)
-        → IsAgain g from reached past (record { book = copy; reached = e.day; recorded = recorded.Front e.ends })
+        → IsAgain g from reached past (record { book = copy; ends = e.ends })
     eve-again copy dated whole stands =
         let on = eve-stands in
         let first = first-by-eve in
+        let low = on.earlier in
+        let here : day_to_fold g copy.day ≡ e.day + 1 = ap (day_to_fold g) (dated ∙ on.folded) in
         record {
-          near = omega (arith, first);
-          earlier = on.earlier;
-          folding = λ new front. record {
-            day = dated ∙ on.folded;
-            whole = whole ∙ on.begins.whole;
-            stands = stands new.track (on.begins.stands new front);
-            marks = on.begins.marks new front;
-            eve = tt;
-          };
+          near = omega (arith, first, here);
+          earlier = omega (arith, here, low);
+          whole = whole ∙ on.begins.whole;
+          closings = λ new front. record { stands = stands new.track (on.begins.stands new front); marks = on.begins.marks new front };
         }
 
   -- the Book that was taken back, where what was kept was read from the list
@@ -357,38 +367,45 @@ module _ {old g : Given} {p : Post} {from reached : ℕ} {b : Summary} {past : P
 
 -- ---- an account before whichever change
 -- taken back to the closing of a cycle
-pub at-closing : (b : Summary) (past : Past) (e : Ends) (day : ℕ) (earlier : Summary) {k : ℕ} {since : Option ℕ} {kept : List Accruing}
+pub at-closing : (b : Summary) (past : Past) (e : Ends) (earlier : Summary) {k : ℕ} {since : Option ℕ} {kept : List Accruing}
     → ((g : Given) (from : ℕ) → k ≡ cycle_before g from → AreEndsOf g from past e) → 1 ≤ k
     → since ≡ get_or past.since.items (k - 1) since → kept ≡ past.accrued.items → GoesBack k b past.track since kept earlier
-    → ((c : Cycle) → cycle_at k past.track.cycles.items ≡ Some c → earlier.day ≡ Some c.closing) → earlier.whole ≡ true
-    → ((c : Cycle) → cycle_at k past.track.cycles.items ≡ Some c → day ≡ c.closing)
-    → IsAtClosing k b past (record { book = earlier; reached = day; recorded = recorded.Front e })
-at-closing b past e day earlier ends some read same goes dated whole closed = record {
+    → ((c : Cycle) → cycle_at k past.track.cycles.items ≡ Some c → earlier.day ≡ Some c.closing) → earlier.whole ≡ true → IsAtClosing k b past (record { book = earlier; ends = e })
+at-closing b past e earlier ends some read same goes dated whole = record {
   plain = λ g p from reached may plain.
       let h = may.change.before in
       let found = earlier-found h earlier may.number some read same goes dated whole in
-      closing-again h day earlier e may.number some (plain-begins h e found.0 earlier (ends g from may.number) found.1 plain) dated closed;
+      closing-again h earlier e may.number some (plain-begins h e found.0 earlier (ends g from may.number) found.1 plain) dated;
   rates = λ g p from reached may.
       let h = may.change.before in
       let found = earlier-found h earlier may.number some read same goes dated whole in
       record {
         awaits = awaits-posts h found.0 earlier found.1;
-        again = λ r has. closing-again h day r e may.number some (renewed-begins h e found.0 earlier r (ends g from may.number) found.1 has.whole has.stands) (λ c at. has.day ∙ dated c at) closed;
+        again = λ r has. closing-again h r e may.number some (renewed-begins h e found.0 earlier r (ends g from may.number) found.1 has.whole has.stands) (λ c at. has.day ∙ dated c at);
       };
 }
 
--- taken back to the eve
-pub eve-back : (p : Post) (from k : ℕ) (b : Summary) (past : Past) (e : Eve) (copy : Summary) → MayBegin past p from k e → copy.day ≡ e.book.day → copy.whole ≡ e.book.whole
-    → ((g : Given) (t : Track) → StandsFor g e.book t → StandsFor g copy t) → (g : Given) (reached : ℕ) → MayGoBackOn g p from k reached b past (Some e)
-    → IsAgain g from reached past (record { book = copy; reached = e.day; recorded = recorded.Front e.ends })
-eve-back p from k b past e copy begin dated whole stands g reached may =
-    eve-again may.change.before e (subst (λ n. MayBegin past p from n e) may.number begin) may.change.stood copy dated whole (stands g)
+-- to it for a post that sets no rate
+pub closing-plain : {old g : Given} {p : Post} {from k reached : ℕ} {b : Summary} {past : Past} {eve : Option Eve} (r : TakenBack) → IsAtClosing k b past r → MayGoBackOn old g p from k reached b past eve
+    → IsAgain g from reached past r
+closing-plain {old = old} {g = g} {p = p} {from = from} {reached = reached} r is may =
+    is.plain g p from reached (record { change = record { old = old; before = may.before }; number = may.number }) may.plain
 
--- to a closing, whether there is an eve or not
-pub closing-back : {E : Type 0} (p : Post) (from k : ℕ) (b : Summary) (past : Past) (eve : Option Eve) (result : Result (Option TakenBack) E)
-    → IfOk result (λ made. IfSome made (λ r. (g : Given) (f reached : ℕ) → MayGoBack g p f k reached b past → IsAgain g f reached past r))
-    → IfOk result (λ made. IfSome made (λ r. (g : Given) (reached : ℕ) → MayGoBackOn g p from k reached b past eve → IsAgain g from reached past r))
-closing-back p from k b past eve (Ok None) h = tt
-closing-back p from k b past eve (Ok (Some r)) h = λ g reached may.
-    h g from reached (record { change = record { old = may.change.old; before = may.change.before }; number = may.number })
-closing-back p from k b past eve (Err e) h = tt
+-- before the opening day
+pub beginning-plain : {old g : Given} {p : Post} {from k reached : ℕ} {b : Summary} {past : Past} {eve : Option Eve} (r : TakenBack) → k ≡ 0 → IsAtBeginning old r → MayGoBackOn old g p from k reached b past eve
+    → IsAgain g from reached past r
+beginning-plain r none is may = beginning-again may.before r (sym may.number ∙ none) (beginning-on may.before r may.plain is)
+
+-- to the eve
+pub eve-back : (old : Given) (from k : ℕ) (b : Summary) (past : Past) (e : Eve) (copy : Summary) → MayBegin past from k e → copy.day ≡ e.book.day → copy.whole ≡ e.book.whole
+    → ((g : Given) (t : Track) → StandsFor g e.book t → StandsFor g copy t) → (g : Given) (p : Post) (reached : ℕ) → MayGoBackOn old g p from k reached b past (Some e)
+    → IsAgain g from reached past (record { book = copy; ends = e.ends })
+eve-back old from k b past e copy begin dated whole stands g p reached may =
+    eve-again may.before e (subst (λ n. MayBegin past from n e) may.number begin) may.plain may.stood copy dated whole (stands g)
+
+-- whether there is an eve or not
+pub closing-back : {E : Type 0} (old : Given) (from k : ℕ) (b : Summary) (past : Past) (eve : Option Eve) (result : Result TakenBack E)
+    → IfOk result (λ r. (g : Given) (p : Post) (reached : ℕ) → MayGoBackOn old g p from k reached b past None → IsAgain g from reached past r)
+    → IfOk result (λ r. (g : Given) (p : Post) (reached : ℕ) → MayGoBackOn old g p from k reached b past eve → IsAgain g from reached past r)
+closing-back old from k b past eve (Ok r) h = λ g p reached may. h g p reached (record { before = may.before; stood = tt; number = may.number; plain = may.plain })
+closing-back old from k b past eve (Err e) h = tt

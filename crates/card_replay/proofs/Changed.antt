@@ -1,8 +1,8 @@
 -- Up to each day before the first that a post changes, the account goes on.
-use Rattle.std.proofs.Common.{◌≡◌, ℕ, ◌<◌, ◌≤◌, false, List, [], ◌∷◌, ◌++◌, length, refl, sym, ap, ◌∙◌, subst, arith, Some}
+use Rattle.std.proofs.Common.{◌≡◌, ℕ, ◌<◌, ◌≤◌, false, List, [], ◌∷◌, ◌++◌, length, refl, sym, ap, ◌∙◌, subst, arith, Some, None}
 use Rattle.std.proofs.lemmas.List.Elements.{All-cons, All-nil}
 use Rattle.card_events.specs.declared.anchor.Anchor.{Anchor}
-use Rattle.card_events.specs.History.{anchor_of, corrected, terms_of}
+use Rattle.card_events.specs.History.{anchor_of, corrected, is_variable, terms_of}
 use Rattle.card_events.specs.SharedRows.{SharedRows}
 use Rattle.card_events.specs.declared.kept.Kept.{Kept}
 use Rattle.card_events.specs.declared.post.Post.{Post}
@@ -25,6 +25,20 @@ same-anchor (x ∷ xs) k some = refl
 same-terms : (ks : List Kept) (k : Kept) → 1 ≤ length ks → terms_of (ks ++ k ∷ []) ≡ terms_of ks
 same-terms [] k some = absurd (omega (arith, some))
 same-terms (x ∷ xs) k some = refl
+
+same-variable : (ks : List Kept) (k : Kept) → 1 ≤ length ks → is_variable (ks ++ k ∷ []) ≡ is_variable ks
+same-variable [] k some = absurd (omega (arith, some))
+same-variable (x ∷ xs) k some = refl
+
+-- before the opening nothing has changed
+pub continues-none : (old g : Given) (k : Kept) → 1 ≤ length old.history → g.history ≡ old.history ++ k ∷ [] → Continues old g None
+continues-none old g k some history = record {
+  anchor = ap anchor_of history ∙ same-anchor old.history k some;
+  terms = ap terms_of history ∙ same-terms old.history k some;
+  variable = ap is_variable history ∙ same-variable old.history k some;
+  agree = λ d is. let no : None ≡ Some d = is in absurd (cc);
+  books = λ d y is l. let no : None ≡ Some d = is in absurd (cc);
+}
 
 -- the account is opened as before
 pub anchor-stays : (old g : Given) (p : Post) (from : ℕ) → IsOneMore old g p from → anchor_of g.history ≡ anchor_of old.history

@@ -14,23 +14,29 @@ use Rattle.card_posts.proofs.DayLemmas.{timely-append}
 use Rattle.card_posts.specs.Posted.{IsReceived, last_accepted, target_of}
 use Rattle.card_posts.specs.Stored.{AreTimely}
 use Rattle.card_reasons.proofs.Accepted.{few, received, target_there}
-use Rattle.card_daily.specs.Given.{Given, IsSound}
-use Rattle.card_book.specs.Stands.{StandsFor, Summary}
+use Rattle.card_model.specs.CycleDays.{IsOpening}
+use Rattle.card_daily.specs.Given.{Given, IsSound, opened_in}
+use Rattle.card_book.specs.Stands.{StandsFor, Summary, day_to_fold}
 use Rattle.card_replay.proofs.Changed.{same-anchor}
 use Rattle.card_replay.proofs.LaterRows.{some-posts}
+use Rattle.card_replay.proofs.Through.{opened-through, reached-is}
 use Rattle.card_replay.proofs.Unread.{issues-nothing, unread-stands}
-use Rattle.card_replay.specs.Changes.{IsChangeOf, IsCommitted, IsPrepared, HasRewound, IsRewoundBy, IsTaken, issued_as, lists_with}
+use Rattle.card_replay.specs.Changes.{IsChangeOf, IsCommitted, IsPrepared, HasRewound, IsRewoundBy, IsTaken, Takes, issued_as, lists_with}
 use Rattle.card_replay.specs.Rewinds.{IsAgain}
-use Rattle.card_replay.specs.Replays.{Folding, IsEve, IsFolding, IsReplay, MayReach, Replay, given_of, present_of}
+use Rattle.card_replay.specs.Replays.{Folding, HasClosings, IsEve, IsFolding, IsReplay, MayReach, Replay, given_of, present_of}
 use Rattle.card_replay.specs.Steps.{IsFirstBetween, IsNear, first_in_cycle}
 use Rattle.card_replay.specs.declared.change.Change.{Change}
 use Rattle.card_replay.specs.declared.change.TakenBack.{TakenBack}
 
 -- ---- the folding after it
-rewound-folding : (g : Given) (x : TakenBack) (old new : Folding) → HasRewound x old new → IsFolding g (record { reached = x.reached; book = x.book; past = new.past; eve = None }) → IsFolding g new
-rewound-folding g x old new taken h = record {
-  day = ap (λ (s : Summary). s.day) taken.book ∙ (h.day ∙ ap Some (sym taken.reached));
-  whole = ap (λ (s : Summary). s.whole) taken.book ∙ h.whole;
+-- the day that is then reached
+taken-day : (g : Given) (opened : ℕ) (x : TakenBack) (old new : Folding) → opened_in g ≡ opened → 1 ≤ opened → HasRewound opened x old new → day_to_fold g x.book.day ≡ new.reached + 1
+taken-day g opened x old new same some taken = reached-is g opened x.book.day same some ∙ ap (λ n. n + 1) (sym taken.reached)
+
+rewound-folding : (g : Given) (opened : ℕ) (x : TakenBack) (old new : Folding) → opened_in g ≡ opened → 1 ≤ opened → HasRewound opened x old new → x.book.whole ≡ true → HasClosings g x.book new.past → IsFolding g new
+rewound-folding g opened x old new same some taken whole h = record {
+  day = ap (λ (s : Summary). day_to_fold g s.day) taken.book ∙ taken-day g opened x old new same some taken;
+  whole = ap (λ (s : Summary). s.whole) taken.book ∙ whole;
   stands = subst (λ (s : Summary). StandsFor g s new.past.track) (sym taken.book) h.stands;
   marks = h.marks;
   eve = subst (λ o. IfSome o (IsEve g new.reached new.past)) (sym taken.eve) tt;
@@ -74,18 +80,33 @@ with-post shared today key p l u =
 pub late-rewound : (shared : SharedRows) (today : ℕ) (key : List ℕ) (p : Post) (r : Replay) → is_unread p ≡ false → IsFolding (with_post r.lists key today p shared) r.folding → IsRewoundBy shared today key p None r
 late-rewound shared today key p r u h = not-rewound shared today key p r (subst (λ g. IsFolding g r.folding) (sym (with-post shared today key p r.lists u)) h)
 
-pub again-rewound : (shared : SharedRows) (today : ℕ) (key : List ℕ) (p : Post) (r : Replay) (from : ℕ) (x : TakenBack) → is_unread p ≡ false → IsAgain (with_post r.lists key today p shared) from r.folding.reached r.folding.past x
-    → ((day : ℕ) → IsFirstBetween shared r.lists (accepted (present_of today shared r.lists) key p) day → first_in_cycle (anchor_of r.lists.posts) day ≤ x.reached + 1) → IsRewoundBy shared today key p (Some x) r
-again-rewound shared today key p r from x u again near = record {
-  earlier = λ f taken. let same = taken.reached in let low = again.earlier in omega (arith, same, low);
+pub again-rewound : (shared : SharedRows) (today : ℕ) (key : List ℕ) (p : Post) (r : Replay) (from : ℕ) (x : TakenBack) → is_unread p ≡ false → IsOpening (anchor_of r.lists.posts)
+    → IsAgain (with_post r.lists key today p shared) from r.folding.reached r.folding.past x
+    → ((day : ℕ) → IsFirstBetween shared r.lists (accepted (present_of today shared r.lists) key p) day → first_in_cycle (anchor_of r.lists.posts) day ≤ day_to_fold (with_post r.lists key today p shared) x.book.day)
+    → IsRewoundBy shared today key p (Some x) r
+again-rewound shared today key p r from x u open' again near = record {
+  earlier = λ f taken. let is = at f taken in let low = again.earlier in omega (arith, is, low);
   near = λ f taken day first.
-      let same = taken.reached in
+      let is = at f taken in
       let low = near day first in
-      least-left (first_in_cycle (anchor_of r.lists.posts) day) (r.folding.reached + 1) (f.reached + 1) (omega (arith, low, same));
-  next = λ f taken.
-      subst (λ g. IsFolding g f) (sym (with-post shared today key p r.lists u))
-      (rewound-folding (with_post r.lists key today p shared) x r.folding f taken (again.folding f.past taken.past));
+      least-left (first_in_cycle (anchor_of r.lists.posts) day) (r.folding.reached + 1) (f.reached + 1) (omega (arith, low, is));
+  next = λ f taken. subst (λ g. IsFolding g f) (sym (with-post shared today key p r.lists u)) (rewound-folding now opened x r.folding f same some taken again.whole (again.closings f.past taken.past));
 }
+  where
+    now : Given
+    now = with_post r.lists key today p shared
+
+    opened : ℕ
+    opened = (anchor_of r.lists.posts).opened
+
+    some : 1 ≤ opened
+    some = let first = open'.first in omega (arith, first)
+
+    same : opened_in now ≡ opened
+    same = ap (λ (a : Anchor). a.opened) (same-anchor r.lists.posts (kept_as (length r.lists.posts + 1) key today p) (some-posts r.lists.posts open'))
+
+    at : (f : Folding) → HasRewound opened x r.folding f → day_to_fold now x.book.day ≡ f.reached + 1
+    at f taken = taken-day now opened x r.folding f same some taken
 
 -- it is so for an account with the same lists and folding
 pub rewound-same : (shared : SharedRows) (today : ℕ) (key : List ℕ) (p : Post) (made : Option TakenBack) (old new : Replay) → new.lists ≡ old.lists → new.folding ≡ old.folding → IsRewoundBy shared today key p made old → IsRewoundBy shared today key p made new
@@ -97,8 +118,9 @@ rewound-same shared today key p made old new lists folding h = record {
   next = λ f taken. subst (λ (l : Lists). IsFolding (given_of (accepted (present_of today shared l) key p) shared) f) (sym lists) (h.next f (before f taken));
 }
   where
-    before : (f : Folding) → IsTaken made new.folding f → IsTaken made old.folding f
-    before f taken = subst (λ (x : Folding). IsTaken made x f) folding taken
+    before : (f : Folding) → Takes made new f → Takes made old f
+    before f taken =
+        subst (λ (l : Lists). IsTaken (anchor_of l.posts).opened made old.folding f) lists (subst (λ (x : Folding). IsTaken (anchor_of new.lists.posts).opened made x f) folding taken)
 
 -- ---- the account after it
 accepted-most : (ks : List Kept) (k : Kept) (n : ℕ) → last_accepted ks ≤ n → k.accepted ≤ n → last_accepted (ks ++ k ∷ []) ≤ n
@@ -120,6 +142,7 @@ lists-are shared today key p c l h issued =
     ∙ ap (λ rows. lists_by (l.posts ++ kept_as (length l.posts + 1) key today p ∷ []) (l.issued ++ rows)) issued
 
 pub record Accepts (n : ℕ) (l : Lists) : Type 0 where
+  pub opened : (anchor_of l.posts).opened ≤ n
   pub timely : AreTimely (anchor_of l.posts).opened l.posts
   pub last : last_accepted l.posts ≤ n
 
@@ -131,6 +154,7 @@ accepts shared today key p r h may came =
     let k = kept_as (length posts + 1) key today p in
     let same = same-anchor posts k (some-posts posts h.sound.opening) in
     record {
+      opened = subst (λ (a : Anchor). a.opened ≤ today) (sym same) may.opened;
       timely = subst (λ (a : Anchor). AreTimely a.opened (posts ++ k ∷ [])) (sym same) (timely-append (anchor_of posts).opened posts k h.timely (record { dated = may.last; received = came }));
       last = accepted-most posts k today may.accepted (omega arith);
     }
@@ -155,17 +179,18 @@ committed-stands shared today key p c r new h may is issued none sound rewound c
     let reached = rewound.earlier new.folding committed.folding in
     let later = may.later in
     let dated = h.dated in
-    let low : (anchor_of (accepted (present_of today shared r.lists) key p).posts).opened ≤ new.folding.reached = folding.stands.opened new.folding.reached folding.day in
+    let low : (anchor_of (accepted (present_of today shared r.lists) key p).posts).opened ≤ new.folding.reached + 1 = opened-through (given_of (accepted (present_of today shared r.lists) key p) shared) new.folding.book new.folding.past.track new.folding.reached folding.stands folding.day in
     record {
       replay = record {
         corrected = committed.corrected;
         sound = subst (λ (l : Lists). IsSound (given_of l shared)) (sym lists) sound;
         timely = subst (λ (l : Lists). AreTimely (anchor_of l.posts).opened l.posts) (sym lists) all.timely;
-        opened = subst (λ (l : Lists). (anchor_of l.posts).opened ≤ new.folding.reached) (sym lists) low;
+        opened = subst (λ (l : Lists). (anchor_of l.posts).opened ≤ new.folding.reached + 1) (sym lists) low;
         dated = omega (arith, dated, reached);
         folding = subst (λ (l : Lists). IsFolding (given_of l shared) new.folding) (sym lists) folding;
       };
       reach = record {
+        opened = subst (λ (l : Lists). (anchor_of l.posts).opened ≤ today) (sym lists) all.opened;
         later = omega (arith, reached, later);
         accepted = subst (λ (l : Lists). last_accepted l.posts ≤ today) (sym lists) all.last;
         last = may.last;

@@ -13,10 +13,10 @@ use Rattle.card_model.specs.CycleDays.{IsOpening}
 use Rattle.card_model.specs.Cycles.{Cycle}
 use Rattle.card_model.specs.Folds.{cycle_at}
 use Rattle.card_model.proofs.Calendar.{cycles_are_of_the_calendar, is-anchor}
-use Rattle.card_daily.specs.Given.{Given, book_on}
-use Rattle.card_book.proofs.Days.{book_is_the_fold}
-use Rattle.card_book.specs.Stands.{StandsFor, Summary, book_through}
+use Rattle.card_daily.specs.Given.{Given}
+use Rattle.card_book.specs.Stands.{StandsFor, Summary, day_to_fold}
 use Rattle.card_daily.specs.declared.track.Track.{Track}
+use Rattle.card_replay.proofs.Through.{cycles-through}
 
 -- ---- its number
 pub none-before : (a : Anchor) (day : ℕ) → day < a.opened → cycle_of a day - 1 ≡ 0
@@ -54,11 +54,10 @@ closed-before a day open' l some = by (cases_lt day a.opened)
     by (inr low) = (cycle_around a (is-anchor a open') day (cycle_of a day) low (omega (arith, l)) refl).0
 
 -- so by a later day it is closed
-pub closed-then : (g : Given) (b : Summary) (t : Track) (day today : ℕ) → StandsFor g b t → b.day ≡ Some today → day ≤ today → cycle_of (anchor_of g.history) day - 1 ≤ length t.cycles.items
+pub closed-then : (g : Given) (b : Summary) (t : Track) (day today : ℕ) → StandsFor g b t → day_to_fold g b.day ≡ today + 1 → day ≤ today → cycle_of (anchor_of g.history) day - 1 ≤ length t.cycles.items
 closed-then g b t day today h dated l =
     let a = anchor_of g.history in
-    let cycles : t.cycles.items ≡ (book_on g today).cycles = (book_is_the_fold g b t h).cycles ∙ ap (λ d. (book_through g d).cycles) dated in
-    let long = ap (λ (cs : List Cycle). length cs) cycles in
+    let long = ap (λ (cs : List Cycle). length cs) (cycles-through g b t today h dated) in
     let count = cycles_are_of_the_calendar.count g.history g.issued g.shared today in
     let up = later-cycle a day (today + 1) (omega (arith, l)) in
     omega (arith, long, count, up)

@@ -1,6 +1,6 @@
 -- Going back behind a post that is entered for a while.
 use Rattle.std.proofs.Common.{◌≡◌, ℕ, ◌+◌, ◌<◌, ◌≤◌, ◌⊎◌, inl, inr, Bool, true, false, cond, nat_le, List, [], ◌∷◌, ◌++◌, length, refl, sym, ap, ◌∙◌, subst, arith, Option, Some, None, Result, Ok, Err}
-use Rattle.std.specs.Prelude.{◌-◌, ◌==◌, IfOk, IfSome}
+use Rattle.std.specs.Prelude.{◌-◌, ◌==◌, ◌||◌, IfOk}
 use Rattle.std.proofs.lemmas.Bool.{cases_lt, eqb-true, leb-false}
 use Rattle.card_events.specs.Billing.{cycle_of}
 use Rattle.card_events.specs.declared.anchor.Anchor.{Anchor}
@@ -10,22 +10,26 @@ use Rattle.card_events.specs.declared.kept.Kept.{Kept}
 use Rattle.card_events.specs.declared.post.Post.{Post}
 use Rattle.card_model.specs.Cycles.{IssuedRow}
 use Rattle.card_model.specs.Machine.{accepted, kept_as}
-use Rattle.card_model.specs.Refusals.{reason_against}
 use Rattle.card_model.specs.Unread.{is_unread}
 use Rattle.card_posts.specs.Change.{IsFirstChange, on, up_to}
 use Rattle.card_posts.specs.Draft.{IsDraft, IsFirstWith}
 use Rattle.card_posts.specs.Posted.{Posted, StandsFor}
 use Rattle.card_posts.specs.declared.draft.Draft.{Draft}
-use Rattle.card_daily.specs.Given.{Given, IsSound}
+use Rattle.card_book.specs.GoingOn.{sets_rates}
+use Rattle.card_book.specs.Stands.{day_to_fold}
+use Rattle.card_daily.specs.Given.{Given, IsSound, opened_in}
 use Rattle.card_book.specs.Rewound.{AreFolded}
 use Rattle.card_replay.proofs.Again.{closed-at, folded-before, number-is}
 use Rattle.card_replay.proofs.Changed.{anchor-stays, same-anchor}
 use Rattle.card_replay.proofs.Committing.{again-rewound, given_with, late-rewound, with-post, with_post}
 use Rattle.card_replay.proofs.LateChange.{late-stands}
 use Rattle.card_replay.proofs.LaterRows.{some-posts}
-use Rattle.card_replay.specs.Changes.{IsReadyFor, IsRewoundBy, MayPrepare}
-use Rattle.card_replay.specs.Rewinds.{IsAgain, IsOneMore, MayGoBackOn, MayRewindOn, cycle_before}
-use Rattle.card_replay.specs.Replays.{IsReplay, Replay, given_of, posted_of, present_of}
+use Rattle.card_replay.proofs.Through.{last-is}
+use Rattle.card_replay.proofs.Unread.{begun-on}
+use Rattle.card_replay.specs.Changes.{IsRewoundBy, MayPrepare}
+use Rattle.card_replay.specs.Rewinds.{IsAgain, IsBeforeChange, IsOneMore, MayGoBackOn, cycle_before}
+use Rattle.card_replay.specs.Needs.{is_bill, needs_today}
+use Rattle.card_replay.specs.Replays.{IsFolding, IsReplay, Replay, given_of, posted_of, present_of}
 use Rattle.card_replay.specs.Steps.{IsFirstBetween, first_in_cycle}
 use Rattle.card_replay.specs.declared.change.TakenBack.{TakenBack}
 
@@ -62,17 +66,13 @@ drafted shared today key name p r old new rows d h u sound posts kept issued nam
       };
     }
 
-pub may-rewind : (shared : SharedRows) (today : ℕ) (key : List ℕ) (p : Post) (r : Replay) (from : ℕ) → IsReplay shared r → IsOneMore (given_of r.lists shared) (with_post r.lists key today p shared) p from → from ≤ r.folding.reached
-    → MayRewindOn (with_post r.lists key today p shared) p from r.folding.reached r.folding.book r.folding.past r.folding.eve
-may-rewind shared today key p r from h more l =
+pub before-change : (shared : SharedRows) (today : ℕ) (key : List ℕ) (p : Post) (r : Replay) (from : ℕ) → IsReplay shared r → IsOneMore (given_of r.lists shared) (with_post r.lists key today p shared) p from → from ≤ r.folding.reached
+    → IsBeforeChange (given_of r.lists shared) (with_post r.lists key today p shared) p from r.folding.reached r.folding.book r.folding.past
+before-change shared today key p r from h more l =
     let folding = h.folding in
     record {
-      old = given_of r.lists shared;
-      before = record {
-        changes = record { more = more; within = l; last = h.dated };
-        folding = record { day = folding.day; whole = folding.whole; stands = folding.stands; marks = folding.marks; eve = tt };
-      };
-      stood = folding.eve;
+      changes = record { more = more; within = l; last = h.dated };
+      folding = record { day = folding.day; whole = folding.whole; stands = folding.stands; marks = folding.marks; eve = tt };
     }
 
 -- ---- the account with a post whose first changed day is told
@@ -102,7 +102,7 @@ more-told shared today key p r from h first =
 -- before it, where it isn't after the day reached, and behind which closing it lies
 pub record IsTold (shared : SharedRows) (today : ℕ) (key : List ℕ) (p : Post) (r : Replay) (from cycle : ℕ) : Type 0 where
   pub more : IsOneMore (given_of r.lists shared) (with_post r.lists key today p shared) p from
-  pub change : MayRewindOn (with_post r.lists key today p shared) p from r.folding.reached r.folding.book r.folding.past r.folding.eve
+  pub before : IsBeforeChange (given_of r.lists shared) (with_post r.lists key today p shared) p from r.folding.reached r.folding.book r.folding.past
   pub number : cycle ≡ cycle_before (with_post r.lists key today p shared) from
   pub folded : AreFolded r.folding.book r.folding.past.track
   pub closed : cycle ≤ length r.folding.past.track.cycles.items
@@ -113,15 +113,15 @@ pub told : (shared : SharedRows) (today : ℕ) (key : List ℕ) (p : Post) (r : 
 told shared today key p r from h first l number anchor =
     let g = with_post r.lists key today p shared in
     let more = more-told shared today key p r from h first in
-    let change = may-rewind shared today key p r from h.replay more l in
+    let before = before-change shared today key p r from h.replay more l in
     let same = number-is g from number (anchor ∙ sym (anchor-stays (given_of r.lists shared) g p from more)) in
     record {
       more = more;
-      change = change;
+      before = before;
       number = same;
-      folded = folded-before change.before;
-      closed = closed-at change.before same;
-      marked = change.before.folding.marks.count;
+      folded = folded-before before;
+      closed = closed-at before same;
+      marked = before.folding.marks.count;
     }
 
 -- ---- the first changed day
@@ -150,43 +150,61 @@ one-first a b old new h k = let low = same-first a b old new h k in let high = s
 
 -- so the last closing before it is the one that was meant
 near-first : (shared : SharedRows) (today : ℕ) (key : List ℕ) (p : Post) (r : Replay) (from day : ℕ) (x : TakenBack) → is_unread p ≡ false → IsOneMore (given_of r.lists shared) (with_post r.lists key today p shared) p from
-    → IsAgain (with_post r.lists key today p shared) from r.folding.reached r.folding.past x → IsFirstBetween shared r.lists (accepted (present_of today shared r.lists) key p) day → first_in_cycle (anchor_of r.lists.posts) day ≤ x.reached + 1
+    → IsAgain (with_post r.lists key today p shared) from r.folding.reached r.folding.past x → IsFirstBetween shared r.lists (accepted (present_of today shared r.lists) key p) day
+    → first_in_cycle (anchor_of r.lists.posts) day ≤ day_to_fold (with_post r.lists key today p shared) x.book.day
 near-first shared today key p r from day x u more again first =
     let g = with_post r.lists key today p shared in
     let there = subst (λ y. IsFirstChange day (corrected (anchor_of r.lists.posts) shared.holidays r.lists.posts) (corrected (anchor_of y.history) shared.holidays y.history)) (with-post shared today key p r.lists u) first in
     let is : from ≡ day = one-first from day _ _ more.first there in
-    subst (λ d. first_in_cycle (anchor_of r.lists.posts) d ≤ x.reached + 1) is
-    (subst (λ (a : Anchor). first_in_cycle a from ≤ x.reached + 1) (anchor-stays (given_of r.lists shared) g p from more) again.near)
+    subst (λ d. first_in_cycle (anchor_of r.lists.posts) d ≤ day_to_fold g x.book.day) is
+    (subst (λ (a : Anchor). first_in_cycle a from ≤ day_to_fold g x.book.day) (anchor-stays (given_of r.lists shared) g p from more) again.near)
 
 -- ---- what it is taken back to
-pub made-rewound : (shared : SharedRows) (today : ℕ) (key : List ℕ) (p : Post) (r : Replay) (from : ℕ) (made : Option TakenBack) → is_unread p ≡ false → reason_against (present_of today shared r.lists) p ≡ None
-    → IsReplay shared r → IsReadyFor today p r → IsOneMore (given_of r.lists shared) (with_post r.lists key today p shared) p from → (made ≡ None → r.folding.reached < from)
-    → IfSome made (IsAgain (with_post r.lists key today p shared) from r.folding.reached r.folding.past) → IsRewoundBy shared today key p made r
-made-rewound shared today key p r from None u none h ready more late again =
-    late-rewound shared today key p r u (late-stands (present_of today shared r.lists) (given_of r.lists shared) (with_post r.lists key today p shared) p from r.folding none (late refl) ready more h.folding)
-made-rewound shared today key p r from (Some x) u none h ready more late again = again-rewound shared today key p r from x u again (λ day first. near-first shared today key p r from day x u more again first)
+pub made-rewound : (shared : SharedRows) (today : ℕ) (key : List ℕ) (p : Post) (r : Replay) (from : ℕ) (x : TakenBack) → MayPrepare shared today key p r → IsOneMore (given_of r.lists shared) (with_post r.lists key today p shared) p from
+    → IsAgain (with_post r.lists key today p shared) from r.folding.reached r.folding.past x → IsRewoundBy shared today key p (Some x) r
+made-rewound shared today key p r from x h more again =
+    again-rewound shared today key p r from x h.read h.replay.sound.opening again (λ day first. near-first shared today key p r from day x h.read more again first)
 
-pub result-rewound : {E : Type 0} (shared : SharedRows) (today : ℕ) (key : List ℕ) (p : Post) (r : Replay) (from : ℕ) (result : Result (Option TakenBack) E) → is_unread p ≡ false → reason_against (present_of today shared r.lists) p ≡ None
-    → IsReplay shared r → IsReadyFor today p r → IsOneMore (given_of r.lists shared) (with_post r.lists key today p shared) p from → IfOk result (λ made. made ≡ None → r.folding.reached < from)
-    → IfOk result (λ made. IfSome made (IsAgain (with_post r.lists key today p shared) from r.folding.reached r.folding.past)) → IfOk result (λ made. IsRewoundBy shared today key p made r)
-result-rewound shared today key p r from (Ok made) u none h ready more late again = made-rewound shared today key p r from made u none h ready more late again
-result-rewound shared today key p r from (Err e) u none h ready more late again = tt
+pub result-rewound : {E : Type 0} (shared : SharedRows) (today : ℕ) (key : List ℕ) (p : Post) (r : Replay) (from : ℕ) (result : Result TakenBack E) → MayPrepare shared today key p r
+    → IsOneMore (given_of r.lists shared) (with_post r.lists key today p shared) p from → IfOk result (IsAgain (with_post r.lists key today p shared) from r.folding.reached r.folding.past)
+    → IfOk result (λ made. IsRewoundBy shared today key p (Some made) r)
+result-rewound shared today key p r from (Ok made) h more again = made-rewound shared today key p r from made h more again
+result-rewound shared today key p r from (Err e) h more again = tt
 
--- what it is taken back to with no fold
-pub back-rewound : (shared : SharedRows) (today : ℕ) (key : List ℕ) (p : Post) (r : Replay) (from cycle : ℕ) (x : TakenBack) → MayPrepare shared today key p r → IsTold shared today key p r from cycle
-    → ((g : Given) (reached : ℕ) → MayGoBackOn g p from cycle reached r.folding.book r.folding.past r.folding.eve → IsAgain g from reached r.folding.past x) → IsRewoundBy shared today key p (Some x) r
-back-rewound shared today key p r from cycle x h is again =
-    made-rewound shared today key p r from (Some x) h.read h.no_reason h.replay h.ready is.more (λ e. let no : Some x ≡ None = e in absurd (cc))
-    (again (with_post r.lists key today p shared) r.folding.reached (record { change = is.change; number = is.number }))
+-- with no post entered
+pub back-rewound : (shared : SharedRows) (today : ℕ) (key : List ℕ) (p : Post) (r : Replay) (from cycle : ℕ) (x : TakenBack) → MayPrepare shared today key p r → sets_rates p ≡ false → IsTold shared today key p r from cycle
+    → ((g : Given) (q : Post) (reached : ℕ) → MayGoBackOn (given_of r.lists shared) g q from cycle reached r.folding.book r.folding.past r.folding.eve → IsAgain g from reached r.folding.past x) → IsRewoundBy shared today key p (Some x) r
+back-rewound shared today key p r from cycle x h plain is again =
+    made-rewound shared today key p r from x h is.more
+    (again (with_post r.lists key today p shared) p r.folding.reached (record { before = is.before; stood = h.replay.folding.eve; number = is.number; plain = plain }))
 
--- where it changes only later days
+-- to nothing, where it changes only days that aren't folded
+late-rewound-by : (shared : SharedRows) (today : ℕ) (key : List ℕ) (p : Post) (r : Replay) (from : ℕ) (o : Option ℕ) → r.folding.book.day ≡ o → MayPrepare shared today key p r → IsFirstWith shared.holidays today p (posted_of r) from
+    → ((day : ℕ) → r.folding.book.day ≡ Some day → day < from) → IsFolding (with_post r.lists key today p shared) r.folding
+late-rewound-by shared today key p r from (Some day) is h first late =
+    let g = given_of r.lists shared in
+    let same = last-is g r.folding.book.day r.folding.reached day h.replay.folding.day is in
+    let l = late day is in
+    late-stands (present_of today shared r.lists) g (with_post r.lists key today p shared) p from r.folding h.no_reason (omega (arith, same, l)) h.ready (more-told shared today key p r from h first) h.replay.folding
+late-rewound-by shared today key p r from None is h first late =
+    let g = given_of r.lists shared in
+    let more = more-told shared today key p r from h first in
+    let here : day_to_fold g r.folding.book.day ≡ opened_in g = ap (day_to_fold g) is in
+    let day = h.replay.folding.day in
+    let opened = h.reach.opened in
+    begun-on g (with_post r.lists key today p shared) r.folding more.kept more.sound_before more.sound more.history
+    (ap sets_rates more.post ∙ plain-by p (λ needs. let ready = h.ready needs in omega (arith, here, day, opened, ready)) (sets_rates p) refl) is h.replay.folding
+  where
+    plain-by : (p : Post) → (needs_today p ≡ true → ⊥) → (s : Bool) → sets_rates p ≡ s → sets_rates p ≡ false
+    plain-by p never false e = e
+    plain-by p never true e = absurd (never (ap (λ b. b || is_bill p) e))
+
 pub later-rewound : (shared : SharedRows) (today : ℕ) (key : List ℕ) (p : Post) (r : Replay) (from : ℕ) → MayPrepare shared today key p r → IsFirstWith shared.holidays today p (posted_of r) from
-    → r.folding.reached < from → IsRewoundBy shared today key p None r
-later-rewound shared today key p r from h first l =
-    made-rewound shared today key p r from None h.read h.no_reason h.replay h.ready (more-told shared today key p r from h first) (λ e. l) tt
+    → ((day : ℕ) → r.folding.book.day ≡ Some day → day < from) → IsRewoundBy shared today key p None r
+later-rewound shared today key p r from h first late = late-rewound shared today key p r h.read (late-rewound-by shared today key p r from r.folding.book.day refl h first late)
 
 -- ---- in memory of its own
-pub if-any-rewound : {E : Type 0} (shared : SharedRows) (today : ℕ) (key : List ℕ) (p : Post) (r : Replay) (made : Option TakenBack) (result : Result (Option TakenBack) E) → IfOk result (λ x. x ≡ made)
-    → IsRewoundBy shared today key p made r → IfOk result (λ x. IsRewoundBy shared today key p x r)
+pub if-any-rewound : {E : Type 0} (shared : SharedRows) (today : ℕ) (key : List ℕ) (p : Post) (r : Replay) (made : TakenBack) (result : Result (Option TakenBack) E) → IfOk result (λ x. x ≡ Some made)
+    → IsRewoundBy shared today key p (Some made) r → IfOk result (λ x. IsRewoundBy shared today key p x r)
 if-any-rewound shared today key p r made (Ok x) is h = subst (λ m. IsRewoundBy shared today key p m r) (sym is) h
 if-any-rewound shared today key p r made (Err e) is h = tt

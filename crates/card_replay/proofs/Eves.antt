@@ -1,6 +1,7 @@
 -- The Book of an earlier day, with the front of the past up to that day.
-use Rattle.std.proofs.Common.{◌≡◌, ℕ, arith, Option, Some, None}
+use Rattle.std.proofs.Common.{◌≡◌, ℕ, ap, arith, Option, Some, None}
 use Rattle.std.specs.Prelude.{IfSome}
+use Rattle.card_book.specs.Stands.{day_to_fold}
 use Rattle.card_daily.specs.Given.{Given, opened_in}
 use Rattle.card_replay.specs.Pasts.{IsFront}
 use Rattle.card_replay.specs.Replays.{Folding, IsEve, IsFolding}
@@ -33,4 +34,4 @@ eve-goes-on old g reached past e h same goes =
     }
   where
     before : (front : Past) → IsFront e.ends past front → IsFolding old (eve_folding e front)
-    before front is = record { day = h.folded; whole = h.begins.whole; stands = h.begins.stands front is; marks = h.begins.marks front is; eve = tt }
+    before front is = record { day = ap (day_to_fold old) h.folded; whole = h.begins.whole; stands = h.begins.stands front is; marks = h.begins.marks front is; eve = tt }

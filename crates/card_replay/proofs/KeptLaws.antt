@@ -2,6 +2,7 @@
 use Rattle.std.proofs.Common.{arith}
 use Rattle.card_book.proofs.Days.{book_is_the_fold}
 use Rattle.card_book.proofs.Rewound.{rewound_books_stand}
+use Rattle.card_replay.proofs.Through.{some-closed}
 use Rattle.card_replay.specs.Laws.{KeptBookIsTheFold, KeptClosingsAreTheFold}
 use Rattle.card_replay.specs.Replays.{given_of}
 
@@ -12,5 +13,6 @@ pub kept_closings_are_the_fold : KeptClosingsAreTheFold
 kept_closings_are_the_fold shared r k c back cut h at is =
     let g = given_of r.lists shared in
     let dated = h.dated in
-    let stands = rewound_books_stand g r.folding.book r.folding.past.track r.folding.reached k c back cut h.sound.opening (omega (arith, dated)) h.folding.day h.folding.stands at is in
+    let day = some-closed g r.folding.book r.folding.past.track r.folding.reached k c h.folding.stands h.folding.day at in
+    let stands = rewound_books_stand g r.folding.book r.folding.past.track r.folding.reached k c back cut h.sound.opening (omega (arith, dated)) day h.folding.stands at is in
     book_is_the_fold g back cut stands

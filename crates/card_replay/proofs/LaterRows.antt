@@ -17,11 +17,9 @@ use Rattle.card_book.proofs.Agreement.{later_rows_agree}
 use Rattle.card_book.proofs.GoingOn.{agreement_goes_on, books_go_on}
 use Rattle.card_book.proofs.MarksGoOn.{marks_go_on}
 use Rattle.card_book.proofs.RatesGoOn.{rates_go_on}
-use Rattle.card_book.proofs.Closings.{closed-by}
-use Rattle.card_book.proofs.Days.{book_is_the_fold}
 use Rattle.card_book.specs.GoingOn.{Continues, HaveSameRates, sets_rates}
-use Rattle.card_book.specs.Stands.{book_through}
 use Rattle.card_replay.proofs.Eves.{eve-goes-on, eve_folding, if-some}
+use Rattle.card_replay.proofs.Through.{closed-in, continues-through, same-first}
 use Rattle.card_replay.specs.Laws.{LaterRowsLeaveIt}
 use Rattle.card_replay.specs.Replays.{AreLaterRows, Folding, IsEve, IsFolding, IsReplay, Replay, given_of}
 
@@ -64,12 +62,12 @@ rows-on old new r day f h accepted rows within stood folding =
     let now = given_of r.lists new in
     let agree = later_rows_agree r.lists.posts old new day day h.timely accepted rows.holidays rows.fees rows.index in
     let there = agree-earlier old new r.lists.posts r.lists.posts f.reached day within agree in
-    let continues : Continues was now (Some f.reached) = agreement_goes_on was now f.reached refl there in
+    let continues : Continues was now f.book.day = continues-through was now f.book.day f.reached folding.day (agreement_goes_on was now f.reached refl there) in
     let rates : HaveSameRates was now = rates_go_on was now [] (sym (append-nil r.lists.posts)) (some-posts r.lists.posts h.sound.opening) (All-nil (λ (k : Kept). sets_rates k.post ≡ false)) in
     record {
-      day = folding.day;
+      day = same-first now was f.book.day refl ∙ folding.day;
       whole = folding.whole;
-      stands = books_go_on was now f.book f.past.track h.sound.opening folding.stands (subst (Continues was now) (sym folding.day) continues) rates;
+      stands = books_go_on was now f.book f.past.track h.sound.opening folding.stands continues rates;
       marks = marks_go_on was now f.past.track.cycles.items f.past.since.items f.past.accrued.items
           (record {
             new = [];
@@ -83,10 +81,7 @@ rows-on old new r day f h accepted rows within stood folding =
     }
   where
     early : (k : ℕ) (c : Cycle) → cycle_at k f.past.track.cycles.items ≡ Some c → c.closing ≤ f.reached
-    early k c at =
-        let was = given_of r.lists old in
-        let cycles = (book_is_the_fold was f.book f.past.track folding.stands).cycles ∙ ap (λ d. (book_through was d).cycles) folding.day in
-        closed-by was f.reached k c (folding.stands.opened f.reached folding.day) (ap (cycle_at k) (sym cycles) ∙ at)
+    early k c at = closed-in (given_of r.lists old) f k c folding at
 
 pub later_rows_leave_it : LaterRowsLeaveIt
 later_rows_leave_it old new r day h reached accepted rows sound =

@@ -1,4 +1,5 @@
 pub mod Changed
+pub mod Through
 pub mod LaterRows
 pub mod KeptLaws
 pub mod Putback

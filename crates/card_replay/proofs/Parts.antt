@@ -1,7 +1,7 @@
 -- A past that grew, and its front.
 use Rattle.std.proofs.Common.{◌≡◌, ℕ, ◌≤◌, List, length, take, ap, ◌∙◌, arith}
 use Rattle.card_replay.proofs.Grown.{no-longer}
-use Rattle.card_replay.specs.Pasts.{AreEnds, AreSame, AreWithin, IsFront, PastBegins}
+use Rattle.card_replay.specs.Pasts.{AreEnds, AreFirst, AreSame, AreWithin, IsEmpty, IsFront, PastBegins}
 use Rattle.card_replay.specs.declared.past.Ends.{Ends}
 use Rattle.card_replay.specs.declared.past.Past.{Past}
 
@@ -30,6 +30,16 @@ begins-same e p q r h b is = record {
   fees = is.fees ∙ front-is e.fees p.track.fees.items q.track.fees.items h.fees b.track.fees;
   since = is.since ∙ front-is e.cycles p.since.items q.since.items h.since b.since;
   accrued = is.accrued ∙ front-is e.accrued p.accrued.items q.accrued.items h.accrued b.accrued;
+}
+
+-- before the first of each list there is nothing
+pub first-front : (e : Ends) (p front : Past) → AreFirst e → IsFront e p front → IsEmpty front
+first-front e p front none h = record {
+  entries = h.entries ∙ ap (λ n. take n p.track.entries.items) none.entries;
+  cycles = h.cycles ∙ ap (λ n. take n p.track.cycles.items) none.cycles;
+  fees = h.fees ∙ ap (λ n. take n p.track.fees.items) none.fees;
+  since = h.since ∙ ap (λ n. take n p.since.items) none.cycles;
+  accrued = h.accrued ∙ ap (λ n. take n p.accrued.items) none.accrued;
 }
 
 -- the front of what stayed the same

@@ -1,5 +1,6 @@
 -- An account at the day that it has reached.
-use Rattle.std.proofs.Common.{◌≡◌, ℕ, ◌+◌, ◌≤◌, ◌⊎◌, inl, inr, Bool, true, false, List, [], ◌∷◌, sym, ap, ◌∙◌, subst, arith, Some, None}
+use Rattle.std.proofs.Common.{◌≡◌, ℕ, ◌+◌, ◌-◌, ◌≤◌, ◌⊎◌, inl, inr, Bool, true, false, List, [], ◌∷◌, refl, sym, ap, ◌∙◌, subst, arith, Option, Some, None}
+use Rattle.std.specs.Prelude.{IfSome}
 use Rattle.card_events.specs.Range.{last_request_day}
 use Rattle.card_events.specs.History.{CorrectedPost, anchor_of, corrected, opening_in}
 use Rattle.card_events.specs.SharedRows.{SharedRows}
@@ -13,15 +14,18 @@ use Rattle.card_model.specs.Refusals.{Lists, book_today}
 use Rattle.card_posts.specs.Draft.{IsFirstWith}
 use Rattle.card_posts.specs.Posted.{IsReceived, Posted, last_accepted, opens}
 use Rattle.card_posts.specs.Stored.{AreTimely}
-use Rattle.card_daily.specs.Given.{Given, IsSound}
-use Rattle.card_book.proofs.Days.{book_is_the_fold}
-use Rattle.card_book.specs.Stands.{Summary, book_through, breaks_of, steps_over}
+use Rattle.card_daily.specs.Given.{Given, IsSound, book_on, opened_in}
+use Rattle.card_daily.specs.Stands.{IsBlank}
+use Rattle.card_daily.specs.declared.track.Track.{Track}
+use Rattle.card_book.specs.Stands.{StandsFor, Summary, breaks_of, steps_over}
 use Rattle.card_replay.proofs.Eves.{if-some}
 use Rattle.card_replay.proofs.Parts.{begins-same, begins-within, same-front}
 use Rattle.card_replay.proofs.Putback.{marks-same, stands-same, within-same}
+use Rattle.card_replay.proofs.Reaching.{none-marked, none-recorded}
+use Rattle.card_replay.proofs.Through.{cycles-through, last-is, reached-is, some-day}
 use Rattle.card_replay.specs.Changes.{IsReadyFor}
-use Rattle.card_replay.specs.Pasts.{AreEnds, AreSame, PastBegins}
-use Rattle.card_replay.specs.Replays.{Folding, FoldsOn, IsEve, IsFolding, HasClosings, IsReplay, IsToday, MayReach, Replay, SameLists, given_of, opened_lists, posted_of, present_of}
+use Rattle.card_replay.specs.Pasts.{AreEnds, AreSame, IsEmpty, PastBegins}
+use Rattle.card_replay.specs.Replays.{Folding, FoldsOn, IsEve, IsFolding, HasClosings, IsReplay, IsToday, MayReach, Replay, SameLists, day_reached, given_of, opened_lists, posted_of, present_of}
 use Rattle.card_replay.specs.declared.eve.Eve.{Eve}
 use Rattle.card_replay.specs.declared.past.Ends.{Ends}
 use Rattle.card_replay.specs.declared.past.Past.{Past}
@@ -33,6 +37,10 @@ no-steps g to = spans_are_steps.none (breaks_of g to) (to + 1) to (omega arith)
 -- the account by its parts
 abbrev pub seen : List Kept → List IssuedRow → List CorrectedPost → Bool → Folding → Replay
 seen posts rows corrected has_room f = record { lists = record { posts = posts; issued = rows }; corrected = corrected; has_room = has_room; folding = f }
+
+-- its folding by its parts
+abbrev pub folding_of : List Kept → Summary → Past → Option Eve → Folding
+folding_of posts b p eve = record { reached = day_reached (anchor_of posts).opened b.day; book = b; past = p; eve = eve }
 
 -- with another folding of a day that isn't before the one reached
 pub later-replay : (shared : SharedRows) (r : Replay) (f : Folding) → IsReplay shared r → r.folding.reached ≤ f.reached → f.reached ≤ last_request_day → IsFolding (given_of r.lists shared) f → IsReplay shared (record r { folding = f })
@@ -46,6 +54,13 @@ later-replay shared r f h later last folding =
       dated = last;
       folding = folding;
     }
+
+-- a folding to today
+pub day-is : (g : Given) (opened : ℕ) (b : Summary) (today : ℕ) (p : Past) → opened_in g ≡ opened → 1 ≤ opened → IsFolding g (record { reached = today; book = b; past = p; eve = None }) → day_reached opened b.day ≡ today
+day-is g opened b today p same some h =
+    let is = reached-is g opened b.day same some in
+    let at = h.day in
+    omega (arith, is, at)
 
 -- where its past was put back
 abbrev pub past_back : Folding → Past → Folding
@@ -87,18 +102,18 @@ pub folds-on : (shared : SharedRows) (r : Replay) (today : ℕ) → IsReplay sha
 folds-on shared r today h may = record {
   reached = r.folding.reached;
   folding = record { day = h.folding.day; whole = h.folding.whole; stands = h.folding.stands; marks = h.folding.marks; eve = tt };
-  opened = h.opened;
+  opened = may.opened;
   later = may.later;
   last = may.last;
 }
 
--- the Book that it had before it was folded on is the eve
-pub last-eve : (shared : SharedRows) (r : Replay) (today : ℕ) (p : Past) (e : Ends) → IsReplay shared r → MayReach today r → AreEnds e r.folding.past → PastBegins r.folding.past p
-    → IsEve (given_of r.lists shared) today p (record { book = r.folding.book; day = r.folding.reached; ends = e })
-last-eve shared r today p e h may ends begins = record {
-  folded = h.folding.day;
-  opened = h.opened;
-  earlier = may.later;
+-- the Book that it had before it was folded on is the eve, where it had folded a day
+last-eve : (shared : SharedRows) (r : Replay) (today : ℕ) (p : Past) (e : Ends) (day : ℕ) → IsReplay shared r → MayReach today r → AreEnds e r.folding.past → PastBegins r.folding.past p → r.folding.book.day ≡ Some day
+    → IsEve (given_of r.lists shared) today p (record { book = r.folding.book; day = day; ends = e })
+last-eve shared r today p e day h may ends begins is = record {
+  folded = is;
+  opened = h.folding.stands.opened day is;
+  earlier = let same = last-is (given_of r.lists shared) r.folding.book.day r.folding.reached day h.folding.day is in let later = may.later in omega (arith, same, later);
   begins = record {
     within = begins-within e r.folding.past p ends begins;
     whole = h.folding.whole;
@@ -107,9 +122,21 @@ last-eve shared r today p e h may ends begins = record {
   };
 }
 
+abbrev pub IsEveOf : Summary → Ends → Eve → Type 0
+IsEveOf b ends e = (e.book ≡ b) × (b.day ≡ Some e.day) × (e.ends ≡ ends)
+
+pub eve-stands : (shared : SharedRows) (r : Replay) (today : ℕ) (p : Past) (ends : Ends) (o : Option Eve) → IsReplay shared r → MayReach today r → AreEnds ends r.folding.past → PastBegins r.folding.past p
+    → IfSome o (IsEveOf r.folding.book ends) → IfSome o (IsEve (given_of r.lists shared) today p)
+eve-stands shared r today p ends o h may are begins is = if-some o (IsEveOf r.folding.book ends) (IsEve (given_of r.lists shared) today p) one is
+  where
+    one : (e : Eve) → IsEveOf r.folding.book ends e → IsEve (given_of r.lists shared) today p e
+    one e (book, day, same) =
+        subst (λ (b : Summary). IsEve (given_of r.lists shared) today p (record { book = b; day = e.day; ends = e.ends })) (sym book)
+        (subst (λ (x : Ends). IsEve (given_of r.lists shared) today p (record { book = r.folding.book; day = e.day; ends = x })) (sym same) (last-eve shared r today p ends e.day h may are begins day))
+
 -- it has it as its eve
-pub with-eve : (g : Given) (today : ℕ) (b : Summary) (p : Past) (e : Eve) → IsEve g today p e → IsFolding g (record { reached = today; book = b; past = p; eve = None }) → IsFolding g (record { reached = today; book = b; past = p; eve = Some e })
-with-eve g today b p e stood h = record { day = h.day; whole = h.whole; stands = h.stands; marks = h.marks; eve = stood }
+pub with-eve : (g : Given) (today : ℕ) (b : Summary) (p : Past) (o : Option Eve) → IfSome o (IsEve g today p) → IsFolding g (record { reached = today; book = b; past = p; eve = None }) → IsFolding g (record { reached = today; book = b; past = p; eve = o })
+with-eve g today b p o stood h = record { day = h.day; whole = h.whole; stands = h.stands; marks = h.marks; eve = stood }
 
 -- ---- an account that was just opened
 -- its post asks for no day by which it came
@@ -141,23 +168,34 @@ first-last : (today : ℕ) (key : List ℕ) (p : Post) → last_accepted (kept_a
 unfolding last_accepted
 first-last today key p = omega arith
 
-pub started : (shared : SharedRows) (key : List ℕ) (today : ℕ) (p : Post) (cs : List CorrectedPost) (room : Bool) (f : Folding) → opens p ≡ true → opening_in p ≤ today → today ≤ last_request_day
-    → IsSound (given_of (opened_lists key today p) shared) → cs ≡ corrected (anchor_of (kept_as 1 key today p ∷ [])) shared.holidays (kept_as 1 key today p ∷ []) → f.reached ≡ today
-    → IsFolding (given_of (opened_lists key today p) shared) f → IsToday today shared (record { lists = opened_lists key today p; corrected = cs; has_room = room; folding = f })
-started shared key today p cs room f o opened l sound is reached folding = record {
-  replay = record {
-    corrected = is;
-    sound = sound;
-    timely = first-timely (opening_in p) today key p o l;
-    opened = subst (λ d. opening_in p ≤ d) (sym reached) opened;
-    dated = subst (λ d. d ≤ last_request_day) (sym reached) l;
-    folding = folding;
-  };
-  reached = reached;
+-- nothing is folded
+pub begun : (g : Given) (b : Summary) (p : Past) → 1 ≤ opened_in g → b.day ≡ None → b.whole ≡ true → ((t : Track) → IsBlank t → StandsFor g b t) → IsEmpty p
+    → IsFolding g (record { reached = day_reached (opened_in g) b.day; book = b; past = p; eve = None })
+begun g b p some day whole stands empty = record {
+  day = reached-is g (opened_in g) b.day refl some;
+  whole = whole;
+  stands = stands p.track (none-recorded p empty);
+  marks = none-marked g p empty;
+  eve = tt;
 }
 
-pub started-reach : (key : List ℕ) (today : ℕ) (p : Post) (cs : List CorrectedPost) (room : Bool) (f : Folding) → today ≤ last_request_day → f.reached ≡ today → MayReach today (record { lists = opened_lists key today p; corrected = cs; has_room = room; folding = f })
-started-reach key today p cs room f l reached = record { later = omega (arith, reached); accepted = first-last today key p; last = l }
+pub begun-before : (g : Given) (b : Summary) → 1 ≤ opened_in g → b.day ≡ None → day_reached (opened_in g) b.day + 1 ≡ opened_in g
+begun-before g b some day = let same = ap (day_reached (opened_in g)) day in omega (arith, some, same)
+
+pub started : (shared : SharedRows) (key : List ℕ) (today : ℕ) (p : Post) (cs : List CorrectedPost) (room : Bool) (f : Folding) → opens p ≡ true → opening_in p ≤ today → today ≤ last_request_day
+    → IsSound (given_of (opened_lists key today p) shared) → cs ≡ corrected (anchor_of (kept_as 1 key today p ∷ [])) shared.holidays (kept_as 1 key today p ∷ []) → f.reached + 1 ≡ opening_in p
+    → IsFolding (given_of (opened_lists key today p) shared) f → IsReplay shared (record { lists = opened_lists key today p; corrected = cs; has_room = room; folding = f })
+started shared key today p cs room f o opened l sound is reached folding = record {
+  corrected = is;
+  sound = sound;
+  timely = first-timely (opening_in p) today key p o l;
+  opened = omega (arith, reached);
+  dated = omega (arith, reached, opened, l);
+  folding = folding;
+}
+
+pub started-reach : (key : List ℕ) (today : ℕ) (p : Post) (cs : List CorrectedPost) (room : Bool) (f : Folding) → opening_in p ≤ today → today ≤ last_request_day → f.reached + 1 ≡ opening_in p → MayReach today (record { lists = opened_lists key today p; corrected = cs; has_room = room; folding = f })
+started-reach key today p cs room f opened l reached = record { opened = opened; later = omega (arith, reached, opened); accepted = first-last today key p; last = l }
 
 -- ---- an account whose lists stay
 pub same-lists : (a b c : Replay) → SameLists a b → SameLists b c → SameLists a c
@@ -166,6 +204,7 @@ same-lists a b c h k = record { lists = k.lists ∙ h.lists; corrected = k.corre
 -- no post is later
 pub reach-same : (today : ℕ) (old new : Replay) → SameLists old new → new.folding.reached ≤ today → MayReach today old → MayReach today new
 reach-same today old new same later may = record {
+  opened = subst (λ (l : Lists). (anchor_of l.posts).opened ≤ today) (sym same.lists) may.opened;
   later = later;
   accepted = subst (λ (l : Lists). last_accepted l.posts ≤ today) (sym same.lists) may.accepted;
   last = may.last;
@@ -200,12 +239,18 @@ pub has-closings : (g : Given) (shared : SharedRows) (r : Replay) → g ≡ give
 has-closings g shared r e h = subst (λ x. HasClosings x r.folding.book r.folding.past) (sym e) (record { stands = h.folding.stands; marks = h.folding.marks })
 
 -- its closed cycles are those of the book of today
-pub cycles-today : (shared : SharedRows) (today : ℕ) (r : Replay) → IsToday today shared r → r.folding.past.track.cycles.items ≡ (book_today (present_of today shared r.lists)).cycles
+pub cycles-today : (shared : SharedRows) (today : ℕ) (r : Replay) → IsReplay shared r → r.folding.reached ≡ today → r.folding.past.track.cycles.items ≡ (book_today (present_of today shared r.lists)).cycles
 unfolding book_today
-cycles-today shared today r h =
+cycles-today shared today r h reached =
     let g = given_of r.lists shared in
-    (book_is_the_fold g r.folding.book r.folding.past.track h.replay.folding.stands).cycles
-    ∙ ap (λ d. (book_through g d).cycles) (h.replay.folding.day ∙ ap Some h.reached)
+    cycles-through g r.folding.book r.folding.past.track r.folding.reached h.folding.stands h.folding.day ∙ ap (λ d. (book_on g d).cycles) reached
+
+-- and today is the last day folded
+pub folded-today : (shared : SharedRows) (today : ℕ) (r : Replay) → IsToday today shared r → r.folding.book.day ≡ Some today
+folded-today shared today r h =
+    let reached = h.reached in
+    let opened = h.opened in
+    some-day (given_of r.lists shared) r.folding.book.day r.folding.reached h.replay.folding.day (omega (arith, reached, opened)) ∙ ap Some reached
 
 -- and the first day that a post changes
 pub first-same : (shared : SharedRows) (today : ℕ) (p : Post) (from : ℕ) (old new : Replay) → SameLists old new → IsFirstWith shared.holidays today p (posted_of old) from → IsFirstWith shared.holidays today p (posted_of new) from

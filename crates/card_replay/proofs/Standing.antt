@@ -21,14 +21,14 @@ use Rattle.card_daily.specs.Given.{Given, IsSound, book_in, book_on, opened_in}
 use Rattle.card_book.proofs.Closings.{closing-count}
 use Rattle.card_book.proofs.Days.{book_is_the_fold}
 use Rattle.card_book.specs.GoingOn.{Continues}
-use Rattle.card_book.specs.Stands.{book_through}
 use Rattle.card_replay.proofs.Changed.{continues-first}
 use Rattle.card_replay.proofs.Committing.{with-post, with_post}
 use Rattle.card_replay.proofs.CycleBefore.{closed-before, closed-then, cycle-read, cycle-there, later-cycle}
 use Rattle.card_replay.proofs.Drafting.{first-with}
 use Rattle.card_replay.proofs.EntryDays.{entries-grow}
 use Rattle.card_replay.proofs.LaterRows.{some-posts}
-use Rattle.card_replay.proofs.Unread.{closed-in, continues-unread}
+use Rattle.card_replay.proofs.Through.{closed-in, cycles-through, through}
+use Rattle.card_replay.proofs.Unread.{continues-unread}
 use Rattle.card_replay.specs.Replays.{IsReplay, MayReach, Replay, given_of, posted_of}
 use Rattle.card_replay.specs.Standing.{AreStanding, IsForetold, IsStandingCount, MayCome, closing_before, lists_after}
 use Rattle.card_replay.specs.Steps.{IsFirstBetween, first_in_cycle}
@@ -91,9 +91,8 @@ cycle-stands today shared p r from cycle c h may told at before near =
     let g = given_of r.lists shared in
     let reached = r.folding.reached in
     let es = r.folding.past.track.entries.items in
-    let fold = book_is_the_fold g r.folding.book r.folding.past.track h.folding.stands in
-    let entries : es ≡ (book_on g reached).entries = fold.entries ∙ ap (λ d. (book_through g d).entries) h.folding.day in
-    let there : cycle_at cycle (book_on g reached).cycles ≡ Some c = ap (cycle_at cycle) (sym (fold.cycles ∙ ap (λ d. (book_through g d).cycles) h.folding.day)) ∙ at in
+    let entries : es ≡ (book_on g reached).entries = (book_is_the_fold g r.folding.book r.folding.past.track h.folding.stands).entries ∙ ap (λ (b : Book). b.entries) (through g r.folding.book.day reached h.folding.day) in
+    let there : cycle_at cycle (book_on g reached).cycles ≡ Some c = ap (cycle_at cycle) (sym (cycles-through g r.folding.book r.folding.past.track reached h.folding.stands h.folding.day)) ∙ at in
     let front : take c.entries es ≡ (book_on g c.closing).entries = ap (take c.entries) entries ∙ (closings_are_cuts g.history g.issued g.shared reached cycle c there).entries in
     let counted : length (book_on g c.closing).entries ≡ c.entries = closing-count g reached cycle c there in
     let early : c.closing ≤ reached = closed-in g r.folding cycle c h.folding at in
@@ -140,8 +139,7 @@ stands today shared p r from cycle count h may told number none some = by (cycle
         let g = given_of r.lists shared in
         let read = cycle-read cycles cycle c at in
         let same : count ≡ c.entries = some c read.0 ∙ ap (λ (x : Cycle). x.entries) read.1 in
-        let fold = book_is_the_fold g r.folding.book r.folding.past.track h.folding.stands in
-        let there : cycle_at cycle (book_on g r.folding.reached).cycles ≡ Some c = ap (cycle_at cycle) (sym (fold.cycles ∙ ap (λ d. (book_through g d).cycles) h.folding.day)) ∙ at in
+        let there : cycle_at cycle (book_on g r.folding.reached).cycles ≡ Some c = ap (cycle_at cycle) (sym (cycles-through g r.folding.book r.folding.past.track r.folding.reached h.folding.stands h.folding.day)) ∙ at in
         let dated = h.dated in
         let days = cycles_are_of_the_calendar.days g.history g.issued g.shared r.folding.reached cycle c h.sound.opening (omega (arith, dated)) there in
         let on : c.closing ≡ closing a (cycle_of a least - 1) = days.closing ∙ ap (closing a) number in
@@ -190,8 +188,7 @@ counted today shared p r from cycle count h told number none some = record {
         let g = given_of r.lists shared in
         let read = cycle-read cycles cycle c at in
         let same : count ≡ c.entries = some c read.0 ∙ ap (λ (x : Cycle). x.entries) read.1 in
-        let fold = book_is_the_fold g r.folding.book r.folding.past.track h.folding.stands in
-        let there : cycle_at cycle (book_on g r.folding.reached).cycles ≡ Some c = ap (cycle_at cycle) (sym (fold.cycles ∙ ap (λ d. (book_through g d).cycles) h.folding.day)) ∙ at in
+        let there : cycle_at cycle (book_on g r.folding.reached).cycles ≡ Some c = ap (cycle_at cycle) (sym (cycles-through g r.folding.book r.folding.past.track r.folding.reached h.folding.stands h.folding.day)) ∙ at in
         let dated = h.dated in
         let days = cycles_are_of_the_calendar.days g.history g.issued g.shared r.folding.reached cycle c h.sound.opening (omega (arith, dated)) there in
         at-number count (ap (λ day. length (book_on g day).entries) (sym days.closing) ∙ (closing-count g r.folding.reached cycle c there ∙ sym same))

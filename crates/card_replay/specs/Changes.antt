@@ -16,8 +16,8 @@ use Rattle.card_model.specs.Unread.{is_unread}
 use Rattle.card_daily.specs.Given.{Given, IsSound}
 use Rattle.card_posts.specs.Posted.{IsReceived, target_of}
 use Rattle.card_replay.specs.Needs.{needs_today}
-use Rattle.card_replay.specs.Pasts.{IsRecorded}
-use Rattle.card_replay.specs.Replays.{Folding, IsFolding, IsReplay, MayReach, Replay, given_of, present_of}
+use Rattle.card_replay.specs.Pasts.{IsFront}
+use Rattle.card_replay.specs.Replays.{Folding, IsFolding, IsReplay, MayReach, Replay, day_reached, given_of, present_of}
 use Rattle.card_replay.specs.Steps.{IsNear}
 use Rattle.card_replay.specs.declared.change.Change.{Change}
 use Rattle.card_replay.specs.declared.change.TakenBack.{TakenBack}
@@ -55,22 +55,23 @@ lists_with c l =
       issued = l.issued ++ issued_as c.issued;
     }
 
--- The folding stays where the post takes it nowhere; else it is that of the earlier day, and there is no eve
-pub record HasRewound (r : TakenBack) (old new : Folding) : Type 0 where
-  pub reached : new.reached ≡ r.reached
+-- The folding stays where the post takes it nowhere; else it is that of the earlier day, or of none, and there is no eve. The account is
+-- opened on a day
+pub record HasRewound (opened : ℕ) (r : TakenBack) (old new : Folding) : Type 0 where
+  pub reached : new.reached ≡ day_reached opened r.book.day
   pub book : new.book ≡ r.book
-  pub past : IsRecorded r.recorded old.past new.past
+  pub past : IsFront r.ends old.past new.past
   pub eve : new.eve ≡ None
 
-abbrev pub IsTaken : Option TakenBack → Folding → Folding → Type 0
-IsTaken None old new = new ≡ old
-IsTaken (Some r) old new = HasRewound r old new
+abbrev pub IsTaken : ℕ → Option TakenBack → Folding → Folding → Type 0
+IsTaken opened None old new = new ≡ old
+IsTaken opened (Some r) old new = HasRewound opened r old new
 
 -- The account after the post. That is all that is said of it, so where this post was prepared it follows that it stands
 pub record IsCommitted (shared : SharedRows) (c : Change) (old new : Replay) : Type 0 where
   pub lists : new.lists ≡ lists_with c old.lists
   pub corrected : new.corrected ≡ corrected (anchor_of new.lists.posts) shared.holidays new.lists.posts
-  pub folding : IsTaken c.rewound old.folding new.folding
+  pub folding : IsTaken (anchor_of old.lists.posts).opened c.rewound old.folding new.folding
 
 -- ---- preparing it
 -- the post may be added to the account's posts
@@ -108,11 +109,15 @@ pub record IsPrepared (shared : SharedRows) (c : Change) (r : Replay) : Type 0 w
   pub reach_next : (new : Replay) → IsCommitted shared c r new → MayReach c.today new
   pub near : (new : Replay) → IsCommitted shared c r new → IsNear shared r.lists new.lists r.folding.reached new.folding.reached
 
+-- the folding that the account comes to
+abbrev pub Takes : Option TakenBack → Replay → Folding → Type 0
+Takes made r f = IsTaken (anchor_of r.lists.posts).opened made r.folding f
+
 -- what this post takes the account back to, if to anything: whatever the account becomes by taking it, it stands at the end of a day
 -- that isn't after the one that was reached, nor before the last closing before the change
 pub record IsRewoundBy (shared : SharedRows) (today : ℕ) (key : List ℕ) (p : Post) (made : Option TakenBack) (r : Replay) : Type 0 where
-  pub earlier : (f : Folding) → IsTaken made r.folding f → f.reached ≤ r.folding.reached
+  pub earlier : (f : Folding) → Takes made r f → f.reached ≤ r.folding.reached
   pub near :
-      (f : Folding) → IsTaken made r.folding f → IsNear shared r.lists (accepted (present_of today shared r.lists) key p) r.folding.reached f.reached
+      (f : Folding) → Takes made r f → IsNear shared r.lists (accepted (present_of today shared r.lists) key p) r.folding.reached f.reached
   pub next :
-      (f : Folding) → IsTaken made r.folding f → IsFolding (given_of (accepted (present_of today shared r.lists) key p) shared) f
+      (f : Folding) → Takes made r f → IsFolding (given_of (accepted (present_of today shared r.lists) key p) shared) f

@@ -1,8 +1,6 @@
 -- What is recorded of an account up to the day last reached, and its front up to an earlier day.
 use Rattle.std.specs.Prelude.{◌≡◌, ◌≤◌, [], length, take}
 use Rattle.card_daily.specs.Stands.{Begins}
-use Rattle.card_replay.specs.declared.change.Recorded.{Recorded}
-use Rattle.card_replay.specs.declared.change.Recorded.TheVariants as recorded
 use Rattle.card_replay.specs.declared.past.Ends.{Ends}
 use Rattle.card_replay.specs.declared.past.Past.{Past}
 
@@ -46,10 +44,12 @@ pub record IsFront (e : Ends) (p front : Past) : Type 0 where
   pub since : front.since.items ≡ take e.cycles p.since.items
   pub accrued : front.accrued.items ≡ take e.accrued p.accrued.items
 
--- the front of what was recorded, or what was folded anew
-abbrev pub IsRecorded : Recorded → Past → Past → Type 0
-IsRecorded (recorded.Front e) old new = IsFront e old new
-IsRecorded (recorded.Anew first) old new = new ≡ first
+-- before the first of each list
+pub record AreFirst (e : Ends) : Type 0 where
+  pub entries : e.entries ≡ 0
+  pub cycles : e.cycles ≡ 0
+  pub fees : e.fees ≡ 0
+  pub accrued : e.accrued ≡ 0
 
 -- each list begins with what it held
 pub record PastBegins (old new : Past) : Type 0 where

@@ -1,5 +1,5 @@
 -- An account with its book folded to the day last reached. Days are day numbers.
-use Rattle.std.specs.Prelude.{◌≡◌, ℕ, ◌+◌, ◌≤◌, Bool, true, List, [], ◌∷◌, ◌++◌, Some, Option, None, IfSome}
+use Rattle.std.specs.Prelude.{◌≡◌, ℕ, ◌+◌, ◌-◌, ◌≤◌, Bool, true, List, [], ◌∷◌, ◌++◌, Some, Option, None, IfSome}
 use Rattle.card_events.specs.Business.{AgreeUpTo}
 use Rattle.card_events.specs.Range.{last_request_day}
 use Rattle.card_events.specs.History.{CorrectedPost, anchor_of, corrected}
@@ -19,7 +19,13 @@ use Rattle.card_replay.specs.declared.eve.Eve.{Eve}
 use Rattle.card_replay.specs.declared.past.Ends.{Ends}
 use Rattle.card_replay.specs.declared.past.Past.{Past}
 
--- the day last reached, the Book at its end, what is recorded up to it, and, where there is one, the Book of an earlier day
+-- the day that is reached where this is the last day folded, and, where none was, the day before the opening
+abbrev pub day_reached : ℕ → Option ℕ → ℕ
+day_reached opened None = opened - 1
+day_reached opened (Some day) = day
+
+-- the day last reached, the Book at its end, what is recorded up to it, and, where there is one, the Book of an earlier day. Where no day
+-- is reached the day is the one before the opening, and the Book has just begun
 pub record Folding : Type 0 where
   pub reached : ℕ
   pub book : Summary
@@ -84,28 +90,30 @@ pub record IsEve (g : Given) (reached : ℕ) (past : Past) (e : Eve) : Type 0 wh
   pub earlier : e.day ≤ reached
   pub begins : BeginsAgain g e.ends past e.book
 
--- The folding stands for the account's book at the end of the day last reached, with the mark of each closing up to then
+-- The folding stands for the account's book at the end of the day last reached, with the mark of each closing up to then. That is the
+-- book of every day before the opening where no day is reached
 pub record IsFolding (g : Given) (f : Folding) : Type 0 where
-  pub day : f.book.day ≡ Some f.reached
+  pub day : day_to_fold g f.book.day ≡ f.reached + 1
   pub whole : f.book.whole ≡ true
   pub stands : StandsFor g f.book f.past.track
   pub marks : HasMarks g f.past
   pub eve : IfSome f.eve (IsEve g f.reached f.past)
 
 -- What always holds of an account under these shared rows: the corrected list is that of its posts, it may be folded, and what is
--- kept of its book is the book of the day last reached. Posts may have been accepted later
+-- kept of its book is the book of the day last reached, or of the day before the opening. Posts may have been accepted later
 pub record IsReplay (shared : SharedRows) (r : Replay) : Type 0 where
   pub corrected : r.corrected ≡ corrected (anchor_of r.lists.posts) shared.holidays r.lists.posts
   pub sound : IsSound (given_of r.lists shared)
   pub timely : AreTimely (anchor_of r.lists.posts).opened r.lists.posts
-  pub opened : (anchor_of r.lists.posts).opened ≤ r.folding.reached
+  pub opened : (anchor_of r.lists.posts).opened ≤ r.folding.reached + 1
   pub dated : r.folding.reached ≤ last_request_day
   pub folding : IsFolding (given_of r.lists shared) r.folding
 
--- the account has reached today
+-- the account has reached today, which isn't before the opening day
 pub record IsToday (today : ℕ) (shared : SharedRows) (r : Replay) : Type 0 where
   pub replay : IsReplay shared r
   pub reached : r.folding.reached ≡ today
+  pub opened : (anchor_of r.lists.posts).opened ≤ today
 
 -- the lists of an account that a post opens today
 abbrev pub opened_lists : List ℕ → ℕ → Post → Lists
@@ -115,16 +123,17 @@ opened_lists key today p = record { posts = kept_as 1 key today p ∷ []; issued
 abbrev pub posted_of : Replay → Posted
 posted_of r = record { history = r.lists.posts; corrected = r.corrected; has_room = r.has_room }
 
--- a Book and its past, at the end of some day, may be folded on to the end of today
+-- a Book and its past, at the end of some day or before the opening, may be folded on to the end of today
 pub record FoldsOn (g : Given) (today : ℕ) (b : Summary) (p : Past) : Type 0 where
   pub reached : ℕ
   pub folding : IsFolding g (record { reached = reached; book = b; past = p; eve = None })
-  pub opened : opened_in g ≤ reached
+  pub opened : opened_in g ≤ today
   pub later : reached ≤ today
   pub last : today ≤ last_request_day
 
--- today isn't before the day last reached, nor before one on which a post was accepted, and may be folded
+-- today isn't before the opening day, nor before the day last reached or one on which a post was accepted, and may be folded
 pub record MayReach (today : ℕ) (r : Replay) : Type 0 where
+  pub opened : (anchor_of r.lists.posts).opened ≤ today
   pub later : r.folding.reached ≤ today
   pub accepted : last_accepted r.lists.posts ≤ today
   pub last : today ≤ last_request_day

@@ -10,12 +10,13 @@ use Rattle.card_model.specs.Cycles.{Cycle}
 use Rattle.card_model.specs.Folds.{cycle_at}
 use Rattle.card_posts.specs.Change.{IsFirstChange}
 use Rattle.card_book.specs.Renewed.{AwaitsPosts, HasNewPosts}
-use Rattle.card_book.specs.Stands.{StandsFor, Summary}
-use Rattle.card_daily.specs.Given.{Given, IsSound, opened_in}
+use Rattle.card_book.specs.Stands.{StandsFor, Summary, day_to_fold}
+use Rattle.card_daily.specs.Given.{Given, IsSound}
+use Rattle.card_daily.specs.Stands.{IsBlank}
 use Rattle.card_daily.specs.declared.track.Track.{Track}
 use Rattle.card_book.specs.GoingOn.{sets_rates}
-use Rattle.card_replay.specs.Pasts.{IsRecorded}
-use Rattle.card_replay.specs.Replays.{IsEve, IsFolding}
+use Rattle.card_replay.specs.Pasts.{AreFirst, IsFront}
+use Rattle.card_replay.specs.Replays.{HasClosings, IsEve, IsFolding}
 use Rattle.card_replay.specs.Steps.{first_in_cycle}
 use Rattle.card_replay.specs.declared.change.TakenBack.{TakenBack}
 use Rattle.card_replay.specs.declared.eve.Eve.{Eve}
@@ -62,38 +63,37 @@ pub record MayRewind (g : Given) (p : Post) (from reached : ℕ) (b : Summary) (
   pub old : Given
   pub before : IsBeforeChange old g p from reached b past
 
--- and the eve stands for it too, where there is one
-pub record MayRewindOn (g : Given) (p : Post) (from reached : ℕ) (b : Summary) (past : Past) (eve : Option Eve) : Type 0 where
-  pub old : Given
-  pub before : IsBeforeChange old g p from reached b past
-  pub stood : IfSome eve (IsEve old reached past)
-
 -- the same, with the number of the last closing before the change
 pub record MayGoBack (g : Given) (p : Post) (from cycle reached : ℕ) (b : Summary) (past : Past) : Type 0 where
   pub change : MayRewind g p from reached b past
   pub number : cycle ≡ cycle_before g from
 
-pub record MayGoBackOn (g : Given) (p : Post) (from cycle reached : ℕ) (b : Summary) (past : Past) (eve : Option Eve) : Type 0 where
-  pub change : MayRewindOn g p from reached b past eve
+-- they do for this account, and the eve does, where there is one; and the change sets no rate
+pub record MayGoBackOn (old g : Given) (p : Post) (from cycle reached : ℕ) (b : Summary) (past : Past) (eve : Option Eve) : Type 0 where
+  pub before : IsBeforeChange old g p from reached b past
+  pub stood : IfSome eve (IsEve old reached past)
   pub number : cycle ≡ cycle_before g from
-
--- the change sets no rate, it comes after the eve, and the cycle with this number, where there is one, was closed by then
-pub record MayBegin (past : Past) (p : Post) (from cycle : ℕ) (e : Eve) : Type 0 where
   pub plain : sets_rates p ≡ false
+
+-- the change comes after the eve, and the cycle with this number, where there is one, was closed by then
+pub record MayBegin (past : Past) (from cycle : ℕ) (e : Eve) : Type 0 where
   pub earlier : e.day < from
   pub closed : (c : Cycle) → cycle_at cycle past.track.cycles.items ≡ Some c → c.closing ≤ e.day
 
 -- What the account is taken back to: it stands for the account with the post, at the end of a day that isn't after the one reached,
 -- nor before the last closing before the change
 pub record IsAgain (g : Given) (from reached : ℕ) (past : Past) (r : TakenBack) : Type 0 where
-  pub near : first_in_cycle (anchor_of g.history) from ≤ r.reached + 1
-  pub earlier : r.reached ≤ reached
-  pub folding : (new : Past) → IsRecorded r.recorded past new → IsFolding g (record { reached = r.reached; book = r.book; past = new; eve = None })
+  pub near : first_in_cycle (anchor_of g.history) from ≤ day_to_fold g r.book.day
+  pub earlier : day_to_fold g r.book.day ≤ reached + 1
+  pub whole : r.book.whole ≡ true
+  pub closings : (new : Past) → IsFront r.ends past new → HasClosings g r.book new
 
--- The opening day, folded anew
-pub record IsAtOpening (g : Given) (r : TakenBack) : Type 0 where
-  pub day : r.reached ≡ opened_in g
-  pub folding : (old new : Past) → IsRecorded r.recorded old new → IsFolding g (record { reached = r.reached; book = r.book; past = new; eve = None })
+-- Before the opening day nothing is folded, and nothing is recorded
+pub record IsAtBeginning (g : Given) (r : TakenBack) : Type 0 where
+  pub day : r.book.day ≡ None
+  pub whole : r.book.whole ≡ true
+  pub stands : (t : Track) → IsBlank t → StandsFor g r.book t
+  pub ends : AreFirst r.ends
 
 -- A Book over the account with the post, with the segments and rates of all its posts, by one of the same day that stood without it
 pub record HasRatesOf (g : Given) (earlier b : Summary) : Type 0 where
@@ -104,7 +104,7 @@ pub record HasRatesOf (g : Given) (earlier b : Summary) : Type 0 where
 -- with such a Book it stands for the account with the post
 pub record IsAgainWithRates (g : Given) (from reached : ℕ) (past : Past) (r : TakenBack) : Type 0 where
   pub awaits : AwaitsPosts g r.book
-  pub again : (b : Summary) → HasRatesOf g r.book b → IsAgain g from reached past (record { book = b; reached = r.reached; recorded = r.recorded })
+  pub again : (b : Summary) → HasRatesOf g r.book b → IsAgain g from reached past (record { book = b; ends = r.ends })
 
 -- The closing of a cycle: whichever post changes the account behind it, it stands with that post, or, where the post sets rates, with
 -- these rates

@@ -1,24 +1,16 @@
 // What a post that was prepared changes.
-use crate::past::{Ends, Past};
+use crate::past::Ends;
 use card_book::{Book, Issued};
 use card_events::{Day, Name, NoMemory, Post};
 use std::alloc::Global;
 use std::marker::Model;
 
-/// What is recorded up to an earlier day: the front of what was, or, on the opening day, what was folded anew.
-#[derive(Drop)]
-pub enum Recorded {
-    Front(Ends),
-    Anew(Past),
-}
-
-/// What a post takes an account back to: the Book at the end of an earlier day, that day, and what is recorded up to then. With the
-/// post among the others it is folded on from there when it is next asked.
+/// What a post takes an account back to: the Book at the end of an earlier day, or before the opening day, and where what is recorded up
+/// to then ends. With the post among the others it is folded on from there when it is next asked.
 #[derive(Drop)]
 pub struct TakenBack {
     pub book: Book,
-    pub reached: Day,
-    pub recorded: Recorded,
+    pub ends: Ends,
 }
 
 /// What a post takes an account back to, if to anything. It lies in memory of its own, since most posts take it nowhere. Clauses see

@@ -1,13 +1,12 @@
 // Folding on, with a mark at each closing on the way.
-ghost use Rattle.std.specs.Prelude.{◌≡◌, ◌+◌, ◌<◌, ◌≤◌, ◌++◌, ℕ, [], ◌∷◌, true, length, Some, None, IfOk, OnOk, vec_len, vec_capacity};
+ghost use Rattle.std.specs.Prelude.{◌≡◌, ◌+◌, ◌<◌, ◌≤◌, ◌++◌, ℕ, [], ◌∷◌, true, length, Some, None, OnOk, vec_len, vec_capacity};
 ghost use Rattle.card_events.specs.Billing.{closing};
 ghost use Rattle.card_events.specs.Range.{last_request_day};
 ghost use Rattle.card_events.specs.History.{anchor_of};
 ghost use Rattle.card_model.specs.CycleDays.{IsOpening};
-ghost use Rattle.card_daily.specs.Given.{opened_in};
 ghost use Rattle.card_book.specs.Stands.{StandsFor, day_to_fold, steps_over};
-ghost use Rattle.card_replay.specs.Pasts.{IsEmpty, PastBegins};
-ghost use Rattle.card_replay.specs.Replays.{ClosesLast, HasMarks, IsFoldedBefore, IsFolding};
+ghost use Rattle.card_replay.specs.Pasts.{PastBegins};
+ghost use Rattle.card_replay.specs.Replays.{ClosesLast, HasMarks, IsFoldedBefore};
 
 use crate::past::Past;
 use card_book::{Book, Inputs};
@@ -107,24 +106,4 @@ pub fn fold_on<L: Ledger>(
     }
     book.advance(alloc, inputs, &mut past.track, to, steps)?;
     Ok(())
-}
-
-/// The Book of an account from its opening on, at the end of a day, and what is recorded up to then.
-pub fn first_book<L: Ledger>(
-    alloc: Global,
-    inputs: &Inputs,
-    past: &mut Past,
-    to: Day,
-    steps: &mut Steps<L>,
-) -> Result<Book, NoMemory>
-    requires empty { IsEmpty past.old }
-    requires opened { opened_in inputs.now ≤ to }
-    requires last { to ≤ last_request_day }
-    ensures folding { IfOk result (λ b. IsFolding inputs.now (record { reached = to; book = b; past = past.new; eve = None })) }
-    ensures steps { OnOk result (steps.new ≡ steps.old + steps_over inputs.now to (opened_in inputs.now)) }
-    ensures most { steps.new ≤ steps.old + steps_over inputs.now to (opened_in inputs.now) }
-{
-    let mut book = Book::start(alloc, inputs)?;
-    fold_on(alloc, inputs, &mut book, past, to, steps)?;
-    Ok(book)
 }

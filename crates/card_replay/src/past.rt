@@ -2,7 +2,7 @@
 ghost use Rattle.std.specs.Prelude.{◌≡◌, ◌-◌, ◌≤◌, nat_le, length, slice_index_or};
 ghost use Rattle.std.specs.List.{filter};
 ghost use Rattle.card_model.specs.Cycles.{Cycle};
-ghost use Rattle.card_replay.specs.Pasts.{AreEnds, IsEmpty, IsFront};
+ghost use Rattle.card_replay.specs.Pasts.{AreEnds, AreFirst, IsEmpty, IsFront};
 
 use card_book::{Accruing, Track, fees_up_to};
 use card_events::Day;
@@ -38,6 +38,18 @@ pub fn nothing(alloc: Global) -> Past
         },
         since: Vec::new(alloc),
         accrued: Vec::new(alloc),
+    }
+}
+
+/// Before the first of each list.
+pub fn first_ends() -> Ends
+    ensures { AreFirst result }
+{
+    Ends {
+        entries: 0,
+        cycles: 0,
+        fees: 0,
+        accrued: 0,
     }
 }
 

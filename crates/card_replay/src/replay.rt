@@ -1,16 +1,19 @@
 // An account with its book folded to the day last reached.
-ghost use Rattle.std.specs.Prelude.{◌≡◌, ◌+◌, ◌≤◌, ℕ, IfOk, OnOk, OnErr, None};
+ghost use Rattle.std.specs.Prelude.{◌≡◌, ◌+◌, ◌≤◌, IfOk, OnOk, OnErr, None};
 ghost use Rattle.card_book.specs.Stands.{day_to_fold, steps_over};
 ghost use Rattle.card_replay.specs.Pasts.{AreSame, PastBegins};
 ghost use Rattle.card_replay.specs.Replays.{FoldsOn, IsFolding};
 
 use crate::change::{Change, IssuedIfAny, TakenBack, TakenBackIfAny};
-use crate::eve::Eve;
-use crate::folding::{first_book, fold_on};
-use crate::foretold::{earlier, may_come};
+use crate::eve::{Eve, eve_of};
+use crate::folding::fold_on;
+use crate::foretold::may_come;
 use crate::issuing::{closed_number, issued_by, push_issued};
 use crate::past::{Past, cut, ends_of, entries_up_to, nothing};
-use crate::rewinding::{cycles_before, go_back, is_unread, needs_today, rewind_if_reached};
+use crate::rewinding::{
+    closed_before, cycles_before, folded_since, go_back, is_folded_to, is_unread, needs_today,
+    rewind, sets_rates,
+};
 use crate::statement::statement_at;
 use crate::taking::take_if_any;
 use card_book::{Book, Folded, Inputs, Issued, Statement};
@@ -24,8 +27,8 @@ use std::mem::replace;
 use std::sync::ledger::Ledger;
 
 /// The posts and the issued statements of an account, with its book folded to the day last reached, what is recorded up to then,
-/// and what has to be kept of each closing to go back to it; and, where there is one, the Book of an earlier day. Clauses see it as
-/// a record of these.
+/// and what has to be kept of each closing to go back to it; and, where there is one, the Book of an earlier day. Where no day is reached
+/// nothing is folded. Clauses see it as a record of these, and of the day last reached, which then is the day before the opening.
 #[derive(Drop)]
 pub struct Replay {
     posts: Posts,
@@ -33,17 +36,17 @@ pub struct Replay {
     book: Book,
     past: Past,
     eve: Option<Eve>,
-    reached: Day,
     has_room: bool,
 }
 
 impl Model for Replay {
     ghost use Rattle.std.specs.Prelude.{◌≡◌, ◌<◌, true, vec_len, vec_capacity};
-    ghost use Rattle.card_replay.specs.Replays.{Replay};
+    ghost use Rattle.card_events.specs.History.{anchor_of};
+    ghost use Rattle.card_replay.specs.Replays.{Replay, day_reached};
 
     ghost Value = { Replay };
 
-    ghost view = { λ r. record { lists = record { posts = r.posts.history; issued = r.issued.items }; corrected = r.posts.corrected; has_room = r.has_room; folding = record { reached = r.reached; book = r.book; past = r.past; eve = r.eve } } };
+    ghost view = { λ r. record { lists = record { posts = r.posts.history; issued = r.issued.items }; corrected = r.posts.corrected; has_room = r.has_room; folding = record { reached = day_reached (anchor_of r.posts.history).opened r.book.day; book = r.book; past = r.past; eve = r.eve } } };
 
     ghost invariant = { λ r. r.has_room ≡ true → (r.posts.has_room ≡ true) × (vec_len r.issued < vec_capacity r.issued) };
 }
@@ -91,21 +94,20 @@ impl Replay {
     ghost use Rattle.card_posts.specs.Posted.{opens};
     ghost use Rattle.card_rates.specs.Segments.{account_segments};
     ghost use Rattle.card_daily.specs.Given.{IsSound};
-    ghost use Rattle.card_book.specs.Stands.{steps_over};
+    ghost use Rattle.card_book.specs.GoingOn as rates;
     ghost use Rattle.card_replay.specs.Changes.{IsChangeOf, IsCommitted, IsPrepared, IsReadyFor, IsRewoundBy, MayPrepare, issued_as};
     ghost use Rattle.card_posts.specs.Draft.{IsFirstWith};
     ghost use Rattle.card_replay.specs.Replays.{IsReplay, IsToday, MayReach, SameLists, given_of, opened_lists, posted_of, present_of};
     ghost use Rattle.card_replay.specs.Standing.{AreStanding, IsForetold, IsStandingCount, MayCome};
     ghost use Rattle.card_replay.specs.Steps.{AreFewToPrepare, IsNear, steps_to};
 
-    /// The account that a post opens today, folded to the end of today. What every run leaves holds of its lists.
-    pub fn start<L: Ledger>(
+    /// The account that a post opens today. It has reached no day: nothing is folded. What every run leaves holds of its lists.
+    pub fn start(
         alloc: Global,
         key: &Name,
         today: Day,
         post: &Post,
         shared: &SharedRows,
-        steps: &mut Steps<L>,
     ) -> Result<Replay, NoMemory>
         requires opens { opens post.now ≡ true }
         requires close_day { IsCloseDay (terms_in post.now).close }
@@ -113,29 +115,27 @@ impl Replay {
         requires dated { today ≤ last_request_day }
         requires sound { IsSound (given_of (opened_lists key.now today post.now) shared.now) }
         ensures lists { IfOk result (λ r. r.lists ≡ opened_lists key.now today post.now) }
-        ensures today { IfOk result (IsToday today shared.now) }
+        ensures replay { IfOk result (IsReplay shared.now) }
+        ensures reached { IfOk result (λ r. r.folding.reached + 1 ≡ opening_in post.now) }
         ensures reach { IfOk result (MayReach today) }
         ensures room { IfOk result (λ r. r.has_room ≡ false) }
-        ensures most { steps.new ≤ steps.old + steps_over (given_of (opened_lists key.now today post.now) shared.now) today (opening_in post.now) }
     {
         let posts = Posts::start(alloc, key, today, post)?;
         let issued = Vec::new(alloc);
-        let mut past = nothing(alloc);
         let inputs = Inputs::new(&posts, &issued, shared);
-        let book = first_book(alloc, &inputs, &mut past, today, steps)?;
+        let book = Book::start(alloc, &inputs)?;
         Ok(Replay {
             posts,
             issued,
             book,
-            past,
+            past: nothing(alloc),
             eve: None,
-            reached: today,
             has_room: false,
         })
     }
 
-    /// Folds to the end of today, which isn't before the day last reached. The posts and the issued statements stay. It takes one
-    /// step a break day after the day last reached, and one more where today is later and none. After want of memory the day last
+    /// Folds to the end of today, which isn't before the opening day or the day last reached. The posts and the issued statements stay. It
+    /// takes one step a break day after the day last reached, and one more where today is later and none. After want of memory the day last
     /// reached is as before.
     pub fn to_day<L: Ledger>(
         &mut self,
@@ -153,19 +153,14 @@ impl Replay {
         ensures steps { OnOk result (steps.new ≡ steps.old + steps_to today shared.now self.old) }
         ensures most { steps.new ≤ steps.old + steps_to today shared.now self.old }
     {
-        if self.reached == today {
+        if is_folded_to(&self.book, today) {
             return Ok(());
         }
         let ends = ends_of(&self.past);
         let inputs = Inputs::new(&self.posts, &self.issued, shared);
         let later = reach(alloc, &inputs, &self.book, &mut self.past, today, steps)?;
         let book = replace(&mut self.book, later);
-        self.eve = Some(Eve {
-            book,
-            day: self.reached,
-            ends,
-        });
-        self.reached = today;
+        self.eve = eve_of(book, ends);
         Ok(())
     }
 
@@ -224,46 +219,90 @@ impl Replay {
         Ok(made)
     }
 
-    // What a post that a fold reads takes the account back to, found with the post among the others for a while.
-    fn drafted<L: Ledger>(
+    // What a post that sets rates takes the account back to, found with the post among the others for a while.
+    fn drafted(
         &mut self,
         alloc: Global,
         key: &Name,
         post: &Post,
         today: Day,
         from: Day,
+        reached: Day,
         shared: &SharedRows,
-        steps: &mut Steps<L>,
-    ) -> Result<Option<TakenBack>, NoMemory>
+    ) -> Result<TakenBack, NoMemory>
         requires may { MayPrepare shared.now today key.now post.now self.old }
         requires first { IsFirstWith shared.now.holidays today post.now (posted_of self.old) from }
+        requires reached { self.old.folding.reached ≡ reached }
+        requires within { from ≤ reached }
         ensures same { SameLists self.old self.new }
         ensures folding { self.new.folding ≡ self.old.folding }
-        ensures rewound { IfOk result (λ made. IsRewoundBy shared.now today key.now post.now made self.old) }
-        ensures most { steps.new ≤ steps.old + 1 }
+        ensures rewound { IfOk result (λ made. IsRewoundBy shared.now today key.now post.now (Some made) self.old) }
     {
         let key = key.copy(alloc)?;
         let draft = self
             .posts
             .draft(alloc, key, today, post, shared.calendar())?;
         let inputs = Inputs::new(&self.posts, &self.issued, shared);
-        let made = rewind_if_reached(
-            alloc,
-            &inputs,
-            post,
-            from,
-            self.reached,
-            &self.book,
-            &self.past,
-            &self.eve,
-            steps,
-        );
+        let made = rewind(alloc, &inputs, post, from, reached, &self.book, &self.past);
         self.posts.withdraw(draft);
         made
     }
 
-    // The same, in memory of its own.
-    fn drafted_if_any<L: Ledger>(
+    // What a post that sets no rate takes the account back to, for which it isn't entered.
+    fn gone_back(
+        &self,
+        alloc: Global,
+        _key: &Name,
+        _post: &Post,
+        _today: Day,
+        from: Day,
+        _reached: Day,
+        shared: &SharedRows,
+    ) -> Result<TakenBack, NoMemory>
+        requires may { MayPrepare shared.now _today _key.now _post.now self.now }
+        requires first { IsFirstWith shared.now.holidays _today _post.now (posted_of self.now) from }
+        requires reached { self.now.folding.reached ≡ _reached }
+        requires within { from ≤ _reached }
+        requires plain { rates.sets_rates _post.now ≡ false }
+        ensures { IfOk result (λ made. IsRewoundBy shared.now _today _key.now _post.now (Some made) self.now) }
+    {
+        let cycle = cycles_before(&self.posts.anchor(), from);
+        let inputs = Inputs::new(&self.posts, &self.issued, shared);
+        let made = go_back(
+            alloc, &inputs, from, cycle, &self.book, &self.past, &self.eve,
+        )?;
+        Ok(made)
+    }
+
+    // What a post that a fold reads takes the account back to, where it changes a day up to the one reached.
+    fn rewound_to(
+        &mut self,
+        alloc: Global,
+        key: &Name,
+        post: &Post,
+        today: Day,
+        from: Day,
+        reached: Day,
+        shared: &SharedRows,
+    ) -> Result<TakenBack, NoMemory>
+        requires may { MayPrepare shared.now today key.now post.now self.old }
+        requires first { IsFirstWith shared.now.holidays today post.now (posted_of self.old) from }
+        requires reached { self.old.folding.reached ≡ reached }
+        requires within { from ≤ reached }
+        ensures same { SameLists self.old self.new }
+        ensures folding { self.new.folding ≡ self.old.folding }
+        ensures rewound { IfOk result (λ made. IsRewoundBy shared.now today key.now post.now (Some made) self.old) }
+    {
+        if sets_rates(post) {
+            self.drafted(alloc, key, post, today, from, reached, shared)
+        } else {
+            self.gone_back(alloc, key, post, today, from, reached, shared)
+        }
+    }
+
+    // What a post that a fold reads takes the account back to, where the first day is known that it changes: to nothing where it changes
+    // only days that aren't folded.
+    fn rewound_from(
         &mut self,
         alloc: Global,
         key: &Name,
@@ -271,75 +310,24 @@ impl Replay {
         today: Day,
         from: Day,
         shared: &SharedRows,
-        steps: &mut Steps<L>,
     ) -> Result<TakenBackIfAny, NoMemory>
         requires may { MayPrepare shared.now today key.now post.now self.old }
         requires first { IsFirstWith shared.now.holidays today post.now (posted_of self.old) from }
         ensures same { SameLists self.old self.new }
         ensures folding { self.new.folding ≡ self.old.folding }
         ensures rewound { IfOk result (λ made. IsRewoundBy shared.now today key.now post.now made self.old) }
-        ensures most { steps.new ≤ steps.old + 1 }
     {
-        match self.drafted(alloc, key, post, today, from, shared, steps)? {
-            Some(earlier) => TakenBackIfAny::of(alloc, earlier),
+        match folded_since(&self.book, from) {
+            Some(reached) => {
+                let made = self.rewound_to(alloc, key, post, today, from, reached, shared)?;
+                TakenBackIfAny::of(alloc, made)
+            }
             None => Ok(TakenBackIfAny::none()),
         }
     }
 
-    // What a post that a fold reads takes the account back to, where the first day is known that it changes, up to the day reached.
-    // Unless it sets rates, or that day comes before the first closing, the post isn't entered.
-    fn gone_back<L: Ledger>(
-        &mut self,
-        alloc: Global,
-        key: &Name,
-        post: &Post,
-        today: Day,
-        from: Day,
-        shared: &SharedRows,
-        steps: &mut Steps<L>,
-    ) -> Result<TakenBackIfAny, NoMemory>
-        requires may { MayPrepare shared.now today key.now post.now self.old }
-        requires first { IsFirstWith shared.now.holidays today post.now (posted_of self.old) from }
-        requires reached { from ≤ self.old.folding.reached }
-        ensures same { SameLists self.old self.new }
-        ensures folding { self.new.folding ≡ self.old.folding }
-        ensures rewound { IfOk result (λ made. IsRewoundBy shared.now today key.now post.now made self.old) }
-        ensures most { steps.new ≤ steps.old + 1 }
-    {
-        let cycle = cycles_before(&self.posts.anchor(), from);
-        let back = go_back(alloc, post, from, cycle, &self.book, &self.past, &self.eve)?;
-        match back {
-            Some(earlier) => TakenBackIfAny::of(alloc, earlier),
-            None => self.drafted_if_any(alloc, key, post, today, from, shared, steps),
-        }
-    }
-
-    // What a post that a fold reads takes the account back to, where the first day is known that it changes.
-    fn rewound_from<L: Ledger>(
-        &mut self,
-        alloc: Global,
-        key: &Name,
-        post: &Post,
-        today: Day,
-        from: Day,
-        shared: &SharedRows,
-        steps: &mut Steps<L>,
-    ) -> Result<TakenBackIfAny, NoMemory>
-        requires may { MayPrepare shared.now today key.now post.now self.old }
-        requires first { IsFirstWith shared.now.holidays today post.now (posted_of self.old) from }
-        ensures same { SameLists self.old self.new }
-        ensures folding { self.new.folding ≡ self.old.folding }
-        ensures rewound { IfOk result (λ made. IsRewoundBy shared.now today key.now post.now made self.old) }
-        ensures most { steps.new ≤ steps.old + 1 }
-    {
-        if self.reached < from {
-            return Ok(TakenBackIfAny::none());
-        }
-        self.gone_back(alloc, key, post, today, from, shared, steps)
-    }
-
     // What a post takes the account back to, where it changes something up to the day reached. The account stays as it is.
-    fn rewound<L: Ledger>(
+    fn rewound(
         &mut self,
         alloc: Global,
         key: &Name,
@@ -347,7 +335,6 @@ impl Replay {
         today: Day,
         from: Day,
         shared: &SharedRows,
-        steps: &mut Steps<L>,
     ) -> Result<TakenBackIfAny, NoMemory>
         requires replay { IsReplay shared.now self.old }
         requires reach { MayReach today self.old }
@@ -360,12 +347,11 @@ impl Replay {
         ensures same { SameLists self.old self.new }
         ensures folding { self.new.folding ≡ self.old.folding }
         ensures rewound { IfOk result (λ made. IsRewoundBy shared.now today key.now post.now made self.old) }
-        ensures most { steps.new ≤ steps.old + 1 }
     {
         if is_unread(post) {
             return Ok(TakenBackIfAny::none());
         }
-        self.rewound_from(alloc, key, post, today, from, shared, steps)
+        self.rewound_from(alloc, key, post, today, from, shared)
     }
 
     /// The first day that a post changes against which there is no reason, told without entering it. It takes no memory.
@@ -380,8 +366,8 @@ impl Replay {
 
     /// Prepares a post against which there is no reason, under a new key, with the first day that it changes: there is room for it, and
     /// the Book is there that it takes the account back to, where that day isn't after the one last reached: that of the eve, of the
-    /// closing before the cycle in which the day lies, or of the opening day. The account reaches today for a Bill, whose row is read
-    /// off the book of today, and for a Plan, a Notice or a Lower; for any other post nothing is folded but that opening day.
+    /// closing before the cycle in which the day lies, or, in the first cycle, one before the opening. The account reaches today for a
+    /// Bill, whose row is read off the book of today, and for a Plan, a Notice or a Lower; for any other post nothing is folded.
     /// The posts and the issued statements stay as they are; with the post, they are as every run leaves them. The day last reached
     /// is as before, or today.
     pub fn prepare<L: Ledger>(
@@ -412,7 +398,7 @@ impl Replay {
         self.reach_for(alloc, post, today, shared, steps)?;
         let issued = self.issued_today(alloc, post, today, shared)?;
         self.make_room(alloc)?;
-        let rewound = self.rewound(alloc, &key, post, today, from, shared, steps)?;
+        let rewound = self.rewound(alloc, &key, post, today, from, shared)?;
         Ok(Change {
             key,
             post: *post,
@@ -435,14 +421,12 @@ impl Replay {
     {
         push_issued(&mut self.issued, change.issued);
         self.has_room = false;
-        let reached = take_if_any(
+        take_if_any(
             &mut self.book,
             &mut self.past,
             &mut self.eve,
-            self.reached,
             change.rewound,
         );
-        self.reached = reached;
         let pushed = self
             .posts
             .add(change.key, change.today, &change.post, shared.calendar());
@@ -489,8 +473,8 @@ impl Replay {
 
     /// How many of the first entries that are recorded stay if the account takes a post today, whatever it is then taken back to: those up
     /// to the last closing before the earlier of the first day that the post changes and the day last reached. They are 0 where the account
-    /// takes no more posts, where the post is about a later one than there is, and for a payment that came in, or an Amend that lies,
-    /// before the opening day or after today. It takes no memory.
+    /// takes no more posts, where the post is about a later one than there is, for a payment at a minute above 1,439, and for a payment
+    /// that came in, or an Amend that lies, before the opening day or after today. It takes no memory.
     pub fn standing(&self, post: &Post, today: Day, shared: &SharedRows) -> usize
         requires replay { IsReplay shared.now self.now }
         requires reach { MayReach today self.now }
@@ -499,18 +483,11 @@ impl Replay {
     {
         match self.foretold(post, today, shared) {
             Some(from) => {
-                let day = earlier(from, self.reached);
-                entries_up_to(&self.past, cycles_before(&self.posts.anchor(), day))
+                let cycle = closed_before(&self.posts.anchor(), &self.book, from);
+                entries_up_to(&self.past, cycle)
             }
             None => 0,
         }
-    }
-
-    /// The day last reached.
-    pub fn reached(&self) -> Day
-        ensures { result ≡ self.now.folding.reached }
-    {
-        self.reached
     }
 
     /// What was folded, to be asked: the book at the end of today, which the account has reached.

@@ -13,19 +13,18 @@ pub fold_on-requires-clause-folded : goal.fold_on-requires-clause-folded
 fold_on-requires-clause-folded g c =
     let given = c.args.inputs.now in
     let h = c.requires.folded in
-    let low = h.opened in
     let later = h.later in
-    let here : day_to_fold given c.in_ok-later.later.day ≡ h.reached + 1 = ap (day_to_fold given) (c.in_ok-later.ensures.day ∙ h.folding.day) in
+    let here : day_to_fold given c.in_ok-later.later.day ≡ h.reached + 1 = ap (day_to_fold given) c.in_ok-later.ensures.day ∙ h.folding.day in
     record {
       stands = c.in_ok-later.ensures.stands given c.args.past.now.track h.folding.stands;
       marks = h.folding.marks;
-      opened = omega (arith, low, later);
+      opened = h.opened;
       later = omega (arith, here, later);
       last = h.last;
     }
 
 pub returns-in-Ok-clause-folding : goal.returns-in-Ok-clause-folding
-returns-in-Ok-clause-folding g c = let did = c.in-Ok.ensures in record { day = did.day; whole = did.whole; stands = did.stands; marks = did.marked; eve = tt }
+returns-in-Ok-clause-folding g c = let did = c.in-Ok.ensures in record { day = ap (day_to_fold c.args.inputs.now) did.day; whole = did.whole; stands = did.stands; marks = did.marked; eve = tt }
 
 pub returns-in-Ok-clause-steps : goal.returns-in-Ok-clause-steps
 returns-in-Ok-clause-steps g c =

@@ -10,6 +10,6 @@ returns c =
     let past = c.args.past.now in
     let at = c.ends_at-ends.ensures in
     let was = c.in_ok-earlier.ensures in
-    at-closing c.args.book.now past c.ends_at-ends.result c.closing_of-day.result c.in_ok-earlier.earlier
+    at-closing c.args.book.now past c.ends_at-ends.result c.in_ok-earlier.earlier
     (λ g from number. ends-are g from past c.ends_at-ends.result number at.cycles at.none at.some at.fees at.accrued)
-    c.requires.some c.index-since.ensures c.deref.ensures.value was.stands was.day was.whole c.closing_of-day.ensures
+    c.requires.some c.index-since.ensures c.deref.ensures.value was.stands was.day was.whole

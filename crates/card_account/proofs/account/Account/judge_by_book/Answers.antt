@@ -5,7 +5,7 @@ use Rattle.card_replay.specs.Replays.{present_of}
 use Rattle.card_account.proofs.account.Account.judge_by_book.Goals as goal
 
 pub folded-folded-requires : goal.folded-folded-requires
-folded-folded-requires c = record { replay = c.requires.account.replay; reached = c.requires.today }
+folded-folded-requires c = record { replay = c.requires.account.replay; reached = c.requires.today; opened = c.requires.account.reach.opened }
 
 pub reason_by_book-requires : goal.reason_by_book-requires
 reason_by_book-requires c = record { book = c.folded-folded.ensures.book ∙ ap book_today (sym c.present.ensures) }

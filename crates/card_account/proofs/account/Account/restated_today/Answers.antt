@@ -12,7 +12,7 @@ use Rattle.card_account.proofs.account.Account.restated_today.Goals as goal
 pub statement-requires-clause-today : goal.statement-requires-clause-today
 statement-requires-clause-today c =
     subst (λ (a : OpenAccount). IsToday c.args.today c.args.shared.now (replay_of a)) (sym c.self.view_is)
-    (record { replay = c.requires.account.replay; reached = c.requires.today })
+    (record { replay = c.requires.account.replay; reached = c.requires.today; opened = c.requires.account.reach.opened })
 
 pub statement-requires-clause-small : goal.statement-requires-clause-small
 statement-requires-clause-small c =

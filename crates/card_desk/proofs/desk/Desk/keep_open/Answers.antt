@@ -14,9 +14,8 @@ use Rattle.card_desk.proofs.DeskLemmas.{count_opened, opened_state, state_by}
 use Rattle.card_desk.proofs.IndexLemmas.{index_back, index_pushed}
 use Rattle.card_desk.specs.IndexPlaces.{Places}
 use Rattle.card_desk.proofs.KeptLemmas.{index_desk, opened_desk}
-use Rattle.card_desk.proofs.Left.{none_to_open}
 use Rattle.card_desk.proofs.OutcomeLemmas.{open_accepted, opening_reason}
-use Rattle.card_desk.proofs.Running.{few_opened, opened_is_running, opened_sound}
+use Rattle.card_desk.proofs.Running.{opened_is_running, opened_sound}
 use Rattle.card_replay.specs.Replays.{opened_lists}
 use Rattle.card_desk.proofs.PlaceLemmas.{no_place}
 use Rattle.card_desk.proofs.StepLemmas.{goes_on, kept, post_accepted, wanted_memory}
@@ -131,53 +130,6 @@ open-requires-clause-sound g c =
     opened_sound d.index d.common d.count d.today d.shared.items d.accounts.items (opened_lists c.args.key.now d.today c.args.post.now) c.self.invariant
     (opened_is_running d.index d.common d.count d.today d.shared.items d.accounts.items s c.args.account.now c.args.key.now c.args.post.now c.self.invariant state taken c.requires.absent c.requires.open c.requires.no_reason)
 
--- ---- its steps
-pub returns-in_err-row-clause-most : goal.returns-in_err-row-clause-most
-returns-in_err-row-clause-most g c = none_to_open c.args.self.now.state c.args.post.now (outcome_in c.args.self.now.state c.args.account.now c.args.key.now c.args.post.now) c.args.steps.now
-
-pub returns-in_err-name-clause-most : goal.returns-in_err-name-clause-most
-returns-in_err-name-clause-most g c = none_to_open c.args.self.now.state c.args.post.now (outcome_in c.args.self.now.state c.args.account.now c.args.key.now c.args.post.now) c.args.steps.now
-
-pub returns-in_err-made-clause-most : goal.returns-in_err-made-clause-most
-returns-in_err-made-clause-most g c =
-    let d = c.self.inside in
-    let s = c.args.self.now.state in
-    let state = state_by _ _ c.self.view_is in
-    let taken : is_request (request.Post c.args.account.now c.args.key.now c.args.post.now) ≡ true = ap is_request (sym c.requires.request) ∙ c.in_ok-row.ensures.held in
-    few_opened d.index d.common d.count d.today d.shared.items d.accounts.items s c.args.account.now c.args.key.now c.args.post.now c.args.steps.now c.open.new.steps c.self.invariant state taken c.requires.absent c.requires.open c.requires.no_reason c.open.ensures.most
-
-pub returns-in_err-reserve-clause-most : goal.returns-in_err-reserve-clause-most
-returns-in_err-reserve-clause-most g c =
-    let d = c.self.inside in
-    let s = c.args.self.now.state in
-    let state = state_by _ _ c.self.view_is in
-    let taken : is_request (request.Post c.args.account.now c.args.key.now c.args.post.now) ≡ true = ap is_request (sym c.requires.request) ∙ c.in_ok-row.ensures.held in
-    few_opened d.index d.common d.count d.today d.shared.items d.accounts.items s c.args.account.now c.args.key.now c.args.post.now c.args.steps.now c.open.new.steps c.self.invariant state taken c.requires.absent c.requires.open c.requires.no_reason c.open.ensures.most
-
-pub returns-in_err-insert-clause-most : goal.returns-in_err-insert-clause-most
-returns-in_err-insert-clause-most g c =
-    let d = c.self.inside in
-    let s = c.args.self.now.state in
-    let state = state_by _ _ c.self.view_is in
-    let taken : is_request (request.Post c.args.account.now c.args.key.now c.args.post.now) ≡ true = ap is_request (sym c.requires.request) ∙ c.in_ok-row.ensures.held in
-    few_opened d.index d.common d.count d.today d.shared.items d.accounts.items s c.args.account.now c.args.key.now c.args.post.now c.args.steps.now c.open.new.steps c.self.invariant state taken c.requires.absent c.requires.open c.requires.no_reason c.open.ensures.most
-
-pub returns-in-Ok-clause-most : goal.returns-in-Ok-clause-most
-returns-in-Ok-clause-most g c =
-    let d = c.self.inside in
-    let s = c.args.self.now.state in
-    let state = state_by _ _ c.self.view_is in
-    let taken : is_request (request.Post c.args.account.now c.args.key.now c.args.post.now) ≡ true = ap is_request (sym c.requires.request) ∙ c.in_ok-row.ensures.held in
-    few_opened d.index d.common d.count d.today d.shared.items d.accounts.items s c.args.account.now c.args.key.now c.args.post.now c.args.steps.now c.open.new.steps c.self.invariant state taken c.requires.absent c.requires.open c.requires.no_reason c.open.ensures.most
-
-pub returns-in-Err-clause-most : goal.returns-in-Err-clause-most
-returns-in-Err-clause-most g c =
-    let d = c.self.inside in
-    let s = c.args.self.now.state in
-    let state = state_by _ _ c.self.view_is in
-    let taken : is_request (request.Post c.args.account.now c.args.key.now c.args.post.now) ≡ true = ap is_request (sym c.requires.request) ∙ c.in_ok-row.ensures.held in
-    few_opened d.index d.common d.count d.today d.shared.items d.accounts.items s c.args.account.now c.args.key.now c.args.post.now c.args.steps.now c.open.new.steps c.self.invariant state taken c.requires.absent c.requires.open c.requires.no_reason c.open.ensures.most
-
 -- ---- the days that accounts have reached
 pub returns-in_err-row-clause-reached : goal.returns-in_err-row-clause-reached
 returns-in_err-row-clause-reached g c = failed-moves _ None _ _ _ c.from_residual.ensures.0 refl
@@ -209,7 +161,7 @@ returns-in-Ok-clause-reached g c =
     let items : c.push_account.new.list.items ≡ d.accounts.items ++ c.in_ok-made.made ∷ [] = c.push_account.ensures ∙ ap (λ l. l ++ c.in_ok-made.made ∷ []) c.in_ok-reserve.ensures.items in
     let outcome = open_accepted s c.args.account.now key p (no_place c.args.account.now 0 s.accounts c.requires.absent).0 c.requires.open c.requires.no_reason in
     done-moves _ None _ _ _
-    (opened-moves d.shared.items d.today d.accounts.items c.push_account.new.list.items c.in_ok-made.made c.args.self.now (outcome_in s c.args.account.now key p) l c.self.view_is items c.in_ok-made.ensures.today outcome)
+    (opened-moves d.shared.items d.today d.accounts.items c.push_account.new.list.items c.in_ok-made.made c.args.self.now (outcome_in s c.args.account.now key p) l c.self.view_is items c.in_ok-made.ensures.reached outcome)
 
 pub returns-in-Ok-clause-recorded : goal.returns-in-Ok-clause-recorded
 returns-in-Ok-clause-recorded g c =

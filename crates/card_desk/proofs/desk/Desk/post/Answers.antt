@@ -3,7 +3,7 @@ use Rattle.card_model.specs.Machine.{State}
 use Rattle.card_desk.specs.Desks.{named_all}
 use Rattle.card_desk.specs.Places.{IsPlace, place_from}
 use Rattle.card_desk.proofs.DeskLemmas.{found_at, found_none, placed_at, state_by}
-use Rattle.card_desk.proofs.Left.{few_on_absent, few_on_there}
+use Rattle.card_desk.proofs.Left.{few_on_there, none_on_absent}
 use Rattle.card_desk.specs.Steps.{AreFewToApply}
 use Rattle.card_events.specs.declared.request.Request.{Request}
 use Rattle.card_desk.proofs.Moves.{named-applied}
@@ -32,8 +32,8 @@ pub returns-in-None-clause-most : goal.returns-in-None-clause-most
 returns-in-None-clause-most g c =
     let absent = ap (λ (s : State). place_from c.args.account.now 0 s.accounts) (sym (state_by _ _ c.self.view_is))
     ∙ found_none c.self.inside.index (named_all c.self.inside.accounts.items) c.args.account.now c.bytes.result.now c.self.invariant.index c.bytes.ensures.value c.in-None.ensures in
-    subst (λ (r : Request). AreFewToApply c.args.self.now r c.args.steps.now c.post_unknown.new.steps) (sym c.requires.request)
-    (few_on_absent c.args.self.now c.args.account.now c.args.key.now c.args.post.now c.args.steps.now c.post_unknown.new.steps absent c.post_unknown.ensures.most)
+    subst (λ (r : Request). AreFewToApply c.args.self.now r c.args.steps.now c.args.steps.now) (sym c.requires.request)
+    (none_on_absent c.args.self.now c.args.account.now c.args.key.now c.args.post.now c.args.steps.now absent)
 
 pub returns-in-Some-clause-reached : goal.returns-in-Some-clause-reached
 returns-in-Some-clause-reached g c =

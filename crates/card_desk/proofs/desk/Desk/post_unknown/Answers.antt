@@ -11,7 +11,6 @@ use Rattle.card_events.specs.declared.reply.Refusal.{Refusal}
 use Rattle.card_model.specs.Machine.{State, outcome_in}
 use Rattle.card_model.specs.Refusals.{reason_to_open}
 use Rattle.card_desk.specs.Applied.{Steps}
-use Rattle.card_desk.proofs.Left.{none_to_open}
 use Rattle.card_desk.proofs.OutcomeLemmas.{open_refused, opening_reason, reason_under, unknown_refused}
 use Rattle.card_desk.proofs.PlaceLemmas.{no_place}
 use Rattle.card_desk.proofs.StepLemmas.{answered, post_refused}
@@ -72,12 +71,6 @@ returns-then-not-is_open-clause-carried g c =
     answered rows (g.K.Keeper.faults c.args.keeper.now) s c.args.request.now (reply.Refused refusal.UnknownAccount)
     (subst (λ (x : Request). Steps rows rows s x s (reply.Refused refusal.UnknownAccount)) (sym c.requires.request)
     (post_refused rows s name key p refusal.UnknownAccount c.requires.asked.fits (unknown_refused s name key p absent (sym c.is_open.ensures ∙ c.if-not-is_open.true))))
-
-pub returns-in-Some-clause-most : goal.returns-in-Some-clause-most
-returns-in-Some-clause-most g c = none_to_open c.args.self.now.state c.args.post.now (outcome_in c.args.self.now.state c.args.account.now c.args.key.now c.args.post.now) c.args.steps.now
-
-pub returns-then-not-is_open-clause-most : goal.returns-then-not-is_open-clause-most
-returns-then-not-is_open-clause-most g c = none_to_open c.args.self.now.state c.args.post.now (outcome_in c.args.self.now.state c.args.account.now c.args.key.now c.args.post.now) c.args.steps.now
 
 -- ---- the days that accounts have reached
 pub returns-in-Some-clause-reached : goal.returns-in-Some-clause-reached

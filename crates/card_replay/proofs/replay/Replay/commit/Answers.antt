@@ -1,12 +1,16 @@
 use Rattle.std.proofs.Common.{◌≡◌, ◌+◌, false, List, [], ◌∷◌, ◌++◌, length, refl, ap, sym, subst, ◌∙◌, arith}
 use Rattle.card_events.specs.History.{anchor_of, corrected}
+use Rattle.card_events.specs.declared.anchor.Anchor.{Anchor}
 use Rattle.card_events.specs.declared.kept.Kept.{Kept}
+use Rattle.card_model.specs.CycleDays.{IsOpening}
 use Rattle.card_posts.specs.Posted.{IsReceived, StandsFor}
 use Rattle.card_model.specs.Cycles.{IssuedRow}
 use Rattle.card_model.specs.Machine.{kept_as}
 use Rattle.card_replay.proofs.Committing.{lists_by}
 use Rattle.card_replay.specs.Changes.{IsCommitted, IsTaken, issued_as}
-use Rattle.card_replay.specs.Replays.{Folding, Replay}
+use Rattle.card_replay.proofs.Changed.{same-anchor}
+use Rattle.card_replay.proofs.LaterRows.{some-posts}
+use Rattle.card_replay.specs.Replays.{Folding, Replay, day_reached}
 use Rattle.card_replay.proofs.replay.Replay.commit.Goals as goal
 
 -- the conditions of `add` are those under which the post was prepared
@@ -44,13 +48,20 @@ returns c =
     let rows : c.self.inside.issued.items ≡ old.lists.issued = ap (λ (r : Replay). r.lists.issued) c.self.view_is in
     let posts = c.add-pushed.ensures.history ∙ ap (λ (hs : List Kept). hs ++ kept_as (length hs + 1) change.key change.today change.post ∷ []) history in
     let issued = c.push_issued.ensures ∙ ap (λ (is : List IssuedRow). is ++ issued_as change.issued) rows in
-    let folding : Folding = record { reached = c.take_if_any-reached.result; book = c.take_if_any-reached.new.book; past = c.take_if_any-reached.new.past; eve = c.take_if_any-reached.new.eve } in
+    let h = c.self.inside.posts.history in
+    let k = kept_as (length h + 1) change.key change.today change.post in
+    let o = (anchor_of h).opened in
+    let taken = c.take_if_any.new in
+    let folding : Folding = record { reached = day_reached (anchor_of c.add-pushed.new.self.history).opened taken.book.day; book = taken.book; past = taken.past; eve = taken.eve } in
+    let opening = subst (λ (hs : List Kept). IsOpening (anchor_of hs)) (sym history) c.requires.prepared.replay.sound.opening in
+    let same : (anchor_of c.add-pushed.new.self.history).opened ≡ o = ap (λ (hs : List Kept). (anchor_of hs).opened) c.add-pushed.ensures.history ∙ ap (λ (a : Anchor). a.opened) (same-anchor h k (some-posts h opening)) in
+    let there = subst (λ n. IsTaken o change.rewound (record { reached = day_reached o c.self.inside.book.day; book = c.self.inside.book; past = c.self.inside.past; eve = c.self.inside.eve }) (record { reached = day_reached n taken.book.day; book = taken.book; past = taken.past; eve = taken.eve })) (sym same) (c.take_if_any.ensures o) in
     let new : Replay = record { lists = lists_by c.add-pushed.new.self.history c.push_issued.new.list.items; corrected = c.add-pushed.new.self.corrected; has_room = false; folding = folding } in
     let committed : IsCommitted c.args.shared.now change old new =
     record {
       lists = ap (λ hs. lists_by hs c.push_issued.new.list.items) posts ∙ ap (lists_by (old.lists.posts ++ kept_as (length old.lists.posts + 1) change.key change.today change.post ∷ [])) issued;
       corrected = subst (λ holidays. StandsFor holidays c.add-pushed.new.self) c.calendar.ensures c.add-pushed.ensures.stands;
-      folding = subst (λ (f : Folding). IsTaken change.rewound f folding) (ap (λ (r : Replay). r.folding) c.self.view_is) c.take_if_any-reached.ensures;
+      folding = subst (λ (r : Replay). IsTaken (anchor_of r.lists.posts).opened change.rewound r.folding folding) c.self.view_is there;
     } in
     record {
       committed = committed;

@@ -1,5 +1,5 @@
-use Rattle.std.proofs.Common.{◌≡◌, ◌+◌, ◌<◌, ◌≤◌, length, sym, ap, subst, ◌∙◌, arith, None}
-use Rattle.std.specs.Prelude.{IfOk, IfSome}
+use Rattle.std.proofs.Common.{◌≡◌, ℕ, ◌+◌, ◌≤◌, length, sym, ap, subst, ◌∙◌, arith}
+use Rattle.std.specs.Prelude.{IfOk}
 use Rattle.card_events.specs.History.{anchor_of, corrected}
 use Rattle.card_events.specs.Keys.{with_key}
 use Rattle.card_model.specs.Machine.{kept_as}
@@ -7,47 +7,48 @@ use Rattle.card_daily.specs.Given.{IsSound}
 use Rattle.card_posts.specs.Posted.{IsReceived, Posted, StandsFor}
 use Rattle.card_reasons.proofs.Accepted.{few, received, target_there}
 use Rattle.card_replay.proofs.Committing.{lists_by, with_post}
-use Rattle.card_replay.proofs.Drafting.{drafted, may-rewind, more-told, result-rewound}
-use Rattle.card_replay.specs.Rewinds.{IsAgain, MayRewindOn}
-use Rattle.card_replay.specs.Replays.{Replay, present_of}
+use Rattle.card_replay.proofs.Drafting.{before-change, drafted, more-told, result-rewound}
+use Rattle.card_replay.proofs.Reached.{folding_of}
+use Rattle.card_replay.specs.Rewinds.{IsAgain, IsBeforeChange, MayRewind}
+use Rattle.card_replay.specs.Replays.{Replay, given_of, present_of}
 use Rattle.card_replay.proofs.replay.Replay.drafted.Goals as goal
 
 -- ---- the post for a while
 pub draft-requires-clause-room : goal.draft-requires-clause-room
-draft-requires-clause-room g c = (c.self.invariant (ap (λ (x : Replay). x.has_room) c.self.view_is ∙ c.requires.may.room)).0
+draft-requires-clause-room c = (c.self.invariant (ap (λ (x : Replay). x.has_room) c.self.view_is ∙ c.requires.may.room)).0
 
 pub draft-requires-clause-few : goal.draft-requires-clause-few
-draft-requires-clause-few g c =
+draft-requires-clause-few c =
     let same = ap (λ (x : Replay). length x.lists.posts) c.self.view_is in
     omega (arith, same, few (present_of c.args.today c.args.shared.now c.args.self.now.lists) c.args.post.now c.requires.may.no_reason)
 
 pub draft-requires-clause-stands : goal.draft-requires-clause-stands
-draft-requires-clause-stands g c =
+draft-requires-clause-stands c =
     subst (λ holidays. StandsFor holidays c.self.inside.posts) (sym c.calendar.ensures)
     (subst (λ (x : Replay). x.corrected ≡ corrected (anchor_of x.lists.posts) c.args.shared.now.holidays x.lists.posts) (sym c.self.view_is) c.requires.may.replay.corrected)
 
 pub draft-requires-clause-fresh : goal.draft-requires-clause-fresh
-draft-requires-clause-fresh g c =
+draft-requires-clause-fresh c =
     ap (λ k. with_key k c.self.inside.posts.history) c.in_ok-key.ensures ∙ (ap (λ (x : Replay). with_key c.args.key.now x.lists.posts) c.self.view_is ∙ c.requires.may.fresh)
 
 pub draft-requires-clause-target : goal.draft-requires-clause-target
-draft-requires-clause-target g c =
+draft-requires-clause-target c =
     let same = ap (λ (x : Replay). length x.lists.posts) c.self.view_is in
     omega (arith, same, target_there (present_of c.args.today c.args.shared.now c.args.self.now.lists) c.args.post.now c.requires.may.no_reason)
 
 pub draft-requires-clause-dated : goal.draft-requires-clause-dated
-draft-requires-clause-dated g c = c.requires.may.reach.last
+draft-requires-clause-dated c = c.requires.may.reach.last
 
 pub draft-requires-clause-received : goal.draft-requires-clause-received
-draft-requires-clause-received g c =
+draft-requires-clause-received c =
     subst (λ (x : Replay). IsReceived (anchor_of x.lists.posts).opened c.args.today c.args.post.now) (sym c.self.view_is)
     (received (present_of c.args.today c.args.shared.now c.args.self.now.lists) c.args.post.now c.requires.may.no_reason)
 
 pub new-inputs-requires-clause-stands : goal.new-inputs-requires-clause-stands
-new-inputs-requires-clause-stands g c = subst (λ holidays. StandsFor holidays c.draft.new.self) c.calendar.ensures c.in_ok-draft.ensures.stands
+new-inputs-requires-clause-stands c = subst (λ holidays. StandsFor holidays c.draft.new.self) c.calendar.ensures c.in_ok-draft.ensures.stands
 
 pub new-inputs-requires-clause-sound : goal.new-inputs-requires-clause-sound
-new-inputs-requires-clause-sound g c =
+new-inputs-requires-clause-sound c =
     let shared = c.args.shared.now in
     let today = c.args.today in
     let key = c.args.key.now in
@@ -60,8 +61,8 @@ new-inputs-requires-clause-sound g c =
     (c.deref.ensures.value ∙ ap (λ (x : Replay). x.lists.issued) c.self.view_is) c.in_ok-key.ensures c.in_ok-draft.ensures.draft (subst (λ holidays. StandsFor holidays new) c.calendar.ensures c.in_ok-draft.ensures.stands) in
     subst IsSound (sym h.inputs) h.more.sound
 
-pub rewind_if_reached-made-requires : goal.rewind_if_reached-made-requires
-rewind_if_reached-made-requires g c =
+pub rewind-made-requires : goal.rewind-made-requires
+rewind-made-requires c =
     let shared = c.args.shared.now in
     let today = c.args.today in
     let key = c.args.key.now in
@@ -74,14 +75,16 @@ rewind_if_reached-made-requires g c =
     (c.deref.ensures.value ∙ ap (λ (x : Replay). x.lists.issued) c.self.view_is) c.in_ok-key.ensures c.in_ok-draft.ensures.draft (subst (λ holidays. StandsFor holidays new) c.calendar.ensures c.in_ok-draft.ensures.stands) in
     let at = more-told shared today key p r c.args.from c.requires.may c.requires.first in
     let inputs = c.new-inputs.ensures ∙ h.inputs in
-    record {
-      change = subst (λ given. c.args.from ≤ c.self.inside.reached → MayRewindOn given p c.args.from c.self.inside.reached c.self.inside.book c.self.inside.past c.self.inside.eve) (sym inputs)
-          (subst (λ (x : Replay). c.args.from ≤ x.folding.reached → MayRewindOn (with_post r.lists key today p shared) p c.args.from x.folding.reached x.folding.book x.folding.past x.folding.eve) (sym c.self.view_is)
-          (λ l. may-rewind shared today key p r c.args.from c.requires.may.replay at l));
-    }
+    let was = given_of r.lists shared in
+    let now = with_post r.lists key today p shared in
+    let reached = c.requires.reached in
+    let within : c.args.from ≤ r.folding.reached = omega (arith, reached, c.requires.within) in
+    let before = subst (λ (n : ℕ). IsBeforeChange was now p c.args.from n r.folding.book r.folding.past) reached (before-change shared today key p r c.args.from c.requires.may.replay at within) in
+    let here = subst (λ (x : Replay). IsBeforeChange was now p c.args.from c.args.reached x.folding.book x.folding.past) (sym c.self.view_is) before in
+    record { change = subst (λ given. MayRewind given p c.args.from c.args.reached c.self.inside.book c.self.inside.past) (sym inputs) (record { old = was; before = here }) }
 
 pub withdraw-requires : goal.withdraw-requires
-withdraw-requires g c =
+withdraw-requires c =
     let shared = c.args.shared.now in
     let today = c.args.today in
     let key = c.args.key.now in
@@ -96,7 +99,7 @@ withdraw-requires g c =
 
 -- ---- what it is taken back to, with the post taken out
 pub returns : goal.returns
-returns g c =
+returns c =
     let shared = c.args.shared.now in
     let today = c.args.today in
     let key = c.args.key.now in
@@ -109,19 +112,19 @@ returns g c =
     (c.deref.ensures.value ∙ ap (λ (x : Replay). x.lists.issued) c.self.view_is) c.in_ok-key.ensures c.in_ok-draft.ensures.draft (subst (λ holidays. StandsFor holidays new) c.calendar.ensures c.in_ok-draft.ensures.stands) in
     let at = more-told shared today key p r c.args.from c.requires.may c.requires.first in
     let inputs = c.new-inputs.ensures ∙ h.inputs in
-    let made = c.rewind_if_reached-made.result in
-    let did = c.rewind_if_reached-made.ensures in
+    let made = c.rewind-made.result in
+    let did = c.rewind-made.ensures in
     let back = c.withdraw.ensures (kept_as (length r.lists.posts + 1) key today p) posts h.draft in
-    let later = subst (λ (x : Replay). IfOk made (λ o. o ≡ None → x.folding.reached < c.args.from)) c.self.view_is did.later in
-    let again = subst (λ (x : Replay). IfOk made (λ o. IfSome o (IsAgain (with_post r.lists key today p shared) c.args.from x.folding.reached x.folding.past))) c.self.view_is
-    (subst (λ given. IfOk made (λ o. IfSome o (IsAgain given c.args.from c.self.inside.reached c.self.inside.past))) inputs did.again) in
+    let now = with_post r.lists key today p shared in
+    let again = subst (λ (x : Replay). IfOk made (IsAgain now c.args.from r.folding.reached x.folding.past)) c.self.view_is
+    (subst (λ (n : ℕ). IfOk made (IsAgain now c.args.from n c.self.inside.past)) (sym c.requires.reached)
+    (subst (λ given. IfOk made (IsAgain given c.args.from c.args.reached c.self.inside.past)) inputs did)) in
     record {
       same = record {
         lists = ap (λ (w : Posted). lists_by w.history c.self.inside.issued.items) back ∙ ap (λ (x : Replay). x.lists) c.self.view_is;
         corrected = ap (λ (w : Posted). w.corrected) back ∙ ap (λ (x : Replay). x.corrected) c.self.view_is;
         room = λ e. ap (λ (x : Replay). x.has_room) c.self.view_is ∙ e;
       };
-      folding = ap (λ (x : Replay). x.folding) c.self.view_is;
-      rewound = result-rewound shared today key p r c.args.from made u c.requires.may.no_reason c.requires.may.replay c.requires.may.ready at later again;
-      most = did.most;
+      folding = ap (λ (w : Posted). folding_of w.history c.self.inside.book c.self.inside.past c.self.inside.eve) back ∙ ap (λ (x : Replay). x.folding) c.self.view_is;
+      rewound = result-rewound shared today key p r c.args.from made c.requires.may at again;
     }

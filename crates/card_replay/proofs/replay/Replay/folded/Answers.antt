@@ -1,13 +1,11 @@
-use Rattle.std.proofs.Common.{◌≡◌, ℕ, sym, ap, subst, ◌∙◌, arith, Some}
+use Rattle.std.proofs.Common.{sym, ap, subst, ◌∙◌, arith}
 use Rattle.card_book.specs.Rewound.{AreFolded}
-use Rattle.card_book.specs.Stands.{StandsFor, since_through}
-use Rattle.card_daily.specs.Given.{book_on}
+use Rattle.card_book.specs.Stands.{StandsFor}
 use Rattle.card_model.specs.Refusals.{book_today}
+use Rattle.card_replay.proofs.Reached.{folded-today}
+use Rattle.card_replay.proofs.Through.{last-is}
 use Rattle.card_replay.specs.Replays.{Replay, given_of}
 use Rattle.card_replay.proofs.replay.Replay.folded.Goals as goal
-
-same-day : (x y : ℕ) → Some x ≡ Some y → x ≡ y
-same-day x y e = cc
 
 pub of-requires : goal.of-requires
 of-requires c =
@@ -17,7 +15,7 @@ of-requires c =
     (record {
       given = given_of r.lists c.args._shared.now;
       sound = h.sound;
-      last = λ day e. let same = same-day r.folding.reached day (sym h.folding.day ∙ e) in let dated = h.dated in omega (arith, same, dated);
+      last = λ day e. let same = last-is (given_of r.lists c.args._shared.now) r.folding.book.day r.folding.reached day h.folding.day e in let dated = h.dated in omega (arith, same, dated);
       stands = h.folding.stands;
     })
 
@@ -28,8 +26,8 @@ returns-clause-book c =
     let h = c.requires.replay in
     let g = given_of r.lists c.args._shared.now in
     let stands = subst (λ (x : Replay). StandsFor g x.folding.book x.folding.past.track) (sym c.self.view_is) h.folding.stands in
-    let day = ap (λ (x : Replay). x.folding.book.day) c.self.view_is ∙ h.folding.day in
-    (c.of.ensures g r.folding.reached stands day).book ∙ ap (book_on g) c.requires.reached
+    let day = ap (λ (x : Replay). x.folding.book.day) c.self.view_is ∙ folded-today c.args._shared.now c.args._today r c.requires in
+    (c.of.ensures g c.args._today stands day).book
 
 pub returns-clause-since : goal.returns-clause-since
 unfolding book_today
@@ -38,8 +36,8 @@ returns-clause-since c =
     let h = c.requires.replay in
     let g = given_of r.lists c.args._shared.now in
     let stands = subst (λ (x : Replay). StandsFor g x.folding.book x.folding.past.track) (sym c.self.view_is) h.folding.stands in
-    let day = ap (λ (x : Replay). x.folding.book.day) c.self.view_is ∙ h.folding.day in
-    (c.of.ensures g r.folding.reached stands day).since ∙ ap (λ d. since_through g (Some d)) c.requires.reached
+    let day = ap (λ (x : Replay). x.folding.book.day) c.self.view_is ∙ folded-today c.args._shared.now c.args._today r c.requires in
+    (c.of.ensures g c.args._today stands day).since
 
 pub returns-clause-segments : goal.returns-clause-segments
 returns-clause-segments c =
@@ -47,5 +45,5 @@ returns-clause-segments c =
     let h = c.requires.replay in
     let g = given_of r.lists c.args._shared.now in
     let stands = subst (λ (x : Replay). StandsFor g x.folding.book x.folding.past.track) (sym c.self.view_is) h.folding.stands in
-    let day = ap (λ (x : Replay). x.folding.book.day) c.self.view_is ∙ h.folding.day in
-    (c.of.ensures g r.folding.reached stands day).segments
+    let day = ap (λ (x : Replay). x.folding.book.day) c.self.view_is ∙ folded-today c.args._shared.now c.args._today r c.requires in
+    (c.of.ensures g c.args._today stands day).segments

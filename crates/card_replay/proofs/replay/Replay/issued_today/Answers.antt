@@ -47,4 +47,4 @@ returns c =
     ∙ (ap (λ g. issued_from g c.self.inside.past.track.cycles.items (c.len-number.result + 1) today p) inputs
     ∙ (ap (λ cs. issued_from (given_of r.lists shared) cs (c.len-number.result + 1) today p) cycles
     ∙ (ap (λ n. issued_from (given_of r.lists shared) r.folding.past.track.cycles.items n today p) number
-    ∙ issues-are today shared r.lists r.folding.past.track.cycles.items p (λ needs. cycles-today shared today r (record { replay = c.requires.replay; reached = c.requires.ready needs })))))
+    ∙ issues-are today shared r.lists r.folding.past.track.cycles.items p (λ needs. cycles-today shared today r c.requires.replay (c.requires.ready needs)))))

@@ -86,7 +86,7 @@ returns-clause-prepared g c =
     (rewound-same shared today c.args.key p made.rewound mid r c.rewound.ensures.same.lists c.rewound.ensures.folding c.in_ok-rewound.ensures.rewound)
 
 pub returns-clause-most : goal.returns-clause-most
-returns-clause-most g c = λ from first. omega (arith, c.rewound.ensures.most, c.reach_for.ensures.most)
+returns-clause-most g c = λ from first. omega (arith, c.reach_for.ensures.most)
 
 -- ---- after want of memory
 pub returns-in_err-reach_for-clause-most : goal.returns-in_err-reach_for-clause-most
@@ -99,7 +99,7 @@ pub returns-in_err-make_room-clause-most : goal.returns-in_err-make_room-clause-
 returns-in_err-make_room-clause-most g c = λ from first. omega (arith, c.reach_for.ensures.most)
 
 pub returns-in_err-rewound-clause-most : goal.returns-in_err-rewound-clause-most
-returns-in_err-rewound-clause-most g c = λ from first. omega (arith, c.rewound.ensures.most, c.reach_for.ensures.most)
+returns-in_err-rewound-clause-most g c = λ from first. omega (arith, c.reach_for.ensures.most)
 
 pub returns-in_err-make_room-clause-reached : goal.returns-in_err-make_room-clause-reached
 returns-in_err-make_room-clause-reached g c = either-same c.args.today c.args.self.now c.reach_for.new.self c.make_room.new.self c.make_room.ensures.folding c.reach_for.ensures.reached

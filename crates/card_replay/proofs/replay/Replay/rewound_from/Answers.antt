@@ -1,21 +1,26 @@
-use Rattle.std.proofs.Common.{sym, ap, subst, arith}
-use Rattle.std.proofs.lemmas.Bool.Decides.{nat_tests}
-use Rattle.card_replay.proofs.Drafting.{later-rewound}
+use Rattle.std.proofs.Common.{◌≡◌, ℕ, ◌<◌, sym, ap, subst, ◌∙◌, Some}
+use Rattle.card_events.specs.History.{anchor_of}
+use Rattle.card_replay.proofs.Drafting.{if-any-rewound, later-rewound}
 use Rattle.card_replay.specs.Changes.{IsRewoundBy}
-use Rattle.card_replay.specs.Replays.{Replay}
+use Rattle.card_replay.specs.Replays.{Replay, day_reached}
 use Rattle.card_replay.proofs.replay.Replay.rewound_from.Goals as goal
 
-pub returns-then-lt-clause-rewound : goal.returns-then-lt-clause-rewound
-returns-then-lt-clause-rewound g c =
-    let less = c.if-lt.true in
-    let means = c.lt.ensures in
-    let same = ap (λ (x : Replay). x.folding.reached) c.self.view_is in
-    subst (λ made. IsRewoundBy c.args.shared.now c.args.today c.args.key.now c.args.post.now made c.args.self.now) (sym c.none.ensures)
-    (later-rewound c.args.shared.now c.args.today c.args.key.now c.args.post.now c.args.self.now c.args.from c.requires.may c.requires.first (grind (arith, nat_tests, less, means, same)))
+pub rewound_to-requires-clause-reached : goal.rewound_to-requires-clause-reached
+rewound_to-requires-clause-reached c =
+    let opened = (anchor_of c.self.inside.posts.history).opened in
+    let is = c.folded_since.ensures.some c.in-Some.reached c.in-Some.is in
+    sym (ap (λ (x : Replay). x.folding.reached) c.self.view_is) ∙ ap (day_reached opened) is.0
 
-pub gone_back-requires-clause-reached : goal.gone_back-requires-clause-reached
-gone_back-requires-clause-reached g c =
-    let less = c.if-lt.false in
-    let means = c.lt.ensures in
-    let same = ap (λ (x : Replay). x.folding.reached) c.self.view_is in
-    grind (arith, nat_tests, less, means, same)
+pub rewound_to-requires-clause-within : goal.rewound_to-requires-clause-within
+rewound_to-requires-clause-within c = (c.folded_since.ensures.some c.in-Some.reached c.in-Some.is).1
+
+pub returns-in_ok-made-in-Some-clause-rewound : goal.returns-in_ok-made-in-Some-clause-rewound
+returns-in_ok-made-in-Some-clause-rewound c =
+    if-any-rewound c.args.shared.now c.args.today c.args.key.now c.args.post.now c.args.self.now c.in_ok-made-in-Some.made c.of.result c.of.ensures c.in_ok-made-in-Some.ensures.rewound
+
+-- ---- what changes only days that aren't folded
+pub returns-in-None-clause-rewound : goal.returns-in-None-clause-rewound
+returns-in-None-clause-rewound c =
+    let late = subst (λ (x : Replay). (day : ℕ) → x.folding.book.day ≡ Some day → day < c.args.from) c.self.view_is (c.folded_since.ensures.none c.in-None.is) in
+    subst (λ made. IsRewoundBy c.args.shared.now c.args.today c.args.key.now c.args.post.now made c.args.self.now) (sym c.none.ensures)
+    (later-rewound c.args.shared.now c.args.today c.args.key.now c.args.post.now c.args.self.now c.args.from c.requires.may c.requires.first late)

@@ -44,7 +44,7 @@ returns-in_ok-statement_at-in-Some c =
     let is = c.closed_number.ensures.some c.in-Some.number c.in-Some.is in
     let mine = c.self.inside.past.track.cycles.items in
     let at = there-is mine c.in-Some.number is.1 (subst (λ (cs : List Cycle). c.in-Some.number ≤ length cs) c.deref-2.ensures.value is.2) in
-    let cycles = ap (λ (x : Replay). x.folding.past.track.cycles.items) c.self.view_is ∙ cycles-today shared c.args._today r c.requires.today in
+    let cycles = ap (λ (x : Replay). x.folding.past.track.cycles.items) c.self.view_is ∙ cycles-today shared c.args._today r c.requires.today.replay c.requires.today.reached in
     let there : cycle_at c.args.cycle (book_today (present_of c.args._today shared r.lists)).cycles ≡ Some at.0 =
     ap (cycle_at c.args.cycle) (sym cycles) ∙ (ap (λ n. cycle_at n mine) (sym is.0) ∙ at.1) in
     ap Some (c.in_ok-statement_at-in-Some.ensures at.0 at.1 ∙ ap (λ x. statement_on x c.args.issue at.0) inputs) ∙ ap (option_map (statement_on g c.args.issue)) (sym there)
@@ -54,6 +54,6 @@ returns-in-None c =
     let shared = c.args.shared.now in
     let r = c.args.self.now in
     let g = given_of r.lists shared in
-    let cycles = ap (λ (x : Replay). x.folding.past.track.cycles.items) c.self.view_is ∙ cycles-today shared c.args._today r c.requires.today in
+    let cycles = ap (λ (x : Replay). x.folding.past.track.cycles.items) c.self.view_is ∙ cycles-today shared c.args._today r c.requires.today.replay c.requires.today.reached in
     let none = ap (cycle_at c.args.cycle) (sym (c.deref-2.ensures.value ∙ cycles)) ∙ c.closed_number.ensures.none c.in-None.is in
     ap (option_map (statement_on g c.args.issue)) (sym none)

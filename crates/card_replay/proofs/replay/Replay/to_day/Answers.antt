@@ -1,13 +1,12 @@
-use Rattle.std.proofs.Common.{◌≡◌, ◌+◌, refl, sym, ap, subst, ◌∙◌, arith, length, Some, None}
-use Rattle.std.proofs.lemmas.Bool.Decides.{nat_tests}
-use Rattle.card_daily.specs.Given.{IsSound}
-use Rattle.card_book.specs.Stands.{day_to_fold, steps_over}
+use Rattle.std.proofs.Common.{◌≡◌, ℕ, ◌+◌, ◌≤◌, refl, sym, ap, subst, ◌∙◌, arith, length, Some, None}
+use Rattle.std.specs.Prelude.{IfSome}
+use Rattle.card_daily.specs.Given.{Given, IsSound, opened_in}
+use Rattle.card_book.specs.Stands.{Summary, day_to_fold, steps_over}
 use Rattle.card_events.specs.History.{anchor_of, corrected}
 use Rattle.card_replay.proofs.Committing.{given_with}
-use Rattle.card_replay.proofs.Reached.{folds-on, last-eve, later-replay, no-steps, same-replay, seen, with-eve}
+use Rattle.card_replay.proofs.Reached.{IsEveOf, day-is, eve-stands, folds-on, later-replay, no-steps, same-replay, seen, with-eve}
 use Rattle.card_replay.specs.Pasts.{AreEnds, PastBegins}
-use Rattle.card_replay.specs.Replays.{Folding, FoldsOn, IsEve, IsFolding, IsReplay, Replay, given_of}
-use Rattle.card_replay.specs.declared.eve.Eve.{Eve}
+use Rattle.card_replay.specs.Replays.{Folding, FoldsOn, IsFolding, IsReplay, Replay, day_reached, given_of}
 use Rattle.card_replay.proofs.replay.Replay.to_day.Goals as goal
 
 pub new-inputs-requires-clause-stands : goal.new-inputs-requires-clause-stands
@@ -36,30 +35,40 @@ reach-requires g c =
 pub returns : goal.returns
 returns g c =
     let shared = c.args.shared.now in
+    let today = c.args.today in
     let r = c.args.self.now in
+    let given : Given = given_of r.lists shared in
     let e = c.new-inputs.ensures ∙ (ap (λ rows. given_with c.self.inside.posts.history rows shared) c.deref.ensures.value ∙ ap (λ (x : Replay). given_of x.lists shared) c.self.view_is) in
     let p = c.reach.new.past in
-    let last : Eve = record { book = c.replace-book.result; day = c.self.inside.reached; ends = c.ends_of-ends.result } in
-    let f : Folding = record { reached = c.args.today; book = c.replace-book.new.dest; past = p; eve = Some last } in
-    let stood : IsEve (given_of r.lists shared) c.args.today p last =
-    subst (λ b. IsEve (given_of r.lists shared) c.args.today p (record { book = b; day = c.self.inside.reached; ends = c.ends_of-ends.result })) (sym c.replace-book.ensures.value)
-    (subst (λ (x : Replay). IsEve (given_of r.lists shared) c.args.today p (record { book = x.folding.book; day = x.folding.reached; ends = c.ends_of-ends.result })) (sym c.self.view_is) (last-eve shared r c.args.today p c.ends_of-ends.result c.requires.replay c.requires.reach (subst (λ (x : Replay). AreEnds c.ends_of-ends.result x.folding.past) c.self.view_is c.ends_of-ends.ensures)
-    (subst (λ (x : Replay). PastBegins x.folding.past p) c.self.view_is c.in_ok-later.ensures.begins))) in
-    let alone = subst (λ given. IsFolding given (record { reached = c.args.today; book = c.in_ok-later.later; past = p; eve = None })) e c.in_ok-later.ensures.folding in
-    let folding = with-eve (given_of r.lists shared) c.args.today c.replace-book.new.dest p last stood (subst (λ b. IsFolding (given_of r.lists shared) (record { reached = c.args.today; book = b; past = p; eve = None })) (sym c.replace-book.ensures.after) alone) in
-    let day = ap (λ (x : Replay). x.folding.book.day) c.self.view_is ∙ c.requires.replay.folding.day in
-    let same = ap (λ given. steps_over given c.args.today (day_to_fold given c.self.inside.book.day)) e ∙ ap (λ o. steps_over (given_of r.lists shared) c.args.today (day_to_fold (given_of r.lists shared) o)) day in
+    let b = c.replace-book.new.dest in
+    let o = c.eve_of.result in
+    let ends = c.ends_of-ends.result in
+    let opened = (anchor_of c.self.inside.posts.history).opened in
+    let same : opened_in given ≡ opened = sym (ap (λ (x : Replay). (anchor_of x.lists.posts).opened) c.self.view_is) in
+    let first = c.requires.replay.sound.opening.first in
+    let alone = subst (λ given. IsFolding given (record { reached = today; book = c.in_ok-later.later; past = p; eve = None })) e c.in_ok-later.ensures.folding in
+    let there = subst (λ (x : Summary). IsFolding given (record { reached = today; book = x; past = p; eve = None })) (sym c.replace-book.ensures.after) alone in
+    let day : day_reached opened b.day ≡ today = day-is given opened b today p same (omega (arith, same, first)) there in
+    let is = subst (λ (x : Summary). IfSome o (IsEveOf x ends)) (c.replace-book.ensures.value ∙ ap (λ (x : Replay). x.folding.book) c.self.view_is) c.eve_of.ensures in
+    let stood = eve-stands shared r today p ends o c.requires.replay c.requires.reach (subst (λ (x : Replay). AreEnds ends x.folding.past) c.self.view_is c.ends_of-ends.ensures)
+    (subst (λ (x : Replay). PastBegins x.folding.past p) c.self.view_is c.in_ok-later.ensures.begins) is in
+    let f : Folding = record { reached = day_reached opened b.day; book = b; past = p; eve = o } in
+    let folding = subst (λ (n : ℕ). IsFolding given (record { reached = n; book = b; past = p; eve = o })) (sym day) (with-eve given today b p o stood there) in
+    let later = c.requires.reach.later in
+    let last = c.requires.reach.last in
+    let left = ap (λ given. steps_over given today (day_to_fold given c.self.inside.book.day)) e
+    ∙ ap (λ (n : ℕ). steps_over given today n) (ap (λ (x : Replay). day_to_fold given x.folding.book.day) c.self.view_is ∙ c.requires.replay.folding.day) in
     record {
       same = record {
         lists = ap (λ (x : Replay). x.lists) c.self.view_is;
         corrected = ap (λ (x : Replay). x.corrected) c.self.view_is;
         room = λ h. ap (λ (x : Replay). x.has_room) c.self.view_is ∙ h;
       };
-      replay = subst (λ (x : Replay). IsReplay shared (record x { folding = f })) (sym c.self.view_is) (later-replay shared r f c.requires.replay c.requires.reach.later c.requires.reach.last folding);
-      reached = refl;
+      replay = subst (λ (x : Replay). IsReplay shared (record x { folding = f })) (sym c.self.view_is) (later-replay shared r f c.requires.replay (omega (arith, later, day)) (omega (arith, last, day)) folding);
+      reached = day;
       err = tt;
-      steps = c.in_ok-later.ensures.steps ∙ ap (λ n. c.args.steps.now + n) same;
-      most = omega (arith, c.reach.ensures.most, same);
+      steps = c.in_ok-later.ensures.steps ∙ ap (λ n. c.args.steps.now + n) left;
+      most = omega (arith, c.reach.ensures.most, left);
     }
 
 -- ---- after want of memory
@@ -74,31 +83,31 @@ pub returns-in_err-later-clause-most : goal.returns-in_err-later-clause-most
 returns-in_err-later-clause-most g c =
     let shared = c.args.shared.now in
     let r = c.args.self.now in
+    let given : Given = given_of r.lists shared in
     let e = c.new-inputs.ensures ∙ (ap (λ rows. given_with c.self.inside.posts.history rows shared) c.deref.ensures.value ∙ ap (λ (x : Replay). given_of x.lists shared) c.self.view_is) in
-    let day = ap (λ (x : Replay). x.folding.book.day) c.self.view_is ∙ c.requires.replay.folding.day in
-    let same = ap (λ given. steps_over given c.args.today (day_to_fold given c.self.inside.book.day)) e ∙ ap (λ o. steps_over (given_of r.lists shared) c.args.today (day_to_fold (given_of r.lists shared) o)) day in
-    omega (arith, c.reach.ensures.most, same)
+    let left = ap (λ given. steps_over given c.args.today (day_to_fold given c.self.inside.book.day)) e
+    ∙ ap (λ (n : ℕ). steps_over given c.args.today n) (ap (λ (x : Replay). day_to_fold given x.folding.book.day) c.self.view_is ∙ c.requires.replay.folding.day) in
+    omega (arith, c.reach.ensures.most, left)
 
 pub returns-in_err-later-clause-replay : goal.returns-in_err-later-clause-replay
 returns-in_err-later-clause-replay g c =
-    same-replay c.args.shared.now (seen c.self.inside.posts.history c.self.inside.issued.items c.self.inside.posts.corrected c.self.inside.has_room (record { reached = c.self.inside.reached; book = c.self.inside.book; past = c.self.inside.past; eve = c.self.inside.eve })) c.reach.new.past c.in_err-later.ensures.err (subst (IsReplay c.args.shared.now) (sym c.self.view_is) c.requires.replay)
+    let in' = c.self.inside in
+    same-replay c.args.shared.now (seen in'.posts.history in'.issued.items in'.posts.corrected in'.has_room (record { reached = day_reached (anchor_of in'.posts.history).opened in'.book.day; book = in'.book; past = in'.past; eve = in'.eve })) c.reach.new.past c.in_err-later.ensures.err (subst (IsReplay c.args.shared.now) (sym c.self.view_is) c.requires.replay)
 
 -- ---- where today is reached
-pub returns-then-eq-clause-replay : goal.returns-then-eq-clause-replay
-returns-then-eq-clause-replay g c = c.requires.replay
+pub returns-then-is_folded_to-clause-replay : goal.returns-then-is_folded_to-clause-replay
+returns-then-is_folded_to-clause-replay g c = c.requires.replay
 
-pub returns-then-eq-clause-steps : goal.returns-then-eq-clause-steps
-returns-then-eq-clause-steps g c =
+pub returns-then-is_folded_to-clause-steps : goal.returns-then-is_folded_to-clause-steps
+returns-then-is_folded_to-clause-steps g c =
     let given = given_of c.args.self.now.lists c.args.shared.now in
-    let is = c.if-eq.true in
-    let means = c.eq.ensures in
-    let here : c.self.inside.reached ≡ c.args.today = grind (arith, nat_tests, is, means) in
+    let opened = (anchor_of c.self.inside.posts.history).opened in
+    let here : day_reached opened c.self.inside.book.day ≡ c.args.today = ap (day_reached opened) (c.is_folded_to.ensures c.if-is_folded_to.true) in
     let reached = sym (ap (λ (x : Replay). x.folding.reached) c.self.view_is) ∙ here in
     let none = ap (λ d. steps_over given c.args.today (d + 1)) reached ∙ no-steps given c.args.today in
     omega (arith, none)
 
-pub returns-then-eq-clause-reached : goal.returns-then-eq-clause-reached
-returns-then-eq-clause-reached g c =
-    let is = c.if-eq.true in
-    let means = c.eq.ensures in
-    grind (arith, nat_tests, is, means)
+pub returns-then-is_folded_to-clause-reached : goal.returns-then-is_folded_to-clause-reached
+returns-then-is_folded_to-clause-reached g c =
+    let opened = (anchor_of c.self.inside.posts.history).opened in
+    sym (ap (λ (x : Replay). x.folding.reached) c.self.view_is) ∙ ap (day_reached opened) (c.is_folded_to.ensures c.if-is_folded_to.true)
