@@ -54,8 +54,3 @@ some_of (Some x) P v h p = ap Some h.1
 pub number_is : (text : List ℕ) → is_decimal text ≡ true → number_of text ≡ Some (value_after 0 text)
 unfolding number_of
 number_is text t = rw t refl
-
-pub is_short : (text : List ℕ) → is_decimal text ≡ true → length text ≤ 12
-unfolding is_decimal
-is_short [] t = omega arith
-is_short (b ∷ bs) t = grind (arith, nat_tests)

@@ -1,6 +1,6 @@
 // The fields of a line, from left to right.
-ghost use Rattle.std.specs.Prelude.{◌≡◌, ◌≤◌, ◌==◌, ◌∷◌, ℕ, List, length, Some, Ok, IfOk, IfErr};
-ghost use Rattle.std.specs.List.{position_or_len};
+ghost use Rattle.std.specs.Prelude.{◌≡◌, ◌+◌, ◌≤◌, ◌==◌, ◌∷◌, ℕ, List, length, take, drop, not, Some, Ok, IfOk, IfErr};
+ghost use Rattle.std.specs.List.{position_or_len, prefix_len};
 ghost use Rattle.card_lines.specs.Fields.{fields_of, fields_left, field, end_at, Gives, Reads, ReadsAll};
 ghost use Rattle.card_lines.specs.Forms.{name_of, number_of, day_of, category_of, place_of, channel_of, plan_kind_of, finding_of};
 
@@ -8,6 +8,7 @@ use crate::forms;
 use crate::line::{BadField, LineFault};
 use card_events::{Category, Channel, Day, Finding, Name, Num, Place, PlanKind};
 use std::alloc::Global;
+use std::simd::prelude::*;
 
 /// The first field, and the rest of the line.
 pub fn split_field(text: &[u8]) -> (&[u8], &[u8])
@@ -17,7 +18,60 @@ pub fn split_field(text: &[u8]) -> (&[u8], &[u8])
     text.split_at(at)
 }
 
+// Where the first space stands, or the length. Most fields are short: sixteen bytes are compared at once, or twice eight.
 fn space_at(text: &[u8]) -> usize
+    ensures value { result ≡ position_or_len (λ b. b == 32) text.now }
+    ensures bound { result ≤ length text.now }
+{
+    let length = text.len();
+    if length >= 16 {
+        let at = space_of_16(text);
+        if at < 16 {
+            return at;
+        }
+    } else if length >= 8 {
+        let at = space_of_8(text, 0);
+        if at < 8 {
+            return at;
+        }
+        return length - 8 + space_of_8(text, length - 8);
+    }
+    space_by_byte(text)
+}
+
+// The same of the first sixteen bytes.
+#[inline(always)]
+fn space_of_16(text: &[u8]) -> usize
+    requires { 16 ≤ length text.now }
+    ensures { result ≡ prefix_len (λ b. not (b == 32)) (take 16 text.now) }
+{
+    let spaces = u8x16::from_slice(text)
+        .simd_eq(u8x16::splat(b' '))
+        .to_bitmask();
+    if spaces == 0 {
+        16
+    } else {
+        spaces.trailing_zeros() as usize
+    }
+}
+
+// The same of the eight bytes from `at` on.
+#[inline(always)]
+fn space_of_8(text: &[u8], at: usize) -> usize
+    requires { at + 8 ≤ length text.now }
+    ensures { result ≡ prefix_len (λ b. not (b == 32)) (take 8 (drop at text.now)) }
+{
+    let spaces = u8x8::from_slice(&text[at..])
+        .simd_eq(u8x8::splat(b' '))
+        .to_bitmask();
+    if spaces == 0 {
+        8
+    } else {
+        spaces.trailing_zeros() as usize
+    }
+}
+
+fn space_by_byte(text: &[u8]) -> usize
     ensures value { result ≡ position_or_len (λ b. b == 32) text.now }
     ensures bound { result ≤ length text.now }
 {

@@ -1,5 +1,5 @@
 // The forms of fields.
-ghost use Rattle.std.specs.Prelude.{◌≡◌, true, ◌≤◌, ◌<◌, ◌^◌, length};
+ghost use Rattle.std.specs.Prelude.{◌≡◌, true, false, ◌&&◌, ◌≤◌, ◌<◌, ◌^◌, length, MatchOption};
 ghost use Rattle.std.specs.Char.{is_ascii_digit};
 ghost use Rattle.std.specs.List.{list_all};
 ghost use Rattle.card_lines.specs.Forms.{number_of, is_decimal, value_after, day_of, request_day_at, category_of, place_in, place_of, channel_of, plan_kind_of, finding_of};
@@ -9,26 +9,44 @@ use crate::word::is_word;
 use card_events::{Category, Channel, Day, Finding, Num, Place, PlanKind};
 
 /// The number with these digits: at most twelve, without a sign, and with no leading zero but `0` itself.
-#[tactic(auto, unfolding(crate::specs::Forms::number_of, crate::specs::Forms::is_decimal))]
+#[tactic(auto, unfolding(crate::specs::Forms::number_of))]
 pub fn read_number(text: &[u8]) -> Option<Num>
     ensures { result ≡ number_of text.now }
 {
-    if !is_decimal_text(text) {
+    if !has_decimal_form(text) {
         return None;
     }
-    Num::new(digits_value(text))
+    match read_digits(text) {
+        None => None,
+        Some(value) => Num::new(value),
+    }
 }
 
+// One to twelve bytes, and no zero before another byte.
 #[tactic(auto, unfolding(crate::specs::Forms::is_decimal))]
-fn is_decimal_text(text: &[u8]) -> bool
-    ensures { result ≡ is_decimal text.now }
+fn has_decimal_form(text: &[u8]) -> bool
+    ensures decides { (result && list_all is_ascii_digit text.now) ≡ is_decimal text.now }
+    ensures few { result ≡ true → length text.now ≤ 12 }
 {
     match text {
         [] => false,
-        [first, others @ ..] => {
-            others.len() < 12 && are_digits(text) && (others.is_empty() || *first != b'0')
-        }
+        [first, others @ ..] => others.len() < 12 && (others.is_empty() || *first != b'0'),
     }
+}
+
+// The number of at most twelve digits. None comes exactly where a byte is no digit.
+fn read_digits(text: &[u8]) -> Option<u64>
+    requires { length text.now ≤ 12 }
+    ensures { MatchOption result (list_all is_ascii_digit text.now ≡ false) (λ v. (list_all is_ascii_digit text.now ≡ true) × (v ≡ value_after 0 text.now) × (v < 10 ^ length text.now)) }
+{
+    let mut value = 0;
+    for b in text {
+        if !b.is_ascii_digit() {
+            return None;
+        }
+        value = 10 * value + (*b - b'0') as u64;
+    }
+    Some(value)
 }
 
 /// Each byte is a decimal digit.
@@ -113,9 +131,10 @@ pub fn read_category(text: &[u8]) -> Option<Category>
 pub fn read_place(text: &[u8]) -> Option<Place>
     ensures { result ≡ place_of text.now }
 {
-    match text.strip_prefix(b"plan:".as_slice()) {
-        Some(number) => read_number(number).map(Place::Plan),
-        None => read_category(text).map(whole_category),
+    if text.len() >= 5 && is_word(&text[..5], b"plan:") {
+        read_number(&text[5..]).map(Place::Plan)
+    } else {
+        read_category(text).map(whole_category)
     }
 }
 

@@ -1,4 +1,4 @@
-ghost use Rattle.std.specs.Prelude.{◌≡◌};
+ghost use Rattle.std.specs.Prelude.{◌≡◌, length};
 ghost use Rattle.std.specs.Str.{bytes_eq};
 ghost use Rattle.card_lines.specs.Words.{word_of, post_kind_of, follow_up_of};
 
@@ -36,12 +36,26 @@ pub enum PostKind {
     Bill,
 }
 
-/// The text is this word, byte for byte. At a call with a word of the program, its length and first bytes are compared in place.
+/// The text is this word, byte for byte. At a call with a word of the program, its length and bytes are compared in place.
 #[inline(always)]
 pub fn is_word(text: &[u8], word: &[u8]) -> bool
     ensures { result ≡ bytes_eq text.now word.now }
 {
-    text == word
+    text.len() == word.len() && has_bytes(text, word)
+}
+
+// Without a call of the comparison of slices, which costs more than a word of the program does.
+#[inline(always)]
+fn has_bytes(text: &[u8], word: &[u8]) -> bool
+    requires { length text.now ≡ length word.now }
+    ensures { result ≡ bytes_eq text.now word.now }
+{
+    for (i, b) in word.iter().enumerate() {
+        if text[i] != *b {
+            return false;
+        }
+    }
+    true
 }
 
 /// The word with these bytes. Case matters; None comes exactly for bytes that are no word.

@@ -1,5 +1,5 @@
 use Rattle.std.proofs.Common.{◌≡◌, ℕ, ◌<◌, eqb, false, get_or}
-use Rattle.card_lines.proofs.fields.space_at.Given as goal
+use Rattle.card_lines.proofs.fields.space_by_byte.Given as goal
 
 abbrev pub invariant-loop-i : goal.invariant-loop-i
 invariant-loop-i l = (k : ℕ) → k < l.i → eqb (get_or l.text k 0) 32 ≡ false
