@@ -80,7 +80,7 @@ fn counts(posts: &Posts, until: &Until, slot: &Slot) -> u64
 }
 
 // the same, where the slot is read
-pub fn read_counts(posts: &Posts, until: &Until, slot: &Slot) -> u64
+fn read_counts(posts: &Posts, until: &Until, slot: &Slot) -> u64
     ensures value { result ≡ read_counts until.now posts.now.history posts.now.corrected slot.now }
     ensures bound { result ≤ unsigned_abs slot.now.cents }
 {
@@ -180,7 +180,7 @@ fn is_credit(posts: &Posts, number: u32) -> bool
 }
 
 // the cents of a credit
-pub fn credits(posts: &Posts, slot: &Slot) -> u64
+fn credits(posts: &Posts, slot: &Slot) -> u64
     ensures value { result ≡ credits posts.now.history slot.now }
     ensures bound { result ≤ unsigned_abs slot.now.cents }
 {

@@ -3,12 +3,13 @@ ghost use Rattle.std.specs.Prelude.{◌≡◌, ℕ, ◌≤◌, IfSome, List, dro
 ghost use Rattle.std.specs.List.{sum_by};
 ghost use Rattle.card_events.specs.History.{CorrectedPost, at_number};
 ghost use Rattle.card_fees.specs.declared.returning.Until.TheVariants as variants;
+ghost use Rattle.card_fees.specs.Counting.{is_credit_at, is_payment_at, reaches};
 ghost use Rattle.card_fees.specs.Tallied.{IsSumOf, credited_since, is_return_at, not_before, paid_since, return_read};
 ghost use Rattle.card_posts.specs.Order.{IsAscending};
 ghost use Rattle.card_posts.specs.Posted.{AreBounded};
 
-use crate::counting::{counted_in_front, credits, read_counts};
-use crate::returning::{Until, reaches};
+use crate::counting::counted_in_front;
+use crate::returning::{Until, is_returned, reaches};
 use card_events::{Day, Post, Slot};
 use card_posts::Posts;
 
@@ -45,12 +46,31 @@ struct Brought {
     read: usize,
 }
 
-fn is_return(posts: &Posts, number: u32) -> bool
-    ensures { result ≡ is_return_at (at_number number posts.now.history) }
+// Which of the kinds that are counted a post is.
+#[derive(Clone, Copy)]
+struct Kinds {
+    is_payment: bool,
+    is_credit: bool,
+    is_return: bool,
+}
+
+// that of the post with a number
+fn kinds_of(posts: &Posts, number: u32) -> Kinds
+    ensures payment { result.is_payment ≡ is_payment_at (at_number number posts.now.history) }
+    ensures credit { result.is_credit ≡ is_credit_at (at_number number posts.now.history) }
+    ensures returns { result.is_return ≡ is_return_at (at_number number posts.now.history) }
 {
     match posts.get(number) {
-        Some(kept) => matches!(kept.post, Post::Return { .. }),
-        None => false,
+        Some(kept) => Kinds {
+            is_payment: matches!(kept.post, Post::Payment { .. }),
+            is_credit: matches!(kept.post, Post::Credit { .. }),
+            is_return: matches!(kept.post, Post::Return { .. }),
+        },
+        None => Kinds {
+            is_payment: false,
+            is_credit: false,
+            is_return: false,
+        },
     }
 }
 
@@ -60,36 +80,42 @@ fn is_early(slot: &Slot, from: Day) -> bool
     slot.day < from
 }
 
-// what a slot from a day on counts, where it is read
-fn paid_since(posts: &Posts, until: &Until, from: Day, slot: &Slot) -> u64
+// what a slot that is read counts from a day on
+fn paid_since(posts: &Posts, until: &Until, from: Day, slot: &Slot, is_payment: bool) -> u64
+    requires read { reaches until.now slot.now.day slot.now.number ≡ true }
+    requires payment { is_payment ≡ is_payment_at (at_number slot.now.number posts.now.history) }
     ensures value { result ≡ paid_since until.now posts.now.history posts.now.corrected from slot.now }
     ensures bound { result ≤ unsigned_abs slot.now.cents }
 {
-    if is_early(slot, from) {
+    if !is_payment || is_early(slot, from) || is_returned(posts, slot.number, until) {
         0
     } else {
-        read_counts(posts, until, slot)
+        slot.cents.unsigned_abs()
     }
 }
 
 // the cents of a credit from a day on, where it is read
-fn credited_since(posts: &Posts, until: &Until, from: Day, slot: &Slot) -> u64
-    ensures value { result ≡ credited_since until.now posts.now.history from slot.now }
+fn credited_since(_posts: &Posts, _until: &Until, from: Day, slot: &Slot, is_credit: bool) -> u64
+    requires read { reaches _until.now slot.now.day slot.now.number ≡ true }
+    requires credit { is_credit ≡ is_credit_at (at_number slot.now.number _posts.now.history) }
+    ensures value { result ≡ credited_since _until.now _posts.now.history from slot.now }
     ensures bound { result ≤ unsigned_abs slot.now.cents }
 {
-    if is_early(slot, from) || !reaches(until, slot) {
+    if !is_credit || is_early(slot, from) {
         0
     } else {
-        credits(posts, slot)
+        slot.cents.unsigned_abs()
     }
 }
 
 // 1 for a Return that is read
-fn return_read(posts: &Posts, until: &Until, slot: &Slot) -> u64
-    ensures value { result ≡ return_read until.now posts.now.history slot.now }
+fn return_read(_posts: &Posts, _until: &Until, _slot: &Slot, is_return: bool) -> u64
+    requires read { reaches _until.now _slot.now.day _slot.now.number ≡ true }
+    requires returns { is_return ≡ is_return_at (at_number _slot.now.number _posts.now.history) }
+    ensures value { result ≡ return_read _until.now _posts.now.history _slot.now }
     ensures bound { result ≤ 1 }
 {
-    (reaches(until, slot) && is_return(posts, slot.number)) as u64
+    is_return as u64
 }
 
 // What the slots that are read bring from a day on. It looks at no slot behind the first that isn't read.
@@ -111,9 +137,10 @@ fn bring(posts: &Posts, slots: &[Slot], from: Day, until: &Until) -> Brought
         if !reaches(until, slot) {
             return brought;
         }
-        brought.paid += paid_since(posts, until, from, slot);
-        brought.credited += credited_since(posts, until, from, slot);
-        brought.returns += return_read(posts, until, slot);
+        let kinds = kinds_of(posts, slot.number);
+        brought.paid += paid_since(posts, until, from, slot, kinds.is_payment);
+        brought.credited += credited_since(posts, until, from, slot, kinds.is_credit);
+        brought.returns += return_read(posts, until, slot, kinds.is_return);
         brought.read += 1;
     }
     brought
