@@ -1,6 +1,7 @@
 pub mod Books
 pub mod Charging
 pub mod ClosingDay
+pub mod Counting
 pub mod Cycles
 pub mod DueDay
 pub mod DueFee

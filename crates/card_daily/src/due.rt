@@ -100,7 +100,13 @@ pub(crate) fn fees_of(issued: Option<&Issued>) -> Option<&[Fee]>
 }
 
 // The late fee for the due date of the last closed cycle, on the day after it.
-fn late_fee(inputs: &Inputs, day: Day, fees: &[Fee], cycle: &Cycle, tally: &mut Tally) -> Option<Fee>
+fn late_fee(
+    inputs: &Inputs,
+    day: Day,
+    fees: &[Fee],
+    cycle: &Cycle,
+    tally: &mut Tally,
+) -> Option<Fee>
     requires dated { IsDayOf inputs.now day }
     requires cycle { last_cycle (before inputs.now day).cycles ≡ Some cycle.now }
     requires due { day ≡ cycle.now.due + 1 }
@@ -112,7 +118,15 @@ fn late_fee(inputs: &Inputs, day: Day, fees: &[Fee], cycle: &Cycle, tally: &mut 
     let anchor = inputs.anchor();
     let due = due_cycle(inputs, day, cycle);
     let issued = fees_of(inputs.issued_since(cycle.number as u64 + 1, day));
-    due_fee(inputs.fees(), fees, inputs.posts(), &anchor, &due, issued, tally)
+    due_fee(
+        inputs.fees(),
+        fees,
+        inputs.posts(),
+        &anchor,
+        &due,
+        issued,
+        tally,
+    )
 }
 
 pub(crate) fn is_day_after(due: Day, day: Day) -> bool
@@ -123,7 +137,13 @@ pub(crate) fn is_day_after(due: Day, day: Day) -> bool
 
 // The late fee that a day begins with.
 #[tactic(auto, unfolding(crate::specs::Due::fee_due))]
-fn fee_due(inputs: &Inputs, day: Day, fees: &[Fee], last: Option<&Cycle>, tally: &mut Tally) -> Option<Fee>
+fn fee_due(
+    inputs: &Inputs,
+    day: Day,
+    fees: &[Fee],
+    last: Option<&Cycle>,
+    tally: &mut Tally,
+) -> Option<Fee>
     requires dated { IsDayOf inputs.now day }
     requires last { option_copied last ≡ last_cycle (before inputs.now day).cycles }
     requires fees { fees.now ≡ (before inputs.now day).fees }
@@ -195,8 +215,9 @@ fn charge_late(
 
 /// On the day after the last cycle's due date, charges the late fee where it wasn't met (12 CFR 1026.52(b)(1)(ii)), and ends
 /// with that due date each penalty rate without an end whose six due dates were met (12 CFR 1026.55(b)(4)(ii)); on other
-/// days it does nothing. The day isn't before the opening day and at most 2099-12-31, and the days before it are folded. After
-/// want of memory state and track are of no use, but that the track begins with what it held.
+/// days it does nothing. The day isn't before the opening day and at most 2099-12-31, and the days before it are folded. What the
+/// tally counted of payments and credits is right for the account's posts up to the day, and stays so, also after want of memory;
+/// state and track are then of no use, but that the track begins with what it held.
 pub fn due_day(
     inputs: &Inputs,
     day: Day,

@@ -77,7 +77,13 @@ fn left_of(inputs: &Inputs, day: Day, number: u32, cycle: &Cycle, tally: &mut Ta
 }
 
 // The same, 0 where no cycle is closed.
-fn left_if_any(inputs: &Inputs, day: Day, number: u32, last: Option<&Cycle>, tally: &mut Tally) -> Cents
+fn left_if_any(
+    inputs: &Inputs,
+    day: Day,
+    number: u32,
+    last: Option<&Cycle>,
+    tally: &mut Tally,
+) -> Cents
     requires dated { IsDayOf inputs.now day }
     requires last { option_copied last ≡ last_cycle (before inputs.now day).cycles }
     requires tally { Tallies inputs.now day tally.old }
@@ -283,8 +289,8 @@ fn end_of(slots: &[Slot], first: usize, day: Day) -> usize
 /// their resolutions (12 CFR 1026.10, .11(a), .13, .52(b), .53), and the kinds that change no balance. A Penalty begins 45 days
 /// later where the account is sixty days late (12 CFR 1026.9(g), .55(b)(4)). The day isn't before the opening day and at most
 /// 2099-12-31; the days before it are folded, and what its due date brought. Its posts are looked for from a place on, as
-/// `place_near` does: for speed alone. After want of memory state and track are of no use, but that the track begins with what
-/// it held.
+/// `place_near` does: for speed alone. What the tally counted of payments and credits is right for the account's posts up to the
+/// day, and stays so, also after want of memory; state and track are then of no use, but that the track begins with what it held.
 pub fn post_day(
     alloc: Global,
     inputs: &Inputs,

@@ -5,7 +5,6 @@ ghost use Rattle.card_closing.specs.Closes.{IsOfBook};
 ghost use Rattle.card_closing.specs.Interest as interest;
 ghost use Rattle.card_events.specs.Billing as billing;
 ghost use Rattle.card_events.specs.Civil.{day_of_month};
-ghost use Rattle.card_fees.specs.Asked.{asks};
 ghost use Rattle.card_fees.specs.DueLaws.{AreDueBy, AreOfTheCalendar, due_cycle_at};
 ghost use Rattle.card_events.specs.History.{anchor_of};
 ghost use Rattle.card_closing.specs.Rows.{Rows, no_rows};
@@ -13,7 +12,7 @@ ghost use Rattle.card_model.specs.Closing as model;
 ghost use Rattle.card_model.specs.Cycles.{Cycle, last_cycle};
 ghost use Rattle.card_model.specs.Folds.{cycle_at};
 ghost use Rattle.card_model.specs.Payments as payments;
-ghost use Rattle.card_daily.specs.Closing.{IsClosing, IsClosingOf};
+ghost use Rattle.card_daily.specs.Closing.{IsClosing};
 ghost use Rattle.card_daily.specs.Given.{IsDayOf, Tallies, account_in, seen_in};
 ghost use Rattle.card_daily.specs.Stands.{AreBefore, ArePosted, Begins, posted, KeepsRoom};
 
@@ -109,9 +108,9 @@ fn purchases(inputs: &Inputs, day: Day, cycles: &[Cycle], tally: &Tally) -> Grac
 }
 
 // What is left of a minimum payment at the closing after its own.
-fn left_of(inputs: &Inputs, day: Day, _number: u32, cycle: &Cycle, tally: &mut Tally) -> Cents
+fn left_of(inputs: &Inputs, day: Day, cycle: &Cycle, tally: &mut Tally) -> Cents
     requires dated { IsDayOf inputs.now day }
-    requires closing { IsClosingOf inputs.now _number day }
+    requires closes { day_of_month day ≡ (anchor_of inputs.now.history).close_day }
     requires last { last_cycle (posted inputs.now day).cycles ≡ Some cycle.now }
     requires tally { Tallies inputs.now day tally.old }
     ensures value { result ≡ pos (payments.past_due (seen_in inputs.now day) day (Some cycle.now)) }
@@ -123,16 +122,16 @@ fn left_of(inputs: &Inputs, day: Day, _number: u32, cycle: &Cycle, tally: &mut T
 }
 
 // What is left of the last minimum payment, 0 at the first closing.
-fn left_at(inputs: &Inputs, day: Day, number: u32, last: Option<&Cycle>, tally: &mut Tally) -> Cents
+fn left_at(inputs: &Inputs, day: Day, last: Option<&Cycle>, tally: &mut Tally) -> Cents
     requires dated { IsDayOf inputs.now day }
-    requires closing { IsClosingOf inputs.now number day }
+    requires closes { day_of_month day ≡ (anchor_of inputs.now.history).close_day }
     requires last { option_copied last ≡ last_cycle (posted inputs.now day).cycles }
     requires tally { Tallies inputs.now day tally.old }
     ensures value { result ≡ pos (payments.past_due (seen_in inputs.now day) day (last_cycle (posted inputs.now day).cycles)) }
     ensures tally { Tallies inputs.now day tally.new }
 {
     match last {
-        Some(cycle) => left_of(inputs, day, number, cycle, tally),
+        Some(cycle) => left_of(inputs, day, cycle, tally),
         None => 0,
     }
 }
@@ -163,7 +162,7 @@ fn closing_on(inputs: &Inputs, day: Day, cycles: &[Cycle], tally: &mut Tally) ->
         previous: previous(last),
         floor: terms.floor.get() as Cents,
         pct: terms.pct.get() as u16,
-        past_due: left_at(inputs, day, number, last, tally),
+        past_due: left_at(inputs, day, last, tally),
     }
 }
 
@@ -225,8 +224,9 @@ fn close_cycle(
 
 /// Where a day is a closing, closes its cycle (12 CFR 1026.7(b), .14(b), .54): its interest is charged, its statement recorded,
 /// and the rows of the next one begin on the day after. On other days it does nothing. The day isn't before the opening day
-/// and at most 2099-12-31, and its posts and rows are folded. After want of memory state and track are of no use, but that
-/// the track begins with what it held.
+/// and at most 2099-12-31, and its posts and rows are folded. What the tally counted of payments and credits is right for the
+/// account's posts up to the day, and stays so, also after want of memory; state and track are then of no use, but that the track
+/// begins with what it held.
 pub fn close_day(
     alloc: Global,
     inputs: &Inputs,

@@ -26,7 +26,7 @@ charge-requires c =
     let g = c.args.inputs.now in
     let day = c.args.day in
     let sound = c.anchor-anchor.ensures.sound in
-    let few = fee-few g day c.in-Some.late sound (sym c.fee_due.ensures ∙ c.in-Some.is) in
+    let few = fee-few g day c.in-Some.late sound (sym c.fee_due.ensures.value ∙ c.in-Some.is) in
     let stand = c.requires.before.stand in
     record {
       rated = rated g _ (before g day) c.args.state.now c.args.track.now stand;
@@ -49,7 +49,7 @@ returns-in_ok-charge-clause-charged c =
     let day = c.args.day in
     let s = c.args.state.now in
     let t = c.args.track.now in
-    let due = sym c.fee_due.ensures ∙ c.in-Some.is in
+    let due = sym c.fee_due.ensures.value ∙ c.in-Some.is in
     let did = c.in_ok-charge.ensures in
     let at = did.stands (account_in g) (seen_in g day) (before g day) (stand-before g day s t c.requires.dated.opened c.requires.before) refl in
     begun g day (Some c.in-Some.late) s c.charge.new.state t c.charge.new.track due c.requires.before
@@ -83,5 +83,5 @@ returns-in_default-clause-charged c =
     let s = c.args.state.now in
     let t = c.args.track.now in
     let h = c.requires.before in
-    begun c.args.inputs.now c.args.day None s s t t (sym c.fee_due.ensures ∙ c.in_default.is) h
+    begun c.args.inputs.now c.args.day None s s t t (sym c.fee_due.ensures.value ∙ c.in_default.is) h
     (record { entries = h.stand.entries; cycles = refl; fees = h.stand.fees; sums = h.stand.sums; segments = refl; rates = refl; rows = refl; accruals = refl })

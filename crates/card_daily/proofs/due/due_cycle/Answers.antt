@@ -10,7 +10,7 @@ use Rattle.card_model.specs.Cycles.{Cycle, IssuedRow}
 use Rattle.card_daily.proofs.due.due_cycle.Goals as goal
 
 abbrev told : Cycle → Bool → DueCycle
-told c t = record { cycle = c.number; minimum = pos c.minimum; grace_amount = pos c.grace_amount; has_due_payment = t }
+told c t = record { cycle = c.number; closing = c.closing; due = c.due; minimum = pos c.minimum; grace_amount = pos c.grace_amount; has_due_payment = t }
 
 pub issued_since-requires : goal.issued_since-requires
 issued_since-requires c =

@@ -1,11 +1,13 @@
-use Rattle.std.proofs.Common.{ℕ, ◌+◌, ◌<◌, ◌≤◌, sym, ap, ◌∙◌, arith, subst}
+use Rattle.std.proofs.Common.{◌≡◌, ℕ, ◌+◌, ◌<◌, ◌≤◌, sym, ap, ◌∙◌, arith, subst}
 use Rattle.card_events.specs.Billing.{closing, due}
-use Rattle.card_events.specs.History.{anchor_of, corrected}
+use Rattle.card_events.specs.History.{anchor_of}
 use Rattle.card_events.specs.Range.{last_reckoned_day}
+use Rattle.card_events.specs.declared.anchor.Anchor.{Anchor}
 use Rattle.card_fees.specs.DueLaws.{issued_fees}
 use Rattle.card_fees.specs.declared.due_cycle.DueCycle.{DueCycle}
 use Rattle.card_model.specs.Caps.{row_for}
 use Rattle.card_model.specs.Cycles.{Cycle}
+use Rattle.card_daily.proofs.Counting.{list-is, of-posts, stays}
 use Rattle.card_daily.proofs.DueFee.{few, late-is}
 use Rattle.card_daily.proofs.Following.{upto-closing}
 use Rattle.card_daily.proofs.Lasts.{last-is}
@@ -62,14 +64,37 @@ due_fee-requires-clause-last c =
     subst (λ (x : DueCycle). due c.anchor-anchor.result x.cycle < last_reckoned_day) (sym c.due_cycle-due.ensures)
     (subst (λ a. due a c.args.cycle.now.number < last_reckoned_day) (sym c.anchor-anchor.ensures.value) here)
 
-pub returns : goal.returns
-returns c =
+pub due_fee-requires-clause-closing : goal.due_fee-requires-clause-closing
+due_fee-requires-clause-closing c =
+    let s = c.anchor-anchor.ensures.sound in
+    let g = c.args.inputs.now in
+    let is = last-is g c.args.day c.args.cycle.now s (late-days g c.args.day s c.requires.dated.opened) c.requires.dated.last c.requires.cycle in
+    subst (λ (x : DueCycle). x.closing ≡ closing c.anchor-anchor.result x.cycle) (sym c.due_cycle-due.ensures)
+    (subst (λ (a : Anchor). c.args.cycle.now.closing ≡ closing a c.args.cycle.now.number) (sym c.anchor-anchor.ensures.value) is.days.closing)
+
+pub due_fee-requires-clause-due : goal.due_fee-requires-clause-due
+due_fee-requires-clause-due c =
+    let s = c.anchor-anchor.ensures.sound in
+    let g = c.args.inputs.now in
+    let is = last-is g c.args.day c.args.cycle.now s (late-days g c.args.day s c.requires.dated.opened) c.requires.dated.last c.requires.cycle in
+    subst (λ (x : DueCycle). x.due ≡ due c.anchor-anchor.result x.cycle) (sym c.due_cycle-due.ensures)
+    (subst (λ (a : Anchor). c.args.cycle.now.due ≡ due a c.args.cycle.now.number) (sym c.anchor-anchor.ensures.value) is.days.due)
+
+pub returns-clause-value : goal.returns-clause-value
+returns-clause-value c =
     let s = c.anchor-anchor.ensures.sound in
     let g = c.args.inputs.now in
     let is = last-is g c.args.day c.args.cycle.now s (late-days g c.args.day s c.requires.dated.opened) c.requires.dated.last c.requires.cycle in
     let number = ap (λ (x : Cycle). x.number) c.cycle.view_is in
     let issued = c.fees_of-issued.ensures ∙ (ap issued_fees c.issued_since.ensures ∙ ap (λ n. issued_fees (row_for (n + 1) g.issued)) number) in
-    let posts = c.posts.ensures.stands ∙ ap (λ h. corrected (anchor_of h) g.shared.holidays h) c.posts.ensures.history in
-    c.due_fee.ensures g.shared.holidays c.posts.ensures.stands
+    let posts = list-is g c.posts.result.now c.posts.ensures.stands c.posts.ensures.history in
+    let counted = of-posts g c.posts.result.now c.args.day c.args.tally.now c.posts.ensures.stands c.posts.ensures.history c.requires.tally in
+    c.due_fee.ensures.value g.shared.holidays c.args.day c.posts.ensures.stands counted
     ∙ late-is g c.args.day c.args.cycle.now c.fees.result.now _ c.args.fees.now c.anchor-anchor.result c.posts.result.now.corrected c.due_cycle-due.result is c.requires.due
     c.fees.ensures issued c.requires.fees c.anchor-anchor.ensures.value posts c.due_cycle-due.ensures
+
+pub returns-clause-tally : goal.returns-clause-tally
+returns-clause-tally c =
+    let on = ap (λ (x : DueCycle). x.due) c.due_cycle-due.ensures in
+    let next = c.requires.due in
+    stays c.args.inputs.now c.posts.result.now c.due_cycle-due.result.due c.args.day c.args.tally.now c.due_fee.new.tally c.posts.ensures.stands c.posts.ensures.history c.due_fee.ensures.tally (omega (arith, on, next)) c.requires.tally

@@ -6,7 +6,7 @@ use Rattle.card_daily.proofs.Posting.{on-ok}
 use Rattle.card_daily.proofs.Standing.{rated, within}
 use Rattle.card_bounds.specs.Bounds.{moved}
 use Rattle.card_effects.specs.Returned.{AreReturnable, parts_of}
-use Rattle.card_daily.specs.Given.{seen_in}
+use Rattle.card_daily.specs.Given.{Tallies, seen_in}
 use Rattle.card_daily.specs.Penalties.{begun_on}
 use Rattle.card_daily.specs.Posts.{done_by, place_in}
 use Rattle.card_daily.specs.Stands.{amid, before}
@@ -81,6 +81,16 @@ enter_post-requires-clause-kind c =
     let here = place-found g day place c.posts.result.now c.folded_at.result x sound c.posts.ensures.stands c.posts.ensures.history c.requires.from c.requires.within c.folded_at.ensures c.in-Some.is in
     place-kind g day place x here c.in_default.not-Penalty
 
+pub enter_post-requires-clause-tally : goal.enter_post-requires-clause-tally
+enter_post-requires-clause-tally c =
+    let g = c.args.inputs.now in
+    let day = c.args.day in
+    let place = c.args.place in
+    let x = c.in-Some.post in
+    let sound = c.anchor-anchor.ensures.sound in
+    let here = place-found g day place c.posts.result.now c.folded_at.result x sound c.posts.ensures.stands c.posts.ensures.history c.requires.from c.requires.within c.folded_at.ensures c.in-Some.is in
+    subst (λ d. Tallies g d c.args.tally.now) (sym (place-day g day place x here)) c.requires.tally
+
 pub returns-in_default : goal.returns-in_default
 returns-in_default c =
     let g = c.args.inputs.now in
@@ -94,6 +104,7 @@ returns-in_default c =
       amid = on-ok c.enter_post.result _ _ c.enter_post.ensures.stands (λ did. next-amid g day place x c.args.state.now c.enter_post.new.state c.args.track.now c.enter_post.new.track sound c.requires.dated.opened c.requires.dated.last c.requires.from c.requires.within here kind c.requires.amid c.enter_post.ensures.left.rest did);
       begins = either-way c.enter_post.result _ (on-ok c.enter_post.result _ _ c.enter_post.ensures.stands (λ did. next-begins g day place x c.args.state.now c.enter_post.new.state c.args.track.now c.enter_post.new.track sound c.requires.dated.opened c.requires.dated.last c.requires.from c.requires.within here kind c.requires.amid c.enter_post.ensures.left.rest did)) c.enter_post.ensures.left.err;
       room = c.enter_post.ensures.room;
+      tally = subst (λ d. Tallies g d c.enter_post.new.tally) (place-day g day place x here) c.enter_post.ensures.tally;
     }
 
 pub begin_penalty-requires : goal.begin_penalty-requires

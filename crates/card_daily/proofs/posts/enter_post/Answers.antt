@@ -90,6 +90,7 @@ returns-in_default c =
           (sym (nothing-done row a seen p x.post b c.requires.kind c.in_default.not-Charge c.in_default.not-Credit c.in_default.not-Payment c.in_default.not-Refund c.in_default.not-Return c.in_default.not-Dispute c.in_default.not-Resolve)) h);
       left = record { rest = record { segments = refl; rates = refl; accruals = refl; cycles = refl }; err = tt };
       room = room-same c.args.track.now;
+      tally = c.requires.tally;
     }
 
 pub returns-in-Dispute-clause-stands : goal.returns-in-Dispute-clause-stands

@@ -7,11 +7,12 @@ use Rattle.card_fees.proofs.Remainder.{left-fold}
 use Rattle.card_fees.specs.Asked.{left_by}
 use Rattle.card_fees.specs.DueLaws.{due_cycle_of}
 use Rattle.card_fees.specs.declared.due_cycle.DueCycle.{DueCycle}
-use Rattle.card_events.specs.History.{CorrectedPost, anchor_of, corrected}
+use Rattle.card_events.specs.History.{CorrectedPost, anchor_of}
 use Rattle.card_model.specs.Cycles.{Cycle}
+use Rattle.card_daily.proofs.Counting.{list-is, of-posts, stays}
 use Rattle.card_daily.proofs.Following.{begun-by, due-most}
 use Rattle.card_daily.proofs.Lasts.{IsLast, last-is}
-use Rattle.card_daily.specs.Given.{Given, IsSound, opened_in, seen_in}
+use Rattle.card_daily.specs.Given.{Given, IsSound, opened_in, posts_in, seen_in}
 use Rattle.card_daily.proofs.posts.left_of.Goals as goal
 
 from-one : (g : Given) (day : ℕ) → IsSound g → opened_in g ≤ day → 1 ≤ day
@@ -45,11 +46,13 @@ due_cycle-due-requires-clause-last c =
     let last = c.requires.dated.last in
     omega (arith, before, most, on, last)
 
-pub minimum_left-requires-clause-cycle : goal.minimum_left-requires-clause-cycle
-minimum_left-requires-clause-cycle c =
+pub minimum_left-requires-clause-closing : goal.minimum_left-requires-clause-closing
+minimum_left-requires-clause-closing c =
     let s = c.anchor-anchor.ensures.sound in
-    let is = last-is c.args.inputs.now c.args.day c.args.cycle.now s (from-one c.args.inputs.now c.args.day s c.requires.dated.opened) c.requires.dated.last c.requires.cycle in
-    subst (λ (x : DueCycle). 1 ≤ x.cycle) (sym c.due_cycle-due.ensures) is.first
+    let g = c.args.inputs.now in
+    let is = last-is g c.args.day c.args.cycle.now s (from-one g c.args.day s c.requires.dated.opened) c.requires.dated.last c.requires.cycle in
+    subst (λ (x : DueCycle). x.closing ≡ closing c.anchor-anchor.result x.cycle) (sym c.due_cycle-due.ensures)
+    (subst (λ (a : Anchor). c.args.cycle.now.closing ≡ closing a c.args.cycle.now.number) (sym c.anchor-anchor.ensures.value) is.days.closing)
 
 pub minimum_left-requires-clause-closed : goal.minimum_left-requires-clause-closed
 minimum_left-requires-clause-closed c =
@@ -57,8 +60,8 @@ minimum_left-requires-clause-closed c =
     let g = c.args.inputs.now in
     let is = last-is g c.args.day c.args.cycle.now s (from-one g c.args.day s c.requires.dated.opened) c.requires.dated.last c.requires.cycle in
     let before = closed g c.args.day c.args.cycle.now s c.requires.dated.opened c.requires.dated.last is in
-    subst (λ (x : DueCycle). closing c.anchor-anchor.result x.cycle < c.args.day) (sym c.due_cycle-due.ensures)
-    (subst (λ (a : Anchor). closing a c.args.cycle.now.number < c.args.day) (sym c.anchor-anchor.ensures.value) before)
+    let at = is.days.closing in
+    subst (λ (x : DueCycle). x.closing < c.args.day) (sym c.due_cycle-due.ensures) (omega (arith, before, at))
 
 alike : (a b : Anchor) (ps qs : List CorrectedPost) (x y : DueCycle) (day m n : ℕ) → a ≡ b → ps ≡ qs → x ≡ y → m ≡ n → left_by a ps x day m ≡ left_by b qs y day n
 alike a b ps qs x y day m n e f h k = rw (e, f, h, k) refl
@@ -68,10 +71,15 @@ returns-clause-value c p on number =
     let s = c.anchor-anchor.ensures.sound in
     let g = c.args.inputs.now in
     let cycle = c.args.cycle.now in
-    let all = corrected (anchor_of g.history) g.shared.holidays g.history in
+    let all = posts_in g in
     let is = last-is g c.args.day cycle s (from-one g c.args.day s c.requires.dated.opened) c.requires.dated.last c.requires.cycle in
-    let posts = c.posts.ensures.stands ∙ ap (λ h. corrected (anchor_of h) g.shared.holidays h) c.posts.ensures.history in
+    let posts = list-is g c.posts.result.now c.posts.ensures.stands c.posts.ensures.history in
+    let counted = of-posts g c.posts.result.now c.args.day c.args.tally.now c.posts.ensures.stands c.posts.ensures.history c.requires.tally in
     to_z-of_z w64 c.minimum_left.result (record { sfits = c.minimum_left.type_inv })
-    ∙ (c.minimum_left.ensures g.shared.holidays c.posts.ensures.stands
+    ∙ (c.minimum_left.ensures.value g.shared.holidays c.args.day c.posts.ensures.stands counted
     ∙ ap pos (alike c.anchor-anchor.result (anchor_of g.history) c.posts.result.now.corrected all c.due_cycle-due.result (due_cycle_of (seen_in g c.args.day) cycle) c.args.day c.args.number p.number c.anchor-anchor.ensures.value posts c.due_cycle-due.ensures (sym number)
     ∙ sym (left-fold (anchor_of g.history) all (seen_in g c.args.day) cycle.number cycle p refl is.days on)))
+
+pub returns-clause-tally : goal.returns-clause-tally
+returns-clause-tally c =
+    stays c.args.inputs.now c.posts.result.now c.args.day c.args.day c.args.tally.now c.minimum_left.new.tally c.posts.ensures.stands c.posts.ensures.history c.minimum_left.ensures.tally (omega arith) c.requires.tally

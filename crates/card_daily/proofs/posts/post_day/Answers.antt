@@ -13,6 +13,7 @@ loop-place-init c =
       amid = subst (λ done. AreAmid g c.args.day done c.args.state.now c.args.track.now) (done-none g c.args.day c.place_near-first.result first) c.requires.amid;
       begins = begins-kept c.args.track.now c.args.track.now refl refl refl;
       room = room-same c.args.track.now;
+      tally = c.requires.tally;
     }
 
 pub enter-requires-clause-from : goal.enter-requires-clause-from
@@ -35,6 +36,7 @@ loop-place-preserved c = record {
   amid = c.in_ok-enter.ensures.amid;
   begins = begins-twice c.args.track.now c.loop-place.track c.enter.new.track c.loop-place.invariant.begins c.enter.ensures.begins;
   room = room-then c.args.track.now c.loop-place.track c.enter.new.track c.loop-place.invariant.room c.enter.ensures.room;
+  tally = c.enter.ensures.tally;
 }
 
 pub returns-clause-posted : goal.returns-clause-posted

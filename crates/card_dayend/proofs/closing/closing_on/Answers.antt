@@ -10,7 +10,7 @@ use Rattle.card_model.specs.Cycles.{last_cycle}
 use Rattle.card_model.specs.Folds.{cycle_at}
 use Rattle.card_daily.proofs.ClosingDay.{closes-of, closes-on, due-by, last-at, present-is, their-days}
 use Rattle.card_daily.proofs.Lasts.{last-get}
-use Rattle.card_daily.specs.Closing.{IsClosing, IsClosingOf}
+use Rattle.card_daily.specs.Closing.{IsClosing}
 use Rattle.card_daily.specs.Given.{account_in}
 use Rattle.card_daily.specs.Stands.{posted}
 use Rattle.card_dayend.proofs.closing.closing_on.Goals as goal
@@ -52,13 +52,6 @@ purchases-requires-clause-due c k x e =
     let s = c.anchor-anchor.ensures.sound in
     due-by g day (cycle_of (anchor_of g.history) day) s c.requires.dated.opened c.requires.dated.last (closes-of g day s c.requires.dated.opened c.requires.dated.last c.requires.closes) k x (ap (cycle_at k) (sym c.requires.cycles) ∙ e)
 
-pub left_at-requires-clause-closing : goal.left_at-requires-clause-closing
-left_at-requires-clause-closing c =
-    let g = c.args.inputs.now in
-    let day = c.args.day in
-    let number : c.cycle_of-number.result ≡ cycle_of (anchor_of g.history) day = c.cycle_of-number.ensures.value ∙ ap (λ (a : Anchor). cycle_of a day) c.anchor-anchor.ensures.value in
-    subst (λ n. IsClosingOf g n day) (sym number) (closes-of g day c.anchor-anchor.ensures.sound c.requires.dated.opened c.requires.dated.last c.requires.closes)
-
 pub left_at-requires-clause-last : goal.left_at-requires-clause-last
 left_at-requires-clause-last c = c.last-last.ensures.value ∙ (last-get c.args.cycles.now ∙ ap last_cycle c.requires.cycles)
 
@@ -80,5 +73,5 @@ returns-clause-of_book c =
       owed_before = to_z-of_z w64 c.previous.result (record { sfits = c.previous.type_inv }) ∙ (c.previous.ensures ∙ ap previous_of last);
       least = ap unsigned_abs (to_z_pos w64 c.get.result (omega (arith, few))) ∙ (c.get.ensures.value ∙ ap (λ (t : Terms). t.floor) c.terms-terms.ensures.value);
       part = c.get-2.ensures.value ∙ ap (λ (t : Terms). t.pct) c.terms-terms.ensures.value;
-      left = ap unsigned_abs (to_z-of_z w64 c.left_at.result (record { sfits = c.left_at.type_inv }) ∙ c.left_at.ensures);
+      left = ap unsigned_abs (to_z-of_z w64 c.left_at.result (record { sfits = c.left_at.type_inv }) ∙ c.left_at.ensures.value);
     }
