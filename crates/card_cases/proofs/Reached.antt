@@ -1,5 +1,6 @@
 -- The steps of the account with its opening alone, as it is folded on and a charge is accepted.
-use Rattle.std.proofs.Common.{◌≡◌, ℕ, ◌+◌, ◌<◌, ◌≤◌, ◌-◌, true, false, ◌||◌, nat_le, List, [], ◌∷◌, ◌++◌, refl, sym, ap, ◌∙◌, subst, arith, Some, None}
+use Rattle.std.proofs.Common.{◌≡◌, ℕ, ◌+◌, ◌<◌, ◌≤◌, ◌-◌, true, false, ◌||◌, nat_le, List, [], ◌∷◌, ◌++◌, refl, sym, ap, ◌∙◌, subst, arith, Some, None, Result, Ok, Err}
+use Rattle.std.specs.Prelude.{OnOk}
 use Rattle.std.proofs.lemmas.Bool.Decides.{nat_tests}
 use Rattle.std.proofs.lemmas.List.Elements.{All-cons, All-nil}
 use Rattle.std.proofs.lemmas.List.Sorted.{IsNonDecreasingBy-push, IsNonDecreasingBy-short}
@@ -25,7 +26,7 @@ use Rattle.card_posts.specs.Posted.{last_accepted}
 use Rattle.card_daily.specs.Given.{AreInTurn, EndsWithAClosing, Given, IsSound, NamePayments, book_on}
 use Rattle.card_book.specs.Stands.{steps_over}
 use Rattle.card_book.specs.StepCounts.{breaks_with}
-use Rattle.card_replay.specs.Replays.{MayReach, Replay, given_of, opened_lists, present_of}
+use Rattle.card_replay.specs.Replays.{IsReplay, IsToday, MayReach, Replay, SameLists, given_of, opened_lists, present_of}
 use Rattle.card_replay.specs.Steps.{AreFewToPrepare, IsFirstBetween, first_in_cycle, steps_to}
 use Rattle.card_replay.proofs.Reaching.{one-step as one-step-alone}
 use Rattle.card_cases.proofs.Alone.{breaks_by, four, no-bill, no-days, sound}
@@ -48,6 +49,19 @@ may-reach today r h reached later last = record {
   accepted = subst (λ (l : Lists). last_accepted l.posts ≤ today) (sym h.is) (accepted-early h.number h.key h.accepted today h.early later);
   last = last;
 }
+
+-- when it has reached it, it is at today
+pub at-today : (today day : ℕ) (shared : SharedRows) (old new : Replay) → HasOpeningAlone old.lists → day ≡ today → 19728 ≤ today → SameLists old new → IsReplay shared new → new.folding.reached ≡ day → IsToday today shared new
+at-today today day shared old new h is later same replay reached = record {
+  replay = replay;
+  reached = reached ∙ is;
+  opened = subst (λ (l : Lists). (anchor_of l.posts).opened ≤ today) (sym (same.lists ∙ h.is)) later;
+}
+
+pub is-today : {T E : Type 0} (result : Result T E) (today day : ℕ) (shared : SharedRows) (old new : Replay) → HasOpeningAlone old.lists → day ≡ today → 19728 ≤ today → SameLists old new → IsReplay shared new
+    → OnOk result (new.folding.reached ≡ day) → OnOk result (IsToday today shared new)
+is-today (Ok x) today day shared old new h is later same replay reached = at-today today day shared old new h is later same replay reached
+is-today (Err e) today day shared old new h is later same replay reached = tt
 
 -- what holds of what its fold is given holds of these lists
 from-lists : (P : Given → Type 0) (lists : Lists) (shared : SharedRows) → HasOpeningAlone lists → shared ≡ no_rows → ((n : ℕ) (key : List ℕ) (accepted : ℕ) → P (given_alone (alone n key accepted))) → P (given_of lists shared)
