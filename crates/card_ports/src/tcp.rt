@@ -13,14 +13,22 @@ const SECONDS: u64 = 30;
 // How many seconds `close` waits at most for what the other side still sends.
 const LINGER_SECONDS: u64 = 1;
 
-// How often `close` reads, at most 4,096 bytes each time.
-const LINGER_READS: u32 = 256;
+// How often `close` reads.
+const LINGER_READS: u32 = 1024;
+
+// How many bytes a connection reads at once: the whole request, mostly. Each connection begins with so many zeros, and they move with
+// it.
+const KEPT: usize = 1024;
 
 // How many connections that were broken off `accept` passes over.
 const ABORTED: u32 = 1024;
 
-// How many interruptions by signals one read or write goes on after.
-const INTERRUPTIONS: u32 = 1024;
+// How long a read or a write waits before it looks again how much time is left, in milliseconds. It is less than the second that
+// `close` waits, so that the limit that was set before the first read mostly serves to the end.
+const TURN_MILLIS: u64 = 500;
+
+// How many turns without a byte, and interruptions by signals, one read or write goes on after: 30 seconds have sixty turns.
+const TURNS: u32 = 1024;
 
 // What is left until the deadline. No time left is an error, since a wait of no time would be one without end.
 fn time_left<R: Clock>(clock: &R, deadline: Instant) -> io::Result<Duration> {
@@ -29,6 +37,27 @@ fn time_left<R: Clock>(clock: &R, deadline: Instant) -> io::Result<Duration> {
         return Err(io::Error::from(ErrorKind::TimedOut));
     }
     Ok(left)
+}
+
+// How long the next turn may be: no longer than what is left until the deadline.
+fn next_turn<R: Clock>(clock: &R, deadline: Instant) -> io::Result<Duration> {
+    let left = time_left(clock, deadline)?;
+    let turn = Duration::from_millis(TURN_MILLIS);
+    if left < turn { Ok(left) } else { Ok(turn) }
+}
+
+// Whether a read or a write goes on after this error: its turn is over, or a signal interrupted it, as when a stopped program
+// goes on.
+fn goes_on(kind: ErrorKind) -> bool {
+    kind == ErrorKind::Interrupted || kind == ErrorKind::WouldBlock || kind == ErrorKind::TimedOut
+}
+
+// Whether this is the limit of a socket's waits.
+fn is_set(limit: Option<Duration>, turn: Duration) -> bool {
+    match limit {
+        Some(before) => before == turn,
+        None => false,
+    }
 }
 
 // The moment that comes so many seconds later.
@@ -40,14 +69,20 @@ fn deadline_in<R: Clock>(clock: &R, seconds: u64) -> io::Result<Instant> {
 }
 
 /// A connection over TCP. It has one deadline, and each read and write waits for no more than what is left until then, so a
-/// client that sends a byte now and then is cut too. What is read from the socket and not asked for yet, at most 4,096
+/// client that sends a byte now and then is cut too. What is read from the socket and not asked for yet, at most 1,024
 /// bytes, is kept here. Each error is a fault, and so is a write that takes nothing of a piece that isn't empty.
+///
+/// A socket keeps the limit of its waits. It is half a second from before the first read on, and the same of writes; before each later
+/// one the time that is left is looked at, and the limit is set anew only where less than that is left. A wait that comes to its limit
+/// begins again. So none goes past the deadline, and none begins behind it.
 #[derive(Drop)]
 pub struct TcpLink<'a, R: Net + Clock> {
     clock: &'a R,
     stream: R::Stream,
     deadline: Instant,
-    kept: [u8; 4096],
+    read_limit: Option<Duration>,
+    write_limit: Option<Duration>,
+    kept: [u8; KEPT],
     at: usize,
     end: usize,
     faults: u64,
@@ -64,7 +99,9 @@ impl<'a, R: Net + Clock> TcpLink<'a, R> {
             clock,
             stream,
             deadline,
-            kept: [0; 4096],
+            read_limit: None,
+            write_limit: None,
+            kept: [0; KEPT],
             at: 0,
             end: 0,
             faults: 0,
@@ -78,25 +115,47 @@ impl<'a, R: Net + Clock> TcpLink<'a, R> {
         if self.at < self.end {
             return Ok(());
         }
-        self.end = self.receive()?;
+        self.end = self.receive(self.deadline)?;
         self.at = 0;
         Ok(())
     }
 
-    // Waits for what comes. A signal that interrupts it, as when a stopped program goes on, doesn't end it: the wait begins
-    // again with what is left until the deadline.
-    fn receive(&mut self) -> io::Result<usize>
+    // Has the next read wait for a turn, and no longer than until the deadline.
+    fn begin_read(&mut self, deadline: Instant) -> io::Result<()>
         ensures { self.new.faults ≡ self.old.faults }
     {
-        for _ in 0..INTERRUPTIONS {
-            let left = time_left(self.clock, self.deadline)?;
-            self.stream.set_read_timeout(Some(left))?;
+        let turn = next_turn(self.clock, deadline)?;
+        if !is_set(self.read_limit, turn) {
+            self.stream.set_read_timeout(Some(turn))?;
+            self.read_limit = Some(turn);
+        }
+        Ok(())
+    }
+
+    // The same of the next write, by the deadline of the connection.
+    fn begin_write(&mut self) -> io::Result<()>
+        ensures { self.new.faults ≡ self.old.faults }
+    {
+        let turn = next_turn(self.clock, self.deadline)?;
+        if !is_set(self.write_limit, turn) {
+            self.stream.set_write_timeout(Some(turn))?;
+            self.write_limit = Some(turn);
+        }
+        Ok(())
+    }
+
+    // Waits for what comes, until the deadline.
+    fn receive(&mut self, deadline: Instant) -> io::Result<usize>
+        ensures { self.new.faults ≡ self.old.faults }
+    {
+        for _ in 0..TURNS {
+            self.begin_read(deadline)?;
             match self.stream.read(&mut self.kept) {
-                Err(error) if error.kind() == ErrorKind::Interrupted => {}
+                Err(error) if goes_on(error.kind()) => {}
                 result => return result,
             }
         }
-        Err(io::Error::from(ErrorKind::Interrupted))
+        Err(io::Error::from(ErrorKind::TimedOut))
     }
 
     // Gives as much of what is kept as the buffer has room for.
@@ -110,20 +169,19 @@ impl<'a, R: Net + Clock> TcpLink<'a, R> {
         n
     }
 
-    // Writes what is taken, and goes on after a signal as `receive` does.
+    // Writes what is taken.
     fn send(&mut self, bytes: &[u8]) -> io::Result<usize>
         ensures within { IfOk result (λ n. n ≤ length bytes.now) }
         ensures count { self.new.faults ≡ self.old.faults }
     {
-        for _ in 0..INTERRUPTIONS {
-            let left = time_left(self.clock, self.deadline)?;
-            self.stream.set_write_timeout(Some(left))?;
+        for _ in 0..TURNS {
+            self.begin_write()?;
             match self.stream.write(bytes) {
-                Err(error) if error.kind() == ErrorKind::Interrupted => {}
+                Err(error) if goes_on(error.kind()) => {}
                 result => return result,
             }
         }
-        Err(io::Error::from(ErrorKind::Interrupted))
+        Err(io::Error::from(ErrorKind::TimedOut))
     }
 
     // Says that no more is written, and reads a bounded rest: a socket that is closed over bytes that weren't read may lose
@@ -132,9 +190,7 @@ impl<'a, R: Net + Clock> TcpLink<'a, R> {
         self.stream.shutdown(Shutdown::Write)?;
         let deadline = deadline_in(self.clock, LINGER_SECONDS)?;
         for _ in 0..LINGER_READS {
-            let left = time_left(self.clock, deadline)?;
-            self.stream.set_read_timeout(Some(left))?;
-            if self.stream.read(&mut self.kept)? == 0 {
+            if self.receive(deadline)? == 0 {
                 return Ok(());
             }
         }
