@@ -19,7 +19,7 @@ ASKS = {
     2: "these words are no command of billctl; nothing was done",
     3: "the input failed; find why, and send the rest again (the whole of a CSV file: an import did nothing)",
     4: "the output failed; the rows stand. Send again from the first line without a whole reply; what is kept gets its old number",
-    5: "the rows couldn't be loaded, or some couldn't be kept: lines with a reply stand, and the rest had no effect. Make room on the disk or mend what is named, and send again",
+    5: "the rows couldn't be loaded, or some couldn't be kept: lines with a reply stand; the rest had no effect where the disk was full, and perhaps had where it failed. Make room on the disk or mend what is named, and send again",
     6: "memory was wanted; lines with a reply stand. Give the machine memory, and send again",
     7: "the port is taken, or the system gives no more connections; start the server again",
     8: "a row is damaged, and nothing was done; restore a backup",
