@@ -1,5 +1,6 @@
 // Why a post under a new key isn't accepted, by the posts and, of a Penalty or a Refund, by the book of today.
 ghost use Rattle.std.specs.Prelude.{◌≡◌, true, false, Some};
+ghost use Rattle.card_account.specs.Verdicts.{refunds_no_amount};
 ghost use Rattle.card_events.specs.Dated.{is_dated_post};
 ghost use Rattle.card_events.specs.declared.post.Post.TheVariants as post;
 ghost use Rattle.card_model.specs.Machine.{is_open};
@@ -19,7 +20,7 @@ pub fn reads_book(post: &Post) -> bool
 
 /// Whether a post is a Refund of an amount that is out of its range, which needs no book to be refused.
 pub fn refunds_no_amount(post: &Post) -> bool
-    ensures { (now : Present) → result ≡ true → reason_against now post.now ≡ Some Refusal.AmountRange }
+    ensures { result ≡ refunds_no_amount post.now }
 {
     match post {
         Post::Refund { cents } => is_no_amount(*cents),

@@ -3,3 +3,4 @@ pub mod Laws
 pub mod Lines
 pub mod Repayable
 pub mod Standing
+pub mod Years

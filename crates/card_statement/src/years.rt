@@ -1,44 +1,48 @@
 // Sums of the year to date.
-ghost use Rattle.std.specs.Prelude.{◌≡◌, ◌+◌, ◌≤◌, ◌==◌, ◌^◌, false, if◌then◌else◌, nat_lt, true};
+ghost use Rattle.std.specs.Prelude.{◌≡◌, ◌≤◌, ◌==◌, ◌^◌, if◌then◌else◌};
 ghost use Rattle.std.specs.List.{All};
 ghost use Rattle.card_events.specs.Civil.{date_of};
 ghost use Rattle.card_model.specs.Cycles.{amounts_sum};
 ghost use Rattle.card_model.specs.Fees.{fees_sum};
 ghost use Rattle.card_model.specs.Sheets.{year_sum};
+ghost use Rattle.card_statement.specs.Years.{IsYearOf};
 
 use card_closing::Cycle;
 use card_events::Day;
 
-// Whether a day lies more than 400 days before another.
-fn is_far_before(day: Day, other: Day) -> bool
-    ensures { result ≡ nat_lt (day + 400) other }
-{
-    day.number() + 400 < other.number()
+// The first and the last day of a calendar year.
+#[derive(Clone, Copy)]
+struct Year {
+    first: Day,
+    last: Day,
 }
 
-// The same, which is so of days of an earlier year alone.
-fn is_years_before(day: Day, other: Day) -> bool
-    ensures { result ≡ true → ((date_of day).year == (date_of other).year) ≡ false }
+// The calendar year of a day.
+fn year_of(day: Day) -> Year
+    ensures { IsYearOf day result.first result.last }
 {
-    let _last = other.number();
-    is_far_before(day, other)
+    let (year, _, _) = day.ymd();
+    Year {
+        first: Day::from_ymd(year, 1, 1).unwrap(),
+        last: Day::from_ymd(year, 12, 31).unwrap(),
+    }
 }
 
 // Whether a cycle closed in the calendar year of a day.
-fn in_year(cycle: &Cycle, closing: Day) -> bool
-    ensures { result ≡ ((date_of cycle.now.closing).year == (date_of closing).year) }
+fn in_year(cycle: &Cycle, year: &Year, _closing: Day) -> bool
+    requires { IsYearOf _closing year.now.first year.now.last }
+    ensures { result ≡ ((date_of cycle.now.closing).year == (date_of _closing).year) }
 {
-    if is_years_before(cycle.closing, closing) {
-        return false;
-    }
-    cycle.closing.ymd().0 == closing.ymd().0
+    let _in_calendar = (cycle.closing.number(), _closing.number());
+    year.first <= cycle.closing && cycle.closing <= year.last
 }
 
 // The fees of a cycle, where it closed in that year.
-fn fees_in(cycle: &Cycle, closing: Day) -> u128
+fn fees_in(cycle: &Cycle, year: &Year, closing: Day) -> u128
+    requires { IsYearOf closing year.now.first year.now.last }
     ensures { result ≡ (if (date_of cycle.now.closing).year == (date_of closing).year then fees_sum cycle.now.fees else 0) }
 {
-    if in_year(cycle, closing) {
+    if in_year(cycle, year, closing) {
         cycle.fees.sum()
     } else {
         0
@@ -46,10 +50,11 @@ fn fees_in(cycle: &Cycle, closing: Day) -> u128
 }
 
 // The interest of a cycle, where it closed in that year.
-fn interest_in(cycle: &Cycle, closing: Day) -> u128
+fn interest_in(cycle: &Cycle, year: &Year, closing: Day) -> u128
+    requires { IsYearOf closing year.now.first year.now.last }
     ensures { result ≡ (if (date_of cycle.now.closing).year == (date_of closing).year then amounts_sum cycle.now.interest else 0) }
 {
-    if in_year(cycle, closing) {
+    if in_year(cycle, year, closing) {
         cycle.interest.sum()
     } else {
         0
@@ -62,9 +67,10 @@ pub fn fees_year(cycles: &[Cycle], closing: Day) -> u128
     requires small { All (λ d. fees_sum d.fees ≤ 10 ^ 17) cycles.now }
     ensures { result ≡ year_sum (λ d. fees_sum d.fees) closing cycles.now }
 {
+    let year = year_of(closing);
     let mut sum = 0;
     for i in 0..cycles.len() {
-        sum += fees_in(&cycles[i], closing);
+        sum += fees_in(&cycles[i], &year, closing);
     }
     sum
 }
@@ -75,9 +81,10 @@ pub fn interest_year(cycles: &[Cycle], closing: Day) -> u128
     requires small { All (λ d. amounts_sum d.interest ≤ 10 ^ 17) cycles.now }
     ensures { result ≡ year_sum (λ d. amounts_sum d.interest) closing cycles.now }
 {
+    let year = year_of(closing);
     let mut sum = 0;
     for i in 0..cycles.len() {
-        sum += interest_in(&cycles[i], closing);
+        sum += interest_in(&cycles[i], &year, closing);
     }
     sum
 }

@@ -1,6 +1,6 @@
 use Rattle.std.proofs.Common.{◌≡◌, true, None, sym, ap, ◌∙◌}
 use Rattle.card_account.specs.Verdicts.{verdict_of}
-use Rattle.card_account.proofs.Judging.{open-verdict, refused-verdict}
+use Rattle.card_account.proofs.Judging.{no-amount, open-verdict, refused-verdict}
 use Rattle.card_account.proofs.Told.{on-any-err, stays-told}
 use Rattle.card_events.specs.declared.reply.Refusal.TheVariants as refusal
 use Rattle.card_model.specs.Machine.{NamedAccount, at_key}
@@ -21,7 +21,7 @@ returns-then-refunds_no_amount-clause-told g c = stays-told c.args.today c.args.
 pub returns-then-refunds_no_amount-clause-value : goal.returns-then-refunds_no_amount-clause-value
 returns-then-refunds_no_amount-clause-value g c key =
     let now = present_of c.args.today c.args.shared.now c.args.self.now.named.lists in
-    refused-verdict now key c.args.post.now refusal.AmountRange (sym c.is_open.ensures ∙ c.if-is_open.false) (c.refunds_no_amount.ensures now c.if-refunds_no_amount.true)
+    refused-verdict now key c.args.post.now refusal.AmountRange (sym c.is_open.ensures ∙ c.if-is_open.false) (no-amount now c.args.post.now (sym c.refunds_no_amount.ensures ∙ c.if-refunds_no_amount.true))
 
 pub returns-then-not-reads_book-clause-told : goal.returns-then-not-reads_book-clause-told
 returns-then-not-reads_book-clause-told g c = stays-told c.args.today c.args.shared.now c.args.self.now c.requires.account
