@@ -43,7 +43,6 @@ use Rattle.card_rates.proofs.DayLaws.{rates_of_a_day}
 use Rattle.card_rates.specs.RateBooks.{Rates, rate_of, rates_of}
 use Rattle.card_statement.proofs.AtClosing.{cycles_stand_at_closing}
 use Rattle.card_model.specs.Limits.{balance_limit}
-use Rattle.card_statement.proofs.Chains.{cycle-take}
 use Rattle.card_statement.proofs.Repayable.{amounts-few, amounts-small}
 use Rattle.card_statement.specs.Repayable.{IsRepayable, most_amounts, most_owed}
 use Rattle.card_statement.specs.Gathering.{sizes}

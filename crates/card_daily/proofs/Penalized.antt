@@ -33,7 +33,7 @@ use Rattle.card_closing.specs.PenaltyEnd.{cured_with, met_by}
 use Rattle.card_closing.specs.PenaltyLate.{owes_by}
 use Rattle.card_rates.proofs.Penalties.{penalties_stay}
 use Rattle.card_rates.specs.RateBooks as rates
-use Rattle.card_rates.specs.RateBooks.{Rates, rates_of}
+use Rattle.card_rates.specs.RateBooks.{Rates}
 use Rattle.card_daily.proofs.Books.{before-is}
 use Rattle.card_daily.proofs.ClosingDay.{at-count, due-before, grows-to}
 use Rattle.card_daily.proofs.Following.{due-most}

@@ -1,5 +1,5 @@
 -- What one post changes of state and track.
-use Rattle.std.proofs.Common.{◌≡◌, negsuc, ℕ, ◌≤◌, Bool, true, false, cond, eqb, ◌||◌, List, [], ◌∷◌, ◌++◌, map, append-nil, refl, sym, ap, ◌∙◌, subst, arith, Option, Some, None, Result, Ok, Err, ℤ, pos, w64, to_z, of_z}
+use Rattle.std.proofs.Common.{◌≡◌, ℕ, ◌≤◌, Bool, true, false, cond, eqb, ◌||◌, List, [], ◌∷◌, ◌++◌, map, append-nil, refl, sym, ap, ◌∙◌, subst, arith, Option, Some, None, Result, Ok, Err, ℤ, pos, w64, to_z, of_z}
 use Rattle.std.specs.Prelude.{◌≤ℤ◌, OnOk, min, unsigned_abs}
 use Rattle.std.specs.List.{All, filter}
 use Rattle.std.proofs.lemmas.Bool.Decides.{nat_tests}
@@ -22,7 +22,7 @@ use Rattle.card_model.proofs.EntryFacts.{all-debit}
 use Rattle.card_model.specs.Books.{Account, Book, all_segments, newest_purchase, note_of, with_fee}
 use Rattle.card_model.specs.Cycles.{IssuedRow, Seen}
 use Rattle.card_model.specs.Effects.{effect, is_part_of, meant_for, parts_entries, payment_at, put_back, returned, returned_fee, size}
-use Rattle.card_model.specs.Entries.{at_least_zero, credit_balance, debit}
+use Rattle.card_model.specs.Entries.{credit_balance, debit}
 use Rattle.card_model.specs.Fees.{fee_cents}
 use Rattle.card_model.specs.Limits.{balance_limit}
 use Rattle.card_model.specs.Payments.{returns}

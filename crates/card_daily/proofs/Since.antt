@@ -4,9 +4,7 @@ use Rattle.std.specs.List.{All}
 use Rattle.std.specs.List.Sorted.{IsNonDecreasingBy}
 use Rattle.std.proofs.lemmas.Bool.{cases_lt, ne_eqb}
 use Rattle.std.proofs.lemmas.List.{get_or_default}
-use Rattle.std.proofs.lemmas.List.Elements.{All-get_or, All-weaker}
-use Rattle.card_events.specs.Billing.{closing}
-use Rattle.card_events.specs.declared.anchor.Anchor.{Anchor}
+use Rattle.std.proofs.lemmas.List.Elements.{All-get_or}
 use Rattle.card_model.specs.Accepted.{AreSingle}
 use Rattle.card_model.specs.Caps.{row_for}
 use Rattle.card_model.specs.Cycles.{IssuedRow}

@@ -1,7 +1,7 @@
 -- What is kept of each segment in turn, changed place by place.
-use Rattle.std.proofs.Common.{◌≡◌, ℕ, zero, suc, ◌+◌, ◌-◌, ◌<◌, ◌≤◌, List, [], ◌∷◌, ◌++◌, map, take, drop, length, get_or, set, refl, sym, ap, ◌∙◌, subst, arith}
+use Rattle.std.proofs.Common.{◌≡◌, ℕ, zero, suc, ◌+◌, ◌<◌, ◌≤◌, List, [], ◌∷◌, ◌++◌, map, take, drop, length, get_or, set, refl, sym, ap, ◌∙◌, subst, arith}
 use Rattle.std.specs.List.{Contains}
-use Rattle.std.proofs.lemmas.List.{append-nil, drop_all, get_or-drop, get_or-map, length-drop, length-map, take_all}
+use Rattle.std.proofs.lemmas.List.{append-nil, drop_all, length-drop, length-map, take_all}
 use Rattle.card_effects.specs.Standing.{AreRated}
 use Rattle.card_model.specs.Segments.{SegmentTerms, kept_segment, opening_vintage}
 use Rattle.card_model.specs.declared.segment.Segment.{Segment}

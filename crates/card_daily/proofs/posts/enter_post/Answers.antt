@@ -5,7 +5,7 @@ use Rattle.card_model.specs.Books.{Book}
 use Rattle.card_model.specs.Deadlines.{resolves}
 use Rattle.card_model.specs.Payments.{is_payment, returns}
 use Rattle.card_rates.specs.declared.day.DayPost.{DayPost}
-use Rattle.card_daily.proofs.Posting.{handed, nothing-done, of-kind, of-return, on-ok, returns-none, slot-is}
+use Rattle.card_daily.proofs.Posting.{nothing-done, of-kind, of-return, on-ok, returns-none, slot-is}
 use Rattle.card_daily.proofs.Standing.{room-same}
 use Rattle.card_daily.specs.Given.{account_in, opened_in, row_in, seen_in}
 use Rattle.card_daily.specs.Posts.{StandWith}

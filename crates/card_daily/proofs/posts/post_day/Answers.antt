@@ -1,4 +1,4 @@
-use Rattle.std.proofs.Common.{◌+◌, arith, subst, refl}
+use Rattle.std.proofs.Common.{arith, subst, refl}
 use Rattle.card_daily.proofs.PostDay.{begins-twice, done-all, done-none, end-found, end-is, place-is}
 use Rattle.card_daily.proofs.Posting.{begins-kept}
 use Rattle.card_daily.proofs.Standing.{room-same, room-then}

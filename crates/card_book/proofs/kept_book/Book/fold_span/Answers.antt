@@ -1,4 +1,4 @@
-use Rattle.std.proofs.Common.{◌≡◌, ◌≤◌, ◌+◌, ◌-◌, ◌∙◌, sym, ap, subst, arith}
+use Rattle.std.proofs.Common.{◌-◌, ◌∙◌, sym, ap, subst, arith}
 use Rattle.card_model.specs.Entries.{credit_in}
 use Rattle.card_rates.specs.Laws.{AreQuiet}
 use Rattle.card_book.specs.Stands.{StandsFor, Summary, day_to_fold}
