@@ -16,6 +16,13 @@ returns-clause-one g c =
     let most = c.to_day.ensures.most in
     omega (arith, most, one)
 
+pub returns-in_err-to_day-clause-one : goal.returns-in_err-to_day-clause-one
+returns-in_err-to_day-clause-one g c =
+    let before = c.in_ok-account.ensures.reached ∙ ap opening_in c.opening.ensures in
+    let one = one-step-first c.args.shared.now c.in_ok-account.account c.day-opened.result c.day-opened.ensures before in
+    let most = c.to_day.ensures.most in
+    omega (arith, most, one)
+
 -- ---- at its opening day
 pub returns-clause-alone : goal.returns-clause-alone
 returns-clause-alone g c =
