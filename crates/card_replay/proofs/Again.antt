@@ -17,34 +17,33 @@ use Rattle.card_daily.proofs.ClosingDay.{grows-to}
 use Rattle.card_daily.specs.Given.{Given, opened_in}
 use Rattle.card_daily.specs.declared.track.Track.{Track}
 use Rattle.card_book.proofs.FeeOrder.{fees_stand_in_order}
-use Rattle.card_book.proofs.GoingOn.{books_go_on}
 use Rattle.card_book.proofs.MarksGoOn.{marks_go_on}
 use Rattle.card_book.proofs.Passing.{few-pass}
 use Rattle.card_book.proofs.Rewinding.{behind}
-use Rattle.card_book.specs.GoingOn.{Continues, sets_rates}
+use Rattle.card_book.specs.GoingOn.{sets_rates}
 use Rattle.card_book.specs.Marks.{AreMarks, IsMark, accrued_to}
 use Rattle.card_book.specs.Renewed.{AwaitsPosts, HasNewPosts}
 use Rattle.card_book.specs.Rewound.{AreFolded, GoesBack, IsCutTrack}
 use Rattle.card_book.specs.Stands.{StandsFor, Summary, day_to_fold}
 use Rattle.card_book.specs.declared.marks.Accruing.{Accruing}
-use Rattle.card_replay.proofs.Changed.{anchor-stays, continues-before, continues-none, plain-stands, terms-stay}
+use Rattle.card_replay.proofs.Changed.{anchor-stays, continues-before, plain-stands, terms-stay}
 use Rattle.card_replay.proofs.CycleBefore.{closed-before, closed-then, cycle-read, cycle-there}
 use Rattle.card_replay.proofs.CutTrack.{cut-track}
 use Rattle.card_replay.proofs.MarksFront.{among-front, marks-front}
 use Rattle.card_replay.proofs.NextClosing.{closing-dated, closing-none}
-use Rattle.card_replay.proofs.LaterRows.{some-posts}
 use Rattle.card_replay.proofs.Parts.{first-front}
 use Rattle.card_replay.proofs.Reaching.{none-marked, none-recorded}
 use Rattle.card_replay.proofs.Through.{cycles-through, last-is, opened-through}
 use Rattle.card_replay.specs.Pasts.{AreWithin, IsFront}
-use Rattle.card_replay.proofs.Unread.{eve-on, same-rates}
-use Rattle.card_replay.specs.Rewinds.{AreEndsOf, IsAgain, IsAtBeginning, IsAtClosing, IsBeforeChange, MayBegin, MayGoBackOn, cycle_before}
-use Rattle.card_replay.specs.Replays.{BeginsAgain, HasMarks, IsEve}
+use Rattle.card_replay.proofs.Unread.{eve-on}
+use Rattle.card_replay.specs.Rewinds.{AreEndsOf, IsAgain, IsAtBeginning, IsAtClosing, IsBeforeChange, MayBegin, MayGoBackOn, back_at, cycle_before}
+use Rattle.card_replay.specs.Replays.{BeginsAgain, HasMarks, IsEve, IsWhole, Stands, day_of}
 use Rattle.card_replay.specs.Steps.{first_in_cycle}
 use Rattle.card_replay.specs.declared.change.TakenBack.{TakenBack}
 use Rattle.card_replay.specs.declared.eve.Eve.{Eve}
 use Rattle.card_replay.specs.declared.past.Ends.{Ends}
 use Rattle.card_replay.specs.declared.past.Past.{Past}
+use Rattle.card_replay.specs.declared.rewinding.Earlier.{Earlier}
 
 -- ---- where the lists ended
 pub number-is : (g : Given) (from : ℕ) {a : Anchor} {k : ℕ} → k ≡ cycle_of a from - 1 → a ≡ anchor_of g.history → k ≡ cycle_before g from
@@ -89,7 +88,7 @@ module _ {old g : Given} {p : Post} {from reached : ℕ} {b : Summary} {past : P
   closed-of : cycle_before g from ≤ length past.track.cycles.items
   closed-of =
       let same = ap (λ (a : Anchor). cycle_of a from - 1) (anchor-stays old g p from h.changes.more) in
-      let closed = closed-then old b past.track from reached h.folding.stands h.folding.day h.changes.within in
+      let closed = closed-then old (Some b) past.track from reached h.folding.stands h.folding.day h.changes.within in
       omega (arith, same, closed)
 
   pub closed-at : {k : ℕ} → k ≡ cycle_before g from → k ≤ length past.track.cycles.items
@@ -100,7 +99,7 @@ module _ {old g : Given} {p : Post} {from reached : ℕ} {b : Summary} {past : P
       → c.closing ≡ closing (anchor_of g.history) k
   closing-of k c at =
       let l = h.changes.last in
-      let cycles = cycles-through old b past.track reached h.folding.stands h.folding.day in
+      let cycles = cycles-through old (Some b) past.track reached h.folding.stands h.folding.day in
       let days = cycles_are_of_the_calendar.days old.history old.issued old.shared reached k c h.changes.more.sound_before.opening (omega (arith, l)) (ap (cycle_at k) (sym cycles) ∙ at) in
       days.closing ∙ ap (λ (a : Anchor). closing a k) (sym (anchor-stays old g p from h.changes.more))
 
@@ -195,7 +194,7 @@ module _ {old g : Given} {p : Post} {from reached : ℕ} {b : Summary} {past : P
 
   -- where the post sets no rate, it stands on
   pub plain-begins : (e : Ends) (c : Cycle) (earlier : Summary) → AreEndsOf g from past e
-      → IsEarlier old (cycle_before g from) b past c earlier → sets_rates p ≡ false → BeginsAgain g e past earlier
+      → IsEarlier old (cycle_before g from) b past c earlier → sets_rates p ≡ false → BeginsAgain g e past (Some earlier)
   plain-begins e c earlier ends back plain = record {
     within = within-past e ends;
     whole = back.whole;
@@ -241,7 +240,7 @@ module _ {old g : Given} {p : Post} {from reached : ℕ} {b : Summary} {past : P
       }
 
   pub renewed-begins : (e : Ends) (c : Cycle) (earlier again : Summary) → AreEndsOf g from past e
-      → IsEarlier old (cycle_before g from) b past c earlier → again.whole ≡ true → ((was : Given) (day : ℕ) (t : Track) → HasNewPosts was g day earlier t → StandsFor g again t) → BeginsAgain g e past again
+      → IsEarlier old (cycle_before g from) b past c earlier → again.whole ≡ true → ((was : Given) (day : ℕ) (t : Track) → HasNewPosts was g day earlier t → StandsFor g again t) → BeginsAgain g e past (Some again)
   renewed-begins e c earlier again ends back whole stands = record {
     within = within-past e ends;
     whole = whole;
@@ -256,11 +255,11 @@ module _ {old g : Given} {p : Post} {from reached : ℕ} {b : Summary} {past : P
   first-closing : (c : Cycle) → cycle_at (cycle_before g from) past.track.cycles.items ≡ Some c → first_in_cycle (anchor_of g.history) from ≡ c.closing + 1
   first-closing c at = ap (λ d. d + 1) (sym (closing-of (cycle_before g from) c at))
 
-  pub closing-again : {k : ℕ} (again : Summary) (e : Ends) → k ≡ cycle_before g from → 1 ≤ k → BeginsAgain g e past again
-      → ((c : Cycle) → cycle_at k past.track.cycles.items ≡ Some c → again.day ≡ Some c.closing) → IsAgain g from reached past (record { book = again; ends = e })
+  pub closing-again : {k : ℕ} (again : Summary) (e : Ends) → k ≡ cycle_before g from → 1 ≤ k → BeginsAgain g e past (Some again)
+      → ((c : Cycle) → cycle_at k past.track.cycles.items ≡ Some c → again.day ≡ Some c.closing) → IsAgain g from reached past (back_at again e)
   closing-again {k = k} again e number some begins dated = by (cycle-there past.track.cycles.items k (closed-at number))
     where
-      by : (k ≡ 0) ⊎ ((c : Cycle) × (cycle_at k past.track.cycles.items ≡ Some c)) → IsAgain g from reached past (record { book = again; ends = e })
+      by : (k ≡ 0) ⊎ ((c : Cycle) × (cycle_at k past.track.cycles.items ≡ Some c)) → IsAgain g from reached past (back_at again e)
       by (inl z) = absurd (omega (arith, some, z))
       by (inr (c, at)) =
           let there : cycle_at (cycle_before g from) past.track.cycles.items ≡ Some c = ap (λ n. cycle_at n past.track.cycles.items) (sym number) ∙ at in
@@ -276,35 +275,21 @@ module _ {old g : Given} {p : Post} {from reached : ℕ} {b : Summary} {past : P
           }
 
   -- before the opening day, where none closed before it
-  pub beginning-again : (r : TakenBack) → cycle_before g from ≡ 0 → IsAtBeginning g r → IsAgain g from reached past r
+  pub beginning-again : (r : TakenBack) → cycle_before g from ≡ 0 → IsAtBeginning r → IsAgain g from reached past r
   beginning-again r none is =
       let a = anchor_of g.history in
       let first : closing a (cycle_before g from) ≡ a.opened - 1 = ap (closing a) none ∙ closing-none a in
       let some = h.changes.more.sound.opening.first in
-      let here : day_to_fold g r.book.day ≡ opened_in g = ap (day_to_fold g) is.day in
-      let low = opened-through old b past.track reached h.folding.stands h.folding.day in
+      let here : day_to_fold g (day_of r.book) ≡ opened_in g = ap (λ o. day_to_fold g (day_of o)) is.book in
+      let low = opened-through old (Some b) past.track reached h.folding.stands h.folding.day in
       let same = same-opened in
       record {
         near = omega (arith, first, some, here);
         earlier = omega (arith, here, same, low);
-        whole = is.whole;
+        whole = subst IsWhole (sym is.book) tt;
         closings = λ new front.
             let empty = first-front r.ends past new is.ends front in
-            record { stands = is.stands new.track (none-recorded new empty); marks = none-marked g new empty };
-      }
-
-  -- a post that sets no rate leaves a Book that has just begun
-  pub beginning-on : (r : TakenBack) → sets_rates p ≡ false → IsAtBeginning old r → IsAtBeginning g r
-  beginning-on r plain is =
-      let more = h.changes.more in
-      record {
-        day = is.day;
-        whole = is.whole;
-        stands = λ t blank.
-            books_go_on old g r.book t more.sound.opening (is.stands t blank)
-            (subst (Continues old g) (sym is.day) (continues-none old g more.kept (some-posts old.history more.sound_before.opening) more.history))
-            (same-rates old g more.kept more.sound_before more.history (ap sets_rates more.post ∙ plain));
-        ends = is.ends;
+            record { stands = subst (λ o. Stands g o new.track) (sym is.book) (none-recorded new empty); marks = none-marked g new empty };
       }
 
   -- the eve
@@ -333,17 +318,17 @@ module _ {old g : Given} {p : Post} {from reached : ℕ} {b : Summary} {past : P
             omega (arith, closed, is)
 
     -- and so does a copy of its Book
-    pub eve-again : (copy : Summary) → copy.day ≡ e.book.day → copy.whole ≡ e.book.whole → ((t : Track) → StandsFor g e.book t → StandsFor g copy t)
+    pub eve-again : (copy : Option Summary) → day_of copy ≡ day_of e.book → (IsWhole e.book → IsWhole copy) → ((t : Track) → Stands g e.book t → Stands g copy t)
         → IsAgain g from reached past (record { book = copy; ends = e.ends })
     eve-again copy dated whole stands =
         let on = eve-stands in
         let first = first-by-eve in
         let low = on.earlier in
-        let here : day_to_fold g copy.day ≡ e.day + 1 = ap (day_to_fold g) (dated ∙ on.folded) in
+        let here : day_to_fold g (day_of copy) ≡ e.day + 1 = ap (day_to_fold g) (dated ∙ on.folded) in
         record {
           near = omega (arith, first, here);
           earlier = omega (arith, here, low);
-          whole = whole ∙ on.begins.whole;
+          whole = whole on.begins.whole;
           closings = λ new front. record { stands = stands new.track (on.begins.stands new front); marks = on.begins.marks new front };
         }
 
@@ -386,26 +371,27 @@ at-closing b past e earlier ends some read same goes dated whole = record {
 }
 
 -- to it for a post that sets no rate
-pub closing-plain : {old g : Given} {p : Post} {from k reached : ℕ} {b : Summary} {past : Past} {eve : Option Eve} (r : TakenBack) → IsAtClosing k b past r → MayGoBackOn old g p from k reached b past eve
-    → IsAgain g from reached past r
-closing-plain {old = old} {g = g} {p = p} {from = from} {reached = reached} r is may =
-    is.plain g p from reached (record { change = record { old = old; before = may.before }; number = may.number }) may.plain
+pub closing-plain : {old g : Given} {p : Post} {from k reached : ℕ} {b : Summary} {past : Past} {eve : Option Eve} (r : Earlier) (made : Option Summary) → IsAtClosing k b past r → made ≡ Some r.book
+    → MayGoBackOn old g p from k reached b past eve → IsAgain g from reached past (record { book = made; ends = r.ends })
+closing-plain {old = old} {g = g} {p = p} {from = from} {reached = reached} {past = past} r made is same may =
+    subst (λ o. IsAgain g from reached past (record { book = o; ends = r.ends })) (sym same)
+    (is.plain g p from reached (record { change = record { old = old; before = may.before }; number = may.number }) may.plain)
 
 -- before the opening day
-pub beginning-plain : {old g : Given} {p : Post} {from k reached : ℕ} {b : Summary} {past : Past} {eve : Option Eve} (r : TakenBack) → k ≡ 0 → IsAtBeginning old r → MayGoBackOn old g p from k reached b past eve
+pub beginning-plain : {old g : Given} {p : Post} {from k reached : ℕ} {b : Summary} {past : Past} {eve : Option Eve} (r : TakenBack) → k ≡ 0 → IsAtBeginning r → MayGoBackOn old g p from k reached b past eve
     → IsAgain g from reached past r
-beginning-plain r none is may = beginning-again may.before r (sym may.number ∙ none) (beginning-on may.before r may.plain is)
+beginning-plain r none is may = beginning-again may.before r (sym may.number ∙ none) is
 
 -- to the eve
-pub eve-back : (old : Given) (from k : ℕ) (b : Summary) (past : Past) (e : Eve) (copy : Summary) → MayBegin past from k e → copy.day ≡ e.book.day → copy.whole ≡ e.book.whole
-    → ((g : Given) (t : Track) → StandsFor g e.book t → StandsFor g copy t) → (g : Given) (p : Post) (reached : ℕ) → MayGoBackOn old g p from k reached b past (Some e)
+pub eve-back : (old : Given) (from k : ℕ) (b : Summary) (past : Past) (e : Eve) (copy : Option Summary) → MayBegin past from k e → day_of copy ≡ day_of e.book → (IsWhole e.book → IsWhole copy)
+    → ((g : Given) (t : Track) → Stands g e.book t → Stands g copy t) → (g : Given) (p : Post) (reached : ℕ) → MayGoBackOn old g p from k reached b past (Some e)
     → IsAgain g from reached past (record { book = copy; ends = e.ends })
 eve-back old from k b past e copy begin dated whole stands g p reached may =
     eve-again may.before e (subst (λ n. MayBegin past from n e) may.number begin) may.plain may.stood copy dated whole (stands g)
 
 -- whether there is an eve or not
-pub closing-back : {E : Type 0} (old : Given) (from k : ℕ) (b : Summary) (past : Past) (eve : Option Eve) (result : Result TakenBack E)
-    → IfOk result (λ r. (g : Given) (p : Post) (reached : ℕ) → MayGoBackOn old g p from k reached b past None → IsAgain g from reached past r)
-    → IfOk result (λ r. (g : Given) (p : Post) (reached : ℕ) → MayGoBackOn old g p from k reached b past eve → IsAgain g from reached past r)
-closing-back old from k b past eve (Ok r) h = λ g p reached may. h g p reached (record { before = may.before; stood = tt; number = may.number; plain = may.plain })
-closing-back old from k b past eve (Err e) h = tt
+pub closing-back : {E : Type 0} (from k : ℕ) (b : Summary) (past : Past) (eve : Option Eve) (result : Result TakenBack E)
+    → IfOk result (λ r. (old g : Given) (p : Post) (from reached : ℕ) → MayGoBackOn old g p from k reached b past None → IsAgain g from reached past r)
+    → IfOk result (λ r. (old g : Given) (p : Post) (reached : ℕ) → MayGoBackOn old g p from k reached b past eve → IsAgain g from reached past r)
+closing-back from k b past eve (Ok r) h = λ old g p reached may. h old g p from reached (record { before = may.before; stood = tt; number = may.number; plain = may.plain })
+closing-back from k b past eve (Err e) h = tt

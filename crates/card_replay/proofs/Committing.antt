@@ -16,28 +16,28 @@ use Rattle.card_posts.specs.Stored.{AreTimely}
 use Rattle.card_reasons.proofs.Accepted.{few, received, target_there}
 use Rattle.card_model.specs.CycleDays.{IsOpening}
 use Rattle.card_daily.specs.Given.{Given, IsSound, opened_in}
-use Rattle.card_book.specs.Stands.{StandsFor, Summary, day_to_fold}
+use Rattle.card_book.specs.Stands.{Summary, day_to_fold}
 use Rattle.card_replay.proofs.Changed.{same-anchor}
 use Rattle.card_replay.proofs.LaterRows.{some-posts}
 use Rattle.card_replay.proofs.Through.{opened-through, reached-is}
 use Rattle.card_replay.proofs.Unread.{issues-nothing, unread-stands}
 use Rattle.card_replay.specs.Changes.{IsChangeOf, IsCommitted, IsPrepared, HasRewound, IsRewoundBy, IsTaken, Takes, issued_as, lists_with}
 use Rattle.card_replay.specs.Rewinds.{IsAgain}
-use Rattle.card_replay.specs.Replays.{Folding, HasClosings, IsEve, IsFolding, IsReplay, MayReach, Replay, given_of, present_of}
+use Rattle.card_replay.specs.Replays.{Folding, HasClosings, IsEve, IsFolding, IsReplay, IsWhole, MayReach, Replay, Stands, day_of, given_of, present_of}
 use Rattle.card_replay.specs.Steps.{IsFirstBetween, IsNear, first_in_cycle}
 use Rattle.card_replay.specs.declared.change.Change.{Change}
 use Rattle.card_replay.specs.declared.change.TakenBack.{TakenBack}
 
 -- ---- the folding after it
 -- the day that is then reached
-taken-day : (g : Given) (opened : ℕ) (x : TakenBack) (old new : Folding) → opened_in g ≡ opened → 1 ≤ opened → HasRewound opened x old new → day_to_fold g x.book.day ≡ new.reached + 1
-taken-day g opened x old new same some taken = reached-is g opened x.book.day same some ∙ ap (λ n. n + 1) (sym taken.reached)
+taken-day : (g : Given) (opened : ℕ) (x : TakenBack) (old new : Folding) → opened_in g ≡ opened → 1 ≤ opened → HasRewound opened x old new → day_to_fold g (day_of x.book) ≡ new.reached + 1
+taken-day g opened x old new same some taken = reached-is g opened (day_of x.book) same some ∙ ap (λ n. n + 1) (sym taken.reached)
 
-rewound-folding : (g : Given) (opened : ℕ) (x : TakenBack) (old new : Folding) → opened_in g ≡ opened → 1 ≤ opened → HasRewound opened x old new → x.book.whole ≡ true → HasClosings g x.book new.past → IsFolding g new
+rewound-folding : (g : Given) (opened : ℕ) (x : TakenBack) (old new : Folding) → opened_in g ≡ opened → 1 ≤ opened → HasRewound opened x old new → IsWhole x.book → HasClosings g x.book new.past → IsFolding g new
 rewound-folding g opened x old new same some taken whole h = record {
-  day = ap (λ (s : Summary). day_to_fold g s.day) taken.book ∙ taken-day g opened x old new same some taken;
-  whole = ap (λ (s : Summary). s.whole) taken.book ∙ whole;
-  stands = subst (λ (s : Summary). StandsFor g s new.past.track) (sym taken.book) h.stands;
+  day = ap (λ (s : Option Summary). day_to_fold g (day_of s)) taken.book ∙ taken-day g opened x old new same some taken;
+  whole = subst IsWhole (sym taken.book) whole;
+  stands = subst (λ (s : Option Summary). Stands g s new.past.track) (sym taken.book) h.stands;
   marks = h.marks;
   eve = subst (λ o. IfSome o (IsEve g new.reached new.past)) (sym taken.eve) tt;
 }
@@ -82,7 +82,7 @@ late-rewound shared today key p r u h = not-rewound shared today key p r (subst 
 
 pub again-rewound : (shared : SharedRows) (today : ℕ) (key : List ℕ) (p : Post) (r : Replay) (from : ℕ) (x : TakenBack) → is_unread p ≡ false → IsOpening (anchor_of r.lists.posts)
     → IsAgain (with_post r.lists key today p shared) from r.folding.reached r.folding.past x
-    → ((day : ℕ) → IsFirstBetween shared r.lists (accepted (present_of today shared r.lists) key p) day → first_in_cycle (anchor_of r.lists.posts) day ≤ day_to_fold (with_post r.lists key today p shared) x.book.day)
+    → ((day : ℕ) → IsFirstBetween shared r.lists (accepted (present_of today shared r.lists) key p) day → first_in_cycle (anchor_of r.lists.posts) day ≤ day_to_fold (with_post r.lists key today p shared) (day_of x.book))
     → IsRewoundBy shared today key p (Some x) r
 again-rewound shared today key p r from x u open' again near = record {
   earlier = λ f taken. let is = at f taken in let low = again.earlier in omega (arith, is, low);
@@ -105,7 +105,7 @@ again-rewound shared today key p r from x u open' again near = record {
     same : opened_in now ≡ opened
     same = ap (λ (a : Anchor). a.opened) (same-anchor r.lists.posts (kept_as (length r.lists.posts + 1) key today p) (some-posts r.lists.posts open'))
 
-    at : (f : Folding) → HasRewound opened x r.folding f → day_to_fold now x.book.day ≡ f.reached + 1
+    at : (f : Folding) → HasRewound opened x r.folding f → day_to_fold now (day_of x.book) ≡ f.reached + 1
     at f taken = taken-day now opened x r.folding f same some taken
 
 -- it is so for an account with the same lists and folding

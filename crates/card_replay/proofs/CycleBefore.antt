@@ -1,5 +1,5 @@
 -- The cycle before the one that a day lies in.
-use Rattle.std.proofs.Common.{◌≡◌, ℕ, zero, suc, ◌+◌, ◌-◌, ◌<◌, ◌≤◌, ◌⊎◌, inl, inr, cond, List, [], ◌∷◌, length, get_or, refl, sym, ap, ◌∙◌, subst, arith, Some, None}
+use Rattle.std.proofs.Common.{◌≡◌, ℕ, zero, suc, ◌+◌, ◌-◌, ◌<◌, ◌≤◌, ◌⊎◌, inl, inr, cond, List, [], ◌∷◌, length, get_or, refl, sym, ap, ◌∙◌, subst, arith, Option, Some, None}
 use Rattle.std.specs.Prelude.{◌==◌, slice_get}
 use Rattle.std.proofs.lemmas.Bool.{cases_lt}
 use Rattle.std.proofs.lemmas.Option.{get_or_from_slice_get}
@@ -14,9 +14,10 @@ use Rattle.card_model.specs.Cycles.{Cycle}
 use Rattle.card_model.specs.Folds.{cycle_at}
 use Rattle.card_model.proofs.Calendar.{cycles_are_of_the_calendar, is-anchor}
 use Rattle.card_daily.specs.Given.{Given}
-use Rattle.card_book.specs.Stands.{StandsFor, Summary, day_to_fold}
+use Rattle.card_book.specs.Stands.{Summary, day_to_fold}
 use Rattle.card_daily.specs.declared.track.Track.{Track}
 use Rattle.card_replay.proofs.Through.{cycles-through}
+use Rattle.card_replay.specs.Replays.{Stands, day_of}
 
 -- ---- its number
 pub none-before : (a : Anchor) (day : ℕ) → day < a.opened → cycle_of a day - 1 ≡ 0
@@ -54,7 +55,7 @@ closed-before a day open' l some = by (cases_lt day a.opened)
     by (inr low) = (cycle_around a (is-anchor a open') day (cycle_of a day) low (omega (arith, l)) refl).0
 
 -- so by a later day it is closed
-pub closed-then : (g : Given) (b : Summary) (t : Track) (day today : ℕ) → StandsFor g b t → day_to_fold g b.day ≡ today + 1 → day ≤ today → cycle_of (anchor_of g.history) day - 1 ≤ length t.cycles.items
+pub closed-then : (g : Given) (b : Option Summary) (t : Track) (day today : ℕ) → Stands g b t → day_to_fold g (day_of b) ≡ today + 1 → day ≤ today → cycle_of (anchor_of g.history) day - 1 ≤ length t.cycles.items
 closed-then g b t day today h dated l =
     let a = anchor_of g.history in
     let long = ap (λ (cs : List Cycle). length cs) (cycles-through g b t today h dated) in

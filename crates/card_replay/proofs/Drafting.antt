@@ -16,7 +16,7 @@ use Rattle.card_posts.specs.Draft.{IsDraft, IsFirstWith}
 use Rattle.card_posts.specs.Posted.{Posted, StandsFor}
 use Rattle.card_posts.specs.declared.draft.Draft.{Draft}
 use Rattle.card_book.specs.GoingOn.{sets_rates}
-use Rattle.card_book.specs.Stands.{day_to_fold}
+use Rattle.card_book.specs.Stands.{Summary, day_to_fold}
 use Rattle.card_daily.specs.Given.{Given, IsSound, opened_in}
 use Rattle.card_book.specs.Rewound.{AreFolded}
 use Rattle.card_replay.proofs.Again.{closed-at, folded-before, number-is}
@@ -29,7 +29,7 @@ use Rattle.card_replay.proofs.Unread.{begun-on}
 use Rattle.card_replay.specs.Changes.{IsRewoundBy, MayPrepare}
 use Rattle.card_replay.specs.Rewinds.{IsAgain, IsBeforeChange, IsOneMore, MayGoBackOn, cycle_before}
 use Rattle.card_replay.specs.Needs.{is_bill, needs_today}
-use Rattle.card_replay.specs.Replays.{IsFolding, IsReplay, Replay, given_of, posted_of, present_of}
+use Rattle.card_replay.specs.Replays.{IsFolding, IsReplay, IsWhole, Replay, Stands, day_of, given_of, posted_of, present_of}
 use Rattle.card_replay.specs.Steps.{IsFirstBetween, first_in_cycle}
 use Rattle.card_replay.specs.declared.change.TakenBack.{TakenBack}
 
@@ -66,13 +66,20 @@ drafted shared today key name p r old new rows d h u sound posts kept issued nam
       };
     }
 
-pub before-change : (shared : SharedRows) (today : ℕ) (key : List ℕ) (p : Post) (r : Replay) (from : ℕ) → IsReplay shared r → IsOneMore (given_of r.lists shared) (with_post r.lists key today p shared) p from → from ≤ r.folding.reached
-    → IsBeforeChange (given_of r.lists shared) (with_post r.lists key today p shared) p from r.folding.reached r.folding.book r.folding.past
-before-change shared today key p r from h more l =
+pub before-change : (shared : SharedRows) (today : ℕ) (key : List ℕ) (p : Post) (r : Replay) (from : ℕ) (b : Summary) → IsReplay shared r → IsOneMore (given_of r.lists shared) (with_post r.lists key today p shared) p from → from ≤ r.folding.reached → r.folding.book ≡ Some b
+    → IsBeforeChange (given_of r.lists shared) (with_post r.lists key today p shared) p from r.folding.reached b r.folding.past
+before-change shared today key p r from b h more l is =
+    let g = given_of r.lists shared in
     let folding = h.folding in
     record {
       changes = record { more = more; within = l; last = h.dated };
-      folding = record { day = folding.day; whole = folding.whole; stands = folding.stands; marks = folding.marks; eve = tt };
+      folding = record {
+        day = subst (λ o. day_to_fold g (day_of o) ≡ r.folding.reached + 1) is folding.day;
+        whole = subst IsWhole is folding.whole;
+        stands = subst (λ o. Stands g o r.folding.past.track) is folding.stands;
+        marks = folding.marks;
+        eve = tt;
+      };
     }
 
 -- ---- the account with a post whose first changed day is told
@@ -100,20 +107,20 @@ more-told shared today key p r from h first =
     }
 
 -- before it, where it isn't after the day reached, and behind which closing it lies
-pub record IsTold (shared : SharedRows) (today : ℕ) (key : List ℕ) (p : Post) (r : Replay) (from cycle : ℕ) : Type 0 where
+pub record IsTold (shared : SharedRows) (today : ℕ) (key : List ℕ) (p : Post) (r : Replay) (from cycle : ℕ) (b : Summary) : Type 0 where
   pub more : IsOneMore (given_of r.lists shared) (with_post r.lists key today p shared) p from
-  pub before : IsBeforeChange (given_of r.lists shared) (with_post r.lists key today p shared) p from r.folding.reached r.folding.book r.folding.past
+  pub before : IsBeforeChange (given_of r.lists shared) (with_post r.lists key today p shared) p from r.folding.reached b r.folding.past
   pub number : cycle ≡ cycle_before (with_post r.lists key today p shared) from
-  pub folded : AreFolded r.folding.book r.folding.past.track
+  pub folded : AreFolded b r.folding.past.track
   pub closed : cycle ≤ length r.folding.past.track.cycles.items
   pub marked : length r.folding.past.since.items ≡ length r.folding.past.track.cycles.items
 
-pub told : (shared : SharedRows) (today : ℕ) (key : List ℕ) (p : Post) (r : Replay) (from : ℕ) {cycle : ℕ} {a : Anchor} → MayPrepare shared today key p r → IsFirstWith shared.holidays today p (posted_of r) from
-    → from ≤ r.folding.reached → cycle ≡ cycle_of a from - 1 → a ≡ anchor_of r.lists.posts → IsTold shared today key p r from cycle
-told shared today key p r from h first l number anchor =
+pub told : (shared : SharedRows) (today : ℕ) (key : List ℕ) (p : Post) (r : Replay) (from : ℕ) (b : Summary) {cycle : ℕ} {a : Anchor} → MayPrepare shared today key p r → IsFirstWith shared.holidays today p (posted_of r) from
+    → from ≤ r.folding.reached → r.folding.book ≡ Some b → cycle ≡ cycle_of a from - 1 → a ≡ anchor_of r.lists.posts → IsTold shared today key p r from cycle b
+told shared today key p r from b h first l is number anchor =
     let g = with_post r.lists key today p shared in
     let more = more-told shared today key p r from h first in
-    let before = before-change shared today key p r from h.replay more l in
+    let before = before-change shared today key p r from b h.replay more l is in
     let same = number-is g from number (anchor ∙ sym (anchor-stays (given_of r.lists shared) g p from more)) in
     record {
       more = more;
@@ -151,13 +158,13 @@ one-first a b old new h k = let low = same-first a b old new h k in let high = s
 -- so the last closing before it is the one that was meant
 near-first : (shared : SharedRows) (today : ℕ) (key : List ℕ) (p : Post) (r : Replay) (from day : ℕ) (x : TakenBack) → is_unread p ≡ false → IsOneMore (given_of r.lists shared) (with_post r.lists key today p shared) p from
     → IsAgain (with_post r.lists key today p shared) from r.folding.reached r.folding.past x → IsFirstBetween shared r.lists (accepted (present_of today shared r.lists) key p) day
-    → first_in_cycle (anchor_of r.lists.posts) day ≤ day_to_fold (with_post r.lists key today p shared) x.book.day
+    → first_in_cycle (anchor_of r.lists.posts) day ≤ day_to_fold (with_post r.lists key today p shared) (day_of x.book)
 near-first shared today key p r from day x u more again first =
     let g = with_post r.lists key today p shared in
     let there = subst (λ y. IsFirstChange day (corrected (anchor_of r.lists.posts) shared.holidays r.lists.posts) (corrected (anchor_of y.history) shared.holidays y.history)) (with-post shared today key p r.lists u) first in
     let is : from ≡ day = one-first from day _ _ more.first there in
-    subst (λ d. first_in_cycle (anchor_of r.lists.posts) d ≤ day_to_fold g x.book.day) is
-    (subst (λ (a : Anchor). first_in_cycle a from ≤ day_to_fold g x.book.day) (anchor-stays (given_of r.lists shared) g p from more) again.near)
+    subst (λ d. first_in_cycle (anchor_of r.lists.posts) d ≤ day_to_fold g (day_of x.book)) is
+    (subst (λ (a : Anchor). first_in_cycle a from ≤ day_to_fold g (day_of x.book)) (anchor-stays (given_of r.lists shared) g p from more) again.near)
 
 -- ---- what it is taken back to
 pub made-rewound : (shared : SharedRows) (today : ℕ) (key : List ℕ) (p : Post) (r : Replay) (from : ℕ) (x : TakenBack) → MayPrepare shared today key p r → IsOneMore (given_of r.lists shared) (with_post r.lists key today p shared) p from
@@ -172,24 +179,24 @@ result-rewound shared today key p r from (Ok made) h more again = made-rewound s
 result-rewound shared today key p r from (Err e) h more again = tt
 
 -- with no post entered
-pub back-rewound : (shared : SharedRows) (today : ℕ) (key : List ℕ) (p : Post) (r : Replay) (from cycle : ℕ) (x : TakenBack) → MayPrepare shared today key p r → sets_rates p ≡ false → IsTold shared today key p r from cycle
-    → ((g : Given) (q : Post) (reached : ℕ) → MayGoBackOn (given_of r.lists shared) g q from cycle reached r.folding.book r.folding.past r.folding.eve → IsAgain g from reached r.folding.past x) → IsRewoundBy shared today key p (Some x) r
-back-rewound shared today key p r from cycle x h plain is again =
+pub back-rewound : (shared : SharedRows) (today : ℕ) (key : List ℕ) (p : Post) (r : Replay) (from cycle : ℕ) (b : Summary) (x : TakenBack) → MayPrepare shared today key p r → sets_rates p ≡ false → IsTold shared today key p r from cycle b
+    → ((old g : Given) (q : Post) (reached : ℕ) → MayGoBackOn old g q from cycle reached b r.folding.past r.folding.eve → IsAgain g from reached r.folding.past x) → IsRewoundBy shared today key p (Some x) r
+back-rewound shared today key p r from cycle b x h plain is again =
     made-rewound shared today key p r from x h is.more
-    (again (with_post r.lists key today p shared) p r.folding.reached (record { before = is.before; stood = h.replay.folding.eve; number = is.number; plain = plain }))
+    (again (given_of r.lists shared) (with_post r.lists key today p shared) p r.folding.reached (record { before = is.before; stood = h.replay.folding.eve; number = is.number; plain = plain }))
 
 -- to nothing, where it changes only days that aren't folded
-late-rewound-by : (shared : SharedRows) (today : ℕ) (key : List ℕ) (p : Post) (r : Replay) (from : ℕ) (o : Option ℕ) → r.folding.book.day ≡ o → MayPrepare shared today key p r → IsFirstWith shared.holidays today p (posted_of r) from
-    → ((day : ℕ) → r.folding.book.day ≡ Some day → day < from) → IsFolding (with_post r.lists key today p shared) r.folding
+late-rewound-by : (shared : SharedRows) (today : ℕ) (key : List ℕ) (p : Post) (r : Replay) (from : ℕ) (o : Option ℕ) → day_of r.folding.book ≡ o → MayPrepare shared today key p r → IsFirstWith shared.holidays today p (posted_of r) from
+    → ((day : ℕ) → day_of r.folding.book ≡ Some day → day < from) → IsFolding (with_post r.lists key today p shared) r.folding
 late-rewound-by shared today key p r from (Some day) is h first late =
     let g = given_of r.lists shared in
-    let same = last-is g r.folding.book.day r.folding.reached day h.replay.folding.day is in
+    let same = last-is g (day_of r.folding.book) r.folding.reached day h.replay.folding.day is in
     let l = late day is in
     late-stands (present_of today shared r.lists) g (with_post r.lists key today p shared) p from r.folding h.no_reason (omega (arith, same, l)) h.ready (more-told shared today key p r from h first) h.replay.folding
 late-rewound-by shared today key p r from None is h first late =
     let g = given_of r.lists shared in
     let more = more-told shared today key p r from h first in
-    let here : day_to_fold g r.folding.book.day ≡ opened_in g = ap (day_to_fold g) is in
+    let here : day_to_fold g (day_of r.folding.book) ≡ opened_in g = ap (day_to_fold g) is in
     let day = h.replay.folding.day in
     let opened = h.reach.opened in
     begun-on g (with_post r.lists key today p shared) r.folding more.kept more.sound_before more.sound more.history
@@ -200,8 +207,8 @@ late-rewound-by shared today key p r from None is h first late =
     plain-by p never true e = absurd (never (ap (λ b. b || is_bill p) e))
 
 pub later-rewound : (shared : SharedRows) (today : ℕ) (key : List ℕ) (p : Post) (r : Replay) (from : ℕ) → MayPrepare shared today key p r → IsFirstWith shared.holidays today p (posted_of r) from
-    → ((day : ℕ) → r.folding.book.day ≡ Some day → day < from) → IsRewoundBy shared today key p None r
-later-rewound shared today key p r from h first late = late-rewound shared today key p r h.read (late-rewound-by shared today key p r from r.folding.book.day refl h first late)
+    → ((day : ℕ) → day_of r.folding.book ≡ Some day → day < from) → IsRewoundBy shared today key p None r
+later-rewound shared today key p r from h first late = late-rewound shared today key p r h.read (late-rewound-by shared today key p r from (day_of r.folding.book) refl h first late)
 
 -- ---- in memory of its own
 pub if-any-rewound : {E : Type 0} (shared : SharedRows) (today : ℕ) (key : List ℕ) (p : Post) (r : Replay) (made : TakenBack) (result : Result (Option TakenBack) E) → IfOk result (λ x. x ≡ Some made)

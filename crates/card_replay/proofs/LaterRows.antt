@@ -14,14 +14,14 @@ use Rattle.card_model.specs.Laws.{HistoriesAgree}
 use Rattle.card_posts.proofs.Holidays.{same-corrected}
 use Rattle.card_posts.specs.Posted.{last_accepted}
 use Rattle.card_book.proofs.Agreement.{later_rows_agree}
-use Rattle.card_book.proofs.GoingOn.{agreement_goes_on, books_go_on}
+use Rattle.card_book.proofs.GoingOn.{agreement_goes_on}
 use Rattle.card_book.proofs.MarksGoOn.{marks_go_on}
 use Rattle.card_book.proofs.RatesGoOn.{rates_go_on}
 use Rattle.card_book.specs.GoingOn.{Continues, HaveSameRates, sets_rates}
 use Rattle.card_replay.proofs.Eves.{eve-goes-on, eve_folding, if-some}
-use Rattle.card_replay.proofs.Through.{closed-in, continues-through, same-first}
+use Rattle.card_replay.proofs.Through.{closed-in, continues-through, same-first, stands-on}
 use Rattle.card_replay.specs.Laws.{LaterRowsLeaveIt}
-use Rattle.card_replay.specs.Replays.{AreLaterRows, Folding, IsEve, IsFolding, IsReplay, Replay, given_of}
+use Rattle.card_replay.specs.Replays.{AreLaterRows, Folding, IsEve, IsFolding, IsReplay, Replay, day_of, given_of}
 
 -- ---- agreement up to an earlier day
 module _ {A : Type 0} (day : A → ℕ) (x d : ℕ) where
@@ -62,12 +62,12 @@ rows-on old new r day f h accepted rows within stood folding =
     let now = given_of r.lists new in
     let agree = later_rows_agree r.lists.posts old new day day h.timely accepted rows.holidays rows.fees rows.index in
     let there = agree-earlier old new r.lists.posts r.lists.posts f.reached day within agree in
-    let continues : Continues was now f.book.day = continues-through was now f.book.day f.reached folding.day (agreement_goes_on was now f.reached refl there) in
+    let continues : Continues was now (day_of f.book) = continues-through was now (day_of f.book) f.reached folding.day (agreement_goes_on was now f.reached refl there) in
     let rates : HaveSameRates was now = rates_go_on was now [] (sym (append-nil r.lists.posts)) (some-posts r.lists.posts h.sound.opening) (All-nil (λ (k : Kept). sets_rates k.post ≡ false)) in
     record {
-      day = same-first now was f.book.day refl ∙ folding.day;
+      day = same-first now was (day_of f.book) refl ∙ folding.day;
       whole = folding.whole;
-      stands = books_go_on was now f.book f.past.track h.sound.opening folding.stands continues rates;
+      stands = stands-on was now f.book f.past.track h.sound.opening folding.stands continues rates;
       marks = marks_go_on was now f.past.track.cycles.items f.past.since.items f.past.accrued.items
           (record {
             new = [];

@@ -1,6 +1,7 @@
 pub mod Changed
 pub mod Through
 pub mod LaterRows
+pub mod Keeping
 pub mod KeptLaws
 pub mod Putback
 pub mod Reaching

@@ -1,11 +1,11 @@
 -- What stands for a past stands for one with the same lists.
-use Rattle.std.proofs.Common.{◌≡◌, length, sym, ap, ◌∙◌, subst, arith}
+use Rattle.std.proofs.Common.{◌≡◌, length, sym, ap, ◌∙◌, subst, arith, Option, Some, None}
 use Rattle.card_daily.specs.Given.{Given}
 use Rattle.card_daily.specs.declared.track.Track.{Track}
 use Rattle.card_book.specs.Marks.{AreMarks}
 use Rattle.card_book.specs.Stands.{StandsFor, Summary}
 use Rattle.card_replay.specs.Pasts.{AreSame, AreWithin}
-use Rattle.card_replay.specs.Replays.{HasMarks}
+use Rattle.card_replay.specs.Replays.{HasMarks, Stands}
 use Rattle.card_replay.specs.declared.past.Ends.{Ends}
 use Rattle.card_replay.specs.declared.past.Past.{Past}
 
@@ -15,7 +15,7 @@ pub record HaveSame (t u : Track) : Type 0 where
   pub cycles : u.cycles.items ≡ t.cycles.items
   pub fees : u.fees.items ≡ t.fees.items
 
-pub stands-same : (g : Given) (b : Summary) (t u : Track) → HaveSame t u → StandsFor g b t → StandsFor g b u
+stands-same : (g : Given) (b : Summary) (t u : Track) → HaveSame t u → StandsFor g b t → StandsFor g b u
 stands-same g b t u e h =
     let stand = h.folded.stand in
     record {
@@ -34,7 +34,13 @@ stands-same g b t u e h =
         accrued = h.folded.accrued;
       };
       since = h.since;
+      tally = h.tally;
     }
+
+-- where there may be no Book
+pub kept-same : (g : Given) (b : Option Summary) (t u : Track) → HaveSame t u → Stands g b t → Stands g b u
+kept-same g None t u e h = record { entries = e.entries ∙ h.entries; cycles = e.cycles ∙ h.cycles; fees = e.fees ∙ h.fees }
+kept-same g (Some b) t u e h = stands-same g b t u e h
 
 pub marks-same : (g : Given) (p q : Past) → AreSame p q → HasMarks g p → HasMarks g q
 marks-same g p q e h =

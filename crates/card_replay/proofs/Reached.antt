@@ -15,17 +15,15 @@ use Rattle.card_posts.specs.Draft.{IsFirstWith}
 use Rattle.card_posts.specs.Posted.{IsReceived, Posted, last_accepted, opens}
 use Rattle.card_posts.specs.Stored.{AreTimely}
 use Rattle.card_daily.specs.Given.{Given, IsSound, book_on, opened_in}
-use Rattle.card_daily.specs.Stands.{IsBlank}
-use Rattle.card_daily.specs.declared.track.Track.{Track}
-use Rattle.card_book.specs.Stands.{StandsFor, Summary, breaks_of, steps_over}
+use Rattle.card_book.specs.Stands.{Summary, breaks_of, steps_over}
 use Rattle.card_replay.proofs.Eves.{if-some}
 use Rattle.card_replay.proofs.Parts.{begins-same, begins-within, same-front}
-use Rattle.card_replay.proofs.Putback.{marks-same, stands-same, within-same}
+use Rattle.card_replay.proofs.Putback.{kept-same, marks-same, within-same}
 use Rattle.card_replay.proofs.Reaching.{none-marked, none-recorded}
-use Rattle.card_replay.proofs.Through.{cycles-through, last-is, reached-is, some-day}
+use Rattle.card_replay.proofs.Through.{cycles-through, last-is, opened-on, reached-is, some-book, some-day}
 use Rattle.card_replay.specs.Changes.{IsReadyFor}
 use Rattle.card_replay.specs.Pasts.{AreEnds, AreSame, IsEmpty, PastBegins}
-use Rattle.card_replay.specs.Replays.{Folding, FoldsOn, IsEve, IsFolding, HasClosings, IsReplay, IsToday, MayReach, Replay, SameLists, day_reached, given_of, opened_lists, posted_of, present_of}
+use Rattle.card_replay.specs.Replays.{Folding, FoldsOn, IsEve, IsFolding, HasClosings, IsReplay, IsToday, IsWhole, MayReach, Replay, SameLists, Stands, day_of, day_reached, given_of, opened_lists, posted_of, present_of}
 use Rattle.card_replay.specs.declared.eve.Eve.{Eve}
 use Rattle.card_replay.specs.declared.past.Ends.{Ends}
 use Rattle.card_replay.specs.declared.past.Past.{Past}
@@ -39,8 +37,8 @@ abbrev pub seen : List Kept → List IssuedRow → List CorrectedPost → Bool �
 seen posts rows corrected has_room f = record { lists = record { posts = posts; issued = rows }; corrected = corrected; has_room = has_room; folding = f }
 
 -- its folding by its parts
-abbrev pub folding_of : List Kept → Summary → Past → Option Eve → Folding
-folding_of posts b p eve = record { reached = day_reached (anchor_of posts).opened b.day; book = b; past = p; eve = eve }
+abbrev pub folding_of : List Kept → Option Summary → Past → Option Eve → Folding
+folding_of posts b p eve = record { reached = day_reached (anchor_of posts).opened (day_of b); book = b; past = p; eve = eve }
 
 -- with another folding of a day that isn't before the one reached
 pub later-replay : (shared : SharedRows) (r : Replay) (f : Folding) → IsReplay shared r → r.folding.reached ≤ f.reached → f.reached ≤ last_request_day → IsFolding (given_of r.lists shared) f → IsReplay shared (record r { folding = f })
@@ -56,9 +54,9 @@ later-replay shared r f h later last folding =
     }
 
 -- a folding to today
-pub day-is : (g : Given) (opened : ℕ) (b : Summary) (today : ℕ) (p : Past) → opened_in g ≡ opened → 1 ≤ opened → IsFolding g (record { reached = today; book = b; past = p; eve = None }) → day_reached opened b.day ≡ today
+pub day-is : (g : Given) (opened : ℕ) (b : Option Summary) (today : ℕ) (p : Past) → opened_in g ≡ opened → 1 ≤ opened → IsFolding g (record { reached = today; book = b; past = p; eve = None }) → day_reached opened (day_of b) ≡ today
 day-is g opened b today p same some h =
-    let is = reached-is g opened b.day same some in
+    let is = reached-is g opened (day_of b) same some in
     let at = h.day in
     omega (arith, is, at)
 
@@ -70,7 +68,7 @@ pub folding-back : (g : Given) (f : Folding) (p : Past) → AreSame f.past p →
 folding-back g f p same h = record {
   day = h.day;
   whole = h.whole;
-  stands = stands-same g f.book f.past.track p.track (record { entries = same.entries; cycles = same.cycles; fees = same.fees }) h.stands;
+  stands = kept-same g f.book f.past.track p.track (record { entries = same.entries; cycles = same.cycles; fees = same.fees }) h.stands;
   marks = marks-same g f.past p same h.marks;
   eve = if-some f.eve (IsEve g f.reached f.past) (IsEve g f.reached p) (λ e stood. back e stood) h.eve;
 }
@@ -108,22 +106,22 @@ folds-on shared r today h may = record {
 }
 
 -- the Book that it had before it was folded on is the eve, where it had folded a day
-last-eve : (shared : SharedRows) (r : Replay) (today : ℕ) (p : Past) (e : Ends) (day : ℕ) → IsReplay shared r → MayReach today r → AreEnds e r.folding.past → PastBegins r.folding.past p → r.folding.book.day ≡ Some day
+last-eve : (shared : SharedRows) (r : Replay) (today : ℕ) (p : Past) (e : Ends) (day : ℕ) → IsReplay shared r → MayReach today r → AreEnds e r.folding.past → PastBegins r.folding.past p → day_of r.folding.book ≡ Some day
     → IsEve (given_of r.lists shared) today p (record { book = r.folding.book; day = day; ends = e })
 last-eve shared r today p e day h may ends begins is = record {
   folded = is;
-  opened = h.folding.stands.opened day is;
-  earlier = let same = last-is (given_of r.lists shared) r.folding.book.day r.folding.reached day h.folding.day is in let later = may.later in omega (arith, same, later);
+  opened = opened-on (given_of r.lists shared) r.folding.book r.folding.past.track day h.folding.stands is;
+  earlier = let same = last-is (given_of r.lists shared) (day_of r.folding.book) r.folding.reached day h.folding.day is in let later = may.later in omega (arith, same, later);
   begins = record {
     within = begins-within e r.folding.past p ends begins;
     whole = h.folding.whole;
-    stands = λ front is. let same = begins-same e r.folding.past p front ends begins is in stands-same (given_of r.lists shared) r.folding.book r.folding.past.track front.track (record { entries = same.entries; cycles = same.cycles; fees = same.fees }) h.folding.stands;
+    stands = λ front is. let same = begins-same e r.folding.past p front ends begins is in kept-same (given_of r.lists shared) r.folding.book r.folding.past.track front.track (record { entries = same.entries; cycles = same.cycles; fees = same.fees }) h.folding.stands;
     marks = λ front is. marks-same (given_of r.lists shared) r.folding.past front (begins-same e r.folding.past p front ends begins is) h.folding.marks;
   };
 }
 
-abbrev pub IsEveOf : Summary → Ends → Eve → Type 0
-IsEveOf b ends e = (e.book ≡ b) × (b.day ≡ Some e.day) × (e.ends ≡ ends)
+abbrev pub IsEveOf : Option Summary → Ends → Eve → Type 0
+IsEveOf b ends e = (e.book ≡ b) × (day_of b ≡ Some e.day) × (e.ends ≡ ends)
 
 pub eve-stands : (shared : SharedRows) (r : Replay) (today : ℕ) (p : Past) (ends : Ends) (o : Option Eve) → IsReplay shared r → MayReach today r → AreEnds ends r.folding.past → PastBegins r.folding.past p
     → IfSome o (IsEveOf r.folding.book ends) → IfSome o (IsEve (given_of r.lists shared) today p)
@@ -131,11 +129,11 @@ eve-stands shared r today p ends o h may are begins is = if-some o (IsEveOf r.fo
   where
     one : (e : Eve) → IsEveOf r.folding.book ends e → IsEve (given_of r.lists shared) today p e
     one e (book, day, same) =
-        subst (λ (b : Summary). IsEve (given_of r.lists shared) today p (record { book = b; day = e.day; ends = e.ends })) (sym book)
+        subst (λ (b : Option Summary). IsEve (given_of r.lists shared) today p (record { book = b; day = e.day; ends = e.ends })) (sym book)
         (subst (λ (x : Ends). IsEve (given_of r.lists shared) today p (record { book = r.folding.book; day = e.day; ends = x })) (sym same) (last-eve shared r today p ends e.day h may are begins day))
 
 -- it has it as its eve
-pub with-eve : (g : Given) (today : ℕ) (b : Summary) (p : Past) (o : Option Eve) → IfSome o (IsEve g today p) → IsFolding g (record { reached = today; book = b; past = p; eve = None }) → IsFolding g (record { reached = today; book = b; past = p; eve = o })
+pub with-eve : (g : Given) (today : ℕ) (b : Option Summary) (p : Past) (o : Option Eve) → IfSome o (IsEve g today p) → IsFolding g (record { reached = today; book = b; past = p; eve = None }) → IsFolding g (record { reached = today; book = b; past = p; eve = o })
 with-eve g today b p o stood h = record { day = h.day; whole = h.whole; stands = h.stands; marks = h.marks; eve = stood }
 
 -- ---- an account that was just opened
@@ -169,18 +167,18 @@ unfolding last_accepted
 first-last today key p = omega arith
 
 -- nothing is folded
-pub begun : (g : Given) (b : Summary) (p : Past) → 1 ≤ opened_in g → b.day ≡ None → b.whole ≡ true → ((t : Track) → IsBlank t → StandsFor g b t) → IsEmpty p
-    → IsFolding g (record { reached = day_reached (opened_in g) b.day; book = b; past = p; eve = None })
-begun g b p some day whole stands empty = record {
-  day = reached-is g (opened_in g) b.day refl some;
-  whole = whole;
-  stands = stands p.track (none-recorded p empty);
+pub begun : (g : Given) (opened : ℕ) (b : Option Summary) (p : Past) → opened_in g ≡ opened → 1 ≤ opened → b ≡ None → IsEmpty p
+    → IsFolding g (record { reached = day_reached opened (day_of b); book = b; past = p; eve = None })
+begun g opened b p same some none empty = record {
+  day = reached-is g opened (day_of b) same some;
+  whole = subst IsWhole (sym none) tt;
+  stands = subst (λ o. Stands g o p.track) (sym none) (none-recorded p empty);
   marks = none-marked g p empty;
   eve = tt;
 }
 
-pub begun-before : (g : Given) (b : Summary) → 1 ≤ opened_in g → b.day ≡ None → day_reached (opened_in g) b.day + 1 ≡ opened_in g
-begun-before g b some day = let same = ap (day_reached (opened_in g)) day in omega (arith, some, same)
+pub begun-before : (opened : ℕ) (b : Option Summary) → 1 ≤ opened → b ≡ None → day_reached opened (day_of b) + 1 ≡ opened
+begun-before opened b some none = let same : day_reached opened (day_of b) ≡ opened - 1 = ap (λ o. day_reached opened (day_of o)) none in omega (arith, some, same)
 
 pub started : (shared : SharedRows) (key : List ℕ) (today : ℕ) (p : Post) (cs : List CorrectedPost) (room : Bool) (f : Folding) → opens p ≡ true → opening_in p ≤ today → today ≤ last_request_day
     → IsSound (given_of (opened_lists key today p) shared) → cs ≡ corrected (anchor_of (kept_as 1 key today p ∷ [])) shared.holidays (kept_as 1 key today p ∷ []) → f.reached + 1 ≡ opening_in p
@@ -246,11 +244,15 @@ cycles-today shared today r h reached =
     cycles-through g r.folding.book r.folding.past.track r.folding.reached h.folding.stands h.folding.day ∙ ap (λ d. (book_on g d).cycles) reached
 
 -- and today is the last day folded
-pub folded-today : (shared : SharedRows) (today : ℕ) (r : Replay) → IsToday today shared r → r.folding.book.day ≡ Some today
+pub folded-today : (shared : SharedRows) (today : ℕ) (r : Replay) → IsToday today shared r → day_of r.folding.book ≡ Some today
 folded-today shared today r h =
     let reached = h.reached in
     let opened = h.opened in
-    some-day (given_of r.lists shared) r.folding.book.day r.folding.reached h.replay.folding.day (omega (arith, reached, opened)) ∙ ap Some reached
+    some-day (given_of r.lists shared) (day_of r.folding.book) r.folding.reached h.replay.folding.day (omega (arith, reached, opened)) ∙ ap Some reached
+
+-- so there is a Book
+pub book-today : (shared : SharedRows) (today : ℕ) (r : Replay) → IsToday today shared r → r.folding.book ≡ None → ⊥
+book-today shared today r h = some-book r.folding.book today (folded-today shared today r h)
 
 -- and the first day that a post changes
 pub first-same : (shared : SharedRows) (today : ℕ) (p : Post) (from : ℕ) (old new : Replay) → SameLists old new → IsFirstWith shared.holidays today p (posted_of old) from → IsFirstWith shared.holidays today p (posted_of new) from

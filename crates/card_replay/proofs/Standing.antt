@@ -19,7 +19,6 @@ use Rattle.card_model.proofs.Cuts.{closings_are_cuts}
 use Rattle.card_posts.specs.Draft.{IsFirstWith}
 use Rattle.card_daily.specs.Given.{Given, IsSound, book_in, book_on, opened_in}
 use Rattle.card_book.proofs.Closings.{closing-count}
-use Rattle.card_book.proofs.Days.{book_is_the_fold}
 use Rattle.card_book.specs.GoingOn.{Continues}
 use Rattle.card_replay.proofs.Changed.{continues-first}
 use Rattle.card_replay.proofs.Committing.{with-post, with_post}
@@ -27,9 +26,9 @@ use Rattle.card_replay.proofs.CycleBefore.{closed-before, closed-then, cycle-rea
 use Rattle.card_replay.proofs.Drafting.{first-with}
 use Rattle.card_replay.proofs.EntryDays.{entries-grow}
 use Rattle.card_replay.proofs.LaterRows.{some-posts}
-use Rattle.card_replay.proofs.Through.{closed-in, cycles-through, through}
+use Rattle.card_replay.proofs.Through.{closed-in, cycles-through, recorded, through}
 use Rattle.card_replay.proofs.Unread.{continues-unread}
-use Rattle.card_replay.specs.Replays.{IsReplay, MayReach, Replay, given_of, posted_of}
+use Rattle.card_replay.specs.Replays.{IsReplay, MayReach, Replay, day_of, given_of, posted_of}
 use Rattle.card_replay.specs.Standing.{AreStanding, IsForetold, IsStandingCount, MayCome, closing_before, lists_after}
 use Rattle.card_replay.specs.Steps.{IsFirstBetween, first_in_cycle}
 
@@ -91,7 +90,7 @@ cycle-stands today shared p r from cycle c h may told at before near =
     let g = given_of r.lists shared in
     let reached = r.folding.reached in
     let es = r.folding.past.track.entries.items in
-    let entries : es ≡ (book_on g reached).entries = (book_is_the_fold g r.folding.book r.folding.past.track h.folding.stands).entries ∙ ap (λ (b : Book). b.entries) (through g r.folding.book.day reached h.folding.day) in
+    let entries : es ≡ (book_on g reached).entries = (recorded g r.folding.book r.folding.past.track h.folding.stands).entries ∙ ap (λ (b : Book). b.entries) (through g (day_of r.folding.book) reached h.folding.day) in
     let there : cycle_at cycle (book_on g reached).cycles ≡ Some c = ap (cycle_at cycle) (sym (cycles-through g r.folding.book r.folding.past.track reached h.folding.stands h.folding.day)) ∙ at in
     let front : take c.entries es ≡ (book_on g c.closing).entries = ap (take c.entries) entries ∙ (closings_are_cuts g.history g.issued g.shared reached cycle c there).entries in
     let counted : length (book_on g c.closing).entries ≡ c.entries = closing-count g reached cycle c there in

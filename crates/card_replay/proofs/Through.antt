@@ -3,15 +3,18 @@ use Rattle.std.proofs.Common.{◌≡◌, ℕ, ◌+◌, ◌-◌, ◌<◌, ◌≤�
 use Rattle.std.proofs.lemmas.Bool.{cases_lt}
 use Rattle.card_book.proofs.Closings.{closed-by, none-closed}
 use Rattle.card_book.proofs.Days.{after-is, book_is_the_fold, through-is}
-use Rattle.card_book.specs.GoingOn.{Continues}
+use Rattle.card_book.proofs.GoingOn.{books_go_on}
+use Rattle.card_book.specs.GoingOn.{Continues, HaveSameRates}
 use Rattle.card_book.specs.Stands.{StandsFor, Summary, book_through, day_to_fold}
 use Rattle.card_daily.specs.Given.{Given, book_on, opened_in}
 use Rattle.card_daily.specs.Stands.{before}
 use Rattle.card_daily.specs.declared.track.Track.{Track}
+use Rattle.card_events.specs.History.{anchor_of}
 use Rattle.card_model.specs.Books.{Book}
+use Rattle.card_model.specs.CycleDays.{IsOpening}
 use Rattle.card_model.specs.Cycles.{Cycle}
 use Rattle.card_model.specs.Folds.{cycle_at}
-use Rattle.card_replay.specs.Replays.{Folding, IsFolding, day_reached}
+use Rattle.card_replay.specs.Replays.{Folding, IsFolding, Stands, day_of, day_reached}
 
 -- ---- the day
 -- it is the book of the day before the first that isn't folded
@@ -45,13 +48,34 @@ opened-by g b t x (Some y) is h e =
     let low = h.opened y is in
     omega (arith, e, here, low)
 
-pub opened-through : (g : Given) (b : Summary) (t : Track) (x : ℕ) → StandsFor g b t → day_to_fold g b.day ≡ x + 1 → opened_in g ≤ x + 1
-opened-through g b t x h e = opened-by g b t x b.day refl h e
+pub opened-through : (g : Given) (b : Option Summary) (t : Track) (x : ℕ) → Stands g b t → day_to_fold g (day_of b) ≡ x + 1 → opened_in g ≤ x + 1
+opened-through g None t x h e = let here : opened_in g ≡ x + 1 = e in omega (arith, here)
+opened-through g (Some b) t x h e = opened-by g b t x b.day refl h e
+
+-- a day that is folded doesn't
+pub opened-on : (g : Given) (b : Option Summary) (t : Track) (day : ℕ) → Stands g b t → day_of b ≡ Some day → opened_in g ≤ day
+opened-on g None t day h is = let no : None ≡ Some day = is in absurd (cc)
+opened-on g (Some b) t day h is = h.opened day is
+
+-- and where one is there is a Book
+pub some-book : (b : Option Summary) (day : ℕ) → day_of b ≡ Some day → b ≡ None → ⊥
+some-book b day is none = let no : None ≡ Some day = sym (ap day_of none) ∙ is in absurd (cc)
+
+-- ---- what is recorded
+-- the book at the end of the last day folded
+pub record IsRecorded (g : Given) (day : Option ℕ) (t : Track) : Type 0 where
+  pub entries : t.entries.items ≡ (book_through g day).entries
+  pub cycles : t.cycles.items ≡ (book_through g day).cycles
+  pub fees : t.fees.items ≡ (book_through g day).fees
+
+pub recorded : (g : Given) (b : Option Summary) (t : Track) → Stands g b t → IsRecorded g (day_of b) t
+recorded g None t h = record { entries = h.entries; cycles = h.cycles; fees = h.fees }
+recorded g (Some b) t h = let is = book_is_the_fold g b t h in record { entries = is.entries; cycles = is.cycles; fees = is.fees }
 
 -- ---- closed cycles
 -- those of a track
-pub cycles-through : (g : Given) (b : Summary) (t : Track) (x : ℕ) → StandsFor g b t → day_to_fold g b.day ≡ x + 1 → t.cycles.items ≡ (book_on g x).cycles
-cycles-through g b t x h e = (book_is_the_fold g b t h).cycles ∙ ap (λ (k : Book). k.cycles) (through g b.day x e)
+pub cycles-through : (g : Given) (b : Option Summary) (t : Track) (x : ℕ) → Stands g b t → day_to_fold g (day_of b) ≡ x + 1 → t.cycles.items ≡ (book_on g x).cycles
+cycles-through g b t x h e = (recorded g b t h).cycles ∙ ap (λ (k : Book). k.cycles) (through g (day_of b) x e)
 
 -- a cycle closed by then
 closed-within : (g : Given) (x k : ℕ) (c : Cycle) → opened_in g ≤ x + 1 → cycle_at k (book_on g x).cycles ≡ Some c → c.closing ≤ x
@@ -67,14 +91,19 @@ closed-in g f k c h at =
     (ap (cycle_at k) (sym (cycles-through g f.book f.past.track f.reached h.stands h.day)) ∙ at)
 
 -- so a day was folded where there is one
-some-by : (g : Given) (b : Summary) (t : Track) (x k : ℕ) (c : Cycle) (o : Option ℕ) → b.day ≡ o → StandsFor g b t → day_to_fold g b.day ≡ x + 1 → cycle_at k t.cycles.items ≡ Some c → b.day ≡ Some x
-some-by g b t x k c None is h e at = absurd (none-closed k t.cycles.items c ((book_is_the_fold g b t h).cycles ∙ ap (λ d. (book_through g d).cycles) is) at)
-some-by g b t x k c (Some y) is h e at = is ∙ ap Some (last-is g b.day x y e is)
+some-by : (g : Given) (b : Option Summary) (t : Track) (x k : ℕ) (c : Cycle) (o : Option ℕ) → day_of b ≡ o → Stands g b t → day_to_fold g (day_of b) ≡ x + 1 → cycle_at k t.cycles.items ≡ Some c → day_of b ≡ Some x
+some-by g b t x k c None is h e at = absurd (none-closed k t.cycles.items c ((recorded g b t h).cycles ∙ ap (λ d. (book_through g d).cycles) is) at)
+some-by g b t x k c (Some y) is h e at = is ∙ ap Some (last-is g (day_of b) x y e is)
 
-pub some-closed : (g : Given) (b : Summary) (t : Track) (x k : ℕ) (c : Cycle) → StandsFor g b t → day_to_fold g b.day ≡ x + 1 → cycle_at k t.cycles.items ≡ Some c → b.day ≡ Some x
-some-closed g b t x k c h e at = some-by g b t x k c b.day refl h e at
+pub some-closed : (g : Given) (b : Option Summary) (t : Track) (x k : ℕ) (c : Cycle) → Stands g b t → day_to_fold g (day_of b) ≡ x + 1 → cycle_at k t.cycles.items ≡ Some c → day_of b ≡ Some x
+some-closed g b t x k c h e at = some-by g b t x k c (day_of b) refl h e at
 
 -- ---- an account that goes on
+-- what stood stands
+pub stands-on : (old g : Given) (b : Option Summary) (t : Track) → IsOpening (anchor_of g.history) → Stands old b t → Continues old g (day_of b) → HaveSameRates old g → Stands g b t
+stands-on old g None t open' h continues rates = h
+stands-on old g (Some b) t open' h continues rates = books_go_on old g b t open' h continues rates
+
 pub continues-through : (old g : Given) (o : Option ℕ) (x : ℕ) → day_to_fold old o ≡ x + 1 → Continues old g (Some x) → Continues old g o
 continues-through old g None x e h = record {
   anchor = h.anchor;

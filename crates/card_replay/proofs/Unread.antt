@@ -17,8 +17,7 @@ use Rattle.card_model.specs.Unread.{is_unread}
 use Rattle.card_model.proofs.Unread.{unfolded_posts_agree}
 use Rattle.card_daily.specs.Given.{Given, IsSound, opened_in}
 use Rattle.card_book.proofs.Closings.{none-closed}
-use Rattle.card_book.proofs.Days.{book_is_the_fold}
-use Rattle.card_book.proofs.GoingOn.{agreement_goes_on, bills_go_on, books_go_on}
+use Rattle.card_book.proofs.GoingOn.{agreement_goes_on, bills_go_on}
 use Rattle.card_book.proofs.MarksGoOn.{marks_go_on}
 use Rattle.card_book.proofs.RatesGoOn.{rates_go_on}
 use Rattle.card_book.specs.GoingOn.{Continues, HaveSameRates, sets_rates}
@@ -26,8 +25,8 @@ use Rattle.card_book.specs.Stands.{book_through, day_to_fold}
 use Rattle.card_replay.proofs.Changed.{continues-none, same-anchor}
 use Rattle.card_replay.proofs.Eves.{eve-goes-on, eve_folding, if-some}
 use Rattle.card_replay.proofs.LaterRows.{some-posts}
-use Rattle.card_replay.proofs.Through.{closed-in, continues-through, same-first}
-use Rattle.card_replay.specs.Replays.{Folding, IsEve, IsFolding, given_of, present_of}
+use Rattle.card_replay.proofs.Through.{closed-in, continues-through, recorded, same-first, stands-on}
+use Rattle.card_replay.specs.Replays.{Folding, IsEve, IsFolding, day_of, given_of, present_of}
 use Rattle.card_replay.specs.declared.eve.Eve.{Eve}
 use Rattle.card_replay.specs.declared.past.Past.{Past}
 
@@ -109,15 +108,15 @@ same-rates old g k before history plain =
     rates_go_on old g (k ∷ []) history (some-posts old.history before.opening) (All-cons (λ (x : Kept). sets_rates x.post ≡ false) k [] plain (All-nil (λ (x : Kept). sets_rates x.post ≡ false)))
 
 -- where the account goes on up to each closing and the last day folded, and the eve stands
-more-on : (old g : Given) (f : Folding) (k : Kept) → IsSound old → IsSound g → g.history ≡ old.history ++ k ∷ [] → sets_rates k.post ≡ false → Continues old g f.book.day
+more-on : (old g : Given) (f : Folding) (k : Kept) → IsSound old → IsSound g → g.history ≡ old.history ++ k ∷ [] → sets_rates k.post ≡ false → Continues old g (day_of f.book)
     → ((n : ℕ) (c : Cycle) → cycle_at n f.past.track.cycles.items ≡ Some c → Continues old g (Some c.closing)) → IfSome f.eve (IsEve g f.reached f.past) → IsFolding old f → IsFolding g f
 more-on old g f k before sound history plain continues closings stood h =
     let same = same-anchor old.history k (some-posts old.history before.opening) in
     let opened : opened_in g ≡ opened_in old = ap (λ (a : Anchor). a.opened) (ap anchor_of history ∙ same) in
     record {
-      day = same-first g old f.book.day opened ∙ h.day;
+      day = same-first g old (day_of f.book) opened ∙ h.day;
       whole = h.whole;
-      stands = books_go_on old g f.book f.past.track sound.opening h.stands continues (same-rates old g k before history plain);
+      stands = stands-on old g f.book f.past.track sound.opening h.stands continues (same-rates old g k before history plain);
       marks = marks_go_on old g f.past.track.cycles.items f.past.since.items f.past.accrued.items
           (record { new = k ∷ []; history = history; anchor = ap anchor_of history ∙ same; terms = continues.terms; continues = closings }) h.marks;
       eve = stood;
@@ -126,14 +125,14 @@ more-on old g f k before sound history plain continues closings stood h =
 book-on : (old g : Given) (f : Folding) (k : Kept) → IsSound old → IsSound g → g.history ≡ old.history ++ k ∷ [] → sets_rates k.post ≡ false
     → ((x : ℕ) → x ≤ f.reached → Continues old g (Some x)) → IfSome f.eve (IsEve g f.reached f.past) → IsFolding old f → IsFolding g f
 book-on old g f k before sound history plain continues stood h =
-    more-on old g f k before sound history plain (continues-through old g f.book.day f.reached h.day (continues f.reached (omega arith))) (λ n c at. continues c.closing (closed-in old f n c h at)) stood h
+    more-on old g f k before sound history plain (continues-through old g (day_of f.book) f.reached h.day (continues f.reached (omega arith))) (λ n c at. continues c.closing (closed-in old f n c h at)) stood h
 
 -- and where no day is folded
-pub begun-on : (old g : Given) (f : Folding) (k : Kept) → IsSound old → IsSound g → g.history ≡ old.history ++ k ∷ [] → sets_rates k.post ≡ false → f.book.day ≡ None → IsFolding old f → IsFolding g f
+pub begun-on : (old g : Given) (f : Folding) (k : Kept) → IsSound old → IsSound g → g.history ≡ old.history ++ k ∷ [] → sets_rates k.post ≡ false → day_of f.book ≡ None → IsFolding old f → IsFolding g f
 begun-on old g f k before sound history plain begun h =
-    let here : day_to_fold old f.book.day ≡ opened_in old = ap (day_to_fold old) begun in
+    let here : day_to_fold old (day_of f.book) ≡ opened_in old = ap (day_to_fold old) begun in
     let first = h.day in
-    let none : f.past.track.cycles.items ≡ [] = (book_is_the_fold old f.book f.past.track h.stands).cycles ∙ ap (λ d. (book_through old d).cycles) begun in
+    let none : f.past.track.cycles.items ≡ [] = (recorded old f.book f.past.track h.stands).cycles ∙ ap (λ d. (book_through old d).cycles) begun in
     more-on old g f k before sound history plain (subst (Continues old g) (sym begun) (continues-none old g k (some-posts old.history before.opening) history)) (λ n c at. absurd (none-closed n f.past.track.cycles.items c none at))
     (if-some f.eve (IsEve old f.reached f.past) (IsEve g f.reached f.past) (λ e was. let low = was.opened in let high = was.earlier in absurd (omega (arith, here, first, low, high))) h.eve)
     h

@@ -17,7 +17,7 @@ use Rattle.card_daily.specs.Given.{Given, IsSound}
 use Rattle.card_posts.specs.Posted.{IsReceived, target_of}
 use Rattle.card_replay.specs.Needs.{needs_today}
 use Rattle.card_replay.specs.Pasts.{IsFront}
-use Rattle.card_replay.specs.Replays.{Folding, IsFolding, IsReplay, MayReach, Replay, day_reached, given_of, present_of}
+use Rattle.card_replay.specs.Replays.{Folding, IsFolding, IsReplay, MayReach, Replay, day_of, day_reached, given_of, present_of}
 use Rattle.card_replay.specs.Steps.{IsNear}
 use Rattle.card_replay.specs.declared.change.Change.{Change}
 use Rattle.card_replay.specs.declared.change.TakenBack.{TakenBack}
@@ -58,7 +58,7 @@ lists_with c l =
 -- The folding stays where the post takes it nowhere; else it is that of the earlier day, or of none, and there is no eve. The account is
 -- opened on a day
 pub record HasRewound (opened : ℕ) (r : TakenBack) (old new : Folding) : Type 0 where
-  pub reached : new.reached ≡ day_reached opened r.book.day
+  pub reached : new.reached ≡ day_reached opened (day_of r.book)
   pub book : new.book ≡ r.book
   pub past : IsFront r.ends old.past new.past
   pub eve : new.eve ≡ None

@@ -12,16 +12,16 @@ use Rattle.card_posts.specs.Change.{IsFirstChange}
 use Rattle.card_book.specs.Renewed.{AwaitsPosts, HasNewPosts}
 use Rattle.card_book.specs.Stands.{StandsFor, Summary, day_to_fold}
 use Rattle.card_daily.specs.Given.{Given, IsSound}
-use Rattle.card_daily.specs.Stands.{IsBlank}
 use Rattle.card_daily.specs.declared.track.Track.{Track}
 use Rattle.card_book.specs.GoingOn.{sets_rates}
 use Rattle.card_replay.specs.Pasts.{AreFirst, IsFront}
-use Rattle.card_replay.specs.Replays.{HasClosings, IsEve, IsFolding}
+use Rattle.card_replay.specs.Replays.{HasClosings, IsEve, IsFolding, IsWhole, day_of}
 use Rattle.card_replay.specs.Steps.{first_in_cycle}
 use Rattle.card_replay.specs.declared.change.TakenBack.{TakenBack}
 use Rattle.card_replay.specs.declared.eve.Eve.{Eve}
 use Rattle.card_replay.specs.declared.past.Ends.{Ends}
 use Rattle.card_replay.specs.declared.past.Past.{Past}
+use Rattle.card_replay.specs.declared.rewinding.Earlier.{Earlier}
 
 -- the number of the last cycle that closed before the one that a day lies in, 0 before the first closing, and for a day before the
 -- opening
@@ -56,7 +56,7 @@ pub record Changes (old g : Given) (p : Post) (from reached : ℕ) : Type 0 wher
 -- the Book of the day reached and its past stand for the account without the post
 pub record IsBeforeChange (old g : Given) (p : Post) (from reached : ℕ) (b : Summary) (past : Past) : Type 0 where
   pub changes : Changes old g p from reached
-  pub folding : IsFolding old (record { reached = reached; book = b; past = past; eve = None })
+  pub folding : IsFolding old (record { reached = reached; book = Some b; past = past; eve = None })
 
 -- so they do for some account
 pub record MayRewind (g : Given) (p : Post) (from reached : ℕ) (b : Summary) (past : Past) : Type 0 where
@@ -83,17 +83,19 @@ pub record MayBegin (past : Past) (from cycle : ℕ) (e : Eve) : Type 0 where
 -- What the account is taken back to: it stands for the account with the post, at the end of a day that isn't after the one reached,
 -- nor before the last closing before the change
 pub record IsAgain (g : Given) (from reached : ℕ) (past : Past) (r : TakenBack) : Type 0 where
-  pub near : first_in_cycle (anchor_of g.history) from ≤ day_to_fold g r.book.day
-  pub earlier : day_to_fold g r.book.day ≤ reached + 1
-  pub whole : r.book.whole ≡ true
+  pub near : first_in_cycle (anchor_of g.history) from ≤ day_to_fold g (day_of r.book)
+  pub earlier : day_to_fold g (day_of r.book) ≤ reached + 1
+  pub whole : IsWhole r.book
   pub closings : (new : Past) → IsFront r.ends past new → HasClosings g r.book new
 
--- Before the opening day nothing is folded, and nothing is recorded
-pub record IsAtBeginning (g : Given) (r : TakenBack) : Type 0 where
-  pub day : r.book.day ≡ None
-  pub whole : r.book.whole ≡ true
-  pub stands : (t : Track) → IsBlank t → StandsFor g r.book t
+-- Before the opening day there is no Book, and nothing is recorded
+pub record IsAtBeginning (r : TakenBack) : Type 0 where
+  pub book : r.book ≡ None
   pub ends : AreFirst r.ends
+
+-- the account is taken back to this Book
+abbrev pub back_at : Summary → Ends → TakenBack
+back_at b e = record { book = Some b; ends = e }
 
 -- A Book over the account with the post, with the segments and rates of all its posts, by one of the same day that stood without it
 pub record HasRatesOf (g : Given) (earlier b : Summary) : Type 0 where
@@ -102,12 +104,12 @@ pub record HasRatesOf (g : Given) (earlier b : Summary) : Type 0 where
   pub stands : (old : Given) (day : ℕ) (t : Track) → HasNewPosts old g day earlier t → StandsFor g b t
 
 -- with such a Book it stands for the account with the post
-pub record IsAgainWithRates (g : Given) (from reached : ℕ) (past : Past) (r : TakenBack) : Type 0 where
+pub record IsAgainWithRates (g : Given) (from reached : ℕ) (past : Past) (r : Earlier) : Type 0 where
   pub awaits : AwaitsPosts g r.book
-  pub again : (b : Summary) → HasRatesOf g r.book b → IsAgain g from reached past (record { book = b; ends = r.ends })
+  pub again : (b : Summary) → HasRatesOf g r.book b → IsAgain g from reached past (back_at b r.ends)
 
 -- The closing of a cycle: whichever post changes the account behind it, it stands with that post, or, where the post sets rates, with
 -- these rates
-pub record IsAtClosing (cycle : ℕ) (b : Summary) (past : Past) (r : TakenBack) : Type 0 where
-  pub plain : (g : Given) (p : Post) (from reached : ℕ) → MayGoBack g p from cycle reached b past → sets_rates p ≡ false → IsAgain g from reached past r
+pub record IsAtClosing (cycle : ℕ) (b : Summary) (past : Past) (r : Earlier) : Type 0 where
+  pub plain : (g : Given) (p : Post) (from reached : ℕ) → MayGoBack g p from cycle reached b past → sets_rates p ≡ false → IsAgain g from reached past (back_at r.book r.ends)
   pub rates : (g : Given) (p : Post) (from reached : ℕ) → MayGoBack g p from cycle reached b past → IsAgainWithRates g from reached past r

@@ -1,15 +1,16 @@
 // What a post that was prepared changes.
+use crate::book_if_any::BookIfAny;
 use crate::past::Ends;
-use card_book::{Book, Issued};
+use card_book::Issued;
 use card_events::{Day, Name, NoMemory, Post};
 use std::alloc::Global;
 use std::marker::Model;
 
-/// What a post takes an account back to: the Book at the end of an earlier day, or before the opening day, and where what is recorded up
-/// to then ends. With the post among the others it is folded on from there when it is next asked.
+/// What a post takes an account back to: the Book at the end of an earlier day, or none before the opening day, and where what is recorded
+/// up to then ends. With the post among the others it is folded on from there when it is next asked.
 #[derive(Drop)]
 pub struct TakenBack {
-    pub book: Book,
+    pub book: BookIfAny,
     pub ends: Ends,
 }
 

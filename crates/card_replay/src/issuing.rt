@@ -7,10 +7,11 @@ ghost use Rattle.card_model.specs.Folds.{cycle_at};
 ghost use Rattle.card_replay.specs.Changes.{issued_as, issued_from, row_on};
 ghost use Rattle.card_replay.specs.Replays.{HasClosings};
 
+use crate::book_if_any::BookIfAny;
 use crate::change::IssuedIfAny;
 use crate::past::Past;
 use crate::statement::statement_at;
-use card_book::{Book, Cycle, Inputs, Issued};
+use card_book::{Cycle, Inputs, Issued};
 use card_events::{Day, NoMemory, Num, Post};
 use std::alloc::Global;
 
@@ -32,7 +33,7 @@ pub fn closed_number(cycles: &[Cycle], cycle: Num) -> Option<u32>
 fn row_at(
     alloc: Global,
     inputs: &Inputs,
-    book: &Book,
+    book: &BookIfAny,
     past: &Past,
     number: u32,
     bill: u32,
@@ -56,7 +57,7 @@ fn row_at(
 fn row_of(
     alloc: Global,
     inputs: &Inputs,
-    book: &Book,
+    book: &BookIfAny,
     past: &Past,
     cycle: Num,
     bill: u32,
@@ -80,7 +81,7 @@ fn row_of(
 pub fn issued_by(
     alloc: Global,
     inputs: &Inputs,
-    book: &Book,
+    book: &BookIfAny,
     past: &Past,
     post: &Post,
     number: u32,

@@ -1,6 +1,7 @@
 //! Accounts with their book folded to the day last reached: a post takes the book back to a day before what it changes.
 #![tactic(auto)]
 
+mod book_if_any;
 mod change;
 mod eve;
 mod folding;

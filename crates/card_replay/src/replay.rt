@@ -2,8 +2,9 @@
 ghost use Rattle.std.specs.Prelude.{◌≡◌, ◌+◌, ◌≤◌, IfOk, OnOk, OnErr, None};
 ghost use Rattle.card_book.specs.Stands.{day_to_fold, steps_over};
 ghost use Rattle.card_replay.specs.Pasts.{AreSame, PastBegins};
-ghost use Rattle.card_replay.specs.Replays.{FoldsOn, IsFolding};
+ghost use Rattle.card_replay.specs.Replays.{FoldsOn, IsFolding, day_of};
 
+use crate::book_if_any::BookIfAny;
 use crate::change::{Change, IssuedIfAny, TakenBack, TakenBackIfAny};
 use crate::eve::{Eve, eve_of};
 use crate::folding::fold_on;
@@ -16,7 +17,7 @@ use crate::rewinding::{
 };
 use crate::statement::statement_at;
 use crate::taking::take_if_any;
-use card_book::{Book, Folded, Inputs, Issued, Statement};
+use card_book::{Folded, Inputs, Issued, Statement};
 use card_events::{Day, Name, NoMemory, Num, POST_LIMIT, Post, Steps};
 use card_fees::SharedRows;
 use card_model::Entry;
@@ -33,7 +34,7 @@ use std::sync::ledger::Ledger;
 pub struct Replay {
     posts: Posts,
     issued: Vec<Issued>,
-    book: Book,
+    book: BookIfAny,
     past: Past,
     eve: Option<Eve>,
     has_room: bool,
@@ -42,35 +43,56 @@ pub struct Replay {
 impl Model for Replay {
     ghost use Rattle.std.specs.Prelude.{◌≡◌, ◌<◌, true, vec_len, vec_capacity};
     ghost use Rattle.card_events.specs.History.{anchor_of};
-    ghost use Rattle.card_replay.specs.Replays.{Replay, day_reached};
+    ghost use Rattle.card_replay.specs.Replays.{Replay, day_of, day_reached};
 
     ghost Value = { Replay };
 
-    ghost view = { λ r. record { lists = record { posts = r.posts.history; issued = r.issued.items }; corrected = r.posts.corrected; has_room = r.has_room; folding = record { reached = day_reached (anchor_of r.posts.history).opened r.book.day; book = r.book; past = r.past; eve = r.eve } } };
+    ghost view = { λ r. record { lists = record { posts = r.posts.history; issued = r.issued.items }; corrected = r.posts.corrected; has_room = r.has_room; folding = record { reached = day_reached (anchor_of r.posts.history).opened (day_of r.book); book = r.book; past = r.past; eve = r.eve } } };
 
     ghost invariant = { λ r. r.has_room ≡ true → (r.posts.has_room ≡ true) × (vec_len r.issued < vec_capacity r.issued) };
 }
 
-// Folds a copy of a Book to the end of today. After want of memory the past is as it was.
-fn reach<L: Ledger>(
+// Folds a copy of a Book, or, where there is none, the one before the opening day, to the end of today. After want of memory the past
+// begins with what it held.
+fn folded_on<L: Ledger>(
     alloc: Global,
     inputs: &Inputs,
-    book: &Book,
+    book: &BookIfAny,
     past: &mut Past,
     today: Day,
     steps: &mut Steps<L>,
-) -> Result<Book, NoMemory>
+) -> Result<BookIfAny, NoMemory>
     requires folded { FoldsOn inputs.now today book.now past.old }
     ensures folding { IfOk result (λ b. IsFolding inputs.now (record { reached = today; book = b; past = past.new; eve = None })) }
-    ensures steps { OnOk result (steps.new ≡ steps.old + steps_over inputs.now today (day_to_fold inputs.now book.now.day)) }
-    ensures most { steps.new ≤ steps.old + steps_over inputs.now today (day_to_fold inputs.now book.now.day) }
+    ensures steps { OnOk result (steps.new ≡ steps.old + steps_over inputs.now today (day_to_fold inputs.now (day_of book.now))) }
+    ensures most { steps.new ≤ steps.old + steps_over inputs.now today (day_to_fold inputs.now (day_of book.now)) }
+    ensures begins { PastBegins past.old past.new }
+{
+    let mut later = book.to_fold_on(alloc, inputs)?;
+    fold_on(alloc, inputs, &mut later, past, today, steps)?;
+    let kept = BookIfAny::of(alloc, later)?;
+    Ok(kept)
+}
+
+// The same; after want of memory the past is as it was.
+fn reach<L: Ledger>(
+    alloc: Global,
+    inputs: &Inputs,
+    book: &BookIfAny,
+    past: &mut Past,
+    today: Day,
+    steps: &mut Steps<L>,
+) -> Result<BookIfAny, NoMemory>
+    requires folded { FoldsOn inputs.now today book.now past.old }
+    ensures folding { IfOk result (λ b. IsFolding inputs.now (record { reached = today; book = b; past = past.new; eve = None })) }
+    ensures steps { OnOk result (steps.new ≡ steps.old + steps_over inputs.now today (day_to_fold inputs.now (day_of book.now))) }
+    ensures most { steps.new ≤ steps.old + steps_over inputs.now today (day_to_fold inputs.now (day_of book.now)) }
     ensures begins { OnOk result (PastBegins past.old past.new) }
     ensures err { OnErr result (AreSame past.old past.new) }
 {
     let ends = ends_of(past);
-    let mut later = book.copy(alloc)?;
-    match fold_on(alloc, inputs, &mut later, past, today, steps) {
-        Ok(()) => Ok(later),
+    match folded_on(alloc, inputs, book, past, today, steps) {
+        Ok(later) => Ok(later),
         Err(NoMemory) => {
             cut(past, &ends);
             Err(NoMemory)
@@ -101,33 +123,30 @@ impl Replay {
     ghost use Rattle.card_replay.specs.Standing.{AreStanding, IsForetold, IsStandingCount, MayCome};
     ghost use Rattle.card_replay.specs.Steps.{AreFewToPrepare, IsNear, steps_to};
 
-    /// The account that a post opens today. It has reached no day: nothing is folded. What every run leaves holds of its lists.
+    /// The account that a post opens today. It has reached no day: nothing is folded, and it has no Book. What every run leaves holds of its
+    /// lists.
     pub fn start(
         alloc: Global,
         key: &Name,
         today: Day,
         post: &Post,
-        shared: &SharedRows,
+        _shared: &SharedRows,
     ) -> Result<Replay, NoMemory>
         requires opens { opens post.now ≡ true }
         requires close_day { IsCloseDay (terms_in post.now).close }
         requires opened { opening_in post.now ≤ today }
         requires dated { today ≤ last_request_day }
-        requires sound { IsSound (given_of (opened_lists key.now today post.now) shared.now) }
+        requires sound { IsSound (given_of (opened_lists key.now today post.now) _shared.now) }
         ensures lists { IfOk result (λ r. r.lists ≡ opened_lists key.now today post.now) }
-        ensures replay { IfOk result (IsReplay shared.now) }
+        ensures replay { IfOk result (IsReplay _shared.now) }
         ensures reached { IfOk result (λ r. r.folding.reached + 1 ≡ opening_in post.now) }
         ensures reach { IfOk result (MayReach today) }
         ensures room { IfOk result (λ r. r.has_room ≡ false) }
     {
-        let posts = Posts::start(alloc, key, today, post)?;
-        let issued = Vec::new(alloc);
-        let inputs = Inputs::new(&posts, &issued, shared);
-        let book = Book::start(alloc, &inputs)?;
         Ok(Replay {
-            posts,
-            issued,
-            book,
+            posts: Posts::start(alloc, key, today, post)?,
+            issued: Vec::new(alloc),
+            book: BookIfAny::none(),
             past: nothing(alloc),
             eve: None,
             has_room: false,
@@ -234,6 +253,7 @@ impl Replay {
         requires first { IsFirstWith shared.now.holidays today post.now (posted_of self.old) from }
         requires reached { self.old.folding.reached ≡ reached }
         requires within { from ≤ reached }
+        requires there { self.old.folding.book ≡ None → ⊥ }
         ensures same { SameLists self.old self.new }
         ensures folding { self.new.folding ≡ self.old.folding }
         ensures rewound { IfOk result (λ made. IsRewoundBy shared.now today key.now post.now (Some made) self.old) }
@@ -243,7 +263,8 @@ impl Replay {
             .posts
             .draft(alloc, key, today, post, shared.calendar())?;
         let inputs = Inputs::new(&self.posts, &self.issued, shared);
-        let made = rewind(alloc, &inputs, post, from, reached, &self.book, &self.past);
+        let book = self.book.lent();
+        let made = rewind(alloc, &inputs, post, from, reached, book, &self.past);
         self.posts.withdraw(draft);
         made
     }
@@ -257,20 +278,19 @@ impl Replay {
         _today: Day,
         from: Day,
         _reached: Day,
-        shared: &SharedRows,
+        _shared: &SharedRows,
     ) -> Result<TakenBack, NoMemory>
-        requires may { MayPrepare shared.now _today _key.now _post.now self.now }
-        requires first { IsFirstWith shared.now.holidays _today _post.now (posted_of self.now) from }
+        requires may { MayPrepare _shared.now _today _key.now _post.now self.now }
+        requires first { IsFirstWith _shared.now.holidays _today _post.now (posted_of self.now) from }
         requires reached { self.now.folding.reached ≡ _reached }
         requires within { from ≤ _reached }
+        requires there { self.now.folding.book ≡ None → ⊥ }
         requires plain { rates.sets_rates _post.now ≡ false }
-        ensures { IfOk result (λ made. IsRewoundBy shared.now _today _key.now _post.now (Some made) self.now) }
+        ensures { IfOk result (λ made. IsRewoundBy _shared.now _today _key.now _post.now (Some made) self.now) }
     {
         let cycle = cycles_before(&self.posts.anchor(), from);
-        let inputs = Inputs::new(&self.posts, &self.issued, shared);
-        let made = go_back(
-            alloc, &inputs, from, cycle, &self.book, &self.past, &self.eve,
-        )?;
+        let book = self.book.lent();
+        let made = go_back(alloc, from, cycle, book, &self.past, &self.eve)?;
         Ok(made)
     }
 
@@ -289,6 +309,7 @@ impl Replay {
         requires first { IsFirstWith shared.now.holidays today post.now (posted_of self.old) from }
         requires reached { self.old.folding.reached ≡ reached }
         requires within { from ≤ reached }
+        requires there { self.old.folding.book ≡ None → ⊥ }
         ensures same { SameLists self.old self.new }
         ensures folding { self.new.folding ≡ self.old.folding }
         ensures rewound { IfOk result (λ made. IsRewoundBy shared.now today key.now post.now (Some made) self.old) }
@@ -366,7 +387,7 @@ impl Replay {
 
     /// Prepares a post against which there is no reason, under a new key, with the first day that it changes: there is room for it, and
     /// the Book is there that it takes the account back to, where that day isn't after the one last reached: that of the eve, of the
-    /// closing before the cycle in which the day lies, or, in the first cycle, one before the opening. The account reaches today for a
+    /// closing before the cycle in which the day lies, or, in the first cycle, none. The account reaches today for a
     /// Bill, whose row is read off the book of today, and for a Plan, a Notice or a Lower; for any other post nothing is folded.
     /// The posts and the issued statements stay as they are; with the post, they are as every run leaves them. The day last reached
     /// is as before, or today.
@@ -497,7 +518,7 @@ impl Replay {
         ensures since { result.since ≡ credit_since (book_today (present_of _today _shared.now self.now.lists)).entries (anchor_of self.now.lists.posts).opened _today }
         ensures segments { result.segments ≡ account_segments _shared.now.holidays self.now.lists.posts }
     {
-        Folded::of(&self.book, &self.past.track)
+        Folded::of(self.book.lent(), &self.past.track)
     }
 
     /// The statement of a cycle, as if it were issued on a day (12 CFR 1026.5(b)(2), .7(b)), by the book at the end of today, which the

@@ -11,16 +11,24 @@ ghost use Rattle.card_book.specs.Rewound.{AreFolded};
 ghost use Rattle.card_book.specs.GoingOn as going;
 ghost use Rattle.card_events.specs.declared.post.Post.{Post};
 ghost use Rattle.card_replay.specs.Needs as needs;
-ghost use Rattle.card_replay.specs.Replays.{day_reached};
+ghost use Rattle.card_replay.specs.Replays.{day_of, day_reached};
 ghost use Rattle.card_replay.specs.Rewinds.{IsAgain, IsAtBeginning, IsAtClosing, MayBegin, MayGoBackOn, MayRewind, cycle_before};
 
+use crate::book_if_any::BookIfAny;
 use crate::change::TakenBack;
 use crate::eve::Eve;
 use crate::foretold::earlier;
-use crate::past::{Past, ends_at, first_ends};
+use crate::past::{Ends, Past, ends_at, first_ends};
 use card_book::{Book, Inputs};
 use card_events::{Anchor, Day, NoMemory, Post, cycle_of};
 use std::alloc::Global;
+
+/// The Book at the closing of a cycle, and where what is recorded up to then ends.
+#[derive(Drop)]
+pub struct Earlier {
+    pub book: Book,
+    pub ends: Ends,
+}
 
 /// Whether no fold reads a post: a Review, an Ack, an AskRefund or a Bill. What a Bill issues changes no day up to its own.
 pub fn is_unread(post: &Post) -> bool
@@ -70,9 +78,9 @@ pub fn cycles_before(anchor: &Anchor, day: Day) -> u32
 }
 
 /// How many cycles closed before the one that the earlier of a day and the last day folded lies in, none where no day is folded.
-pub fn closed_before(anchor: &Anchor, book: &Book, from: Day) -> u32
+pub fn closed_before(anchor: &Anchor, book: &BookIfAny, from: Day) -> u32
     requires opening { IsOpening anchor.now }
-    ensures { result ≡ cycle_of anchor.now (min from (day_reached anchor.now.opened book.now.day)) - 1 }
+    ensures { result ≡ cycle_of anchor.now (min from (day_reached anchor.now.opened (day_of book.now))) - 1 }
 {
     match book.day() {
         Some(reached) => {
@@ -84,9 +92,9 @@ pub fn closed_before(anchor: &Anchor, book: &Book, from: Day) -> u32
 }
 
 /// The last day folded, where it isn't before a day.
-pub fn folded_since(book: &Book, from: Day) -> Option<Day>
-    ensures some { (day : ℕ) → result ≡ Some day → (book.now.day ≡ Some day) × (from ≤ day) }
-    ensures none { result ≡ None → (day : ℕ) → book.now.day ≡ Some day → day < from }
+pub fn folded_since(book: &BookIfAny, from: Day) -> Option<Day>
+    ensures some { (day : ℕ) → result ≡ Some day → (day_of book.now ≡ Some day) × (from ≤ day) }
+    ensures none { result ≡ None → (day : ℕ) → day_of book.now ≡ Some day → day < from }
 {
     match book.day() {
         Some(day) => { if from <= day { Some(day) } else { None } }
@@ -95,8 +103,8 @@ pub fn folded_since(book: &Book, from: Day) -> Option<Day>
 }
 
 /// Whether this is the last day folded.
-pub fn is_folded_to(book: &Book, today: Day) -> bool
-    ensures { result ≡ true → book.now.day ≡ Some today }
+pub fn is_folded_to(book: &BookIfAny, today: Day) -> bool
+    ensures { result ≡ true → day_of book.now ≡ Some today }
 {
     match book.day() {
         Some(day) => day == today,
@@ -105,7 +113,7 @@ pub fn is_folded_to(book: &Book, today: Day) -> bool
 }
 
 // Back to the closing of a cycle: with the rates of the posts up to then.
-fn at_closing(alloc: Global, cycle: u32, book: &Book, past: &Past) -> Result<TakenBack, NoMemory>
+fn at_closing(alloc: Global, cycle: u32, book: &Book, past: &Past) -> Result<Earlier, NoMemory>
     requires folded { AreFolded book.now past.now.track }
     requires some { 1 ≤ cycle }
     requires closed { cycle ≤ length past.now.track.cycles.items }
@@ -115,7 +123,7 @@ fn at_closing(alloc: Global, cycle: u32, book: &Book, past: &Past) -> Result<Tak
     let since = past.since[cycle as usize - 1];
     let ends = ends_at(past, cycle);
     let earlier = book.rewound(alloc, &past.track, cycle, since, &past.accrued)?;
-    Ok(TakenBack {
+    Ok(Earlier {
         book: earlier,
         ends,
     })
@@ -139,21 +147,21 @@ fn with_rates(
 {
     let earlier = at_closing(alloc, cycle, book, past)?;
     let renewed = earlier.book.renewed(alloc, inputs)?;
+    let book = BookIfAny::of(alloc, renewed)?;
     Ok(TakenBack {
-        book: renewed,
+        book,
         ends: earlier.ends,
     })
 }
 
-// Back before the opening day, over inputs with the post, or without it where it sets no rate. Nothing is folded.
-fn at_beginning(alloc: Global, inputs: &Inputs) -> Result<TakenBack, NoMemory>
-    ensures { IfOk result (IsAtBeginning inputs.now) }
+// Back before the opening day, where there is no Book. It takes no memory.
+fn at_beginning() -> TakenBack
+    ensures { IsAtBeginning result }
 {
-    let book = Book::start(alloc, inputs)?;
-    Ok(TakenBack {
-        book,
+    TakenBack {
+        book: BookIfAny::none(),
         ends: first_ends(),
-    })
+    }
 }
 
 /// Goes back behind what one more post changes that sets rates, over inputs with that post: to the last closing before it, with the
@@ -173,8 +181,7 @@ pub fn rewind(
 {
     let cycle = cycles_before(&inputs.anchor(), from);
     if cycle == 0 {
-        let beginning = at_beginning(alloc, inputs)?;
-        return Ok(beginning);
+        return Ok(at_beginning());
     }
     let earlier = with_rates(alloc, inputs, post, from, cycle, reached, book, past)?;
     Ok(earlier)
@@ -202,8 +209,6 @@ fn may_begin(eve: &Eve, past: &Past, from: Day, cycle: u32) -> bool
 // Back to the closing of a cycle, or, for 0, before the opening day, for a post that sets no rate.
 fn at_closing_if_any(
     alloc: Global,
-    inputs: &Inputs,
-    from: Day,
     cycle: u32,
     book: &Book,
     past: &Past,
@@ -211,21 +216,23 @@ fn at_closing_if_any(
     requires folded { AreFolded book.now past.now.track }
     requires closed { cycle ≤ length past.now.track.cycles.items }
     requires marked { length past.now.since.items ≡ length past.now.track.cycles.items }
-    ensures { IfOk result (λ r. (g : Given) (p : Post) (reached : ℕ) → MayGoBackOn inputs.now g p from cycle reached book.now past.now None → IsAgain g from reached past.now r) }
+    ensures { IfOk result (λ r. (old g : Given) (p : Post) (from reached : ℕ) → MayGoBackOn old g p from cycle reached book.now past.now None → IsAgain g from reached past.now r) }
 {
     if cycle == 0 {
-        let beginning = at_beginning(alloc, inputs)?;
-        return Ok(beginning);
+        return Ok(at_beginning());
     }
     let earlier = at_closing(alloc, cycle, book, past)?;
-    Ok(earlier)
+    let book = BookIfAny::of(alloc, earlier.book)?;
+    Ok(TakenBack {
+        book,
+        ends: earlier.ends,
+    })
 }
 
-/// Goes back behind what one more post changes that sets no rate, over inputs without that post: to the eve where that may be, else to
-/// the closing of the last cycle before the change, or, for 0, before the opening day. Nothing is folded.
+/// Goes back behind what one more post changes that sets no rate: to the eve where that may be, else to the closing of the last cycle
+/// before the change, or, for 0, before the opening day. Nothing is folded.
 pub fn go_back(
     alloc: Global,
-    inputs: &Inputs,
     from: Day,
     cycle: u32,
     book: &Book,
@@ -235,13 +242,13 @@ pub fn go_back(
     requires folded { AreFolded book.now past.now.track }
     requires closed { cycle ≤ length past.now.track.cycles.items }
     requires marked { length past.now.since.items ≡ length past.now.track.cycles.items }
-    ensures { IfOk result (λ r. (g : Given) (p : Post) (reached : ℕ) → MayGoBackOn inputs.now g p from cycle reached book.now past.now eve.now → IsAgain g from reached past.now r) }
+    ensures { IfOk result (λ r. (old g : Given) (p : Post) (reached : ℕ) → MayGoBackOn old g p from cycle reached book.now past.now eve.now → IsAgain g from reached past.now r) }
 {
     match eve {
         Some(eve) if may_begin(eve, past, from, cycle) => Ok(TakenBack {
             book: eve.book.copy(alloc)?,
             ends: eve.ends,
         }),
-        _ => at_closing_if_any(alloc, inputs, from, cycle, book, past),
+        _ => at_closing_if_any(alloc, cycle, book, past),
     }
 }

@@ -5,8 +5,9 @@ ghost use Rattle.card_model.specs.Cycles.{Cycle};
 ghost use Rattle.card_model.specs.Folds.{cycle_at};
 ghost use Rattle.card_replay.specs.Replays.{HasClosings};
 
+use crate::book_if_any::BookIfAny;
 use crate::past::Past;
-use card_book::{Book, Folded, Inputs, Statement, statement_of};
+use card_book::{Folded, Inputs, Statement, statement_of};
 use card_events::{Day, NoMemory};
 use std::alloc::Global;
 
@@ -15,7 +16,7 @@ use std::alloc::Global;
 pub fn statement_at(
     alloc: Global,
     inputs: &Inputs,
-    book: &Book,
+    book: &BookIfAny,
     past: &Past,
     number: u32,
     issue: Day,
@@ -26,6 +27,7 @@ pub fn statement_at(
     ensures { IfOk result (λ s. (c : Cycle) → cycle_at number past.now.track.cycles.items ≡ Some c → s ≡ statement_on inputs.now issue c) }
 {
     let _anchor = inputs.anchor();
+    let book = book.lent();
     let _last = book.day();
     let since = past.since[number as usize - 1];
     let back = book.rewound(alloc, &past.track, number, since, &past.accrued)?;

@@ -1,16 +1,21 @@
 // Taking an account back to what a post leaves of its book.
 ghost use Rattle.std.specs.Prelude.{◌≡◌, ℕ};
 ghost use Rattle.card_replay.specs.Changes.{HasRewound, IsTaken};
-ghost use Rattle.card_replay.specs.Replays.{day_reached};
+ghost use Rattle.card_replay.specs.Replays.{day_of, day_reached};
 
+use crate::book_if_any::BookIfAny;
 use crate::change::{TakenBack, TakenBackIfAny};
 use crate::eve::Eve;
 use crate::past::{Past, cut};
-use card_book::Book;
 
 // Takes a Book and its past back to an earlier day; the eve is dropped. It takes no memory.
-fn take_boxed(book: &mut Book, past: &mut Past, eve: &mut Option<Eve>, boxed: Box<TakenBack>)
-    ensures { (opened : ℕ) → HasRewound opened boxed.value (record { reached = day_reached opened book.old.day; book = book.old; past = past.old; eve = eve.old }) (record { reached = day_reached opened book.new.day; book = book.new; past = past.new; eve = eve.new }) }
+fn take_boxed(
+    book: &mut BookIfAny,
+    past: &mut Past,
+    eve: &mut Option<Eve>,
+    boxed: Box<TakenBack>,
+)
+    ensures { (opened : ℕ) → HasRewound opened boxed.value (record { reached = day_reached opened (day_of book.old); book = book.old; past = past.old; eve = eve.old }) (record { reached = day_reached opened (day_of book.new); book = book.new; past = past.new; eve = eve.new }) }
 {
     let rewound = Box::into_inner(boxed);
     *eve = None;
@@ -20,8 +25,13 @@ fn take_boxed(book: &mut Book, past: &mut Past, eve: &mut Option<Eve>, boxed: Bo
 
 /// Takes a Book and its past back to an earlier day, or before the opening, where a post asks for it; the eve is dropped. Else all stays.
 /// It takes no memory.
-pub fn take_if_any(book: &mut Book, past: &mut Past, eve: &mut Option<Eve>, rewound: TakenBackIfAny)
-    ensures { (opened : ℕ) → IsTaken opened rewound (record { reached = day_reached opened book.old.day; book = book.old; past = past.old; eve = eve.old }) (record { reached = day_reached opened book.new.day; book = book.new; past = past.new; eve = eve.new }) }
+pub fn take_if_any(
+    book: &mut BookIfAny,
+    past: &mut Past,
+    eve: &mut Option<Eve>,
+    rewound: TakenBackIfAny,
+)
+    ensures { (opened : ℕ) → IsTaken opened rewound (record { reached = day_reached opened (day_of book.old); book = book.old; past = past.old; eve = eve.old }) (record { reached = day_reached opened (day_of book.new); book = book.new; past = past.new; eve = eve.new }) }
 {
     if let Some(boxed) = rewound.into_boxed() {
         take_boxed(book, past, eve, boxed);

@@ -6,7 +6,7 @@ pub at_closing-requires-clause-some : goal.at_closing-requires-clause-some
 at_closing-requires-clause-some c = omega (arith, c.if-cycle-eq0.false)
 
 pub returns-then-cycle-eq0 : goal.returns-then-cycle-eq0
-returns-then-cycle-eq0 c = λ g p reached may. beginning-plain c.in_ok-beginning.beginning c.if-cycle-eq0.true c.in_ok-beginning.ensures may
+returns-then-cycle-eq0 c = λ old g p from reached may. beginning-plain c.at_beginning.result c.if-cycle-eq0.true c.at_beginning.ensures may
 
 pub returns : goal.returns
-returns c = λ g p reached may. closing-plain c.in_ok-earlier.earlier c.in_ok-earlier.ensures may
+returns c = λ old g p from reached may. closing-plain c.in_ok-earlier.earlier c.in_ok-book.book c.in_ok-earlier.ensures c.in_ok-book.ensures may

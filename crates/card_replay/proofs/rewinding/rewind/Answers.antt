@@ -18,4 +18,4 @@ with_rates-requires-clause-some c = omega (arith, c.if-cycle-eq0.false)
 pub returns-then-cycle-eq0 : goal.returns-then-cycle-eq0
 returns-then-cycle-eq0 c =
     let number = number-is c.args.inputs.now c.args.from c.cycles_before-cycle.ensures c.anchor.ensures.value in
-    beginning-again c.requires.change.before c.in_ok-beginning.beginning (sym number ∙ c.if-cycle-eq0.true) c.in_ok-beginning.ensures
+    beginning-again c.requires.change.before c.at_beginning.result (sym number ∙ c.if-cycle-eq0.true) c.at_beginning.ensures

@@ -1,4 +1,6 @@
+use Rattle.std.proofs.Common.{sym, subst}
 use Rattle.card_replay.proofs.Again.{closed-at, folded-before}
+use Rattle.card_replay.specs.Rewinds.{IsAgain}
 use Rattle.card_replay.proofs.rewinding.with_rates.Goals as goal
 
 pub at_closing-requires-clause-folded : goal.at_closing-requires-clause-folded
@@ -19,5 +21,6 @@ renewed-requires c =
 pub returns : goal.returns
 returns c =
     let was = c.in_ok-renewed.ensures in
-    (c.in_ok-earlier.ensures.rates c.args.inputs.now c.args.post.now c.args.from c.args.reached (record { change = c.requires.change; number = c.requires.number })).again c.in_ok-renewed.renewed
-    (record { day = was.day; whole = was.whole; stands = was.stands })
+    subst (λ o. IsAgain c.args.inputs.now c.args.from c.args.reached c.args.past.now (record { book = o; ends = c.in_ok-earlier.earlier.ends })) (sym c.in_ok-book.ensures)
+    ((c.in_ok-earlier.ensures.rates c.args.inputs.now c.args.post.now c.args.from c.args.reached (record { change = c.requires.change; number = c.requires.number })).again c.in_ok-renewed.renewed
+    (record { day = was.day; whole = was.whole; stands = was.stands }))

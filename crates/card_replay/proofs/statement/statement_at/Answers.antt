@@ -6,11 +6,14 @@ use Rattle.card_book.specs.Stands.{IsRequestDay}
 use Rattle.card_book.specs.Statements.{statement_on}
 use Rattle.card_model.specs.Cycles.{Cycle}
 use Rattle.card_replay.proofs.CycleBefore.{there-is}
-use Rattle.card_replay.proofs.Statements.{closed-now, folded-back, folded-now, stands-behind}
+use Rattle.card_replay.proofs.Statements.{book-there, closed-now, folded-back, folded-now, kept-closings, stands-behind}
 use Rattle.card_replay.proofs.statement.statement_at.Goals as goal
 
 some-is : {x y : Cycle} → Some x ≡ Some y → x ≡ y
 some-is e = cc
+
+pub lent-book-requires : goal.lent-book-requires
+lent-book-requires c = record { there = book-there c.args.inputs.now c.args.book.now c.args.past.now c.args.number c.requires.closings c.requires.first c.requires.closed }
 
 pub index-since-requires : goal.index-since-requires
 index-since-requires c =
@@ -21,7 +24,8 @@ index-since-requires c =
 
 pub rewound-requires-clause-folded : goal.rewound-requires-clause-folded
 rewound-requires-clause-folded c =
-    folded-now c.args.inputs.now c.args.book.now c.args.past.now c.anchor-anchor.ensures.sound (subst IsRequestDay c.day-last.ensures.value c.day-last.ensures.last) c.requires.closings
+    folded-now c.args.inputs.now c.lent-book.result.now c.args.past.now c.anchor-anchor.ensures.sound (subst IsRequestDay c.day-last.ensures.value c.day-last.ensures.last)
+    (kept-closings c.args.inputs.now c.args.book.now c.lent-book.result.now c.args.past.now c.lent-book.ensures c.requires.closings)
 
 pub at_closing-folded-requires-clause-back : goal.at_closing-folded-requires-clause-back
 at_closing-folded-requires-clause-back c =
@@ -32,9 +36,9 @@ at_closing-folded-requires-clause-back c =
     let first = c.requires.first in
     let closed = c.requires.closed in
     let kept = slice_get_read p.since.items (length p.since.items) (k - 1) c.index-since.result.now refl (omega (arith, count, first, closed)) c.index-since.ensures in
-    let goes = subst (λ xs. GoesBack k c.args.book.now p.track c.index-since.result.now xs c.in_ok-back.back) c.deref.ensures.value c.in_ok-back.ensures.stands in
-    folded-back c.args.inputs.now c.args.book.now p k at.0 c.index-since.result.now c.in_ok-back.back c.anchor-anchor.ensures.sound (subst IsRequestDay c.day-last.ensures.value c.day-last.ensures.last)
-    c.requires.closings at.1 kept goes (c.in_ok-back.ensures.day at.0 at.1)
+    let goes = subst (λ xs. GoesBack k c.lent-book.result.now p.track c.index-since.result.now xs c.in_ok-back.back) c.deref.ensures.value c.in_ok-back.ensures.stands in
+    folded-back c.args.inputs.now c.lent-book.result.now p k at.0 c.index-since.result.now c.in_ok-back.back c.anchor-anchor.ensures.sound (subst IsRequestDay c.day-last.ensures.value c.day-last.ensures.last)
+    (kept-closings c.args.inputs.now c.args.book.now c.lent-book.result.now c.args.past.now c.lent-book.ensures c.requires.closings) at.1 kept goes (c.in_ok-back.ensures.day at.0 at.1)
 
 pub index-cycle-requires : goal.index-cycle-requires
 index-cycle-requires c =
@@ -53,10 +57,10 @@ statement_of-requires c =
     let first = c.requires.first in
     let closed = c.requires.closed in
     let kept = slice_get_read p.since.items (length p.since.items) (k - 1) c.index-since.result.now refl (omega (arith, count, first, closed)) c.index-since.ensures in
-    let goes = subst (λ xs. GoesBack k c.args.book.now p.track c.index-since.result.now xs c.in_ok-back.back) c.deref.ensures.value c.in_ok-back.ensures.stands in
+    let goes = subst (λ xs. GoesBack k c.lent-book.result.now p.track c.index-since.result.now xs c.in_ok-back.back) c.deref.ensures.value c.in_ok-back.ensures.stands in
     record {
-      closed = closed-now g c.args.book.now p k x c.anchor-anchor.ensures.sound (subst IsRequestDay c.day-last.ensures.value c.day-last.ensures.last) c.requires.closings at;
-      folded = c.at_closing-folded.ensures g x (stands-behind g c.args.book.now p k x c.index-since.result.now c.in_ok-back.back c.anchor-anchor.ensures.sound c.requires.closings at kept goes (c.in_ok-back.ensures.day x at));
+      closed = closed-now g c.lent-book.result.now p k x c.anchor-anchor.ensures.sound (subst IsRequestDay c.day-last.ensures.value c.day-last.ensures.last) (kept-closings c.args.inputs.now c.args.book.now c.lent-book.result.now c.args.past.now c.lent-book.ensures c.requires.closings) at;
+      folded = c.at_closing-folded.ensures g x (stands-behind g c.lent-book.result.now p k x c.index-since.result.now c.in_ok-back.back c.anchor-anchor.ensures.sound (kept-closings c.args.inputs.now c.args.book.now c.lent-book.result.now c.args.past.now c.lent-book.ensures c.requires.closings) at kept goes (c.in_ok-back.ensures.day x at));
     }
 
 pub returns : goal.returns

@@ -10,7 +10,7 @@ use Rattle.card_replay.proofs.Committing.{lists_by}
 use Rattle.card_replay.specs.Changes.{IsCommitted, IsTaken, issued_as}
 use Rattle.card_replay.proofs.Changed.{same-anchor}
 use Rattle.card_replay.proofs.LaterRows.{some-posts}
-use Rattle.card_replay.specs.Replays.{Folding, Replay, day_reached}
+use Rattle.card_replay.specs.Replays.{Folding, Replay, day_of, day_reached}
 use Rattle.card_replay.proofs.replay.Replay.commit.Goals as goal
 
 -- the conditions of `add` are those under which the post was prepared
@@ -52,10 +52,10 @@ returns c =
     let k = kept_as (length h + 1) change.key change.today change.post in
     let o = (anchor_of h).opened in
     let taken = c.take_if_any.new in
-    let folding : Folding = record { reached = day_reached (anchor_of c.add-pushed.new.self.history).opened taken.book.day; book = taken.book; past = taken.past; eve = taken.eve } in
+    let folding : Folding = record { reached = day_reached (anchor_of c.add-pushed.new.self.history).opened (day_of taken.book); book = taken.book; past = taken.past; eve = taken.eve } in
     let opening = subst (λ (hs : List Kept). IsOpening (anchor_of hs)) (sym history) c.requires.prepared.replay.sound.opening in
     let same : (anchor_of c.add-pushed.new.self.history).opened ≡ o = ap (λ (hs : List Kept). (anchor_of hs).opened) c.add-pushed.ensures.history ∙ ap (λ (a : Anchor). a.opened) (same-anchor h k (some-posts h opening)) in
-    let there = subst (λ n. IsTaken o change.rewound (record { reached = day_reached o c.self.inside.book.day; book = c.self.inside.book; past = c.self.inside.past; eve = c.self.inside.eve }) (record { reached = day_reached n taken.book.day; book = taken.book; past = taken.past; eve = taken.eve })) (sym same) (c.take_if_any.ensures o) in
+    let there = subst (λ n. IsTaken o change.rewound (record { reached = day_reached o (day_of c.self.inside.book); book = c.self.inside.book; past = c.self.inside.past; eve = c.self.inside.eve }) (record { reached = day_reached n (day_of taken.book); book = taken.book; past = taken.past; eve = taken.eve })) (sym same) (c.take_if_any.ensures o) in
     let new : Replay = record { lists = lists_by c.add-pushed.new.self.history c.push_issued.new.list.items; corrected = c.add-pushed.new.self.corrected; has_room = false; folding = folding } in
     let committed : IsCommitted c.args.shared.now change old new =
     record {

@@ -61,6 +61,9 @@ new-inputs-requires-clause-sound c =
     (c.deref.ensures.value ∙ ap (λ (x : Replay). x.lists.issued) c.self.view_is) c.in_ok-key.ensures c.in_ok-draft.ensures.draft (subst (λ holidays. StandsFor holidays new) c.calendar.ensures c.in_ok-draft.ensures.stands) in
     subst IsSound (sym h.inputs) h.more.sound
 
+pub lent-book-requires : goal.lent-book-requires
+lent-book-requires c = record { there = λ none. c.requires.there (sym (ap (λ (x : Replay). x.folding.book) c.self.view_is) ∙ none) }
+
 pub rewind-made-requires : goal.rewind-made-requires
 rewind-made-requires c =
     let shared = c.args.shared.now in
@@ -79,9 +82,11 @@ rewind-made-requires c =
     let now = with_post r.lists key today p shared in
     let reached = c.requires.reached in
     let within : c.args.from ≤ r.folding.reached = omega (arith, reached, c.requires.within) in
-    let before = subst (λ (n : ℕ). IsBeforeChange was now p c.args.from n r.folding.book r.folding.past) reached (before-change shared today key p r c.args.from c.requires.may.replay at within) in
-    let here = subst (λ (x : Replay). IsBeforeChange was now p c.args.from c.args.reached x.folding.book x.folding.past) (sym c.self.view_is) before in
-    record { change = subst (λ given. MayRewind given p c.args.from c.args.reached c.self.inside.book c.self.inside.past) (sym inputs) (record { old = was; before = here }) }
+    let b = c.lent-book.result.now in
+    let is = sym (ap (λ (x : Replay). x.folding.book) c.self.view_is) ∙ c.lent-book.ensures in
+    let before = subst (λ (n : ℕ). IsBeforeChange was now p c.args.from n b r.folding.past) reached (before-change shared today key p r c.args.from b c.requires.may.replay at within is) in
+    let here = subst (λ (x : Replay). IsBeforeChange was now p c.args.from c.args.reached b x.folding.past) (sym c.self.view_is) before in
+    record { change = subst (λ given. MayRewind given p c.args.from c.args.reached b c.self.inside.past) (sym inputs) (record { old = was; before = here }) }
 
 pub withdraw-requires : goal.withdraw-requires
 withdraw-requires c =

@@ -1,4 +1,4 @@
-use Rattle.std.proofs.Common.{◌≡◌, ℕ, ◌+◌, ◌≤◌, refl, sym, ap, subst, ◌∙◌, arith, length, Some, None}
+use Rattle.std.proofs.Common.{◌≡◌, ℕ, ◌+◌, ◌≤◌, refl, sym, ap, subst, ◌∙◌, arith, length, Option, Some, None}
 use Rattle.std.specs.Prelude.{IfSome}
 use Rattle.card_daily.specs.Given.{Given, IsSound, opened_in}
 use Rattle.card_book.specs.Stands.{Summary, day_to_fold, steps_over}
@@ -6,7 +6,7 @@ use Rattle.card_events.specs.History.{anchor_of, corrected}
 use Rattle.card_replay.proofs.Committing.{given_with}
 use Rattle.card_replay.proofs.Reached.{IsEveOf, day-is, eve-stands, folds-on, later-replay, no-steps, same-replay, seen, with-eve}
 use Rattle.card_replay.specs.Pasts.{AreEnds, PastBegins}
-use Rattle.card_replay.specs.Replays.{Folding, FoldsOn, IsFolding, IsReplay, Replay, day_reached, given_of}
+use Rattle.card_replay.specs.Replays.{Folding, FoldsOn, IsFolding, IsReplay, Replay, day_of, day_reached, given_of}
 use Rattle.card_replay.proofs.replay.Replay.to_day.Goals as goal
 
 pub new-inputs-requires-clause-stands : goal.new-inputs-requires-clause-stands
@@ -47,17 +47,17 @@ returns g c =
     let same : opened_in given ≡ opened = sym (ap (λ (x : Replay). (anchor_of x.lists.posts).opened) c.self.view_is) in
     let first = c.requires.replay.sound.opening.first in
     let alone = subst (λ given. IsFolding given (record { reached = today; book = c.in_ok-later.later; past = p; eve = None })) e c.in_ok-later.ensures.folding in
-    let there = subst (λ (x : Summary). IsFolding given (record { reached = today; book = x; past = p; eve = None })) (sym c.replace-book.ensures.after) alone in
-    let day : day_reached opened b.day ≡ today = day-is given opened b today p same (omega (arith, same, first)) there in
-    let is = subst (λ (x : Summary). IfSome o (IsEveOf x ends)) (c.replace-book.ensures.value ∙ ap (λ (x : Replay). x.folding.book) c.self.view_is) c.eve_of.ensures in
+    let there = subst (λ (x : Option Summary). IsFolding given (record { reached = today; book = x; past = p; eve = None })) (sym c.replace-book.ensures.after) alone in
+    let day : day_reached opened (day_of b) ≡ today = day-is given opened b today p same (omega (arith, same, first)) there in
+    let is = subst (λ (x : Option Summary). IfSome o (IsEveOf x ends)) (c.replace-book.ensures.value ∙ ap (λ (x : Replay). x.folding.book) c.self.view_is) c.eve_of.ensures in
     let stood = eve-stands shared r today p ends o c.requires.replay c.requires.reach (subst (λ (x : Replay). AreEnds ends x.folding.past) c.self.view_is c.ends_of-ends.ensures)
     (subst (λ (x : Replay). PastBegins x.folding.past p) c.self.view_is c.in_ok-later.ensures.begins) is in
-    let f : Folding = record { reached = day_reached opened b.day; book = b; past = p; eve = o } in
+    let f : Folding = record { reached = day_reached opened (day_of b); book = b; past = p; eve = o } in
     let folding = subst (λ (n : ℕ). IsFolding given (record { reached = n; book = b; past = p; eve = o })) (sym day) (with-eve given today b p o stood there) in
     let later = c.requires.reach.later in
     let last = c.requires.reach.last in
-    let left = ap (λ given. steps_over given today (day_to_fold given c.self.inside.book.day)) e
-    ∙ ap (λ (n : ℕ). steps_over given today n) (ap (λ (x : Replay). day_to_fold given x.folding.book.day) c.self.view_is ∙ c.requires.replay.folding.day) in
+    let left = ap (λ given. steps_over given today (day_to_fold given (day_of c.self.inside.book))) e
+    ∙ ap (λ (n : ℕ). steps_over given today n) (ap (λ (x : Replay). day_to_fold given (day_of x.folding.book)) c.self.view_is ∙ c.requires.replay.folding.day) in
     record {
       same = record {
         lists = ap (λ (x : Replay). x.lists) c.self.view_is;
@@ -85,14 +85,14 @@ returns-in_err-later-clause-most g c =
     let r = c.args.self.now in
     let given : Given = given_of r.lists shared in
     let e = c.new-inputs.ensures ∙ (ap (λ rows. given_with c.self.inside.posts.history rows shared) c.deref.ensures.value ∙ ap (λ (x : Replay). given_of x.lists shared) c.self.view_is) in
-    let left = ap (λ given. steps_over given c.args.today (day_to_fold given c.self.inside.book.day)) e
-    ∙ ap (λ (n : ℕ). steps_over given c.args.today n) (ap (λ (x : Replay). day_to_fold given x.folding.book.day) c.self.view_is ∙ c.requires.replay.folding.day) in
+    let left = ap (λ given. steps_over given c.args.today (day_to_fold given (day_of c.self.inside.book))) e
+    ∙ ap (λ (n : ℕ). steps_over given c.args.today n) (ap (λ (x : Replay). day_to_fold given (day_of x.folding.book)) c.self.view_is ∙ c.requires.replay.folding.day) in
     omega (arith, c.reach.ensures.most, left)
 
 pub returns-in_err-later-clause-replay : goal.returns-in_err-later-clause-replay
 returns-in_err-later-clause-replay g c =
     let in' = c.self.inside in
-    same-replay c.args.shared.now (seen in'.posts.history in'.issued.items in'.posts.corrected in'.has_room (record { reached = day_reached (anchor_of in'.posts.history).opened in'.book.day; book = in'.book; past = in'.past; eve = in'.eve })) c.reach.new.past c.in_err-later.ensures.err (subst (IsReplay c.args.shared.now) (sym c.self.view_is) c.requires.replay)
+    same-replay c.args.shared.now (seen in'.posts.history in'.issued.items in'.posts.corrected in'.has_room (record { reached = day_reached (anchor_of in'.posts.history).opened (day_of in'.book); book = in'.book; past = in'.past; eve = in'.eve })) c.reach.new.past c.in_err-later.ensures.err (subst (IsReplay c.args.shared.now) (sym c.self.view_is) c.requires.replay)
 
 -- ---- where today is reached
 pub returns-then-is_folded_to-clause-replay : goal.returns-then-is_folded_to-clause-replay
@@ -102,7 +102,7 @@ pub returns-then-is_folded_to-clause-steps : goal.returns-then-is_folded_to-clau
 returns-then-is_folded_to-clause-steps g c =
     let given = given_of c.args.self.now.lists c.args.shared.now in
     let opened = (anchor_of c.self.inside.posts.history).opened in
-    let here : day_reached opened c.self.inside.book.day ≡ c.args.today = ap (day_reached opened) (c.is_folded_to.ensures c.if-is_folded_to.true) in
+    let here : day_reached opened (day_of c.self.inside.book) ≡ c.args.today = ap (day_reached opened) (c.is_folded_to.ensures c.if-is_folded_to.true) in
     let reached = sym (ap (λ (x : Replay). x.folding.reached) c.self.view_is) ∙ here in
     let none = ap (λ d. steps_over given c.args.today (d + 1)) reached ∙ no-steps given c.args.today in
     omega (arith, none)
