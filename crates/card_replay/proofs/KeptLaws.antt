@@ -1,5 +1,5 @@
 -- What an account keeps of its book is the book.
-use Rattle.std.proofs.Common.{◌≡◌, ℕ, ◌+◌, ◌≤◌, refl, sym, ap, ◌∙◌, subst, arith, Option, Some, None}
+use Rattle.std.proofs.Common.{◌≡◌, ℕ, ◌≤◌, refl, sym, ap, ◌∙◌, subst, arith, Option, Some, None}
 use Rattle.std.specs.Prelude.{IfSome}
 use Rattle.card_book.proofs.Closings.{none-closed}
 use Rattle.card_book.proofs.Days.{book_is_the_fold}

@@ -26,7 +26,7 @@ pub record IsTheBook (g : Given) (f : Folding) : Type 0 where
   pub some : IfSome f.book (λ b. IsTheFold g b f.past.track)
   pub none : f.book ≡ None → IsNotFolded g f
 
--- The Book at the day last reached and its track are the fold of the account from its opening day on
+-- So it always is: the Book at the day last reached and its track are the fold of the account from its opening day on
 abbrev pub KeptBookIsTheFold : Type 0
 KeptBookIsTheFold = (shared : SharedRows) (r : Replay) → IsReplay shared r → IsTheBook (given_of r.lists shared) r.folding
 
@@ -36,7 +36,7 @@ pub record HasClosing (g : Given) (k : ℕ) (c : Cycle) (f : Folding) : Type 0 w
   pub there : f.book ≡ Some book
   pub back : (b : Summary) (cut : Track) → IsRewound g k c book f.past.track b cut → IsTheFold g b cut
 
--- And so is, for each closing up to then, the Book that is taken back to it, with the track cut behind that cycle
+-- And so is, for each closing up to then, the Book that is taken back to it
 abbrev pub KeptClosingsAreTheFold : Type 0
 KeptClosingsAreTheFold =
     (shared : SharedRows) (r : Replay) (k : ℕ) (c : Cycle) → IsReplay shared r → cycle_at k r.folding.past.track.cycles.items ≡ Some c

@@ -29,7 +29,8 @@ use std::sync::ledger::Ledger;
 
 /// The posts and the issued statements of an account, with its book folded to the day last reached, what is recorded up to then,
 /// and what has to be kept of each closing to go back to it; and, where there is one, the Book of an earlier day. Where no day is reached
-/// nothing is folded. Clauses see it as a record of these, and of the day last reached, which then is the day before the opening.
+/// nothing is folded, and there is no Book. Clauses see it as a record of these, and of the day last reached, which then is the day before
+/// the opening.
 #[derive(Drop)]
 pub struct Replay {
     posts: Posts,

@@ -9,12 +9,7 @@ use crate::eve::Eve;
 use crate::past::{Past, cut};
 
 // Takes a Book and its past back to an earlier day; the eve is dropped. It takes no memory.
-fn take_boxed(
-    book: &mut BookIfAny,
-    past: &mut Past,
-    eve: &mut Option<Eve>,
-    boxed: Box<TakenBack>,
-)
+fn take_boxed(book: &mut BookIfAny, past: &mut Past, eve: &mut Option<Eve>, boxed: Box<TakenBack>)
     ensures { (opened : ℕ) → HasRewound opened boxed.value (record { reached = day_reached opened (day_of book.old); book = book.old; past = past.old; eve = eve.old }) (record { reached = day_reached opened (day_of book.new); book = book.new; past = past.new; eve = eve.new }) }
 {
     let rewound = Box::into_inner(boxed);

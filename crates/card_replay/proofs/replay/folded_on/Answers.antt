@@ -1,7 +1,7 @@
 use Rattle.std.proofs.Common.{◌≡◌, ◌+◌, sym, ap, subst, ◌∙◌, arith, None}
 use Rattle.card_book.specs.Stands.{day_to_fold, steps_over}
 use Rattle.card_replay.proofs.Grown.{past-same}
-use Rattle.card_replay.specs.Replays.{IsFolding, day_of}
+use Rattle.card_replay.specs.Replays.{IsFolding}
 use Rattle.card_replay.proofs.replay.folded_on.Goals as goal
 
 pub fold_on-requires-clause-whole : goal.fold_on-requires-clause-whole

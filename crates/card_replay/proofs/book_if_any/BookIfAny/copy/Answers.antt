@@ -1,5 +1,3 @@
-use Rattle.std.proofs.Common.{◌≡◌, subst, sym, Some}
-use Rattle.card_book.specs.Stands.{StandsFor}
 use Rattle.card_replay.proofs.Keeping.{copy-stands, some-value}
 use Rattle.card_replay.proofs.book_if_any.BookIfAny.copy.Goals as goal
 

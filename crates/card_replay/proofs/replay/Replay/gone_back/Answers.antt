@@ -1,4 +1,4 @@
-use Rattle.std.proofs.Common.{◌≡◌, ℕ, ◌-◌, ◌≤◌, length, sym, ap, subst, ◌∙◌, arith}
+use Rattle.std.proofs.Common.{ℕ, ◌≤◌, length, sym, ap, subst, ◌∙◌, arith}
 use Rattle.card_book.specs.Rewound.{AreFolded}
 use Rattle.card_daily.specs.Given.{Given}
 use Rattle.card_events.specs.History.{anchor_of}
