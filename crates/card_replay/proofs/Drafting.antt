@@ -209,9 +209,3 @@ late-rewound-by shared today key p r from None is h first late =
 pub later-rewound : (shared : SharedRows) (today : ℕ) (key : List ℕ) (p : Post) (r : Replay) (from : ℕ) → MayPrepare shared today key p r → IsFirstWith shared.holidays today p (posted_of r) from
     → ((day : ℕ) → day_of r.folding.book ≡ Some day → day < from) → IsRewoundBy shared today key p None r
 later-rewound shared today key p r from h first late = late-rewound shared today key p r h.read (late-rewound-by shared today key p r from (day_of r.folding.book) refl h first late)
-
--- ---- in memory of its own
-pub if-any-rewound : {E : Type 0} (shared : SharedRows) (today : ℕ) (key : List ℕ) (p : Post) (r : Replay) (made : TakenBack) (result : Result (Option TakenBack) E) → IfOk result (λ x. x ≡ Some made)
-    → IsRewoundBy shared today key p (Some made) r → IfOk result (λ x. IsRewoundBy shared today key p x r)
-if-any-rewound shared today key p r made (Ok x) is h = subst (λ m. IsRewoundBy shared today key p m r) (sym is) h
-if-any-rewound shared today key p r made (Err e) is h = tt

@@ -14,50 +14,6 @@ pub struct TakenBack {
     pub ends: Ends,
 }
 
-/// What a post takes an account back to, if to anything. It lies in memory of its own, since most posts take it nowhere. Clauses see
-/// it as an option.
-#[derive(Drop)]
-pub struct TakenBackIfAny {
-    made: Option<Box<TakenBack>>,
-}
-
-impl Model for TakenBackIfAny {
-    ghost use Rattle.std.specs.Prelude.{Option};
-    ghost use Rattle.std.specs.Option.{option_map};
-    ghost use Rattle.card_replay.specs.declared.change.TakenBack.{TakenBack};
-
-    ghost Value = { Option TakenBack };
-
-    ghost view = { λ r. option_map (λ b. b.value) r.made };
-}
-
-impl TakenBackIfAny {
-    ghost use Rattle.std.specs.Prelude.{◌≡◌, None, Some, IfOk};
-    ghost use Rattle.std.specs.Option.{option_map};
-
-    /// Nothing.
-    pub fn none() -> TakenBackIfAny
-        ensures { result ≡ None }
-    {
-        TakenBackIfAny { made: None }
-    }
-
-    /// This.
-    pub fn of(alloc: Global, made: TakenBack) -> Result<TakenBackIfAny, NoMemory>
-        ensures { IfOk result (λ r. r ≡ Some made) }
-    {
-        let made = Box::new(alloc, made)?;
-        Ok(TakenBackIfAny { made: Some(made) })
-    }
-
-    /// It as an option, where it lies.
-    pub fn into_boxed(self) -> Option<Box<TakenBack>>
-        ensures { option_map (λ b. b.value) result ≡ self }
-    {
-        self.made
-    }
-}
-
 /// The row that a post issues, if it issues one. It lies in memory of its own, since only a Bill issues one. Clauses see it as an
 /// option.
 #[derive(Drop)]
@@ -110,5 +66,5 @@ pub struct Change {
     pub post: Post,
     pub today: Day,
     pub issued: IssuedIfAny,
-    pub rewound: TakenBackIfAny,
+    pub rewound: Option<TakenBack>,
 }

@@ -5,7 +5,7 @@ ghost use Rattle.card_replay.specs.Pasts.{AreSame, PastBegins};
 ghost use Rattle.card_replay.specs.Replays.{FoldsOn, IsFolding, day_of};
 
 use crate::book_if_any::BookIfAny;
-use crate::change::{Change, IssuedIfAny, TakenBack, TakenBackIfAny};
+use crate::change::{Change, IssuedIfAny, TakenBack};
 use crate::eve::{Eve, eve_of};
 use crate::folding::fold_on;
 use crate::foretold::may_come;
@@ -332,7 +332,7 @@ impl Replay {
         today: Day,
         from: Day,
         shared: &SharedRows,
-    ) -> Result<TakenBackIfAny, NoMemory>
+    ) -> Result<Option<TakenBack>, NoMemory>
         requires may { MayPrepare shared.now today key.now post.now self.old }
         requires first { IsFirstWith shared.now.holidays today post.now (posted_of self.old) from }
         ensures same { SameLists self.old self.new }
@@ -342,9 +342,9 @@ impl Replay {
         match folded_since(&self.book, from) {
             Some(reached) => {
                 let made = self.rewound_to(alloc, key, post, today, from, reached, shared)?;
-                TakenBackIfAny::of(alloc, made)
+                Ok(Some(made))
             }
-            None => Ok(TakenBackIfAny::none()),
+            None => Ok(None),
         }
     }
 
@@ -357,7 +357,7 @@ impl Replay {
         today: Day,
         from: Day,
         shared: &SharedRows,
-    ) -> Result<TakenBackIfAny, NoMemory>
+    ) -> Result<Option<TakenBack>, NoMemory>
         requires replay { IsReplay shared.now self.old }
         requires reach { MayReach today self.old }
         requires ready { IsReadyFor today post.now self.old }
@@ -371,7 +371,7 @@ impl Replay {
         ensures rewound { IfOk result (λ made. IsRewoundBy shared.now today key.now post.now made self.old) }
     {
         if is_unread(post) {
-            return Ok(TakenBackIfAny::none());
+            return Ok(None);
         }
         self.rewound_from(alloc, key, post, today, from, shared)
     }

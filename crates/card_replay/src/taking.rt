@@ -4,15 +4,14 @@ ghost use Rattle.card_replay.specs.Changes.{HasRewound, IsTaken};
 ghost use Rattle.card_replay.specs.Replays.{day_of, day_reached};
 
 use crate::book_if_any::BookIfAny;
-use crate::change::{TakenBack, TakenBackIfAny};
+use crate::change::TakenBack;
 use crate::eve::Eve;
 use crate::past::{Past, cut};
 
 // Takes a Book and its past back to an earlier day; the eve is dropped. It takes no memory.
-fn take_boxed(book: &mut BookIfAny, past: &mut Past, eve: &mut Option<Eve>, boxed: Box<TakenBack>)
-    ensures { (opened : ℕ) → HasRewound opened boxed.value (record { reached = day_reached opened (day_of book.old); book = book.old; past = past.old; eve = eve.old }) (record { reached = day_reached opened (day_of book.new); book = book.new; past = past.new; eve = eve.new }) }
+fn take(book: &mut BookIfAny, past: &mut Past, eve: &mut Option<Eve>, rewound: TakenBack)
+    ensures { (opened : ℕ) → HasRewound opened rewound (record { reached = day_reached opened (day_of book.old); book = book.old; past = past.old; eve = eve.old }) (record { reached = day_reached opened (day_of book.new); book = book.new; past = past.new; eve = eve.new }) }
 {
-    let rewound = Box::into_inner(boxed);
     *eve = None;
     *book = rewound.book;
     cut(past, &rewound.ends);
@@ -24,11 +23,11 @@ pub fn take_if_any(
     book: &mut BookIfAny,
     past: &mut Past,
     eve: &mut Option<Eve>,
-    rewound: TakenBackIfAny,
+    rewound: Option<TakenBack>,
 )
     ensures { (opened : ℕ) → IsTaken opened rewound (record { reached = day_reached opened (day_of book.old); book = book.old; past = past.old; eve = eve.old }) (record { reached = day_reached opened (day_of book.new); book = book.new; past = past.new; eve = eve.new }) }
 {
-    if let Some(boxed) = rewound.into_boxed() {
-        take_boxed(book, past, eve, boxed);
+    if let Some(rewound) = rewound {
+        take(book, past, eve, rewound);
     }
 }

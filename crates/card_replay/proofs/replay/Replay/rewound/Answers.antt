@@ -1,13 +1,11 @@
-use Rattle.std.proofs.Common.{refl, sym, subst, ◌∙◌}
+use Rattle.std.proofs.Common.{refl, sym, ◌∙◌}
 use Rattle.card_replay.proofs.Committing.{unread-rewound}
-use Rattle.card_replay.specs.Changes.{IsRewoundBy}
 use Rattle.card_replay.proofs.replay.Replay.rewound.Goals as goal
 
 -- ---- what no fold reads
 pub returns-then-is_unread-clause-rewound : goal.returns-then-is_unread-clause-rewound
 returns-then-is_unread-clause-rewound c =
-    subst (λ made. IsRewoundBy c.args.shared.now c.args.today c.args.key.now c.args.post.now made c.args.self.now) (sym c.none.ensures)
-    (unread-rewound c.args.shared.now c.args.today c.args.key.now c.args.post.now c.args.self.now (sym c.is_unread.ensures ∙ c.if-is_unread.true) c.requires.replay c.requires.reach c.requires.sound)
+    unread-rewound c.args.shared.now c.args.today c.args.key.now c.args.post.now c.args.self.now (sym c.is_unread.ensures ∙ c.if-is_unread.true) c.requires.replay c.requires.reach c.requires.sound
 
 pub returns-then-is_unread-clause-folding : goal.returns-then-is_unread-clause-folding
 returns-then-is_unread-clause-folding c = refl

@@ -1,8 +1,7 @@
 use Rattle.std.proofs.Common.{◌≡◌, ℕ, ◌<◌, sym, ap, subst, ◌∙◌, Some}
 use Rattle.card_events.specs.History.{anchor_of}
-use Rattle.card_replay.proofs.Drafting.{if-any-rewound, later-rewound}
+use Rattle.card_replay.proofs.Drafting.{later-rewound}
 use Rattle.card_replay.proofs.Through.{some-book}
-use Rattle.card_replay.specs.Changes.{IsRewoundBy}
 use Rattle.card_replay.specs.Replays.{Replay, day_of, day_reached}
 use Rattle.card_replay.proofs.replay.Replay.rewound_from.Goals as goal
 
@@ -19,13 +18,8 @@ rewound_to-requires-clause-there c = λ none.
 pub rewound_to-requires-clause-within : goal.rewound_to-requires-clause-within
 rewound_to-requires-clause-within c = (c.folded_since.ensures.some c.in-Some.reached c.in-Some.is).1
 
-pub returns-in_ok-made-in-Some-clause-rewound : goal.returns-in_ok-made-in-Some-clause-rewound
-returns-in_ok-made-in-Some-clause-rewound c =
-    if-any-rewound c.args.shared.now c.args.today c.args.key.now c.args.post.now c.args.self.now c.in_ok-made-in-Some.made c.of.result c.of.ensures c.in_ok-made-in-Some.ensures.rewound
-
 -- ---- what changes only days that aren't folded
 pub returns-in-None-clause-rewound : goal.returns-in-None-clause-rewound
 returns-in-None-clause-rewound c =
     let late = subst (λ (x : Replay). (day : ℕ) → day_of x.folding.book ≡ Some day → day < c.args.from) c.self.view_is (c.folded_since.ensures.none c.in-None.is) in
-    subst (λ made. IsRewoundBy c.args.shared.now c.args.today c.args.key.now c.args.post.now made c.args.self.now) (sym c.none.ensures)
-    (later-rewound c.args.shared.now c.args.today c.args.key.now c.args.post.now c.args.self.now c.args.from c.requires.may c.requires.first late)
+    later-rewound c.args.shared.now c.args.today c.args.key.now c.args.post.now c.args.self.now c.args.from c.requires.may c.requires.first late
