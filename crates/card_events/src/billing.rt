@@ -45,16 +45,6 @@ pub fn closing_date(a: &Anchor, k: u32) -> Day
     closing(*a, k).unwrap()
 }
 
-/// The day after the closing of a cycle, from 1 on, that closes before 2102-12-31.
-pub fn after_closing(a: &Anchor, k: u32) -> Day
-    requires close_day { IsCloseDay a.now.close_day }
-    requires cycle { 1 ≤ k }
-    requires in_calendar { closing a.now k < last_calendar_day }
-    ensures { result ≡ closing a.now k + 1 }
-{
-    closing_date(a, k).next()
-}
-
 /// The due date of a cycle, from 1 on, that is due by 2102-12-31 (12 CFR 1026.5(b)(2)(ii)).
 pub fn due_date(a: &Anchor, k: u32) -> Day
     requires close_day { IsCloseDay a.now.close_day }

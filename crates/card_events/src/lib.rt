@@ -23,7 +23,7 @@ mod request;
 mod steps;
 
 pub use anchor::{Anchor, Channel};
-pub use billing::{after_closing, closing, closing_date, cycle_of, due, due_date};
+pub use billing::{closing, closing_date, cycle_of, due, due_date};
 pub use calendar::{Calendar, next_business};
 pub use credit::credit_day;
 pub use day::Day;

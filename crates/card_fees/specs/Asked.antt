@@ -11,7 +11,7 @@ use Rattle.card_model.specs.declared.grace.GraceCase.{GraceCase}
 use Rattle.card_model.specs.declared.grace.GraceCase.TheVariants as case
 use Rattle.card_fees.specs.declared.due_cycle.DueCycle.{DueCycle}
 
--- a cycle's due date is there, and its grace amount isn't below 0
+-- a cycle's days are those of the calendar, its due date is there, and its grace amount isn't below 0
 pub record IsInCalendar (a : Anchor) (c : DueCycle) : Type 0 where
   pub number : 1 ≤ c.cycle
   pub closing : c.closing ≡ closing a c.cycle

@@ -152,24 +152,6 @@ pub fn counted_in_front(posts: &Posts, from: Day, day: Day, number: u32, limit: 
     sum(posts, slots, &Until::Post(day, number), limit)
 }
 
-// The same without a limit.
-fn all_in_front(posts: &Posts, from: Day, day: Day, number: u32) -> u64
-    ensures bound { result ≤ payments_limit }
-    ensures value { (holidays : List ℕ) → StandsFor holidays posts.now → result ≡ payments.counted (earlier_posts day number posts.now.corrected) from day }
-{
-    counted_in_front(posts, from, day, number, u64::MAX)
-}
-
-/// The cents of the payments that are folded before the post with this effective day and number, with effective days from
-/// one on, without those that a Return before it takes back (12 CFR 1026.10, .53(a)). Posts are folded by effective day,
-/// and those of a day by number. The corrected list is that of the posts under some calendar. It takes no memory.
-pub fn counted_before(posts: &Posts, from: Day, day: Day, number: u32) -> Cents
-    ensures low { pos 0 ≤ℤ result }
-    ensures value { (holidays : List ℕ) → StandsFor holidays posts.now → result ≡ pos (payments.counted (earlier_posts day number posts.now.corrected) from day) }
-{
-    all_in_front(posts, from, day, number) as i64
-}
-
 fn is_credit(posts: &Posts, number: u32) -> bool
     ensures { result ≡ is_credit_at (at_number number posts.now.history) }
 {

@@ -4,8 +4,8 @@ ghost use Rattle.card_fees.specs.Asked.{asks};
 
 use card_events::{Cents, Day};
 
-/// A closed cycle as its due date sees it: its number, from 1, and its minimum payment and grace amount in cents, at least
-/// 0.
+/// A closed cycle as its due date sees it: its number, from 1, the day on which it closed, its due date, and its minimum
+/// payment and grace amount in cents, at least 0.
 #[derive(Clone, Copy)]
 pub struct DueCycle {
     pub cycle: u32,

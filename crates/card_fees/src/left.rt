@@ -13,9 +13,9 @@ use card_posts::Posts;
 /// What is left of a cycle's minimum payment for the payment with this number, whose effective day is this one, in cents
 /// (12 CFR 1026.53(a)): the minimum payment less the payments that are folded before it, with effective days after the
 /// cycle's closing, without those that a Return before it takes back; not below 0, and 0 without a due payment. The payments
-/// folded before are those of earlier days, and of the same day those with smaller numbers. The cycle is at least 1 and
-/// closed before the day; its minimum payment is at least 0. The corrected list is that of the posts under some calendar.
-/// It takes no memory.
+/// folded before are those of earlier days, and of the same day those with smaller numbers. The cycle closed on its day of the
+/// calendar, before the day; its minimum payment is at least 0. What was counted is kept in the tally, which stays right. The
+/// corrected list is that of the posts under some calendar. It takes no memory.
 pub fn minimum_left(
     posts: &Posts,
     _a: &Anchor,

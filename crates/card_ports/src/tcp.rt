@@ -13,7 +13,7 @@ const SECONDS: u64 = 30;
 // How many seconds `close` waits at most for what the other side still sends.
 const LINGER_SECONDS: u64 = 1;
 
-// How often `close` reads.
+// How often `close` reads, at most `KEPT` bytes each time.
 const LINGER_READS: u32 = 1024;
 
 // How many bytes a connection reads at once: the whole request, mostly. Each connection begins with so many zeros, and they move with

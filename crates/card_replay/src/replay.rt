@@ -388,8 +388,8 @@ impl Replay {
 
     /// Prepares a post against which there is no reason, under a new key, with the first day that it changes: there is room for it, and
     /// the Book is there that it takes the account back to, where that day isn't after the one last reached: that of the eve, of the
-    /// closing before the cycle in which the day lies, or, in the first cycle, none. The account reaches today for a
-    /// Bill, whose row is read off the book of today, and for a Plan, a Notice or a Lower; for any other post nothing is folded.
+    /// closing before the cycle in which the day lies, or, in the first cycle, none. The account reaches today for a Bill, whose row is
+    /// read off the book of today, and for a Plan, a Notice or a Lower; for any other post nothing is folded.
     /// The posts and the issued statements stay as they are; with the post, they are as every run leaves them. The day last reached
     /// is as before, or today.
     pub fn prepare<L: Ledger>(

@@ -1,5 +1,5 @@
 // Going back behind what a post changes, to a day from which the account is folded on.
-ghost use Rattle.std.specs.Prelude.{◌≡◌, ℕ, ◌+◌, ◌-◌, ◌<◌, ◌≤◌, true, false, length, min, IfOk, None, Some};
+ghost use Rattle.std.specs.Prelude.{◌≡◌, ℕ, ◌-◌, ◌<◌, ◌≤◌, true, false, length, min, IfOk, None, Some};
 ghost use Rattle.card_events.specs.Billing.{cycle_of};
 ghost use Rattle.card_events.specs.Range.{last_request_day};
 ghost use Rattle.card_model.specs.CycleDays.{IsOpening};
