@@ -12,7 +12,7 @@ use Rattle.card_reasons.proofs.ReasonLemmas.{none_head, where_none}
 use Rattle.card_daily.proofs.Runs.{runs_keep_plans}
 use Rattle.card_daily.proofs.Turns.{runs_keep_turns}
 use Rattle.card_daily.specs.Given.{AreInTurn, ArePlanned}
-use Rattle.card_events.specs.Dated.{is_dated, is_dated_post}
+use Rattle.card_events.specs.Dated.{is_dated}
 use Rattle.card_events.specs.History.{anchor_of, opening_in, terms_in, terms_of}
 use Rattle.card_events.specs.declared.kept.Kept.{Kept}
 use Rattle.card_events.specs.declared.post.Post.{Post}

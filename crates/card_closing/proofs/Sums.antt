@@ -1,11 +1,10 @@
 -- Sums over the days of runs.
-use Rattle.std.proofs.Common.{◌≡◌, ℕ, zero, suc, ◌+◌, ◌-◌, ◌*◌, ◌<◌, cond, ◌&&◌, List, length, take, get_or, refl, ap, ◌∙◌, arith, ltb, leb}
+use Rattle.std.proofs.Common.{◌≡◌, ℕ, zero, suc, ◌+◌, ◌-◌, ◌*◌, ◌<◌, List, length, take, get_or, refl, ap, ◌∙◌, arith}
 use Rattle.std.specs.List.{sum_by}
-use Rattle.std.proofs.lemmas.List.Sums.{sum_by-cons, sum_by-append, sum_by_more}
+use Rattle.std.proofs.lemmas.List.Sums.{sum_by-cons, sum_by-append}
 use Rattle.card_events.specs.Money.{daily}
-use Rattle.card_closing.specs.Rows.{DayRow, equal_days, repaid_later}
+use Rattle.card_closing.specs.Rows.{DayRow, equal_days}
 use Rattle.card_closing.specs.Runs.{run_days, spread}
-use Rattle.card_closing.specs.declared.rows.Repayment.{Repayment}
 use Rattle.card_closing.specs.declared.runs.Run.{Run}
 use Rattle.card_closing.proofs.Spreads.{spread_more}
 

@@ -1,11 +1,8 @@
 -- The segments that posts add, one post after the other.
-use Rattle.std.proofs.Common.{◌≡◌, ℕ, suc, ◌+◌, ◌≤◌, true, cond, List, [], ◌∷◌, ◌++◌, length, length-append, append-nil, append_assoc, drop, map, refl, sym, ap, ◌∙◌, arith, Option, Some, None, get_or}
-use Rattle.std.proofs.lemmas.List.Elements.{All-get_or}
+use Rattle.std.proofs.Common.{◌≡◌, ℕ, suc, ◌+◌, ◌≤◌, cond, List, [], ◌∷◌, ◌++◌, length, length-append, append-nil, append_assoc, drop, map, refl, sym, ap, ◌∙◌, arith, Option, Some, None}
 use Rattle.std.proofs.lemmas.List.Sums.{sum_by-cons}
-use Rattle.std.proofs.lemmas.Option.{get_or_from_slice_get, slice_get_within}
-use Rattle.std.specs.Prelude.{option_map, slice_get}
+use Rattle.std.specs.Prelude.{option_map}
 use Rattle.std.specs.List.{cons_option, count_by}
-use Rattle.card_events.specs.Dated.{is_dated_post}
 use Rattle.card_events.specs.History.{adds_segment, anchor_of, at_number, next_segment}
 use Rattle.card_events.specs.declared.kept.Kept.{Kept}
 use Rattle.card_events.specs.declared.post.Post.{Post}
@@ -16,7 +13,7 @@ use Rattle.card_rates.specs.Added.{added_from}
 use Rattle.card_model.specs.Accepted.{HasFewSegments}
 use Rattle.card_rates.proofs.Added.{added-is, drop-next}
 use Rattle.card_segments.specs.Balances.{opening_segments}
-use Rattle.card_rates.specs.Segments.{ArePostsDated, account_segments, kept_from, kept_of}
+use Rattle.card_rates.specs.Segments.{account_segments, kept_from, kept_of}
 
 -- ---- the numbers of segments don't count
 same-kept : (s n : ℕ) (p : Post) → option_map kept_segment (segment_of s n p) ≡ kept_of n p

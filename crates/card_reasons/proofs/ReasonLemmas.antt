@@ -23,7 +23,7 @@ use Rattle.card_events.specs.Business.{last_minute}
 use Rattle.card_model.specs.Entries.{credit_balance}
 use Rattle.card_model.specs.Payments.{sixty_days_late}
 use Rattle.card_model.specs.Refusals
-use Rattle.card_model.specs.Refusals.{Present, account_full, amount_range, anchor_now, book_today, day_ahead, day_before_open, first_reason, holds_of, is_above_claim, is_no_amount, is_out_of_range, named, not_closed, reason_against, reasons, seen_today, segments_full, where_true, wrong_entry}
+use Rattle.card_model.specs.Refusals.{Present, account_full, amount_range, anchor_now, book_today, day_ahead, day_before_open, first_reason, holds_of, is_above_claim, is_no_amount, is_out_of_range, named, not_closed, reason_against, seen_today, segments_full, where_true, wrong_entry}
 
 -- ---- an opening
 -- what comes first, and then the reasons behind it

@@ -1,5 +1,5 @@
 -- A request is read from its spelling, and from nothing else.
-use Rattle.std.proofs.Common.{◌≡◌, ℕ, Bool, true, false, ◌&&◌, ltb, nat_le, List, [], ◌∷◌, ◌++◌, Option, None, Some, IfSome, IfNone, IfOk, get_or, Result, Ok, Err, ◌↔◌, refl, ap, sym, ◌∙◌, subst, arith, append_assoc, append-nil}
+use Rattle.std.proofs.Common.{◌≡◌, ℕ, Bool, true, false, ◌&&◌, nat_le, List, [], ◌∷◌, ◌++◌, Option, None, Some, IfSome, IfNone, IfOk, get_or, Result, Ok, Err, ◌↔◌, refl, ap, sym, ◌∙◌, subst, arith, append_assoc, append-nil}
 use Rattle.card_events.specs.Range.{first_calendar_day}
 use Rattle.card_events.specs.Dated.{is_request_day, is_dated_post, is_dated_shared, is_dated}
 use Rattle.card_events.specs.Names.{is_name}

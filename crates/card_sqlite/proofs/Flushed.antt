@@ -1,5 +1,5 @@
 -- Rows that are kept by a flush.
-use Rattle.std.specs.Prelude.{◌≡◌, List, [], ◌++◌, Option, None, Some}
+use Rattle.std.specs.Prelude.{List, [], Option, None, Some}
 use Rattle.std.proofs.Common.{sym, append-nil}
 use Rattle.card_ports.specs.declared.row.Row.{Row}
 use Rattle.card_ports.specs.Rows.{AddsRows}

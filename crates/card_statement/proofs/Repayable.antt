@@ -1,7 +1,7 @@
 -- What is owed on each segment at a closing: how many amounts, how large they are together, and the line of the rate of each.
-use Rattle.std.proofs.Common.{◌≡◌, ℕ, zero, suc, ◌+◌, ◌-◌, ◌*◌, ◌<◌, ◌≤◌, Bool, true, false, cond, eqb, ◌||◌, List, [], ◌∷◌, length, refl, sym, ap, ◌∙◌, subst, arith, Option, Some, None}
+use Rattle.std.proofs.Common.{◌≡◌, ℕ, zero, suc, ◌+◌, ◌-◌, ◌*◌, ◌≤◌, Bool, true, false, cond, eqb, List, [], ◌∷◌, length, refl, sym, ap, ◌∙◌, subst, arith, Option, Some, None}
 use Rattle.std.specs.Prelude.{get_or, nat_lt, nat_le}
-use Rattle.std.specs.List.{All, Contains, cons_option, filter, filter_map, list_any, range_with_len, sum_by}
+use Rattle.std.specs.List.{All, cons_option, filter, filter_map, range_with_len}
 use Rattle.std.proofs.lemmas.Bool.Decides.{nat_tests}
 use Rattle.std.proofs.lemmas.List.Elements.{All-cons, All-head, All-nil, All-tail, All-weaker, Contains-append_right}
 use Rattle.std.proofs.lemmas.List.Folds.{list_any_at}
@@ -14,10 +14,9 @@ use Rattle.card_events.specs.History.{anchor_of}
 use Rattle.card_model.proofs.Calendar.{cycles_are_of_the_calendar}
 use Rattle.card_model.specs.Books.{Account, Book, account_of, all_segments, rate_in}
 use Rattle.card_model.specs.Closing.{nonzero}
-use Rattle.card_model.specs.CycleDays.{HasItsDays}
 use Rattle.card_model.specs.Cycles.{Cycle, Seen, amount_at, amounts_sum, seen_on}
 use Rattle.card_model.specs.Entries.{owing}
-use Rattle.card_model.specs.Folds.{book, cycle_at}
+use Rattle.card_model.specs.Folds.{book}
 use Rattle.card_model.specs.Limits.{balance_limit}
 use Rattle.card_model.specs.Segments.{SegmentTerms}
 use Rattle.card_model.specs.Sheets.{had_balance, owing_on, rate_line, rate_lines, sheet_in, sheet_of}

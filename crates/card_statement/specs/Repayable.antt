@@ -1,6 +1,6 @@
 -- What the balances of a statement can come to, so that their repayment can be reckoned (12 CFR 1026.7(b)(12)). Amounts are cents,
 -- the part is in basis points.
-use Rattle.std.specs.Prelude.{ℕ, ◌≤◌, length, List, ℤ, pos, ◌≤ℤ◌}
+use Rattle.std.specs.Prelude.{ℕ, ◌≤◌, length, ℤ, pos, ◌≤ℤ◌}
 use Rattle.card_model.specs.Cycles.{Amounts, amounts_sum}
 
 -- the most segments beside Credit and Held

@@ -3,7 +3,6 @@ use Rattle.std.proofs.Common.{◌≡◌, ℕ, ◌≤◌, List, [], Option, Some,
 use Rattle.std.specs.Prelude.{IfOk, OnErr}
 use Rattle.std.proofs.lemmas.List.{get_or-set_same, length-take, take-append-le}
 use Rattle.card_account.specs.Verdicts.{verdict_of}
-use Rattle.card_account.specs.declared.verdict.Verdict.TheVariants as verdict
 use Rattle.card_desk.proofs.OutcomeLemmas.{known_outcome, new_at_key}
 use Rattle.card_desk.proofs.PlaceLemmas.{is_place}
 use Rattle.card_desk.specs.Applied as applied

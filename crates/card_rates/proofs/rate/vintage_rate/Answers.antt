@@ -1,4 +1,4 @@
-use Rattle.std.proofs.Common.{ℕ, sym, ap, ◌∙◌, Some}
+use Rattle.std.proofs.Common.{ℕ, sym, ap, ◌∙◌}
 use Rattle.card_model.specs.Rates.{Begun, bears_in, begun_of, rate_with}
 use Rattle.card_model.specs.Segments.{SegmentTerms}
 use Rattle.card_rates.proofs.OneMore.{last-then, last-else}

@@ -1,10 +1,10 @@
-use Rattle.std.proofs.Common.{◌≡◌, ◌+◌, ◌*◌, ◌^◌, ◌≤◌, ℕ, List, take, get_or, ap, ◌∙◌, arith}
+use Rattle.std.proofs.Common.{◌≡◌, ◌+◌, ℕ, take, get_or, ap, ◌∙◌, arith}
 use Rattle.std.specs.List.{sum_by}
 use Rattle.std.proofs.lemmas.List.{take_all}
 use Rattle.std.proofs.lemmas.List.Sums.{sum_by_more}
 use Rattle.card_model.specs.declared.entry.EntryKind.{EntryKind}
 use Rattle.card_model.specs.declared.entry.EntryKind.TheVariants as kind
-use Rattle.card_trial.specs.Sums.{all_between, of_all_kinds, whole}
+use Rattle.card_trial.specs.Sums.{all_between, of_all_kinds}
 use Rattle.card_trial.proofs.sums.Sums.of_all_kinds.Goals as goal
 
 pub overflow_add-sum : goal.overflow_add-sum

@@ -1,4 +1,4 @@
-use Rattle.std.proofs.Common.{◌≤◌, ◌^◌, List, ℕ, ap, sym, subst}
+use Rattle.std.proofs.Common.{◌≤◌, ◌^◌, sym, subst}
 use Rattle.card_trial.specs.Sums.{AreSums, whole}
 use Rattle.card_trial.specs.Totals.{BothSums}
 use Rattle.card_trial.specs.declared.side.Side.TheVariants as side
