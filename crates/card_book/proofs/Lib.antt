@@ -27,3 +27,4 @@ pub mod StateParts
 pub mod StepCounts
 pub mod Steps
 pub mod Told
+pub mod YearCycles

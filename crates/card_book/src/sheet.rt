@@ -1,10 +1,11 @@
 // The sheet of a statement, read from the book of its closing day.
-ghost use Rattle.std.specs.Prelude.{◌≡◌, ◌-◌, ◌-ℤ◌, ◌<◌, ◌≤◌, ◌^◌, IfOk, option_copied, pos, take};
+ghost use Rattle.std.specs.Prelude.{◌≡◌, ◌-◌, ◌-ℤ◌, ◌<◌, ◌≤◌, ◌==◌, ◌^◌, IfOk, drop, false, length, option_copied, pos, take};
 ghost use Rattle.std.specs.List.{All};
 ghost use Rattle.card_book.specs.Stands.{IsFoldedTo};
 ghost use Rattle.card_book.specs.Statements.{IsClosedCycle};
 ghost use Rattle.card_closing.specs.Interest as interest;
 ghost use Rattle.card_daily.specs.Given.{IsDayOf, book_on};
+ghost use Rattle.card_events.specs.Civil.{date_of};
 ghost use Rattle.card_events.specs.History.{terms_of};
 ghost use Rattle.card_model.specs.Caps.{row_for};
 ghost use Rattle.card_model.specs.Cycles.{amounts_sum};
@@ -134,14 +135,25 @@ struct Years {
     interest: u128,
 }
 
-// Those of the cycles that closed in the year of a closing.
+// How many cycles can have closed in one calendar year: each has 28 days at least.
+const MOST_IN_A_YEAR: usize = 14;
+
+// The cycles among which all are that closed in the calendar year of the last closing.
+fn latest(cycles: &[Cycle]) -> &[Cycle]
+    ensures { result.now ≡ drop (length cycles.now - 14) cycles.now }
+{
+    &cycles[cycles.len().saturating_sub(MOST_IN_A_YEAR)..]
+}
+
+// Those of the cycles that closed in the year of a closing, with which the last 14 are at most.
 fn years_of(folded: &Folded, closing: Day) -> Years
+    requires earlier { All (λ c. ((date_of c.closing).year == (date_of closing).year) ≡ false) (take (length folded.now.book.cycles - 14) folded.now.book.cycles) }
     requires fees { All (λ c. fees_sum c.fees ≤ 10 ^ 17) folded.now.book.cycles }
     requires interest { All (λ c. amounts_sum c.interest ≤ 10 ^ 17) folded.now.book.cycles }
     ensures fees { result.fees ≡ spec.year_sum (λ c. fees_sum c.fees) closing folded.now.book.cycles }
     ensures interest { result.interest ≡ spec.year_sum (λ c. amounts_sum c.interest) closing folded.now.book.cycles }
 {
-    let cycles = folded.cycles();
+    let cycles = latest(folded.cycles());
     Years {
         fees: fees_year(cycles, closing),
         interest: interest_year(cycles, closing),

@@ -14,6 +14,7 @@ use Rattle.card_statement.specs.Gathering.{sizes}
 use Rattle.card_statement.specs.Lines.{kept_rate_lines}
 use Rattle.card_model.specs.Sheets.{cycle_entries, entries_by, moves_of, sheet_in, sheet_of, year_sum}
 use Rattle.card_book.proofs.Sheets.{alike-same, earlier-days, entries-small, fees-small, interest-small, kept-of, repayable}
+use Rattle.card_book.proofs.YearCycles.{earlier-on}
 use Rattle.card_book.proofs.sheet.sheet_in.Goals as goal
 
 pub years_of-years-requires : goal.years_of-years-requires
@@ -23,6 +24,7 @@ years_of-years-requires c =
     let s = c.anchor-anchor.ensures.sound in
     let cycles = ap (λ (b : Book). b.cycles) c.requires.folded.book in
     record {
+      earlier = earlier-on g day c.cycle.inside.closing c.args.folded.now.book.cycles s c.requires.dated cycles (ap (λ (x : Cycle). x.closing) c.cycle.view_is);
       fees = subst (All (λ (x : Cycle). fees_sum x.fees ≤ 10 ^ 17)) (sym cycles) (fees-small g day s c.requires.dated.last);
       interest = subst (All (λ (x : Cycle). amounts_sum x.interest ≤ 10 ^ 17)) (sym cycles) (interest-small g day s);
     }
