@@ -52,7 +52,7 @@ impl Account {
     ghost use Rattle.card_model.specs.Refusals.{book_today, reason_against};
     ghost use Rattle.card_posts.specs.Posted.{opens};
     ghost use Rattle.card_reasons.specs.Reasons.{reads_book};
-    ghost use Rattle.card_replay.specs.Changes.{IsChangeOf, IsPrepared};
+    ghost use Rattle.card_replay.specs.Changes.{FoldsIfNeeded, IsChangeOf, IsPrepared};
     ghost use Rattle.card_replay.specs.Replays.{IsToday, given_of, opened_lists, present_of};
     ghost use Rattle.card_replay.specs.Standing.{AreStanding, IsStandingCount};
     ghost use Rattle.card_replay.specs.Steps.{AreFewToPrepare};
@@ -260,6 +260,7 @@ impl Account {
         ensures told { IsTold today shared.now self.old self.new }
         ensures prepared { IfOk result (λ c. IsPrepared shared.now c (replay_of self.new)) }
         ensures post { IfOk result (λ c. IsChangeOf key today post.now c) }
+        ensures idle { FoldsIfNeeded post.now self.old.folding self.new.folding steps.old steps.new }
         ensures most { AreFewToPrepare today shared.now self.old.named.lists self.old.folding.reached key post.now steps.old steps.new }
     {
         let from = self.replay.first_change(post, today, shared);

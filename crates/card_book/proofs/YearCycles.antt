@@ -146,6 +146,6 @@ later-sum f day (suc n) (c ∷ cs) h =
     let out = All-head (λ (x : Cycle). eqb (date_of x.closing).year (date_of day).year ≡ false) c (take n cs) h in
     let rest = later-sum f day n cs (All-tail (λ (x : Cycle). eqb (date_of x.closing).year (date_of day).year ≡ false) c (take n cs) h) in
     let one : year_sum f day (c ∷ cs) ≡ cond (eqb (date_of c.closing).year (date_of day).year) (f c) 0 + year_sum f day cs =
-        sum_by-cons (λ (x : Cycle). cond (eqb (date_of x.closing).year (date_of day).year) (f x) 0) c cs in
+    sum_by-cons (λ (x : Cycle). cond (eqb (date_of x.closing).year (date_of day).year) (f x) 0) c cs in
     let none : cond (eqb (date_of c.closing).year (date_of day).year) (f c) 0 ≡ 0 = rw out refl in
     omega (arith, rest, one, none)

@@ -86,6 +86,10 @@ pub record MayBeAdded (c : Change) (r : Replay) : Type 0 where
 abbrev pub IsReadyFor : ℕ → Post → Replay → Type 0
 IsReadyFor today p r = needs_today p ≡ true → r.folding.reached ≡ today
 
+-- where the post doesn't ask for that, nothing is folded and no step is taken
+abbrev pub FoldsIfNeeded : Post → Folding → Folding → ℕ → ℕ → Type 0
+FoldsIfNeeded p old new before after = needs_today p ≡ false → (new ≡ old) × (after ≡ before)
+
 -- What is asked of an account for which a post is prepared that a fold reads: there is room for it, today is reached where the post asks
 -- for that, no reason is against it, its key is new, and the account may be folded with it
 pub record MayPrepare (shared : SharedRows) (today : ℕ) (key : List ℕ) (p : Post) (r : Replay) : Type 0 where

@@ -118,7 +118,7 @@ impl Replay {
     ghost use Rattle.card_rates.specs.Segments.{account_segments};
     ghost use Rattle.card_daily.specs.Given.{IsSound};
     ghost use Rattle.card_book.specs.GoingOn as rates;
-    ghost use Rattle.card_replay.specs.Changes.{IsChangeOf, IsCommitted, IsPrepared, IsReadyFor, IsRewoundBy, MayPrepare, issued_as};
+    ghost use Rattle.card_replay.specs.Changes.{FoldsIfNeeded, IsChangeOf, IsCommitted, IsPrepared, IsReadyFor, IsRewoundBy, MayPrepare, issued_as};
     ghost use Rattle.card_posts.specs.Draft.{IsFirstWith};
     ghost use Rattle.card_replay.specs.Replays.{IsReplay, IsToday, MayReach, SameLists, given_of, opened_lists, posted_of, present_of};
     ghost use Rattle.card_replay.specs.Standing.{AreStanding, IsForetold, IsStandingCount, MayCome};
@@ -211,6 +211,7 @@ impl Replay {
         ensures replay { IsReplay shared.now self.new }
         ensures ready { OnOk result (IsReadyFor today post.now self.new) }
         ensures reached { (self.new.folding.reached ≡ self.old.folding.reached) ⊎ (self.new.folding.reached ≡ today) }
+        ensures idle { FoldsIfNeeded post.now self.old.folding self.new.folding steps.old steps.new }
         ensures most { steps.new ≤ steps.old + steps_to today shared.now self.old }
     {
         if !needs_today(post) {
@@ -389,7 +390,7 @@ impl Replay {
     /// Prepares a post against which there is no reason, under a new key, with the first day that it changes: there is room for it, and
     /// the Book is there that it takes the account back to, where that day isn't after the one last reached: that of the eve, of the
     /// closing before the cycle in which the day lies, or, in the first cycle, none. The account reaches today for a Bill, whose row is
-    /// read off the book of today, and for a Plan, a Notice or a Lower; for any other post nothing is folded.
+    /// read off the book of today, and for a Plan, a Notice or a Lower; for any other post nothing is folded, and no step is taken.
     /// The posts and the issued statements stay as they are; with the post, they are as every run leaves them. The day last reached
     /// is as before, or today.
     pub fn prepare<L: Ledger>(
@@ -415,6 +416,7 @@ impl Replay {
         ensures reached { (self.new.folding.reached ≡ self.old.folding.reached) ⊎ (self.new.folding.reached ≡ today) }
         ensures prepared { IfOk result (λ c. IsPrepared shared.now c self.new) }
         ensures post { IfOk result (λ c. IsChangeOf key today post.now c) }
+        ensures idle { FoldsIfNeeded post.now self.old.folding self.new.folding steps.old steps.new }
         ensures most { AreFewToPrepare today shared.now self.old.lists self.old.folding.reached key post.now steps.old steps.new }
     {
         self.reach_for(alloc, post, today, shared, steps)?;

@@ -5,6 +5,7 @@ use Rattle.card_daily.specs.Given.{IsSound}
 use Rattle.card_events.specs.Keys.{with_key}
 use Rattle.card_model.specs.Machine.{accepted}
 use Rattle.card_model.specs.Refusals.{reason_against}
+use Rattle.card_replay.specs.Changes.{FoldsIfNeeded}
 use Rattle.card_replay.specs.Replays.{IsReplay, MayReach, given_of, present_of}
 use Rattle.card_replay.specs.Steps.{AreFewToPrepare}
 use Rattle.card_account.proofs.account.Account.prepare.Goals as goal
@@ -52,6 +53,10 @@ returns-clause-told g c =
     subst (λ (a : OpenAccount). IsTold today shared a (with_replay name new)) c.self.view_is
     (told-by today shared name old new reach did.same did.replay
     (turned (new.folding.reached ≡ old.folding.reached) (new.folding.reached ≡ today) did.reached))
+
+pub returns-clause-idle : goal.returns-clause-idle
+returns-clause-idle g c =
+    subst (λ (a : OpenAccount). FoldsIfNeeded c.args.post.now a.folding c.prepare.new.self.folding c.args.steps.now c.prepare.new.steps) c.self.view_is c.prepare.ensures.idle
 
 pub returns-clause-most : goal.returns-clause-most
 returns-clause-most g c =

@@ -85,6 +85,22 @@ returns-clause-prepared g c =
     (subst (λ (l : Lists). IsSound (given_of (accepted (present_of today shared l) c.args.key p) shared)) (sym lists) c.requires.sound)
     (rewound-same shared today c.args.key p made.rewound mid r c.rewound.ensures.same.lists c.rewound.ensures.folding c.in_ok-rewound.ensures.rewound)
 
+-- nothing is folded but to reach today
+pub returns-clause-idle : goal.returns-clause-idle
+returns-clause-idle g c = λ not. let was = c.reach_for.ensures.idle not in (c.rewound.ensures.folding ∙ (c.make_room.ensures.folding ∙ was.0), was.1)
+
+pub returns-in_err-reach_for-clause-idle : goal.returns-in_err-reach_for-clause-idle
+returns-in_err-reach_for-clause-idle g c = c.reach_for.ensures.idle
+
+pub returns-in_err-issued-clause-idle : goal.returns-in_err-issued-clause-idle
+returns-in_err-issued-clause-idle g c = c.reach_for.ensures.idle
+
+pub returns-in_err-make_room-clause-idle : goal.returns-in_err-make_room-clause-idle
+returns-in_err-make_room-clause-idle g c = λ not. let was = c.reach_for.ensures.idle not in (c.make_room.ensures.folding ∙ was.0, was.1)
+
+pub returns-in_err-rewound-clause-idle : goal.returns-in_err-rewound-clause-idle
+returns-in_err-rewound-clause-idle g c = λ not. let was = c.reach_for.ensures.idle not in (c.rewound.ensures.folding ∙ (c.make_room.ensures.folding ∙ was.0), was.1)
+
 pub returns-clause-most : goal.returns-clause-most
 returns-clause-most g c = λ from first. omega (arith, c.reach_for.ensures.most)
 

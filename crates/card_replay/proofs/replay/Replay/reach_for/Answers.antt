@@ -12,7 +12,16 @@ returns-then-not-needs_today-clause-ready g c = λ needs. absurd (false≢true (
 pub returns-then-not-needs_today-clause-reached : goal.returns-then-not-needs_today-clause-reached
 returns-then-not-needs_today-clause-reached g c = inl refl
 
+pub returns-then-not-needs_today-clause-idle : goal.returns-then-not-needs_today-clause-idle
+returns-then-not-needs_today-clause-idle g c = λ not. (refl, refl)
+
 -- ---- today
+pub returns-clause-idle : goal.returns-clause-idle
+returns-clause-idle g c = λ not. absurd (false≢true (sym not ∙ (sym c.needs_today.ensures ∙ c.if-not-needs_today.false)))
+
+pub returns-in_err-to_day-clause-idle : goal.returns-in_err-to_day-clause-idle
+returns-in_err-to_day-clause-idle g c = λ not. absurd (false≢true (sym not ∙ (sym c.needs_today.ensures ∙ c.if-not-needs_today.false)))
+
 pub returns-clause-ready : goal.returns-clause-ready
 returns-clause-ready g c = λ needs. c.in_ok-to_day.ensures.reached
 
