@@ -1,5 +1,5 @@
 -- The cycles that closed in an earlier calendar year than the last closing: a cycle has 28 days at least, and 14 of them more than a year.
-use Rattle.std.proofs.Common.{◌≡◌, ℕ, zero, suc, ◌+◌, ◌-◌, ◌*◌, ◌/◌, ◌%◌, ◌<◌, ◌≤◌, ◌⊎◌, inl, inr, false, cond, eqb, ne_eqb, List, [], ◌∷◌, length, take, drop, get_or, Some, refl, sym, ap, ◌∙◌, subst, arith}
+use Rattle.std.proofs.Common.{◌≡◌, ℕ, zero, suc, ◌+◌, ◌-◌, ◌*◌, ◌/◌, ◌%◌, ◌<◌, ◌≤◌, ◌⊎◌, inl, inr, false, cond, eqb, ne_eqb, List, [], ◌∷◌, length, take, drop, get_or, Some, refl, sym, ap, subst, arith}
 use Rattle.std.specs.Prelude.{slice_get}
 use Rattle.std.specs.List.{All}
 use Rattle.std.proofs.lemmas.Bool.{cases_lt}
@@ -14,7 +14,6 @@ use Rattle.card_events.specs.declared.anchor.Anchor.{Anchor}
 use Rattle.card_events.proofs.Cycles.{IsAnchor, closing_is, closing_late, first_month-bounds}
 use Rattle.card_events.proofs.Dates.{date_of-has, month_more}
 use Rattle.card_events.proofs.Months.{length_bounds, month_civil, next_number, over}
-use Rattle.card_events.specs.Civil.{next_month}
 use Rattle.card_model.proofs.Calendar.{cycles_are_of_the_calendar, is-anchor}
 use Rattle.card_model.specs.CycleDays.{HasItsDays}
 use Rattle.card_model.specs.Cycles.{Cycle}

@@ -135,17 +135,17 @@ struct Years {
     interest: u128,
 }
 
-// How many cycles can have closed in one calendar year: each has 28 days at least.
+// No more cycles than these close in one calendar year: each has 28 days at least.
 const MOST_IN_A_YEAR: usize = 14;
 
-// The cycles among which all are that closed in the calendar year of the last closing.
+// The last 14 cycles, or all where they are fewer. All that closed in the calendar year of the last closing are among them.
 fn latest(cycles: &[Cycle]) -> &[Cycle]
     ensures { result.now ≡ drop (length cycles.now - 14) cycles.now }
 {
     &cycles[cycles.len().saturating_sub(MOST_IN_A_YEAR)..]
 }
 
-// Those of the cycles that closed in the year of a closing, with which the last 14 are at most.
+// The sums over the cycles that closed in the calendar year of a closing, which are among the last 14.
 fn years_of(folded: &Folded, closing: Day) -> Years
     requires earlier { All (λ c. ((date_of c.closing).year == (date_of closing).year) ≡ false) (take (length folded.now.book.cycles - 14) folded.now.book.cycles) }
     requires fees { All (λ c. fees_sum c.fees ≤ 10 ^ 17) folded.now.book.cycles }

@@ -1,6 +1,6 @@
 -- The number of a date is the calendar's, and each day has one date.
 use Rattle.std.proofs.Common.{◌≡◌, ℕ, zero, suc, ◌+◌, ◌-◌, ◌≤◌, refl, ap, arith, pos}
-use Rattle.jiff_core.specs.Calendar.{days_in_month, days_in_year, days_from_civil, day_count, IsCivilDate, is_leap_year}
+use Rattle.jiff_core.specs.Calendar.{days_in_year, days_from_civil, day_count}
 use Rattle.jiff_core.proofs.CalendarLemmas.{days_from_civil-day_count, day_count-epoch, day_count-next_year, day_count-day_of_year}
 use Rattle.jiff_core.proofs.MarchLemmas.{days_in_year-leap_day, march_days-suc}
 use Rattle.jiff_core.specs.March.{march_days}

@@ -9,7 +9,7 @@ use Rattle.card_events.specs.Billing.{closing, due_day_of_month, due_after, due}
 use Rattle.card_events.specs.Business.{is_due}
 use Rattle.card_events.specs.Months.{IsLastDue, day_in_month, month_from, first_month, due_shift}
 use Rattle.card_events.proofs.Months.{first_day-from, first_day-below, dated, month_civil, next_month-next}
-use Rattle.card_events.proofs.Cycles.{IsAnchor, first_month-bounds, month_from-bounds, next_on-number, closing_is, due_is, due_grows, due_day-bounds, shift_small}
+use Rattle.card_events.proofs.Cycles.{IsAnchor, first_month-bounds, month_from-bounds, next_on-number, due_is, due_grows, due_day-bounds, shift_small}
 use Rattle.card_events.proofs.Business.{first_day-at_most}
 
 -- ---- days of the same number

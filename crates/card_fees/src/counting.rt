@@ -1,5 +1,5 @@
-// Sums over the payments of some days.
-ghost use Rattle.std.specs.Prelude.{◌≡◌, ◌+◌, ◌≤◌, ◌≤ℤ◌, ℕ, List, min, nat_le, nat_lt, pos, unsigned_abs};
+// Sums over the payments and credits of some days.
+ghost use Rattle.std.specs.Prelude.{◌≡◌, ◌+◌, ◌≤◌, ℕ, List, min, nat_le, nat_lt, unsigned_abs};
 ghost use Rattle.std.specs.List.{sum_by};
 ghost use Rattle.card_events.specs.History.{at_number};
 ghost use Rattle.card_fees.specs.Counting.{counts, credits, earlier_posts, is_credit_at, is_payment_at, read_counts, since, up_to};
@@ -9,7 +9,7 @@ ghost use Rattle.card_posts.specs.Order.{IsAscending};
 ghost use Rattle.card_posts.specs.Posted.{AreBounded, StandsFor, folding_order};
 
 use crate::returning::{Until, is_returned, reaches};
-use card_events::{Cents, Day, Post, Slot};
+use card_events::{Day, Post, Slot};
 use card_posts::Posts;
 
 fn is_before(slot: &Slot, day: Day) -> bool
@@ -125,31 +125,12 @@ pub fn counted_up_to(posts: &Posts, from: Day, to: Day, limit: u64) -> u64
     sum(posts, slots_since(posts, from), &Until::Day(to), limit)
 }
 
-// The same without a limit.
-fn counted_between(posts: &Posts, from: Day, to: Day) -> u64
-    ensures bound { result ≤ payments_limit }
-    ensures value { (holidays : List ℕ) → StandsFor holidays posts.now → result ≡ payments.counted posts.now.corrected from to }
-{
-    counted_up_to(posts, from, to, u64::MAX)
-}
-
-/// The cents of the payments with effective days from one day to another, without those returned by its end (12 CFR
-/// 1026.10, .55(b)(4)). The corrected list is that of the posts under some calendar. It takes no memory.
-pub fn counted(posts: &Posts, from: Day, to: Day) -> Cents
-    ensures low { pos 0 ≤ℤ result }
-    ensures high { result ≤ℤ pos payments_limit }
-    ensures value { (holidays : List ℕ) → StandsFor holidays posts.now → result ≡ pos (payments.counted posts.now.corrected from to) }
-{
-    counted_between(posts, from, to) as i64
-}
-
-// The payments that are folded before a post, less those returned before it; at most a limit.
-pub fn counted_in_front(posts: &Posts, from: Day, day: Day, number: u32, limit: u64) -> u64
-    ensures bound { result ≤ payments_limit }
-    ensures value { (holidays : List ℕ) → StandsFor holidays posts.now → result ≡ min limit (payments.counted (earlier_posts day number posts.now.corrected) from day) }
+// The payments that are folded before a post, less those returned before it.
+pub fn counted_in_front(posts: &Posts, from: Day, day: Day, number: u32) -> u64
+    ensures { (holidays : List ℕ) → StandsFor holidays posts.now → result ≡ payments.counted (earlier_posts day number posts.now.corrected) from day }
 {
     let slots = slots_since(posts, from);
-    sum(posts, slots, &Until::Post(day, number), limit)
+    sum(posts, slots, &Until::Post(day, number), u64::MAX)
 }
 
 fn is_credit(posts: &Posts, number: u32) -> bool
@@ -212,14 +193,4 @@ pub fn repaid_reaches(posts: &Posts, from: Day, to: Day, amount: u64) -> bool
         return true;
     }
     reach(paid, credited_between(posts, from, to), amount)
-}
-
-/// The cents of the merchants' credits with effective days from one day to another (12 CFR 1026.11(a), .54(a)(1)). The
-/// corrected list is that of the posts under some calendar. It takes no memory.
-pub fn credited(posts: &Posts, from: Day, to: Day) -> Cents
-    ensures low { pos 0 ≤ℤ result }
-    ensures high { result ≤ℤ pos payments_limit }
-    ensures value { (holidays : List ℕ) → StandsFor holidays posts.now → result ≡ pos (payments.credited posts.now.corrected from to) }
-{
-    credited_between(posts, from, to) as i64
 }

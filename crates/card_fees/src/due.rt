@@ -60,8 +60,9 @@ pub fn met(posts: &Posts, a: Anchor, k: u32, minimum: Cents) -> bool
 }
 
 /// Whether the payments credited after the closing of a cycle and up to its due date, without those returned by then, reach the
-/// minimum payment that it asks for, at least 0 (12 CFR 1026.5(b)(2)(ii)). The cycle's days are those of the calendar. The tally
-/// holds the sums of these days from then on. The corrected list is that of the posts under some calendar. It takes no memory.
+/// minimum payment that it asks for, at least 0 (12 CFR 1026.5(b)(2)(ii)). The cycle's days are those of the calendar, its due
+/// date before 2102-12-31. What the tally counted is right for these posts, and stays so; where the cycle asks for something, it
+/// holds the sum of these days from then on. The corrected list is that of the posts under some calendar. It takes no memory.
 pub fn met_in_time(posts: &Posts, _a: &Anchor, c: &DueCycle, tally: &mut Tally) -> bool
     requires closing { c.now.closing ≡ closing _a.now c.now.cycle }
     requires due { c.now.due ≡ due _a.now c.now.cycle }
@@ -79,8 +80,9 @@ pub fn met_in_time(posts: &Posts, _a: &Anchor, c: &DueCycle, tally: &mut Tally) 
 }
 
 /// What is past due at the closing after a closed cycle, in cents: the minimum payment that the cycle asks for, at least 0, less
-/// the payments credited since, without those returned by that closing, not below 0. The cycle's days are those of the calendar.
-/// What was counted is kept in the tally. The corrected list is that of the posts under some calendar. It takes no memory.
+/// the payments credited since, without those returned by that closing, not below 0. The cycle's days are those of the calendar,
+/// that closing before 2102-12-31. What the tally counted is right for these posts, and stays so; what is counted here is kept in
+/// it. The corrected list is that of the posts under some calendar. It takes no memory.
 pub fn past_due(posts: &Posts, _a: &Anchor, c: &DueCycle, end: Day, tally: &mut Tally) -> Cents
     requires closing { c.now.closing ≡ closing _a.now c.now.cycle }
     requires end { end ≡ closing _a.now (c.now.cycle + 1) }

@@ -85,8 +85,9 @@ pub fn capped_fee(issued: Option<&[Fee]>, fee: &Fee) -> Option<Fee>
 /// most what the issued statement of the cycle that is charged has for this due date, in cents. The fees are those charged
 /// so far. None comes exactly where the due date was met or the fee is 0, or where one was charged for the due date
 /// before. The cycle is at least 1, and its due date is there and before 2100-12-31; its minimum payment is at least 0;
-/// its days are those of the calendar. The tally holds the sums up to the due date from then on. The corrected list is that of
-/// the posts under some calendar. It takes no memory.
+/// its days are those of the calendar. What the tally counted is right for these posts, and stays so; where the cycle asks for
+/// something, it holds the sum up to the due date from then on. The corrected list is that of the posts under some calendar. It
+/// takes no memory.
 pub fn due_fee(
     table: &FeeTable,
     fees: &[Fee],

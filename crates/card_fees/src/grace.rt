@@ -33,8 +33,9 @@ fn is_repaid(posts: &Posts, _a: &Anchor, c: &DueCycle, amount: u64, tally: &Tall
 
 /// Whether the payments and the merchants' credits with effective days after a cycle's closing and up to its due date,
 /// without the payments returned by then, reach its grace amount. A statement without a due payment counts as paid (12
-/// CFR 1026.54(a)(1)). The cycle is at least 1, its due date is there, and its days are those of the calendar. Sums that the
-/// tally holds are read off it. The corrected list is that of the posts under some calendar. It takes no memory.
+/// CFR 1026.54(a)(1)). The cycle is at least 1, its due date is there, its days are those of the calendar, and its grace
+/// amount is at least 0. Sums that the tally holds are read off it; what it counted is right for these posts. The corrected list
+/// is that of the posts under some calendar. It takes no memory.
 #[tactic(auto, unfolding(crate::specs::Asked::is_paid))]
 pub fn paid(posts: &Posts, a: &Anchor, c: &DueCycle, tally: &Tally) -> bool
     requires known { IsInCalendar a.now c.now }
@@ -57,8 +58,9 @@ fn paid_before(posts: &Posts, a: &Anchor, before: Option<DueCycle>, tally: &Tall
 /// How purchases bear interest in a cycle, at its closing (12 CFR 1026.54(a)(1)), by the cycle before it and the one before
 /// that: none does where the last statement was paid and the one before it too; where the last wasn't, what was repaid by
 /// its due date bears none; where the one before it wasn't, all bear interest. The first cycle has no cycle before it.
-/// Their numbers are at least 1, their due dates are there, and their days are those of the calendar. Sums that the tally holds
-/// are read off it. The corrected list is that of the posts under some calendar. It takes no memory.
+/// Their numbers are at least 1, their due dates are there, their days are those of the calendar, and their grace amounts are at
+/// least 0. Sums that the tally holds are read off it; what it counted is right for these posts. The corrected list is that of
+/// the posts under some calendar. It takes no memory.
 pub fn purchase_case(
     posts: &Posts,
     a: &Anchor,

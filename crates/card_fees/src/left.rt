@@ -14,8 +14,8 @@ use card_posts::Posts;
 /// (12 CFR 1026.53(a)): the minimum payment less the payments that are folded before it, with effective days after the
 /// cycle's closing, without those that a Return before it takes back; not below 0, and 0 without a due payment. The payments
 /// folded before are those of earlier days, and of the same day those with smaller numbers. The cycle closed on its day of the
-/// calendar, before the day; its minimum payment is at least 0. What was counted is kept in the tally, which stays right. The
-/// corrected list is that of the posts under some calendar. It takes no memory.
+/// calendar, before the day; its minimum payment is at least 0. What the tally counted is right for these posts, and stays so.
+/// The corrected list is that of the posts under some calendar. It takes no memory.
 pub fn minimum_left(
     posts: &Posts,
     _a: &Anchor,

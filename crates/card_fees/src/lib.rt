@@ -21,7 +21,6 @@ pub use card_shared::{
     FeeTable, IndexTable, SharedRows, fees_reason, holiday_reason, index_reason, roll_reason,
 };
 pub use charge::{late_fee, returned_fee};
-pub use counting::{counted, credited};
 pub use due::{met, met_in_time, owes_sixty_days, past_due};
 pub use due_cycle::{DueCycle, asked};
 pub use due_fees::{capped_fee, due_fee};

@@ -263,7 +263,7 @@ impl Tally {
         self.paid = if brought.returns == 0 {
             self.paid.saturating_add(brought.paid)
         } else {
-            counted_in_front(posts, self.from, day, number, u64::MAX)
+            counted_in_front(posts, self.from, day, number)
         };
         self.credited = self.credited.saturating_add(brought.credited);
         self.day = day;
@@ -297,7 +297,8 @@ impl Tally {
         }
     }
 
-    /// What was paid from one day to another, which it holds from then on.
+    /// What was paid from one day to another, before 2102-12-31, which it holds from then on. What it counted is right for these
+    /// posts, and stays so. The corrected list is that of the posts under some calendar. It takes no memory.
     pub fn hold(&mut self, posts: &Posts, from: Day, to: Day) -> Sum
         requires { to < last_calendar_day }
         ensures right { StaysRight posts.now to self.old self.new }

@@ -1,10 +1,10 @@
 -- Every account whose opening rates follow the index has one on its opening day (12 CFR 1026.55(b)(2)).
-use Rattle.std.proofs.Common.{◌≡◌, ℕ, ◌≤◌, Bool, true, false, cond, List, [], ◌∷◌, ◌++◌, length, Option, Some, None, refl, sym, ap, ◌∙◌, subst, arith, leb}
+use Rattle.std.proofs.Common.{◌≡◌, ℕ, ◌≤◌, Bool, true, false, cond, List, [], ◌∷◌, ◌++◌, length, Option, Some, None, refl, sym, subst, arith, leb}
 use Rattle.std.specs.Prelude.{is_some, not}
 use Rattle.std.specs.List.{All}
 use Rattle.std.specs.Str.{bytes_eq}
 use Rattle.std.proofs.lemmas.List.Elements.{All-nil, All-cons, All-head, All-tail, All-weaker}
-use Rattle.card_events.specs.History.{anchor_of, at_number, is_variable, opens_variable}
+use Rattle.card_events.specs.History.{anchor_of, at_number, opens_variable}
 use Rattle.card_events.specs.Keys.{with_key}
 use Rattle.card_events.specs.SharedRows.{AreByDay, IndexRow, index_row_of, shared_rows}
 use Rattle.card_events.specs.declared.kept.Kept.{Kept}

@@ -1,5 +1,5 @@
 -- The fold of an account with fixed rates reads no index row.
-use Rattle.std.proofs.Common.{◌≡◌, ℕ, zero, suc, ◌+◌, ◌*◌, ◌-◌, Bool, true, false, cond, ◌&&◌, ltb, eqb, List, [], ◌∷◌, ◌++◌, refl, sym, ap, ◌∙◌, Option, Some, None}
+use Rattle.std.proofs.Common.{◌≡◌, ℕ, zero, suc, ◌+◌, ◌*◌, ◌-◌, false, cond, eqb, List, [], ◌∷◌, refl, sym, ap, ◌∙◌, Option, Some, None}
 use Rattle.std.specs.Prelude.{map, min}
 use Rattle.std.specs.List.{filter_map, sum_by}
 use Rattle.std.proofs.lemmas.List.Sums.{sum_by-cons}
@@ -12,10 +12,9 @@ use Rattle.card_model.specs.Allocation.{allocated, placed}
 use Rattle.card_model.specs.Books.{Account, Book, all_segments, note_of, present_cycle, rate_in, with_all_entries, with_cycle, with_entries, with_fee, with_penalties}
 use Rattle.card_model.specs.Caps.{row_for}
 use Rattle.card_model.specs.Closing.{Posting, close, closed_cycle, closing_interest, first_day_of, grace_amount, minimum_of, minimum_payment, nonzero, net_balance, post_interest, post_one, posted_for, purchase_case_in}
-use Rattle.card_model.specs.Cycles.{Amounts, Cycle, IssuedRow, Seen, amounts_sum, last_cycle, posts_on}
+use Rattle.card_model.specs.Cycles.{Cycle, IssuedRow, Seen, amounts_sum, last_cycle, posts_on}
 use Rattle.card_model.specs.DueDates.{cured_by, late_fee, on_due}
 use Rattle.card_model.specs.Effects.{after_posts, credit_parts, effect, holding, holdings, meant_for, parts_entries, payment_at, payment_parts, returned, returned_fee}
-use Rattle.card_model.specs.Entries.{owing}
 use Rattle.card_model.specs.Fees.{fee_for, fees_in, fees_sum}
 use Rattle.card_model.specs.Folds.{book_after, day_after}
 use Rattle.card_model.specs.Interest.{average_balance, accrual, case_of, charged, charged_on, cycle_before, cycle_interest, days_from, deferred_interest, half_up, interest_sum, purchase_case}

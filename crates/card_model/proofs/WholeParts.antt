@@ -3,7 +3,7 @@ use Rattle.std.proofs.Common.{◌≡◌, ℕ, zero, suc, ◌+◌, ◌-◌, ◌<�
 use Rattle.std.proofs.lemmas.Bool.{ne_eqb}
 use Rattle.std.proofs.lemmas.Bool.Decides.{nat_tests}
 use Rattle.std.specs.Option.{option_or}
-use Rattle.card_model.specs.Allocation.{Ascends, Paying, all_pass, best, choose, excess_rule, higher_rate, is_last_two, lower_rate, minimum_rule, paid_at, paid_on, pay, rate_rule, sooner_end, takes}
+use Rattle.card_model.specs.Allocation.{Ascends, Paying, all_pass, best, choose, excess_rule, higher_rate, is_last_two, lower_rate, minimum_rule, paid_at, paid_on, pay, sooner_end, takes}
 use Rattle.card_model.specs.Rates.{lasts}
 use Rattle.card_model.specs.declared.holding.Holding.{Holding}
 

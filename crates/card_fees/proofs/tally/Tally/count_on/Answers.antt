@@ -33,7 +33,7 @@ returns-clause-right c holidays last stands by t =
                 let on = paid-brought a holidays posts.history posts.corrected _ old.from old.day old.number c.args.day c.args.number old.paid stands parts c.requires.leads t.paid none in
                 omega (arith, on, most, w.self-is, w.saturating_add-self.ensures, c.bring-brought.ensures.paid))
             | else-brought-eq0 w ↦
-                (let value = w.counted_in_front-self.ensures.value holidays stands in
+                (let value = w.counted_in_front-self.ensures holidays stands in
                 omega (arith, value, most, w.self-is))
           ];
       credited = omega (arith, credits, high, c.saturating_add-self-2.ensures, c.bring-brought.ensures.credited);
