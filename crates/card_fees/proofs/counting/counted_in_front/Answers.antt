@@ -1,4 +1,4 @@
-use Rattle.std.proofs.Common.{min, ap, sym, ◌∙◌, arith}
+use Rattle.std.proofs.Common.{ℕ, min, ap, sym, ◌∙◌, arith}
 use Rattle.card_events.specs.History.{anchor_of}
 use Rattle.card_model.specs.Payments.{counted}
 use Rattle.card_posts.specs.Posted.{folding_order}
@@ -11,13 +11,13 @@ use Rattle.card_fees.proofs.SlotSums.{unlimited}
 use Rattle.card_fees.specs.Limits.{payments_limit}
 use Rattle.card_fees.proofs.counting.counted_in_front.Goals as goal
 
-pub returns-clause : goal.returns-clause
-returns-clause c holidays stands =
+pub returns : goal.returns
+returns c holidays stands =
     let history = c.args.posts.now.history in
     let listed = c.args.posts.now.corrected in
     let day = c.args.day in
     let number = c.args.number in
-    let limit = 18_446_744_073_709_551_615 in
+    let limit : ℕ = 18_446_744_073_709_551_615 in
     let value =
     c.sum.ensures.value ∙ ap (min limit) (sym (sum-filter (counts (until.Post day number) history listed) (λ (s : Slot). is_before day number s.day s.number) c.slots_since-slots.result.now))
     ∙ ap (λ w. min limit (slots_sum (until.Post day number) history listed (in_front day number w))) c.slots_since-slots.ensures.value
