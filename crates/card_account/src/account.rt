@@ -41,7 +41,7 @@ impl Account {
     ghost use Rattle.card_events.specs.Range.{last_request_day};
     ghost use Rattle.card_account.specs.Accounts.{HasTold, IsAccount, IsFoldedToday, IsIssueOf, IsTold, issued_statement, owing_in, replay_of, restated_statement, steps_of};
     ghost use Rattle.card_account.specs.Entries.{entries_today};
-    ghost use Rattle.card_account.specs.Reached.{StaysNear};
+    ghost use Rattle.card_account.specs.Reached.{IsIdle, StaysNear};
     ghost use Rattle.card_account.specs.Verdicts.{verdict_of};
     ghost use Rattle.card_account.specs.Works.{tasks_of};
     ghost use Rattle.card_daily.specs.Given.{IsSound};
@@ -141,7 +141,8 @@ impl Account {
     }
 
     /// What a post comes to today, on this account. Its days are days of requests. For a Penalty or a Refund under a new key the
-    /// account reaches today, since they are judged by the book of today; for no other post is anything folded or memory wanted.
+    /// account reaches today, since they are judged by the book of today; for no other post is anything folded, a step taken or
+    /// memory wanted.
     pub fn judge<L: Ledger>(
         &mut self,
         alloc: Global,
@@ -157,6 +158,8 @@ impl Account {
         ensures value { IfOk result (λ v. v ≡ verdict_of (at_key (present_of today shared.now self.old.named.lists) key.now post.now (with_key key.now self.old.named.lists.posts))) }
         ensures memory { OnErr result (reads_book post.now ≡ true) }
         ensures new_key { OnErr result (with_key key.now self.old.named.lists.posts ≡ None) }
+        ensures repeated { (with_key key.now self.old.named.lists.posts ≡ None → ⊥) → IsIdle self.old self.new steps.old steps.new }
+        ensures idle { reads_book post.now ≡ false → IsIdle self.old self.new steps.old steps.new }
         ensures most { steps.new ≤ steps.old + steps_of today shared.now self.old }
         ensures spent { OnOk result (steps.new + steps_of today shared.now self.new ≤ steps.old + steps_of today shared.now self.old) }
     {
@@ -180,6 +183,7 @@ impl Account {
         ensures told { IsTold today shared.now self.old self.new }
         ensures value { IfOk result (λ v. (key : List ℕ) → v ≡ verdict_of (at_key (present_of today shared.now self.old.named.lists) key post.now None)) }
         ensures memory { OnErr result (reads_book post.now ≡ true) }
+        ensures idle { reads_book post.now ≡ false → IsIdle self.old self.new steps.old steps.new }
         ensures most { steps.new ≤ steps.old + steps_of today shared.now self.old }
         ensures spent { OnOk result (steps.new + steps_of today shared.now self.new ≤ steps.old + steps_of today shared.now self.old) }
     {
@@ -239,9 +243,10 @@ impl Account {
         }
     }
 
-    /// Prepares a post against which there is no reason, under a new key: there is room for the post, and the Book is there that it
-    /// takes the account back to. For a Bill and for what sets rates the account reaches today; else nothing is folded. Its posts and
-    /// issued statements stay; with the post, they are as every run leaves them. After want of memory it is the same account too.
+    /// Prepares a post that is no opening, against which there is no reason, under a new key; its days are days of requests. There is
+    /// room for the post, and the Book is there that it takes the account back to. For a Bill and for what sets rates the account reaches
+    /// today; else nothing is folded, and no step is taken. Its posts and issued statements stay; with the post, they are as every run
+    /// leaves them. After want of memory it is the same account too.
     pub fn prepare<L: Ledger>(
         &mut self,
         alloc: Global,

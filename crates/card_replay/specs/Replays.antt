@@ -1,5 +1,6 @@
 -- An account with its book folded to the day last reached. Days are day numbers.
 use Rattle.std.specs.Prelude.{◌≡◌, ℕ, ◌+◌, ◌-◌, ◌≤◌, ⊤, Bool, true, List, [], ◌∷◌, ◌++◌, Some, Option, None, IfSome}
+use Rattle.std.specs.Option.{option_map}
 use Rattle.card_events.specs.Business.{AgreeUpTo}
 use Rattle.card_events.specs.Range.{last_request_day}
 use Rattle.card_events.specs.History.{CorrectedPost, anchor_of, corrected}
@@ -49,6 +50,12 @@ pub record Folding : Type 0 where
   pub book : Option Summary
   pub past : Past
   pub eve : Option Eve
+
+-- The eve after a fold to a day. It is as it was where this was the last day folded already; else it is of the day that was, and none where
+-- none was
+pub record KeepsEve (today : ℕ) (old new : Folding) : Type 0 where
+  pub here : day_of old.book ≡ Some today → new.eve ≡ old.eve
+  pub behind : (day_of old.book ≡ Some today → ⊥) → option_map (λ (e : Eve). e.day) new.eve ≡ day_of old.book
 
 -- the account's posts and issued statements, the corrected list, whether there is room for one more post with its statement, and
 -- the folding

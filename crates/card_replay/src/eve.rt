@@ -1,4 +1,5 @@
 ghost use Rattle.std.specs.Prelude.{◌≡◌, Some, IfSome};
+ghost use Rattle.std.specs.Option.{option_map};
 ghost use Rattle.card_replay.specs.Replays.{day_of};
 
 use crate::book_if_any::BookIfAny;
@@ -15,7 +16,8 @@ pub struct Eve {
 
 /// A Book at the end of the last day folded, with that day; none where none was.
 pub fn eve_of(book: BookIfAny, ends: Ends) -> Option<Eve>
-    ensures { IfSome result (λ e. (e.book ≡ book) × (day_of book ≡ Some e.day) × (e.ends ≡ ends)) }
+    ensures kept { IfSome result (λ e. (e.book ≡ book) × (day_of book ≡ Some e.day) × (e.ends ≡ ends)) }
+    ensures day { option_map (λ e. e.day) result ≡ day_of book }
 {
     match book.day() {
         Some(day) => Some(Eve { book, day, ends }),

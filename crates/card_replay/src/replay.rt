@@ -120,7 +120,7 @@ impl Replay {
     ghost use Rattle.card_book.specs.GoingOn as rates;
     ghost use Rattle.card_replay.specs.Changes.{FoldsIfNeeded, IsChangeOf, IsCommitted, IsPrepared, IsReadyFor, IsRewoundBy, MayPrepare, issued_as};
     ghost use Rattle.card_posts.specs.Draft.{IsFirstWith};
-    ghost use Rattle.card_replay.specs.Replays.{IsReplay, IsToday, MayReach, SameLists, given_of, opened_lists, posted_of, present_of};
+    ghost use Rattle.card_replay.specs.Replays.{IsReplay, IsToday, KeepsEve, MayReach, SameLists, given_of, opened_lists, posted_of, present_of};
     ghost use Rattle.card_replay.specs.Standing.{AreStanding, IsForetold, IsStandingCount, MayCome};
     ghost use Rattle.card_replay.specs.Steps.{AreFewToPrepare, IsNear, steps_to};
 
@@ -155,8 +155,8 @@ impl Replay {
     }
 
     /// Folds to the end of today, which isn't before the opening day or the day last reached. The posts and the issued statements stay. It
-    /// takes one step a break day after the day last reached, and one more where today is later and none. After want of memory the day last
-    /// reached is as before.
+    /// takes one step a break day after the day last reached, and one more where today is later and none. The Book of the day that was last
+    /// reached is kept, where a later one is. After want of memory the day last reached is as before.
     pub fn to_day<L: Ledger>(
         &mut self,
         alloc: Global,
@@ -169,6 +169,7 @@ impl Replay {
         ensures same { SameLists self.old self.new }
         ensures replay { IsReplay shared.now self.new }
         ensures reached { OnOk result (self.new.folding.reached ≡ today) }
+        ensures eve { OnOk result (KeepsEve today self.old.folding self.new.folding) }
         ensures err { OnErr result (self.new.folding.reached ≡ self.old.folding.reached) }
         ensures steps { OnOk result (steps.new ≡ steps.old + steps_to today shared.now self.old) }
         ensures most { steps.new ≤ steps.old + steps_to today shared.now self.old }
@@ -387,7 +388,8 @@ impl Replay {
         self.posts.first_change(today, post, shared.calendar())
     }
 
-    /// Prepares a post against which there is no reason, under a new key, with the first day that it changes: there is room for it, and
+    /// Prepares a post that is no opening, against which there is no reason, under a new key, with the first day that it changes; its
+    /// days are days of requests. There is room for it, and
     /// the Book is there that it takes the account back to, where that day isn't after the one last reached: that of the eve, of the
     /// closing before the cycle in which the day lies, or, in the first cycle, none. The account reaches today for a Bill, whose row is
     /// read off the book of today, and for a Plan, a Notice or a Lower; for any other post nothing is folded, and no step is taken.

@@ -104,7 +104,8 @@ pub fn folded_since(book: &BookIfAny, from: Day) -> Option<Day>
 
 /// Whether this is the last day folded.
 pub fn is_folded_to(book: &BookIfAny, today: Day) -> bool
-    ensures { result ≡ true → day_of book.now ≡ Some today }
+    ensures folded { result ≡ true → day_of book.now ≡ Some today }
+    ensures whenever { day_of book.now ≡ Some today → result ≡ true }
 {
     match book.day() {
         Some(day) => day == today,

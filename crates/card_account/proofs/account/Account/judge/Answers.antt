@@ -1,4 +1,4 @@
-use Rattle.std.proofs.Common.{◌≡◌, ℕ, List, None, ap, sym, ◌∙◌}
+use Rattle.std.proofs.Common.{◌≡◌, ℕ, List, None, refl, ap, sym, ◌∙◌}
 use Rattle.std.proofs.lemmas.Result.{IfOk-weaker}
 use Rattle.card_account.specs.Accounts.{OpenAccount}
 use Rattle.card_account.specs.Verdicts.{verdict_of}
@@ -38,3 +38,15 @@ returns-in-None-clause-new_key g c =
     let key = c.args.key.now in
     let listed = c.posts.ensures.history ∙ ap (λ (x : OpenAccount). x.named.lists.posts) c.self.view_is in
     on-any-err c.judge_new.result (with_key key c.args.self.now.named.lists.posts ≡ None) (ap (λ (h : List Kept). with_key key h) (sym listed) ∙ (sym c.with_key.ensures ∙ c.in-None.is))
+
+pub returns-in-Some-clause-repeated : goal.returns-in-Some-clause-repeated
+returns-in-Some-clause-repeated g c _ = record { account = refl; steps = refl }
+
+pub returns-in-Some-clause-idle : goal.returns-in-Some-clause-idle
+returns-in-Some-clause-idle g c _ = record { account = refl; steps = refl }
+
+pub returns-in-None-clause-repeated : goal.returns-in-None-clause-repeated
+returns-in-None-clause-repeated g c no =
+    let key = c.args.key.now in
+    let listed = c.posts.ensures.history ∙ ap (λ (x : OpenAccount). x.named.lists.posts) c.self.view_is in
+    absurd (no (ap (λ (h : List Kept). with_key key h) (sym listed) ∙ (sym c.with_key.ensures ∙ c.in-None.is)))

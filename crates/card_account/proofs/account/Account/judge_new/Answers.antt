@@ -1,4 +1,4 @@
-use Rattle.std.proofs.Common.{◌≡◌, true, None, sym, ap, ◌∙◌}
+use Rattle.std.proofs.Common.{◌≡◌, false, true, None, refl, sym, ap, ◌∙◌}
 use Rattle.card_account.specs.Verdicts.{verdict_of}
 use Rattle.card_account.proofs.Judging.{no-amount, open-verdict, refused-verdict}
 use Rattle.card_account.proofs.Told.{on-any-err, stays-told}
@@ -51,3 +51,23 @@ returns-clause-value g c key =
 
 pub returns-in_err-to_day-clause-memory : goal.returns-in_err-to_day-clause-memory
 returns-in_err-to_day-clause-memory g c = on-any-err c.from_residual.result (reads_book c.args.post.now ≡ true) (sym c.reads_book.ensures ∙ c.if-not-reads_book.false)
+
+-- ---- only for a post that is judged by the book of today is anything folded
+pub returns-then-is_open-clause-idle : goal.returns-then-is_open-clause-idle
+returns-then-is_open-clause-idle g c _ = record { account = refl; steps = refl }
+
+pub returns-then-refunds_no_amount-clause-idle : goal.returns-then-refunds_no_amount-clause-idle
+returns-then-refunds_no_amount-clause-idle g c _ = record { account = refl; steps = refl }
+
+pub returns-then-not-reads_book-clause-idle : goal.returns-then-not-reads_book-clause-idle
+returns-then-not-reads_book-clause-idle g c _ = record { account = refl; steps = refl }
+
+pub returns-clause-idle : goal.returns-clause-idle
+returns-clause-idle g c no =
+    let never : true ≡ false = sym (sym c.reads_book.ensures ∙ c.if-not-reads_book.false) ∙ no in
+    absurd (cc)
+
+pub returns-in_err-to_day-clause-idle : goal.returns-in_err-to_day-clause-idle
+returns-in_err-to_day-clause-idle g c no =
+    let never : true ≡ false = sym (sym c.reads_book.ensures ∙ c.if-not-reads_book.false) ∙ no in
+    absurd (cc)

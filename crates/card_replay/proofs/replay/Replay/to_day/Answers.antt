@@ -1,4 +1,4 @@
-use Rattle.std.proofs.Common.{◌≡◌, ℕ, ◌+◌, sym, ap, subst, ◌∙◌, arith, length, Option, None}
+use Rattle.std.proofs.Common.{◌≡◌, ℕ, ◌+◌, Bool, false, true, refl, sym, ap, subst, ◌∙◌, arith, length, Option, None}
 use Rattle.std.specs.Prelude.{IfSome}
 use Rattle.card_daily.specs.Given.{Given, IsSound, opened_in}
 use Rattle.card_book.specs.Stands.{Summary, day_to_fold, steps_over}
@@ -49,7 +49,7 @@ returns g c =
     let alone = subst (λ given. IsFolding given (record { reached = today; book = c.in_ok-later.later; past = p; eve = None })) e c.in_ok-later.ensures.folding in
     let there = subst (λ (x : Option Summary). IsFolding given (record { reached = today; book = x; past = p; eve = None })) (sym c.replace-book.ensures.after) alone in
     let day : day_reached opened (day_of b) ≡ today = day-is given opened b today p same (omega (arith, same, first)) there in
-    let is = subst (λ (x : Option Summary). IfSome o (IsEveOf x ends)) (c.replace-book.ensures.value ∙ ap (λ (x : Replay). x.folding.book) c.self.view_is) c.eve_of.ensures in
+    let is = subst (λ (x : Option Summary). IfSome o (IsEveOf x ends)) (c.replace-book.ensures.value ∙ ap (λ (x : Replay). x.folding.book) c.self.view_is) c.eve_of.ensures.kept in
     let stood = eve-stands shared r today p ends o c.requires.replay c.requires.reach (subst (λ (x : Replay). AreEnds ends x.folding.past) c.self.view_is c.ends_of-ends.ensures)
     (subst (λ (x : Replay). PastBegins x.folding.past p) c.self.view_is c.in_ok-later.ensures.begins) is in
     let f : Folding = record { reached = day_reached opened (day_of b); book = b; past = p; eve = o } in
@@ -66,6 +66,12 @@ returns g c =
       };
       replay = subst (λ (x : Replay). IsReplay shared (record x { folding = f })) (sym c.self.view_is) (later-replay shared r f c.requires.replay (omega (arith, later, day)) (omega (arith, last, day)) folding);
       reached = day;
+      eve = record {
+        here = λ h.
+            let no : false ≡ true = sym c.if-is_folded_to.false ∙ c.is_folded_to.ensures.whenever (ap (λ (x : Replay). day_of x.folding.book) c.self.view_is ∙ h) in
+            absurd (cc);
+        behind = λ _. c.eve_of.ensures.day ∙ ap day_of (c.replace-book.ensures.value ∙ ap (λ (x : Replay). x.folding.book) c.self.view_is);
+      };
       err = tt;
       steps = c.in_ok-later.ensures.steps ∙ ap (λ n. c.args.steps.now + n) left;
       most = omega (arith, c.reach.ensures.most, left);
@@ -102,7 +108,7 @@ pub returns-then-is_folded_to-clause-steps : goal.returns-then-is_folded_to-clau
 returns-then-is_folded_to-clause-steps g c =
     let given = given_of c.args.self.now.lists c.args.shared.now in
     let opened = (anchor_of c.self.inside.posts.history).opened in
-    let here : day_reached opened (day_of c.self.inside.book) ≡ c.args.today = ap (day_reached opened) (c.is_folded_to.ensures c.if-is_folded_to.true) in
+    let here : day_reached opened (day_of c.self.inside.book) ≡ c.args.today = ap (day_reached opened) (c.is_folded_to.ensures.folded c.if-is_folded_to.true) in
     let reached = sym (ap (λ (x : Replay). x.folding.reached) c.self.view_is) ∙ here in
     let none = ap (λ d. steps_over given c.args.today (d + 1)) reached ∙ no-steps given c.args.today in
     omega (arith, none)
@@ -110,4 +116,10 @@ returns-then-is_folded_to-clause-steps g c =
 pub returns-then-is_folded_to-clause-reached : goal.returns-then-is_folded_to-clause-reached
 returns-then-is_folded_to-clause-reached g c =
     let opened = (anchor_of c.self.inside.posts.history).opened in
-    sym (ap (λ (x : Replay). x.folding.reached) c.self.view_is) ∙ ap (day_reached opened) (c.is_folded_to.ensures c.if-is_folded_to.true)
+    sym (ap (λ (x : Replay). x.folding.reached) c.self.view_is) ∙ ap (day_reached opened) (c.is_folded_to.ensures.folded c.if-is_folded_to.true)
+
+pub returns-then-is_folded_to-clause-eve : goal.returns-then-is_folded_to-clause-eve
+returns-then-is_folded_to-clause-eve g c = record {
+  here = λ _. refl;
+  behind = λ no. absurd (no (sym (ap (λ (x : Replay). day_of x.folding.book) c.self.view_is) ∙ c.is_folded_to.ensures.folded c.if-is_folded_to.true));
+}
