@@ -1,4 +1,4 @@
-use Rattle.std.proofs.Common.{◌≡◌, ℕ, ◌+◌, Bool, false, true, refl, sym, ap, subst, ◌∙◌, arith, length, Option, None}
+use Rattle.std.proofs.Common.{◌≡◌, ℕ, ◌+◌, false, true, refl, sym, ap, subst, ◌∙◌, arith, length, Option, None}
 use Rattle.std.specs.Prelude.{IfSome}
 use Rattle.card_daily.specs.Given.{Given, IsSound, opened_in}
 use Rattle.card_book.specs.Stands.{Summary, day_to_fold, steps_over}
