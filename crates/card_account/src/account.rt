@@ -20,7 +20,8 @@ use std::marker::Model;
 use std::sync::ledger::Ledger;
 
 /// An account: its name, and its posts and issued statements with its book folded to the day last reached. One that was just opened has
-/// reached none.
+/// reached none. A call that is given today and shared rows wants an account that stands under these rows, and a today that is at most
+/// 2099-12-31 and not before the opening day, the day last reached or a day on which a post was accepted.
 #[derive(Drop)]
 pub struct Account {
     name: Name,
@@ -52,12 +53,13 @@ impl Account {
     ghost use Rattle.card_model.specs.Refusals.{book_today, reason_against};
     ghost use Rattle.card_posts.specs.Posted.{opens};
     ghost use Rattle.card_reasons.specs.Reasons.{reads_book};
-    ghost use Rattle.card_replay.specs.Changes.{FoldsIfNeeded, IsChangeOf, IsPrepared};
+    ghost use Rattle.card_replay.specs.Changes.{FoldsIfNeeded, IsChangeOf, IsPrepared, IsReadyFor};
     ghost use Rattle.card_replay.specs.Replays.{IsToday, given_of, opened_lists, present_of};
     ghost use Rattle.card_replay.specs.Standing.{AreStanding, IsStandingCount};
     ghost use Rattle.card_replay.specs.Steps.{AreFewToPrepare};
 
-    /// The account that this post begins today. It has reached no day: nothing is folded. What every run leaves holds of its lists.
+    /// The account that this post begins today, at most 2099-12-31: an opening with a closing day from 1 to 28, and an opening day that
+    /// isn't after today. It has reached no day: nothing is folded. What every run leaves holds of its lists.
     pub fn open(
         alloc: Global,
         name: Name,
@@ -140,9 +142,8 @@ impl Account {
         self.replay.to_day(alloc, today, shared, steps)
     }
 
-    /// What a post comes to today, on this account. Its days are days of requests. For a Penalty or a Refund under a new key the
-    /// account reaches today, since they are judged by the book of today; for no other post is anything folded, a step taken or
-    /// memory wanted.
+    /// What a post comes to today, on this account. Its days are days of requests. Only for a Penalty or a Refund under a new key is
+    /// anything folded, a step taken or memory wanted, since they are judged by the book of today.
     pub fn judge<L: Ledger>(
         &mut self,
         alloc: Global,
@@ -265,6 +266,7 @@ impl Account {
         ensures told { IsTold today shared.now self.old self.new }
         ensures prepared { IfOk result (λ c. IsPrepared shared.now c (replay_of self.new)) }
         ensures post { IfOk result (λ c. IsChangeOf key today post.now c) }
+        ensures ready { OnOk result (IsReadyFor today post.now (replay_of self.new)) }
         ensures idle { FoldsIfNeeded post.now self.old.folding self.new.folding steps.old steps.new }
         ensures most { AreFewToPrepare today shared.now self.old.named.lists self.old.folding.reached key post.now steps.old steps.new }
     {
@@ -289,7 +291,7 @@ impl Account {
         self.replay.commit(change, shared)
     }
 
-    /// What is owed on it today.
+    /// What is owed on it today, which it reaches.
     pub fn show<L: Ledger>(
         &mut self,
         alloc: Global,
@@ -313,7 +315,7 @@ impl Account {
         })
     }
 
-    /// Its entries up to the end of today, in the order of the fold, with its segments.
+    /// Its entries up to the end of today, which it reaches, in the order of the fold, with its segments.
     pub fn entries<L: Ledger>(
         &mut self,
         alloc: Global,
@@ -340,8 +342,8 @@ impl Account {
         issued_of(alloc, self.replay.issued(), cycle)
     }
 
-    /// The statement of a cycle as the book of today has it, none where the cycle isn't closed before today. Its day of issue
-    /// is that of the Bill that issued it; without one it is the due date, so that no payment is due.
+    /// The statement of a cycle as the book of today has it, which the account reaches; none where the cycle isn't closed before today.
+    /// Its day of issue is that of the Bill that issued it; without one it is the due date, so that no payment is due.
     pub fn restated<L: Ledger>(
         &mut self,
         alloc: Global,
@@ -389,7 +391,7 @@ impl Account {
         restated_issue(&self.present(today, shared), &folded, cycle)
     }
 
-    /// Its open tasks today, by day, kind and post (12 CFR 1026.11(a), .13(c), .59).
+    /// Its open tasks today, which it reaches, by day, kind and post (12 CFR 1026.11(a), .13(c), .59).
     pub fn tasks<L: Ledger>(
         &mut self,
         alloc: Global,

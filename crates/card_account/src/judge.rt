@@ -67,7 +67,8 @@ fn bill_today(now: &Present, cycle: Num) -> Option<Refusal>
     ordered_bill_reason(now.posts(), &now.anchor(), now.today(), cycle)
 }
 
-/// Why another post isn't accepted today under a new key, by the posts alone: the first reason, and None where it is accepted.
+/// Why another post isn't accepted today under a new key, by the posts alone: the first reason, and None where it is accepted. It is no
+/// opening, Penalty or Refund, and its days are days of requests.
 pub fn reason_by_posts(now: &Present, post: &Post) -> Option<Refusal>
     requires not_open { is_open post.now ≡ false }
     requires no_book { reads_book post.now ≡ false }

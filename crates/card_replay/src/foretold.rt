@@ -22,8 +22,8 @@ fn is_past(opened: Day, today: Day, day: Day) -> bool
     opened <= day && day <= today
 }
 
-/// Whether a post is about none later than so many, and a payment came in, and an Amend lies, from the opening day to today. Any other
-/// post is refused.
+/// Whether a post is about none later than so many, and a payment came in, at a minute of the day, and an Amend lies, from the opening
+/// day to today. Any other post is refused.
 pub fn may_come(post: &Post, opened: Day, today: Day, count: u32) -> bool
     ensures target { result ≡ true → posted.target_of post.now ≤ count }
     ensures received { result ≡ true → posted.IsReceived opened today post.now }

@@ -15,7 +15,7 @@ use card_book::{Cycle, Inputs, Issued};
 use card_events::{Day, NoMemory, Num, Post};
 use std::alloc::Global;
 
-/// The number of a cycle, where it is closed.
+/// The number of a cycle, at most 48,576, where it is closed.
 pub fn closed_number(cycles: &[Cycle], cycle: Num) -> Option<u32>
     requires small { cycle ≤ last_calendar_day }
     ensures some { (n : ℕ) → result ≡ Some n → (n ≡ cycle) × (1 ≤ n) × (n ≤ length cycles.now) }
@@ -76,8 +76,8 @@ fn row_of(
     }
 }
 
-/// The row that a post with a number issues on a day, where it is a Bill: its cycle as the past has it, with what the statement shows
-/// beside it.
+/// The row that a post with a number issues on a day, where it is a Bill: its cycle, at most 48,576, as the past has it, with what the
+/// statement shows beside it.
 pub fn issued_by(
     alloc: Global,
     inputs: &Inputs,

@@ -124,7 +124,8 @@ impl Replay {
     ghost use Rattle.card_replay.specs.Standing.{AreStanding, IsForetold, IsStandingCount, MayCome};
     ghost use Rattle.card_replay.specs.Steps.{AreFewToPrepare, IsNear, steps_to};
 
-    /// The account that a post opens today. It has reached no day: nothing is folded, and it has no Book. What every run leaves holds of its
+    /// The account that a post opens today, at most 2099-12-31: an opening with a closing day from 1 to 28, and an opening day that isn't
+    /// after today. It has reached no day: nothing is folded, and it has no Book. What every run leaves holds of its
     /// lists.
     pub fn start(
         alloc: Global,
@@ -154,8 +155,8 @@ impl Replay {
         })
     }
 
-    /// Folds to the end of today, which isn't before the opening day or the day last reached. The posts and the issued statements stay. It
-    /// takes one step a break day after the day last reached, and one more where today is later and none. The Book of the day that was last
+    /// Folds to the end of today, which isn't before the opening day, the day last reached or a day on which a post was accepted, and is
+    /// at most 2099-12-31. The posts and the issued statements stay. It takes one step a break day after the day last reached, and one more where today is later and none. The Book of the day that was last
     /// reached is kept, where a later one is. After want of memory the day last reached is as before.
     pub fn to_day<L: Ledger>(
         &mut self,
@@ -418,6 +419,7 @@ impl Replay {
         ensures reached { (self.new.folding.reached ≡ self.old.folding.reached) ⊎ (self.new.folding.reached ≡ today) }
         ensures prepared { IfOk result (λ c. IsPrepared shared.now c self.new) }
         ensures post { IfOk result (λ c. IsChangeOf key today post.now c) }
+        ensures ready { OnOk result (IsReadyFor today post.now self.new) }
         ensures idle { FoldsIfNeeded post.now self.old.folding self.new.folding steps.old steps.new }
         ensures most { AreFewToPrepare today shared.now self.old.lists self.old.folding.reached key post.now steps.old steps.new }
     {
@@ -434,8 +436,8 @@ impl Replay {
         })
     }
 
-    /// Takes a post that was prepared for this account, and answers its number. The account is taken back to a day before what the
-    /// post changes, and folded on when it is next asked. It takes no memory and can't fail.
+    /// Takes a post that was prepared for this account, and answers its number. Where it changes a day up to the one last reached, the
+    /// account is taken back to a day before that, and folded on when it is next asked. It takes no memory and can't fail.
     pub fn commit(&mut self, change: Change, shared: &SharedRows) -> u32
         requires prepared { IsPrepared shared.now change self.old }
         ensures committed { IsCommitted shared.now change self.old self.new }
@@ -527,7 +529,7 @@ impl Replay {
     }
 
     /// The statement of a cycle, as if it were issued on a day (12 CFR 1026.5(b)(2), .7(b)), by the book at the end of today, which the
-    /// account has reached; none where the cycle isn't closed. It costs what the entries behind its closing cost.
+    /// account has reached; none where the cycle, numbered up to 48,576, isn't closed. It costs what the entries behind its closing cost.
     pub fn statement(
         &self,
         alloc: Global,

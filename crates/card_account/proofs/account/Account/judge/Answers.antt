@@ -46,7 +46,7 @@ pub returns-in-Some-clause-idle : goal.returns-in-Some-clause-idle
 returns-in-Some-clause-idle g c _ = record { account = refl; steps = refl }
 
 pub returns-in-None-clause-repeated : goal.returns-in-None-clause-repeated
-returns-in-None-clause-repeated g c no =
+returns-in-None-clause-repeated g c known =
     let key = c.args.key.now in
     let listed = c.posts.ensures.history ∙ ap (λ (x : OpenAccount). x.named.lists.posts) c.self.view_is in
-    absurd (no (ap (λ (h : List Kept). with_key key h) (sym listed) ∙ (sym c.with_key.ensures ∙ c.in-None.is)))
+    absurd (known (ap (λ (h : List Kept). with_key key h) (sym listed) ∙ (sym c.with_key.ensures ∙ c.in-None.is)))

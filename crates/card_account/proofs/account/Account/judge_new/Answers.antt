@@ -63,11 +63,11 @@ pub returns-then-not-reads_book-clause-idle : goal.returns-then-not-reads_book-c
 returns-then-not-reads_book-clause-idle g c _ = record { account = refl; steps = refl }
 
 pub returns-clause-idle : goal.returns-clause-idle
-returns-clause-idle g c no =
-    let never : true ≡ false = sym (sym c.reads_book.ensures ∙ c.if-not-reads_book.false) ∙ no in
+returns-clause-idle g c unread =
+    let never : true ≡ false = sym (sym c.reads_book.ensures ∙ c.if-not-reads_book.false) ∙ unread in
     absurd (cc)
 
 pub returns-in_err-to_day-clause-idle : goal.returns-in_err-to_day-clause-idle
-returns-in_err-to_day-clause-idle g c no =
-    let never : true ≡ false = sym (sym c.reads_book.ensures ∙ c.if-not-reads_book.false) ∙ no in
+returns-in_err-to_day-clause-idle g c unread =
+    let never : true ≡ false = sym (sym c.reads_book.ensures ∙ c.if-not-reads_book.false) ∙ unread in
     absurd (cc)

@@ -64,3 +64,6 @@ returns-clause-most g c =
 
 pub returns-clause-prepared : goal.returns-clause-prepared
 returns-clause-prepared g c = c.prepare.ensures.prepared
+
+pub returns-clause-ready : goal.returns-clause-ready
+returns-clause-ready g c = c.prepare.ensures.ready

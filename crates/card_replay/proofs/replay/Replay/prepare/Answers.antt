@@ -85,6 +85,13 @@ returns-clause-prepared g c =
     (subst (λ (l : Lists). IsSound (given_of (accepted (present_of today shared l) c.args.key p) shared)) (sym lists) c.requires.sound)
     (rewound-same shared today c.args.key p made.rewound mid r c.rewound.ensures.same.lists c.rewound.ensures.folding c.in_ok-rewound.ensures.rewound)
 
+-- today is reached where the post asks for that
+pub returns-clause-ready : goal.returns-clause-ready
+returns-clause-ready g c =
+    let today = c.args.today in
+    let p = c.args.post.now in
+    ready-same today p c.make_room.new.self c.rewound.new.self c.rewound.ensures.folding (ready-same today p c.reach_for.new.self c.make_room.new.self c.make_room.ensures.folding c.in_ok-reach_for.ensures.ready)
+
 -- nothing is folded but to reach today
 pub returns-clause-idle : goal.returns-clause-idle
 returns-clause-idle g c = λ not. let was = c.reach_for.ensures.idle not in (c.rewound.ensures.folding ∙ (c.make_room.ensures.folding ∙ was.0), was.1)
