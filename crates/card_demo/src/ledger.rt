@@ -104,7 +104,7 @@ impl MemoryLedger {
         }
     }
 
-    /// Carries out a request, and says whether it was refused.
+    /// Carries out a request, whose days are days of requests, and says whether it was refused.
     pub fn apply(&mut self, alloc: Global, request: &Request) -> Result<bool, NoMemory>
         requires dated { is_dated request.now ≡ true }
         ensures refused { IfOk result (λ refused. refused ≡ is_refusal (step self.old request.now).1) }

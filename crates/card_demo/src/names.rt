@@ -8,7 +8,7 @@ ghost use Rattle.card_demo.specs.Requests as spec;
 use card_events::{Day, Name, NoMemory, Num};
 use std::alloc::Global;
 
-/// The name with this text.
+/// The name with this text, which is one.
 pub fn name(alloc: Global, text: &str) -> Result<Name, NoMemory>
     requires { is_name text.now ≡ true }
     ensures { IfOk result (λ name. name ≡ text.now) }
@@ -86,7 +86,7 @@ pub fn date(y: u16, m: u8, d: u8) -> Day
     }
 }
 
-/// The 20th of the month that lies so many months after January 2024.
+/// The 20th of the month that lies so many months, at most 60, after January 2024.
 #[tactic(auto, using(crate::proofs::DayLemmas::is_there, crate::proofs::DayLemmas::is_late, crate::proofs::DayLemmas::is_early), unfolding(crate::specs::Requests::twentieth))]
 pub fn twentieth(n: u32) -> Day
     requires { n ≤ 60 }
@@ -97,7 +97,7 @@ pub fn twentieth(n: u32) -> Day
     date((2024 + n / 12) as u16, (n % 12 + 1) as u8, 20)
 }
 
-/// The day that lies so many days before today.
+/// The day that lies so many days before today. The calendar has it.
 pub fn days_before(today: Day, days: u32) -> Day
     requires { first_calendar_day + days ≤ today }
     ensures { result ≡ today - days }

@@ -192,7 +192,8 @@ impl Progress {
         Ok(())
     }
 
-    /// Has the ledger carry out all requests of a demonstration of so many accounts, at most 1,000, and cycles, at most 60.
+    /// Has the ledger carry out all requests of a demonstration of so many accounts, at most 1,000, and cycles, at most 60. There were at
+    /// most 2^60 requests before.
     pub fn run(&mut self, alloc: Global, accounts: u32, cycles: u32) -> Result<(), NoMemory>
         requires accounts { accounts ≤ 1000 }
         requires cycles { cycles ≤ 60 }

@@ -25,7 +25,7 @@ pub fn fees_from_2011() -> Request
     })
 }
 
-/// The roll to the 20th of the month that lies so many months after January 2024.
+/// The roll to the 20th of the month that lies so many months, at most 60, after January 2024.
 #[tactic(auto, unfolding(card_events::specs::Dated::is_dated, card_events::specs::Dated::is_dated_shared))]
 pub fn roll(n: u32) -> Request
     requires { n ≤ 60 }
@@ -94,7 +94,7 @@ pub fn bill(alloc: Global, t: u32, i: u32) -> Result<Request, NoMemory>
     })
 }
 
-/// The j-th charge of account i in cycle t.
+/// The j-th charge of account i in cycle t, which is from 1 to 61.
 #[tactic(auto, unfolding(crate::specs::Requests::charge, card_events::specs::Dated::is_dated, card_events::specs::Dated::is_dated_post))]
 pub fn charge(
     alloc: Global,
@@ -120,7 +120,7 @@ pub fn charge(
     })
 }
 
-/// The payment of account i in cycle t.
+/// The payment of account i in cycle t, which is from 1 to 61.
 #[tactic(auto, unfolding(crate::specs::Requests::payment, card_events::specs::Dated::is_dated, card_events::specs::Dated::is_dated_post))]
 pub fn payment(
     alloc: Global,

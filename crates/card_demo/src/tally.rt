@@ -32,7 +32,7 @@ impl Tally {
         }
     }
 
-    /// One more, which was refused or not.
+    /// One more, which was refused or not. There were fewer than 2^63.
     pub fn note(&mut self, refused: bool)
         requires room { self.old.count < 2 ^ 63 }
         ensures count { self.new.count ≡ self.old.count + 1 }

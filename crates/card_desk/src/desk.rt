@@ -431,8 +431,8 @@ impl Desk {
         }
     }
 
-    /// One step of the machine. A newly accepted request is prepared, then its row is kept, then it is carried out without
-    /// memory; a refusal or a repeat changes nothing. No account but the one that the request names is touched, and the reply
+    /// One step of the machine. The request has days of requests, and the keeper's rows go on from the desk's state. A newly accepted
+    /// request is prepared, then its row is kept, then it is carried out without memory; a refusal or a repeat changes nothing. No account but the one that the request names is touched, and the reply
     /// depends on no other. After a fault the state and the rows are as they were. It takes at most two steps more than twice the
     /// break days, before or after the request, from the first day of the cycle in which the first changed day lies, or from the day
     /// last reached where that is earlier, to today; of a request that isn't accepted, from the day last reached on. An opening and a

@@ -9,7 +9,7 @@ use card_ports::{Body, Row};
 use card_rows::encode;
 use std::alloc::Global;
 
-/// The row of a request, under a number.
+/// The row of a request, whose days are days of requests, under a number.
 pub fn row_of(alloc: Global, seq: u64, request: &Request) -> Result<Row, NoMemory>
     requires { is_dated request.now ≡ true }
     ensures value { IfOk result (λ row. row ≡ spec.row_of seq request.now) }

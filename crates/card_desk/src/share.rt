@@ -31,7 +31,8 @@ pub fn rolled(today: Day, shared: &Shared) -> Day
     }
 }
 
-/// What all accounts share after a shared request, in memory of its own, None where it brings nothing.
+/// What all accounts share after a shared request, in memory of its own, None where it brings nothing. A holiday is at most
+/// 2099-12-31, fees at most 100,000 cents, a rate at most 9,999 basis points.
 pub fn loaded(
     alloc: Global,
     common: &SharedRows,

@@ -15,7 +15,7 @@ use card_wire::{Route, read_json_body};
 use std::alloc::Global;
 
 /// What a request of this route comes to, whose body was read whole. A POST is carried out, and its row kept where it is newly
-/// accepted. Where the keeper failed or memory was wanted, nothing was done.
+/// accepted. The keeper's rows go on from the desk's state. Where the keeper failed or memory was wanted, nothing was done.
 pub fn answer_route<K: Keeper>(
     alloc: Global,
     desk: &mut Desk,

@@ -10,7 +10,7 @@ use card_text::{export_text, repayment_text, statement_text, tasks_text};
 use std::alloc::Global;
 
 /// The text of the answer to what is asked: the line of `show`, a statement, the entries as CSV, or the open tasks. None: the
-/// account or the statement isn't there.
+/// account or the statement isn't there, or the view answers something else.
 pub fn view_text(alloc: Global, ask: &Ask, view: &View) -> Result<Option<String>, NoMemory>
     ensures { IfOk result (λ text. option_map string_bytes text ≡ spec.view_told ask.now view.now) }
 {

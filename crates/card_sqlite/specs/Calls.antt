@@ -1,5 +1,5 @@
 -- What a load and an append give, and what they leave of a connection.
-use Rattle.std.specs.Prelude.{◌≡◌, false, Result, Vec, List, IsTrue, IfOk, OnOk, OnErr}
+use Rattle.std.specs.Prelude.{◌≡◌, false, Result, Vec, List, IsTrue, IfOk, OnOk, OnErr, IsErrOf}
 use Rattle.std.specs.declared.alloc.Global.{Global}
 use Rattle.sqlite_trees.specs.declared.store.Store.{Ghosts}
 use Rattle.sqlite.specs.Held.{Held, state}
@@ -9,7 +9,7 @@ use Rattle.card_ports.specs.declared.keeper.KeeperFault.{KeeperFault}
 use Rattle.card_sqlite.specs.Kept.{kept_schema, IsFor, Keeps, Creates, KeepsAll, Extends, Grows}
 
 -- A load gives the rows, makes the table where it is missing, and keeps the rows. In a transaction, and over another schema, it
--- does nothing.
+-- does nothing and fails.
 pub record Loads {S : Type 0} (g : Ghosts S) (old new : Held S) (result : Result (Vec Row Global) KeeperFault) : Type 0 where
   pub given : HasCleanDisk (state g new) → IfOk result (λ rows. Keeps (state g old).now rows.items)
   pub made : HasCleanDisk (state g new) → OnOk result (Creates (state g old).now (state g new).now)
@@ -17,9 +17,11 @@ pub record Loads {S : Type 0} (g : Ghosts S) (old new : Held S) (result : Result
   pub mode : HasCleanDisk (state g new) → (state g old).in_transaction ≡ false → (state g new).in_transaction ≡ false
   pub busy : IsTrue old.in_transaction → new ≡ old
   pub idle : (IsFor (state g old).now.schema → ⊥) → new ≡ old
+  pub denied : IsTrue old.in_transaction → IsErrOf result KeeperFault.Failed
+  pub unfit : (IsFor (state g old).now.schema → ⊥) → IsErrOf result KeeperFault.Failed
 
 -- An append adds all of the rows or none, and a crash leaves what it left before, or all of them. In a transaction, and where the
--- table isn't there alone, it does nothing.
+-- table isn't there alone, it does nothing and fails.
 pub record Appends {S T : Type 0} (g : Ghosts S) (more : List Row) (old new : Held S) (result : Result T KeeperFault) : Type 0 where
   pub added : HasCleanDisk (state g new) → OnOk result (Extends (state g old).now more (state g new).now)
   pub err : HasCleanDisk (state g new) → IsTrue (state g new).is_open → OnErr result ((state g new).now ≡ (state g old).now)
@@ -27,3 +29,5 @@ pub record Appends {S T : Type 0} (g : Ghosts S) (more : List Row) (old new : He
   pub mode : HasCleanDisk (state g new) → (state g old).in_transaction ≡ false → (state g new).in_transaction ≡ false
   pub busy : IsTrue old.in_transaction → new ≡ old
   pub idle : ((state g old).now.schema ≡ kept_schema → ⊥) → new ≡ old
+  pub denied : IsTrue old.in_transaction → IsErrOf result KeeperFault.Failed
+  pub unfit : ((state g old).now.schema ≡ kept_schema → ⊥) → IsErrOf result KeeperFault.Failed

@@ -21,7 +21,7 @@ type Made<S> = Result<Option<Connection<S>>, Error>;
 ///
 /// Beside the faults of a `StoreKeeper`, `Failed`, which is counted, comes where the file can't be opened: its folder isn't
 /// there, it may not be read and written, another process has it for five seconds, or it is no sound SQLite database. The file
-/// is then as it was, though an empty log may lie beside it.
+/// is then as it was, though an empty log may lie beside it. No clause says so; tests over files show it.
 #[derive(Drop)]
 pub struct SqliteKeeper {
     rt: HostRuntime,
@@ -162,7 +162,7 @@ impl SqliteKeeper {
     }
 
     /// Where rows were to be added, copies the log into the file, and closes both; where that fails, every row stands in the
-    /// file and its log. Else closes both as they are.
+    /// file and its log. Else closes both as they are. No clause says so; tests over files show it.
     pub fn close(self) -> Result<(), KeeperFault> {
         let SqliteKeeper {
             rt: _,

@@ -17,7 +17,7 @@ const REPLIES: usize = 8192;
 /// between its row and the next one, rows and replies that wait are those of the same lines, and no row is kept whose reply waits for
 /// another commit. Where the rows can't be kept, the replies that waited go with them. After that no row and no reply is taken any
 /// more; where replies couldn't be written, no reply is, and rows are kept as before. Like the adapters over std's writers, it tells
-/// no bytes.
+/// no bytes: no clause says any of this; tests over files show it.
 #[derive(Drop)]
 pub struct Waiting<W: Write + Drop> {
     alloc: Global,
@@ -93,7 +93,8 @@ impl<W: Write + Drop> Waiting<W> {
     }
 
     /// Has the rows kept that still wait, and the replies written, and closes the keeper as `SqliteKeeper::close` does, passing over
-    /// its failure. An error is the fault for which rows weren't kept, now or before; after replies were lost none is told.
+    /// its failure. An error is the fault for which rows weren't kept, now or before; after replies were lost none is told. No clause
+    /// says so; tests over files show it.
     pub fn end(self) -> Result<(), KeeperFault> {
         let mut last = self;
         let _ = last.settle();

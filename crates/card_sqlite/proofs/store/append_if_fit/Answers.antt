@@ -18,6 +18,8 @@ returns-in-Ok g c =
         mode = λ clean. c.append.ensures.mode;
         busy = λ inside. absurd (let e : true ≡ false = sym inside ∙ off in cc);
         idle = λ none. absurd (none has);
+        denied = λ inside. absurd (let e : true ≡ false = sym inside ∙ off in cc);
+        unfit = λ none. absurd (none has);
       };
     }
 
@@ -35,5 +37,7 @@ returns-in-Err g c =
         mode = λ clean. c.append.ensures.mode;
         busy = λ inside. absurd (let e : true ≡ false = sym inside ∙ off in cc);
         idle = λ none. absurd (none has);
+        denied = λ inside. absurd (let e : true ≡ false = sym inside ∙ off in cc);
+        unfit = λ none. absurd (none has);
       };
     }

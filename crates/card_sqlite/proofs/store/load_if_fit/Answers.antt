@@ -17,6 +17,8 @@ returns-in-Ok g c =
         mode = λ clean _. c.load.ensures.mode clean for settled;
         busy = λ inside. absurd (let e : true ≡ false = sym inside ∙ off in cc);
         idle = λ none. absurd (none for);
+        denied = λ inside. absurd (let e : true ≡ false = sym inside ∙ off in cc);
+        unfit = λ none. absurd (none for);
       };
     }
 
@@ -33,5 +35,7 @@ returns-in-Err g c =
         mode = λ clean _. c.load.ensures.mode clean for settled;
         busy = λ inside. absurd (let e : true ≡ false = sym inside ∙ off in cc);
         idle = λ none. absurd (none for);
+        denied = λ inside. absurd (let e : true ≡ false = sym inside ∙ off in cc);
+        unfit = λ none. absurd (none for);
       };
     }
