@@ -2,11 +2,9 @@
 //! accepted one.
 #![tactic(auto)]
 
-use card_commands::billctl;
+use card_commands::{Keeping, billctl, exit_status, keeping_of, memory_status};
 use card_events::NoMemory;
-use card_ports::{
-    Asking, Keeper, KeeperFault, Lent, MemoryKeeper, Replies, StdSink, StdSource, TcpDoor,
-};
+use card_ports::{Asking, Keeper, Lent, MemoryKeeper, Replies, StdSink, StdSource, TcpDoor};
 use card_sqlite::{SqliteKeeper, Waiting, WaitingKeeper};
 use std::cell::RefCell;
 use std::io::{self, ErrorKind, Read, Write};
@@ -15,20 +13,6 @@ use std::process::ExitCode;
 
 // How many bytes of replies may wait until more is read, where the rows are in memory.
 const REPLY_ROOM: usize = 8192;
-
-// The statuses of a run that was refused something, whose input failed, whose output failed, whose rows couldn't be kept, that wanted
-// memory, and whose input was too large.
-const REFUSED: u8 = 1;
-
-const INPUT_FAILED: u8 = 3;
-
-const OUTPUT_FAILED: u8 = 4;
-
-const NOT_KEPT: u8 = 5;
-
-const NO_MEMORY: u8 = 6;
-
-const TOO_LARGE: u8 = 9;
 
 // A reader that has what waits kept and written before it waits for more. Where that fails it reads no more, so that a line whose row
 // can't be kept ends the run at once.
@@ -73,28 +57,30 @@ fn read_words(rt: &HostRuntime) -> Result<Words, NoMemory> {
 }
 
 // A server waits for connections and not for more input, so its lines don't wait.
-fn reply_room(words: &Vec<String>) -> usize {
-    match words.first() {
-        Some(word) if word.as_str() == "serve" => 0,
-        _ => REPLY_ROOM,
+fn reply_room(keeping: Keeping) -> usize {
+    match keeping {
+        Keeping::AtOnce => 0,
+        Keeping::Waiting | Keeping::Reading => REPLY_ROOM,
     }
 }
 
-// Whether a status says that each reply stands.
-fn tells_replies(status: u8) -> bool {
-    status <= REFUSED || status == INPUT_FAILED || status == TOO_LARGE
+// The status of a call, and whether its last replies were written.
+#[derive(Drop)]
+struct Called {
+    status: u8,
+    written: bool,
 }
 
-// Runs the command. Where its last replies can't be written, that is its status, unless it has ended by something else.
+// Runs the command, and writes its last replies. Neither the reader nor the writer tells its bytes.
 fn over<R: Read + Drop, W: Write, K: Keeper>(
     rt: &HostRuntime,
     words: &Vec<String>,
     reader: R,
     replies: &RefCell<W>,
     keeper: &mut K,
-) -> u8 {
-    let mut input = StdSource::new(reader);
-    let mut output = StdSink::new(Lent::new(replies));
+) -> Called {
+    let mut input = StdSource::new(reader, false);
+    let mut output = StdSink::new(Lent::new(replies), false);
     let mut door = TcpDoor::new(rt);
     let status = billctl(
         rt.alloc(),
@@ -104,10 +90,8 @@ fn over<R: Read + Drop, W: Write, K: Keeper>(
         keeper,
         &mut door,
     );
-    match Lent::new(replies).flush() {
-        Err(_) if tells_replies(status) => OUTPUT_FAILED,
-        _ => status,
-    }
+    let written = Lent::new(replies).flush().is_ok();
+    Called { status, written }
 }
 
 // The same over a writer of its own.
@@ -118,17 +102,21 @@ fn over_keeper<K: Keeper>(
     keeper: &mut K,
 ) -> u8 {
     let Ok(replies) = Replies::new(rt.alloc(), io::writer(rt), room) else {
-        return NO_MEMORY;
+        return memory_status();
     };
     let replies = RefCell::new(replies);
     let reader = Asking::new(rt.reader(), &replies);
-    over(rt, words, reader, &replies, keeper)
+    let called = over(rt, words, reader, &replies, keeper);
+    exit_status(called.status, called.written, Ok(()))
 }
 
 // Rows in memory, for this run alone. They go with the process: to give each back first takes a part of a run's time.
 fn over_memory(rt: &HostRuntime, words: &Vec<String>) -> u8 {
+    let Ok(keeping) = keeping_of(rt.alloc(), words) else {
+        return memory_status();
+    };
     let mut keeper = MemoryKeeper::new(rt.alloc());
-    let status = over_keeper(rt, words, reply_room(words), &mut keeper);
+    let status = over_keeper(rt, words, reply_room(keeping), &mut keeper);
     forget(keeper);
     status
 }
@@ -137,7 +125,7 @@ fn over_memory(rt: &HostRuntime, words: &Vec<String>) -> u8 {
 // written are those of a run that ended there.
 fn over_waiting(rt: &HostRuntime, words: &Vec<String>, keeper: SqliteKeeper) -> u8 {
     let Ok(waiting) = Waiting::new(rt.alloc(), keeper, io::writer(rt)) else {
-        return NO_MEMORY;
+        return memory_status();
     };
     let waiting = RefCell::new(waiting);
     let mut keeper = WaitingKeeper::new(&waiting);
@@ -145,38 +133,33 @@ fn over_waiting(rt: &HostRuntime, words: &Vec<String>, keeper: SqliteKeeper) -> 
         reader: rt.reader(),
         waiting: Lent::new(&waiting),
     };
-    let status = over(rt, words, reader, &waiting, &mut keeper);
-    match waiting.into_inner().end() {
-        Ok(()) => status,
-        Err(KeeperFault::Failed) => NOT_KEPT,
-        Err(KeeperFault::Memory) => NO_MEMORY,
-    }
+    let called = over(rt, words, reader, &waiting, &mut keeper);
+    exit_status(called.status, called.written, waiting.into_inner().end())
 }
 
-// Rows in a file: each is kept before its reply is written. What was answered stands in the file and its log, also where the close
-// that joins them fails. What only tells of a ledger wants one that is there.
-fn over_file(rt: &HostRuntime, path: String, words: &Vec<String>) -> u8 {
-    let word = match words.first() {
-        Some(word) => word.as_str(),
-        None => "",
-    };
-    if word == "apply" || word == "import" || word == "trial" {
-        return over_waiting(rt, words, SqliteKeeper::new(rt, path));
-    }
-    let mut keeper = if word == "serve" {
-        SqliteKeeper::new(rt, path)
-    } else {
-        SqliteKeeper::of_file(rt, path)
-    };
+// Each reply is written at once, behind its row.
+fn over_rows(rt: &HostRuntime, words: &Vec<String>, keeper: SqliteKeeper) -> u8 {
+    let mut keeper = keeper;
     let status = over_keeper(rt, words, 0, &mut keeper);
     let _ = keeper.close();
     status
 }
 
+// Rows in a file: each is kept before its reply is written. What was answered stands in the file and its log, also where the close
+// that joins them fails.
+fn over_file(rt: &HostRuntime, path: String, words: &Vec<String>) -> u8 {
+    match keeping_of(rt.alloc(), words) {
+        Ok(Keeping::Waiting) => over_waiting(rt, words, SqliteKeeper::new(rt, path)),
+        Ok(Keeping::AtOnce) => over_rows(rt, words, SqliteKeeper::new(rt, path)),
+        Ok(Keeping::Reading) => over_rows(rt, words, SqliteKeeper::of_file(rt, path)),
+        Err(NoMemory) => memory_status(),
+    }
+}
+
 // The first word is `-`, or the file that keeps the rows.
 fn main(rt: HostRuntime) -> ExitCode {
     let Ok(Words { place, command }) = read_words(&rt) else {
-        return ExitCode::from(NO_MEMORY);
+        return ExitCode::from(memory_status());
     };
     match place {
         Some(path) if path.as_str() != "-" => ExitCode::from(over_file(&rt, path, &command)),

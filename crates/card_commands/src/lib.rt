@@ -6,6 +6,7 @@ mod answer;
 mod call;
 mod demo;
 mod ended;
+mod exit;
 mod handle;
 mod import;
 mod item;
@@ -19,3 +20,4 @@ mod tell;
 mod trial;
 
 pub use call::billctl;
+pub use exit::{Keeping, exit_status, keeping_of, memory_status};

@@ -45,6 +45,14 @@ impl Model for Desk {
     ghost invariant = { λ d. IsDesk d.index d.common d.count d.today d.shared.items d.accounts.items };
 }
 
+// A request about an account, and its parts.
+struct Given<'a> {
+    request: &'a Request,
+    account: &'a Name,
+    key: &'a Name,
+    post: &'a Post,
+}
+
 impl Desk {
     ghost use Rattle.std.specs.Prelude.{◌≡◌, ◌≤◌, ◌<◌, ◌+◌, ◌^◌, ◌++◌, List, [], ◌∷◌, true, Some, None, length, slice_get, slice_index_or, IfOk, IfSome, OnOk, OnErr, IsErrOf, option_copied};
     ghost use Rattle.std.specs.List.{All};
@@ -250,28 +258,25 @@ impl Desk {
         &mut self,
         alloc: Global,
         keeper: &mut K,
-        request: &Request,
-        account: &Name,
-        key: &Name,
-        post: &Post,
+        given: &Given<'_>,
     ) -> Result<Reply, Fault>
-        requires request { request.now ≡ Request.Post account.now key.now post.now }
-        requires open { opens post.now ≡ true }
-        requires close_day { IsCloseDay (terms_in post.now).close }
-        requires asked { IsAsked (K.rows keeper.old) self.old.state request.now }
-        requires absent { place_from account.now 0 self.old.state.accounts ≡ None }
+        requires request { given.now.request.now ≡ Request.Post given.now.account.now given.now.key.now given.now.post.now }
+        requires open { opens given.now.post.now ≡ true }
+        requires close_day { IsCloseDay (terms_in given.now.post.now).close }
+        requires asked { IsAsked (K.rows keeper.old) self.old.state given.now.request.now }
+        requires absent { place_from given.now.account.now 0 self.old.state.accounts ≡ None }
         requires room { length self.old.state.accounts < 1_000_000 }
-        requires no_reason { reason_to_open self.old.state.today (length self.old.state.accounts) (shared_rows self.old.state.shared) post.now ≡ None }
-        ensures carried { Carried (K.rows keeper.old) (K.rows keeper.new) (K.faults keeper.old) (K.faults keeper.new) self.old.state request.now self.new.state result }
-        ensures reached { MovesOn None (outcome_in self.old.state account.now key.now post.now) result self.old self.new }
+        requires no_reason { reason_to_open self.old.state.today (length self.old.state.accounts) (shared_rows self.old.state.shared) given.now.post.now ≡ None }
+        ensures carried { Carried (K.rows keeper.old) (K.rows keeper.new) (K.faults keeper.old) (K.faults keeper.new) self.old.state given.now.request.now self.new.state result }
+        ensures reached { MovesOn None (outcome_in self.old.state given.now.account.now given.now.key.now given.now.post.now) result self.old self.new }
         ensures recorded { MayGrow self.old.recorded self.new.recorded }
     {
-        let row = self.next_row(alloc, request)?;
-        let name = account.copy(alloc)?;
-        let made = Account::open(alloc, name, key, self.today, post, &self.common)?;
+        let row = self.next_row(alloc, given.request)?;
+        let name = given.account.copy(alloc)?;
+        let made = Account::open(alloc, name, given.key, self.today, given.post, &self.common)?;
         self.accounts.reserve(1)?;
         let place = self.accounts.len() as u32;
-        self.index.insert(alloc, account.bytes(), place)?;
+        self.index.insert(alloc, given.account.bytes(), place)?;
         match keep_row(alloc, keeper, row) {
             Ok(()) => {
                 push_account(&mut self.accounts, made);
@@ -280,7 +285,7 @@ impl Desk {
             }
             Err(fault) => {
                 drop(made);
-                self.index.remove(account.bytes());
+                self.index.remove(given.account.bytes());
                 Err(fault)
             }
         }
@@ -291,24 +296,21 @@ impl Desk {
         &mut self,
         alloc: Global,
         keeper: &mut K,
-        request: &Request,
-        account: &Name,
-        key: &Name,
-        post: &Post,
+        given: &Given<'_>,
     ) -> Result<Reply, Fault>
-        requires request { request.now ≡ Request.Post account.now key.now post.now }
-        requires asked { IsAsked (K.rows keeper.old) self.old.state request.now }
-        requires absent { place_from account.now 0 self.old.state.accounts ≡ None }
-        ensures carried { Carried (K.rows keeper.old) (K.rows keeper.new) (K.faults keeper.old) (K.faults keeper.new) self.old.state request.now self.new.state result }
-        ensures reached { MovesOn None (outcome_in self.old.state account.now key.now post.now) result self.old self.new }
+        requires request { given.now.request.now ≡ Request.Post given.now.account.now given.now.key.now given.now.post.now }
+        requires asked { IsAsked (K.rows keeper.old) self.old.state given.now.request.now }
+        requires absent { place_from given.now.account.now 0 self.old.state.accounts ≡ None }
+        ensures carried { Carried (K.rows keeper.old) (K.rows keeper.new) (K.faults keeper.old) (K.faults keeper.new) self.old.state given.now.request.now self.new.state result }
+        ensures reached { MovesOn None (outcome_in self.old.state given.now.account.now given.now.key.now given.now.post.now) result self.old self.new }
         ensures recorded { MayGrow self.old.recorded self.new.recorded }
     {
-        if !is_open(post) {
+        if !is_open(given.post) {
             return Ok(Reply::Refused(Refusal::UnknownAccount));
         }
-        match open_reason(self.today, self.accounts.len(), &self.common, post) {
+        match open_reason(self.today, self.accounts.len(), &self.common, given.post) {
             Some(refusal) => Ok(Reply::Refused(refusal)),
-            None => self.keep_open(alloc, keeper, request, account, key, post),
+            None => self.keep_open(alloc, keeper, given),
         }
     }
 
@@ -317,27 +319,24 @@ impl Desk {
         &mut self,
         alloc: Global,
         keeper: &mut K,
-        request: &Request,
         at: usize,
-        account: &Name,
-        key: &Name,
-        post: &Post,
+        given: &Given<'_>,
         steps: &mut Steps<L>,
     ) -> Result<Reply, Fault>
-        requires request { request.now ≡ Request.Post account.now key.now post.now }
-        requires asked { IsAsked (K.rows keeper.old) self.old.state request.now }
-        requires place { IsPlace account.now self.old.state.accounts at }
-        requires no_reason { (d : NamedAccount) → reason_against (now_at self.old.state at d) post.now ≡ None }
-        requires accepted { (d : NamedAccount) → outcome_in self.old.state account.now key.now post.now ≡ Accepts (accepted (now_at self.old.state at d) key.now post.now) }
-        ensures carried { Carried (K.rows keeper.old) (K.rows keeper.new) (K.faults keeper.old) (K.faults keeper.new) self.old.state request.now self.new.state result }
-        ensures reached { MovesOn (Some at) (outcome_in self.old.state account.now key.now post.now) result self.old self.new }
-        ensures most { AreFewToKeep self.old.state (reached_at self.old (Some at)) (outcome_in self.old.state account.now key.now post.now) steps.old steps.new }
+        requires request { given.now.request.now ≡ Request.Post given.now.account.now given.now.key.now given.now.post.now }
+        requires asked { IsAsked (K.rows keeper.old) self.old.state given.now.request.now }
+        requires place { IsPlace given.now.account.now self.old.state.accounts at }
+        requires no_reason { (d : NamedAccount) → reason_against (now_at self.old.state at d) given.now.post.now ≡ None }
+        requires accepted { (d : NamedAccount) → outcome_in self.old.state given.now.account.now given.now.key.now given.now.post.now ≡ Accepts (accepted (now_at self.old.state at d) given.now.key.now given.now.post.now) }
+        ensures carried { Carried (K.rows keeper.old) (K.rows keeper.new) (K.faults keeper.old) (K.faults keeper.new) self.old.state given.now.request.now self.new.state result }
+        ensures reached { MovesOn (Some at) (outcome_in self.old.state given.now.account.now given.now.key.now given.now.post.now) result self.old self.new }
+        ensures most { AreFewToKeep self.old.state (reached_at self.old (Some at)) (outcome_in self.old.state given.now.account.now given.now.key.now given.now.post.now) steps.old steps.new }
         ensures recorded { ChangesAt at self.old.recorded self.new.recorded }
     {
-        let row = self.next_row(alloc, request)?;
-        let key = key.copy(alloc)?;
+        let row = self.next_row(alloc, given.request)?;
+        let key = given.key.copy(alloc)?;
         let account = &mut self.accounts[at];
-        let change = account.prepare(alloc, key, self.today, post, &self.common, steps)?;
+        let change = account.prepare(alloc, key, self.today, given.post, &self.common, steps)?;
         keep_row(alloc, keeper, row)?;
         let number = account.commit(change, &self.common);
         self.count += 1;
@@ -371,27 +370,22 @@ impl Desk {
         &mut self,
         alloc: Global,
         keeper: &mut K,
-        request: &Request,
         at: usize,
-        account: &Name,
-        key: &Name,
-        post: &Post,
+        given: &Given<'_>,
         steps: &mut Steps<L>,
     ) -> Result<Reply, Fault>
-        requires request { request.now ≡ Request.Post account.now key.now post.now }
-        requires asked { IsAsked (K.rows keeper.old) self.old.state request.now }
-        requires place { IsPlace account.now self.old.state.accounts at }
-        ensures carried { Carried (K.rows keeper.old) (K.rows keeper.new) (K.faults keeper.old) (K.faults keeper.new) self.old.state request.now self.new.state result }
-        ensures reached { MovesOn (Some at) (outcome_in self.old.state account.now key.now post.now) result self.old self.new }
-        ensures most { AreFewOn self.old.state (reached_at self.old (Some at)) (outcome_in self.old.state account.now key.now post.now) steps.old steps.new }
+        requires request { given.now.request.now ≡ Request.Post given.now.account.now given.now.key.now given.now.post.now }
+        requires asked { IsAsked (K.rows keeper.old) self.old.state given.now.request.now }
+        requires place { IsPlace given.now.account.now self.old.state.accounts at }
+        ensures carried { Carried (K.rows keeper.old) (K.rows keeper.new) (K.faults keeper.old) (K.faults keeper.new) self.old.state given.now.request.now self.new.state result }
+        ensures reached { MovesOn (Some at) (outcome_in self.old.state given.now.account.now given.now.key.now given.now.post.now) result self.old self.new }
+        ensures most { AreFewOn self.old.state (reached_at self.old (Some at)) (outcome_in self.old.state given.now.account.now given.now.key.now given.now.post.now) steps.old steps.new }
         ensures recorded { ChangesAt at self.old.recorded self.new.recorded }
     {
-        match self.judge_at(alloc, at, key, post, steps) {
+        match self.judge_at(alloc, at, given.key, given.post, steps) {
             Ok(Verdict::Refused(refusal)) => Ok(Reply::Refused(refusal)),
             Ok(Verdict::Repeat(number)) => Ok(Reply::Accepted(number)),
-            Ok(Verdict::New) => {
-                self.keep_post(alloc, keeper, request, at, account, key, post, steps)
-            }
+            Ok(Verdict::New) => self.keep_post(alloc, keeper, at, given, steps),
             Err(NoMemory) => Err(Fault::Memory),
         }
     }
@@ -401,33 +395,19 @@ impl Desk {
         &mut self,
         alloc: Global,
         keeper: &mut K,
-        request: &Request,
-        account: &Name,
-        key: &Name,
-        post: &Post,
+        given: &Given<'_>,
         steps: &mut Steps<L>,
     ) -> Result<Reply, Fault>
-        requires request { request.now ≡ Request.Post account.now key.now post.now }
-        requires asked { IsAsked (K.rows keeper.old) self.old.state request.now }
-        ensures carried { Carried (K.rows keeper.old) (K.rows keeper.new) (K.faults keeper.old) (K.faults keeper.new) self.old.state request.now self.new.state result }
-        ensures reached { MovesToApply request.now result self.old self.new }
-        ensures most { AreFewToApply self.old request.now steps.old steps.new }
-        ensures recorded { AppliedStays self.old request.now self.new }
+        requires request { given.now.request.now ≡ Request.Post given.now.account.now given.now.key.now given.now.post.now }
+        requires asked { IsAsked (K.rows keeper.old) self.old.state given.now.request.now }
+        ensures carried { Carried (K.rows keeper.old) (K.rows keeper.new) (K.faults keeper.old) (K.faults keeper.new) self.old.state given.now.request.now self.new.state result }
+        ensures reached { MovesToApply given.now.request.now result self.old self.new }
+        ensures most { AreFewToApply self.old given.now.request.now steps.old steps.new }
+        ensures recorded { AppliedStays self.old given.now.request.now self.new }
     {
-        match self.index.find(account.bytes()) {
-            Some(at) => {
-                self.post_known(
-                    alloc,
-                    keeper,
-                    request,
-                    at as usize,
-                    account,
-                    key,
-                    post,
-                    steps,
-                )
-            }
-            None => self.post_unknown(alloc, keeper, request, account, key, post),
+        match self.index.find(given.account.bytes()) {
+            Some(at) => self.post_known(alloc, keeper, at as usize, given, steps),
+            None => self.post_unknown(alloc, keeper, given),
         }
     }
 
@@ -462,7 +442,13 @@ impl Desk {
         match request {
             Request::Shared(shared) => self.share(alloc, keeper, request, shared),
             Request::Post { account, key, post } => {
-                self.post(alloc, keeper, request, account, key, post, steps)
+                let given = Given {
+                    request,
+                    account,
+                    key,
+                    post,
+                };
+                self.post(alloc, keeper, &given, steps)
             }
         }
     }

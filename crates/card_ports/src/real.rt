@@ -1,5 +1,6 @@
-// The adapters over std's readers and writers: the trusted edge. They tell no bytes.
-ghost use Rattle.std.specs.Prelude.{◌≡◌, None, ℕ};
+// The adapters over std's readers and writers. A reader or writer that tells its bytes, as those in memory do, makes a source or sink
+// that tells them. The operating system's tell none.
+ghost use Rattle.std.specs.Prelude.{◌≡◌, ◌||◌, not, true, if◌then◌else◌, is_some, None, ℕ};
 
 use crate::{Failed, Sink, SinkFault, Source};
 use std::io::{Read, Write};
@@ -8,20 +9,30 @@ use std::io::{Read, Write};
 #[derive(Drop)]
 pub struct StdSource<R: Read> {
     reader: R,
+    told: bool,
     faults: u64,
+    ghost known: { (not told || is_some (R.remaining reader)) ≡ true },
 }
 
 impl<R: Read> StdSource<R> {
-    /// A source over the reader, with no fault counted.
-    pub fn new(reader: R) -> StdSource<R>
+    /// A source over the reader, with no fault counted. Whether the bytes that are left are told: only a reader that tells them may
+    /// be said to. The reads are the same.
+    pub fn new(reader: R, told: bool) -> StdSource<R>
+        requires known { (not told || is_some (R.remaining reader)) ≡ true }
         ensures faults { result.faults ≡ 0 }
+        ensures reader { result.reader ≡ reader }
+        ensures told { result.told ≡ told }
     {
-        StdSource { reader, faults: 0 }
+        StdSource {
+            reader,
+            told,
+            faults: 0,
+        }
     }
 }
 
 impl<R: Read> Source for StdSource<R> {
-    ghost left = { λ s. None };
+    ghost left = { λ s. if s.told then R.remaining s.reader else None };
 
     ghost faults = { λ s. s.faults };
 
@@ -40,20 +51,30 @@ impl<R: Read> Source for StdSource<R> {
 #[derive(Drop)]
 pub struct StdSink<W: Write> {
     writer: W,
+    told: bool,
     faults: u64,
+    ghost known: { (not told || is_some (W.contents writer)) ≡ true },
 }
 
 impl<W: Write> StdSink<W> {
-    /// A sink over the writer, with no fault counted.
-    pub fn new(writer: W) -> StdSink<W>
+    /// A sink over the writer, with no fault counted. Whether the bytes that were taken are told: only a writer that tells them may be
+    /// said to. The writes are the same.
+    pub fn new(writer: W, told: bool) -> StdSink<W>
+        requires known { (not told || is_some (W.contents writer)) ≡ true }
         ensures faults { result.faults ≡ 0 }
+        ensures writer { result.writer ≡ writer }
+        ensures told { result.told ≡ told }
     {
-        StdSink { writer, faults: 0 }
+        StdSink {
+            writer,
+            told,
+            faults: 0,
+        }
     }
 }
 
 impl<W: Write> Sink for StdSink<W> {
-    ghost taken = { λ s. None };
+    ghost taken = { λ s. if s.told then W.contents s.writer else None };
 
     ghost faults = { λ s. s.faults };
 

@@ -1,5 +1,9 @@
-// Replies that wait until more is read, so that many are written at once. Like the adapters over std's readers and writers, they
-// tell no bytes.
+// Replies that wait until more is read, so that many are written at once. Over a writer that tells its bytes they tell those and, behind
+// them, the ones that wait.
+ghost use Rattle.std.specs.Prelude.{◌≡◌, [], IfOk};
+ghost use Rattle.std.specs.Io.Buffered.{writer_contents};
+ghost use Rattle.std.specs.Io.KnownBytes.{append_known};
+
 use std::alloc::Global;
 use std::cell::RefCell;
 use std::io::{self, BufWriter, Error, ErrorKind, Read, Write};
@@ -13,7 +17,9 @@ pub struct Replies<W: Write + Drop> {
 
 impl<W: Write + Drop> Replies<W> {
     /// No reply yet, and room for so many bytes; with 0 each reply is written at once. An error is want of memory.
-    pub fn new(alloc: Global, writer: W, room: usize) -> io::Result<Replies<W>> {
+    pub fn new(alloc: Global, writer: W, room: usize) -> io::Result<Replies<W>>
+        ensures { IfOk result (λ r. writer_contents W.contents r.writer ≡ append_known (W.contents writer) []) }
+    {
         let writer = BufWriter::with_capacity(alloc, room, writer)?;
         Ok(Replies {
             writer,
@@ -23,6 +29,8 @@ impl<W: Write + Drop> Replies<W> {
 }
 
 impl<W: Write + Drop> Write for Replies<W> {
+    ghost contents = { λ r. writer_contents W.contents r.writer };
+
     fn write(&mut self, bytes: &[u8]) -> io::Result<usize> {
         if self.failed {
             return Err(Error::from(ErrorKind::BrokenPipe));

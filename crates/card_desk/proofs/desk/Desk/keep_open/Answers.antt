@@ -28,16 +28,16 @@ use Rattle.card_desk.specs.Recorded.{MayGrow}
 use Rattle.card_desk.proofs.desk.Desk.keep_open.Goals as goal
 
 pub keep_row-requires : goal.keep_row-requires
-keep_row-requires g c = goes_on _ c.args.self.now.state c.args.request.now c.in_ok-row.row c.requires.asked.fits c.in_ok-row.ensures.value
+keep_row-requires g c = goes_on _ c.args.self.now.state c.args.given.now.request.now c.in_ok-row.row c.requires.asked.fits c.in_ok-row.ensures.value
 
 pub invariant_of-self-in-Ok : goal.invariant_of-self-in-Ok
 invariant_of-self-in-Ok g c =
     let d = c.self.inside in
     let made = c.in_ok-made.made in
     let items = d.accounts.items in
-    let name = c.args.account.now in
-    let key = c.args.key.now in
-    let p = c.args.post.now in
+    let name = c.args.given.now.account.now in
+    let key = c.args.given.now.key.now in
+    let p = c.args.given.now.post.now in
     let accounts : c.push_account.new.list.items ≡ items ++ made ∷ [] = c.push_account.ensures ∙ ap (λ l. l ++ made ∷ []) c.in_ok-reserve.ensures.items in
     let made_is : made.named ≡ record { name = name; lists = record { posts = kept_as 1 key d.today p ∷ []; issued = [] } } =
     c.in_ok-made.ensures.named ∙ ap (λ (n : List ℕ). record { name = n; lists = record { posts = kept_as 1 key d.today p ∷ []; issued = [] } }) c.in_ok-name.ensures in
@@ -59,9 +59,9 @@ pub returns-in-Ok-clause-carried : goal.returns-in-Ok-clause-carried
 returns-in-Ok-clause-carried g c =
     let s = c.args.self.now.state in
     let d = c.self.inside in
-    let name = c.args.account.now in
-    let key = c.args.key.now in
-    let p = c.args.post.now in
+    let name = c.args.given.now.account.now in
+    let key = c.args.given.now.key.now in
+    let p = c.args.given.now.post.now in
     let made = c.in_ok-made.made in
     let rows = g.K.Keeper.rows c.args.keeper.now in
     let grown = g.K.Keeper.rows c.keep_row.new.keeper in
@@ -77,7 +77,7 @@ returns-in-Ok-clause-carried g c =
     let state = opened_state s t name l made.named today (ap (λ (x : State). x.shared) (state_by _ _ c.self.view_is)) accounts made_is c.requires.absent in
     let one : length made.named.lists.posts ≡ 1 = ap (λ (a : NamedAccount). length a.lists.posts) made_is in
     let outcome = open_accepted s name key p (no_place name 0 s.accounts c.requires.absent).0 c.requires.open c.requires.no_reason in
-    kept (g.K.Keeper.rows c.args.keeper.now) (g.K.Keeper.rows c.keep_row.new.keeper) (g.K.Keeper.faults c.args.keeper.now) (g.K.Keeper.faults c.keep_row.new.keeper) s t c.args.request.now (reply.Accepted 1) c.keep_row.ensures.told c.in-Ok.ensures.counts.unfailed
+    kept (g.K.Keeper.rows c.args.keeper.now) (g.K.Keeper.rows c.keep_row.new.keeper) (g.K.Keeper.faults c.args.keeper.now) (g.K.Keeper.faults c.keep_row.new.keeper) s t c.args.given.now.request.now (reply.Accepted 1) c.keep_row.ensures.told c.in-Ok.ensures.counts.unfailed
     (subst (λ (x : Request). Steps rows grown s x t (reply.Accepted 1)) (sym c.requires.request)
     (post_accepted rows grown s t name key p l 1 c.in_ok-row.row c.keep_row.ensures.told c.in-Ok.ensures.ok (c.in_ok-row.ensures.value ∙ ap (λ (x : Request). row_of (accepted_count s + 1) x) c.requires.request)
     outcome state refl (count_opened s t made.named (ap (λ (x : State). x.shared) (state_by _ _ c.self.view_is)) accounts one)))
@@ -88,7 +88,7 @@ invariant_of-self-in-Err g c =
     let items = d.accounts.items in
     let name = c.bytes.result.now in
     let absent : place_from name 0 (named_all items) ≡ None =
-    ap (λ (n : List ℕ). place_from n 0 (named_all items)) c.bytes.ensures.value ∙ ap (λ (x : State). place_from c.args.account.now 0 x.accounts) (state_by _ _ c.self.view_is) ∙ c.requires.absent in
+    ap (λ (n : List ℕ). place_from n 0 (named_all items)) c.bytes.ensures.value ∙ ap (λ (x : State). place_from c.args.given.now.account.now 0 x.accounts) (state_by _ _ c.self.view_is) ∙ c.requires.absent in
     let lost = subst (λ (n : List ℕ). Places c.insert.new.self c.remove.new.self n None) (c.bytes-in-Err.ensures.value ∙ sym c.bytes.ensures.value) c.remove.ensures in
     let index = index_back d.index c.insert.new.self c.remove.new.self (named_all items) name c.len-place.result c.self.invariant.index c.in_ok-insert.ensures.ok lost absent in
     subst (λ (l : List OpenAccount). IsDesk c.remove.new.self d.common d.count d.today d.shared.items l) (sym c.in_ok-reserve.ensures.items)
@@ -99,14 +99,14 @@ pub returns-in_err-reserve-clause-carried : goal.returns-in_err-reserve-clause-c
 returns-in_err-reserve-clause-carried g c =
     let d = c.self.inside in
     let state = ap (λ (l : List OpenAccount). state_of d.today d.shared.items l) c.reserve.ensures.items ∙ state_by _ _ c.self.view_is in
-    wanted_memory (g.K.Keeper.rows c.args.keeper.now) (g.K.Keeper.faults c.args.keeper.now) c.args.self.now.state (state_of d.today d.shared.items c.reserve.new.self.items) c.args.request.now
+    wanted_memory (g.K.Keeper.rows c.args.keeper.now) (g.K.Keeper.faults c.args.keeper.now) c.args.self.now.state (state_of d.today d.shared.items c.reserve.new.self.items) c.args.given.now.request.now
     c.from_residual-in_err-reserve.result state c.from_residual-in_err-reserve.ensures
 
 pub returns-in_err-insert-clause-carried : goal.returns-in_err-insert-clause-carried
 returns-in_err-insert-clause-carried g c =
     let d = c.self.inside in
     let state = ap (λ (l : List OpenAccount). state_of d.today d.shared.items l) c.reserve.ensures.items ∙ state_by _ _ c.self.view_is in
-    wanted_memory (g.K.Keeper.rows c.args.keeper.now) (g.K.Keeper.faults c.args.keeper.now) c.args.self.now.state (state_of d.today d.shared.items c.reserve.new.self.items) c.args.request.now
+    wanted_memory (g.K.Keeper.rows c.args.keeper.now) (g.K.Keeper.faults c.args.keeper.now) c.args.self.now.state (state_of d.today d.shared.items c.reserve.new.self.items) c.args.given.now.request.now
     c.from_residual-in_err-insert.result state c.from_residual-in_err-insert.ensures
 
 -- ---- the account that is opened
@@ -115,8 +115,8 @@ open-requires-clause-opened g c =
     let d = c.self.inside in
     let s = c.args.self.now.state in
     let state = state_by _ _ c.self.view_is in
-    let taken : is_request (request.Post c.args.account.now c.args.key.now c.args.post.now) ≡ true = ap is_request (sym c.requires.request) ∙ c.in_ok-row.ensures.held in
-    (opened_is_running d.index d.common d.count d.today d.shared.items d.accounts.items s c.args.account.now c.args.key.now c.args.post.now c.self.invariant state taken c.requires.absent c.requires.open c.requires.no_reason).opened
+    let taken : is_request (request.Post c.args.given.now.account.now c.args.given.now.key.now c.args.given.now.post.now) ≡ true = ap is_request (sym c.requires.request) ∙ c.in_ok-row.ensures.held in
+    (opened_is_running d.index d.common d.count d.today d.shared.items d.accounts.items s c.args.given.now.account.now c.args.given.now.key.now c.args.given.now.post.now c.self.invariant state taken c.requires.absent c.requires.open c.requires.no_reason).opened
 
 pub open-requires-clause-dated : goal.open-requires-clause-dated
 open-requires-clause-dated g c = c.self.invariant.dated
@@ -126,9 +126,9 @@ open-requires-clause-sound g c =
     let d = c.self.inside in
     let s = c.args.self.now.state in
     let state = state_by _ _ c.self.view_is in
-    let taken : is_request (request.Post c.args.account.now c.args.key.now c.args.post.now) ≡ true = ap is_request (sym c.requires.request) ∙ c.in_ok-row.ensures.held in
-    opened_sound d.index d.common d.count d.today d.shared.items d.accounts.items (opened_lists c.args.key.now d.today c.args.post.now) c.self.invariant
-    (opened_is_running d.index d.common d.count d.today d.shared.items d.accounts.items s c.args.account.now c.args.key.now c.args.post.now c.self.invariant state taken c.requires.absent c.requires.open c.requires.no_reason)
+    let taken : is_request (request.Post c.args.given.now.account.now c.args.given.now.key.now c.args.given.now.post.now) ≡ true = ap is_request (sym c.requires.request) ∙ c.in_ok-row.ensures.held in
+    opened_sound d.index d.common d.count d.today d.shared.items d.accounts.items (opened_lists c.args.given.now.key.now d.today c.args.given.now.post.now) c.self.invariant
+    (opened_is_running d.index d.common d.count d.today d.shared.items d.accounts.items s c.args.given.now.account.now c.args.given.now.key.now c.args.given.now.post.now c.self.invariant state taken c.requires.absent c.requires.open c.requires.no_reason)
 
 -- ---- the days that accounts have reached
 pub returns-in_err-row-clause-reached : goal.returns-in_err-row-clause-reached
@@ -155,13 +155,13 @@ pub returns-in-Ok-clause-reached : goal.returns-in-Ok-clause-reached
 returns-in-Ok-clause-reached g c =
     let s = c.args.self.now.state in
     let d = c.self.inside in
-    let key = c.args.key.now in
-    let p = c.args.post.now in
+    let key = c.args.given.now.key.now in
+    let p = c.args.given.now.post.now in
     let l : Lists = record { posts = kept_as 1 key s.today p ∷ []; issued = [] } in
     let items : c.push_account.new.list.items ≡ d.accounts.items ++ c.in_ok-made.made ∷ [] = c.push_account.ensures ∙ ap (λ l. l ++ c.in_ok-made.made ∷ []) c.in_ok-reserve.ensures.items in
-    let outcome = open_accepted s c.args.account.now key p (no_place c.args.account.now 0 s.accounts c.requires.absent).0 c.requires.open c.requires.no_reason in
+    let outcome = open_accepted s c.args.given.now.account.now key p (no_place c.args.given.now.account.now 0 s.accounts c.requires.absent).0 c.requires.open c.requires.no_reason in
     done-moves _ None _ _ _
-    (opened-moves d.shared.items d.today d.accounts.items c.push_account.new.list.items c.in_ok-made.made c.args.self.now (outcome_in s c.args.account.now key p) l c.self.view_is items c.in_ok-made.ensures.reached outcome)
+    (opened-moves d.shared.items d.today d.accounts.items c.push_account.new.list.items c.in_ok-made.made c.args.self.now (outcome_in s c.args.given.now.account.now key p) l c.self.view_is items c.in_ok-made.ensures.reached outcome)
 
 pub returns-in-Ok-clause-recorded : goal.returns-in-Ok-clause-recorded
 returns-in-Ok-clause-recorded g c =

@@ -35,7 +35,7 @@ use Rattle.card_desk.proofs.Recording.{changed_at, unchanged}
 use Rattle.card_desk.proofs.desk.Desk.keep_post.Goals as goal
 
 pub keep_row-requires : goal.keep_row-requires
-keep_row-requires g c = goes_on _ c.args.self.now.state c.args.request.now c.in_ok-row.row c.requires.asked.fits c.in_ok-row.ensures.value
+keep_row-requires g c = goes_on _ c.args.self.now.state c.args.given.now.request.now c.in_ok-row.row c.requires.asked.fits c.in_ok-row.ensures.value
 
 -- ---- the account's conditions
 pub prepare-requires-clause-account : goal.prepare-requires-clause-account
@@ -43,9 +43,9 @@ prepare-requires-clause-account g c =
     let d = c.self.inside in
     let items = d.accounts.items in
     let at = c.args.at in
-    let name = c.args.account.now in
-    let key = c.args.key.now in
-    let p = c.args.post.now in
+    let name = c.args.given.now.account.now in
+    let key = c.args.given.now.key.now in
+    let p = c.args.given.now.post.now in
     let s = c.args.self.now.state in
     let state = state_by _ _ c.self.view_is in
     let b = c.index_mut-account.result.now in
@@ -60,10 +60,10 @@ prepare-requires-clause-dated g c = subst (λ (x : Request). is_dated x ≡ true
 pub prepare-requires-clause-not_open : goal.prepare-requires-clause-not_open
 prepare-requires-clause-not_open g c =
     let s = c.args.self.now.state in
-    let key = c.args.key.now in
-    let p = c.args.post.now in
+    let key = c.args.given.now.key.now in
+    let p = c.args.given.now.post.now in
     let e = c.index_mut-account.result.now.named in
-    let there = known_outcome s c.args.account.now key p (get_or s.accounts c.args.at e).lists (c.requires.place.there e) in
+    let there = known_outcome s c.args.given.now.account.now key p (get_or s.accounts c.args.at e).lists (c.requires.place.there e) in
     closed_of (now_at s c.args.at e) key p (with_key key (get_or s.accounts c.args.at e).lists.posts) (accepted (now_at s c.args.at e) key p) (sym there ∙ c.requires.accepted e)
 
 pub prepare-requires-clause-fresh : goal.prepare-requires-clause-fresh
@@ -71,9 +71,9 @@ prepare-requires-clause-fresh g c =
     let d = c.self.inside in
     let items = d.accounts.items in
     let at = c.args.at in
-    let name = c.args.account.now in
-    let key = c.args.key.now in
-    let p = c.args.post.now in
+    let name = c.args.given.now.account.now in
+    let key = c.args.given.now.key.now in
+    let p = c.args.given.now.post.now in
     let s = c.args.self.now.state in
     let state = state_by _ _ c.self.view_is in
     let b = c.index_mut-account.result.now in
@@ -89,9 +89,9 @@ prepare-requires-clause-no_reason g c =
     let d = c.self.inside in
     let items = d.accounts.items in
     let at = c.args.at in
-    let name = c.args.account.now in
-    let key = c.args.key.now in
-    let p = c.args.post.now in
+    let name = c.args.given.now.account.now in
+    let key = c.args.given.now.key.now in
+    let p = c.args.given.now.post.now in
     let s = c.args.self.now.state in
     let state = state_by _ _ c.self.view_is in
     let b = c.index_mut-account.result.now in
@@ -104,9 +104,9 @@ prepare-requires-clause-sound g c =
     let d = c.self.inside in
     let items = d.accounts.items in
     let at = c.args.at in
-    let name = c.args.account.now in
-    let key = c.args.key.now in
-    let p = c.args.post.now in
+    let name = c.args.given.now.account.now in
+    let key = c.args.given.now.key.now in
+    let p = c.args.given.now.post.now in
     let s = c.args.self.now.state in
     let state = state_by _ _ c.self.view_is in
     let b = c.index_mut-account.result.now in
@@ -129,9 +129,9 @@ invariant_of-self g c =
     let d = c.self.inside in
     let items = d.accounts.items in
     let at = c.args.at in
-    let name = c.args.account.now in
-    let key = c.args.key.now in
-    let p = c.args.post.now in
+    let name = c.args.given.now.account.now in
+    let key = c.args.given.now.key.now in
+    let p = c.args.given.now.post.now in
     let s = c.args.self.now.state in
     let state = state_by _ _ c.self.view_is in
     let b = c.index_mut-account.result.now in
@@ -144,26 +144,26 @@ returns-in_err-change-clause-carried g c =
     let d = c.self.inside in
     let items = d.accounts.items in
     let at = c.args.at in
-    let name = c.args.account.now in
-    let key = c.args.key.now in
-    let p = c.args.post.now in
+    let name = c.args.given.now.account.now in
+    let key = c.args.given.now.key.now in
+    let p = c.args.given.now.post.now in
     let s = c.args.self.now.state in
     let state = state_by _ _ c.self.view_is in
     let b = c.index_mut-account.result.now in
     let is = c.index_mut-account.ensures.value in
     let low = low_in d.shared.items d.today items s at state c.requires.place.bound in
     let stays = told_state d.index d.common d.count d.today d.shared.items items at c.prepare.new.self b s c.self.invariant state c.requires.place.bound is c.prepare.ensures.told in
-    let same : Carried (g.K.Keeper.rows c.args.keeper.now) (g.K.Keeper.rows c.args.keeper.now) (g.K.Keeper.faults c.args.keeper.now) (g.K.Keeper.faults c.args.keeper.now) s c.args.request.now s c.from_residual-in_err-change.result = search rules in
-    subst (λ (x : State). Carried (g.K.Keeper.rows c.args.keeper.now) (g.K.Keeper.rows c.args.keeper.now) (g.K.Keeper.faults c.args.keeper.now) (g.K.Keeper.faults c.args.keeper.now) s c.args.request.now x c.from_residual-in_err-change.result) (sym stays) same
+    let same : Carried (g.K.Keeper.rows c.args.keeper.now) (g.K.Keeper.rows c.args.keeper.now) (g.K.Keeper.faults c.args.keeper.now) (g.K.Keeper.faults c.args.keeper.now) s c.args.given.now.request.now s c.from_residual-in_err-change.result = search rules in
+    subst (λ (x : State). Carried (g.K.Keeper.rows c.args.keeper.now) (g.K.Keeper.rows c.args.keeper.now) (g.K.Keeper.faults c.args.keeper.now) (g.K.Keeper.faults c.args.keeper.now) s c.args.given.now.request.now x c.from_residual-in_err-change.result) (sym stays) same
 
 pub invariant_of-self-in_err-keep_row : goal.invariant_of-self-in_err-keep_row
 invariant_of-self-in_err-keep_row g c =
     let d = c.self.inside in
     let items = d.accounts.items in
     let at = c.args.at in
-    let name = c.args.account.now in
-    let key = c.args.key.now in
-    let p = c.args.post.now in
+    let name = c.args.given.now.account.now in
+    let key = c.args.given.now.key.now in
+    let p = c.args.given.now.post.now in
     let s = c.args.self.now.state in
     let state = state_by _ _ c.self.view_is in
     let b = c.index_mut-account.result.now in
@@ -176,18 +176,18 @@ returns-in_err-keep_row-clause-carried g c =
     let d = c.self.inside in
     let items = d.accounts.items in
     let at = c.args.at in
-    let name = c.args.account.now in
-    let key = c.args.key.now in
-    let p = c.args.post.now in
+    let name = c.args.given.now.account.now in
+    let key = c.args.given.now.key.now in
+    let p = c.args.given.now.post.now in
     let s = c.args.self.now.state in
     let state = state_by _ _ c.self.view_is in
     let b = c.index_mut-account.result.now in
     let is = c.index_mut-account.ensures.value in
     let low = low_in d.shared.items d.today items s at state c.requires.place.bound in
     let stays = told_state d.index d.common d.count d.today d.shared.items items at c.prepare.new.self b s c.self.invariant state c.requires.place.bound is c.prepare.ensures.told in
-    let same : Carried (g.K.Keeper.rows c.args.keeper.now) (g.K.Keeper.rows c.keep_row.new.keeper) (g.K.Keeper.faults c.args.keeper.now) (g.K.Keeper.faults c.keep_row.new.keeper) s c.args.request.now s c.from_residual-in_err-keep_row.result = not_kept (g.K.Keeper.rows c.args.keeper.now) (g.K.Keeper.rows c.keep_row.new.keeper) (g.K.Keeper.faults c.args.keeper.now) (g.K.Keeper.faults c.keep_row.new.keeper) s c.args.request.now
+    let same : Carried (g.K.Keeper.rows c.args.keeper.now) (g.K.Keeper.rows c.keep_row.new.keeper) (g.K.Keeper.faults c.args.keeper.now) (g.K.Keeper.faults c.keep_row.new.keeper) s c.args.given.now.request.now s c.from_residual-in_err-keep_row.result = not_kept (g.K.Keeper.rows c.args.keeper.now) (g.K.Keeper.rows c.keep_row.new.keeper) (g.K.Keeper.faults c.args.keeper.now) (g.K.Keeper.faults c.keep_row.new.keeper) s c.args.given.now.request.now
     c.in_err-keep_row.field-0.0 c.from_residual-in_err-keep_row.result c.in_err-keep_row.ensures.err c.keep_row.ensures.told c.in_err-keep_row.ensures.counts c.from_residual-in_err-keep_row.ensures in
-    subst (λ (x : State). Carried (g.K.Keeper.rows c.args.keeper.now) (g.K.Keeper.rows c.keep_row.new.keeper) (g.K.Keeper.faults c.args.keeper.now) (g.K.Keeper.faults c.keep_row.new.keeper) s c.args.request.now x c.from_residual-in_err-keep_row.result) (sym stays) same
+    subst (λ (x : State). Carried (g.K.Keeper.rows c.args.keeper.now) (g.K.Keeper.rows c.keep_row.new.keeper) (g.K.Keeper.faults c.args.keeper.now) (g.K.Keeper.faults c.keep_row.new.keeper) s c.args.given.now.request.now x c.from_residual-in_err-keep_row.result) (sym stays) same
 
 -- ---- where the post is kept
 pub invariant_of-self-2 : goal.invariant_of-self-2
@@ -195,9 +195,9 @@ invariant_of-self-2 g c =
     let d = c.self.inside in
     let items = d.accounts.items in
     let at = c.args.at in
-    let name = c.args.account.now in
-    let key = c.args.key.now in
-    let p = c.args.post.now in
+    let name = c.args.given.now.account.now in
+    let key = c.args.given.now.key.now in
+    let p = c.args.given.now.post.now in
     let s = c.args.self.now.state in
     let state = state_by _ _ c.self.view_is in
     let b = c.index_mut-account.result.now in
@@ -232,9 +232,9 @@ returns-clause-carried g c =
     let d = c.self.inside in
     let items = d.accounts.items in
     let at = c.args.at in
-    let name = c.args.account.now in
-    let key = c.args.key.now in
-    let p = c.args.post.now in
+    let name = c.args.given.now.account.now in
+    let key = c.args.given.now.key.now in
+    let p = c.args.given.now.post.now in
     let s = c.args.self.now.state in
     let state = state_by _ _ c.self.view_is in
     let b = c.index_mut-account.result.now in
@@ -268,7 +268,7 @@ returns-clause-carried g c =
     let next = changed_state s t name a.named.lists at a.named b.named c.requires.place today shared accounts named refl in
     let more : length a.named.lists.posts ≡ length (get_or s.accounts at b.named).lists.posts + 1 = grew ∙ ap (λ (y : NamedAccount). length y.lists.posts + 1) read in
     let number : c.commit-number.result ≡ length a.named.lists.posts = c.commit-number.ensures.number ∙ (ap (λ (y : NamedAccount). length y.lists.posts + 1) same ∙ sym grew) in
-    kept rows grown (g.K.Keeper.faults c.args.keeper.now) (g.K.Keeper.faults c.keep_row.new.keeper) s t c.args.request.now (reply.Accepted c.commit-number.result) c.keep_row.ensures.told c.in_ok-keep_row.ensures.counts.unfailed
+    kept rows grown (g.K.Keeper.faults c.args.keeper.now) (g.K.Keeper.faults c.keep_row.new.keeper) s t c.args.given.now.request.now (reply.Accepted c.commit-number.result) c.keep_row.ensures.told c.in_ok-keep_row.ensures.counts.unfailed
     (subst (λ (y : Request). Steps rows grown s y t (reply.Accepted c.commit-number.result)) (sym c.requires.request)
     (post_accepted rows grown s t name key p a.named.lists c.commit-number.result c.in_ok-row.row c.keep_row.ensures.told c.in_ok-keep_row.ensures.ok
     (c.in_ok-row.ensures.value ∙ ap (λ (y : Request). row_of (accepted_count s + 1) y) c.requires.request)
@@ -277,20 +277,20 @@ returns-clause-carried g c =
 -- ---- its steps
 pub returns-in_err-row-clause-most : goal.returns-in_err-row-clause-most
 returns-in_err-row-clause-most g c =
-    none_to_keep c.args.self.now.state (reached_at c.args.self.now (Some c.args.at)) (outcome_in c.args.self.now.state c.args.account.now c.args.key.now c.args.post.now) c.args.steps.now
+    none_to_keep c.args.self.now.state (reached_at c.args.self.now (Some c.args.at)) (outcome_in c.args.self.now.state c.args.given.now.account.now c.args.given.now.key.now c.args.given.now.post.now) c.args.steps.now
 
 pub returns-in_err-key-clause-most : goal.returns-in_err-key-clause-most
 returns-in_err-key-clause-most g c =
-    none_to_keep c.args.self.now.state (reached_at c.args.self.now (Some c.args.at)) (outcome_in c.args.self.now.state c.args.account.now c.args.key.now c.args.post.now) c.args.steps.now
+    none_to_keep c.args.self.now.state (reached_at c.args.self.now (Some c.args.at)) (outcome_in c.args.self.now.state c.args.given.now.account.now c.args.given.now.key.now c.args.given.now.post.now) c.args.steps.now
 
 pub returns-in_err-change-clause-most : goal.returns-in_err-change-clause-most
 returns-in_err-change-clause-most g c =
     let d = c.self.inside in
     let items = d.accounts.items in
     let at = c.args.at in
-    let name = c.args.account.now in
-    let key = c.args.key.now in
-    let p = c.args.post.now in
+    let name = c.args.given.now.account.now in
+    let key = c.args.given.now.key.now in
+    let p = c.args.given.now.post.now in
     let s = c.args.self.now.state in
     let state = state_by _ _ c.self.view_is in
     let b = c.index_mut-account.result.now in
@@ -309,9 +309,9 @@ returns-in_err-keep_row-clause-most g c =
     let d = c.self.inside in
     let items = d.accounts.items in
     let at = c.args.at in
-    let name = c.args.account.now in
-    let key = c.args.key.now in
-    let p = c.args.post.now in
+    let name = c.args.given.now.account.now in
+    let key = c.args.given.now.key.now in
+    let p = c.args.given.now.post.now in
     let s = c.args.self.now.state in
     let state = state_by _ _ c.self.view_is in
     let b = c.index_mut-account.result.now in
@@ -330,9 +330,9 @@ returns-clause-most g c =
     let d = c.self.inside in
     let items = d.accounts.items in
     let at = c.args.at in
-    let name = c.args.account.now in
-    let key = c.args.key.now in
-    let p = c.args.post.now in
+    let name = c.args.given.now.account.now in
+    let key = c.args.given.now.key.now in
+    let p = c.args.given.now.post.now in
     let s = c.args.self.now.state in
     let state = state_by _ _ c.self.view_is in
     let b = c.index_mut-account.result.now in
@@ -389,9 +389,9 @@ returns-clause-reached g c =
     let b = c.index_mut-account.result.now in
     let is = c.index_mut-account.ensures.value in
     let low = low_in d.shared.items d.today items s at state c.requires.place.bound in
-    let name = c.args.account.now in
-    let key = c.args.key.now in
-    let p = c.args.post.now in
+    let name = c.args.given.now.account.now in
+    let key = c.args.given.now.key.now in
+    let p = c.args.given.now.post.now in
     let taken : is_request (request.Post name key p) ≡ true = ap is_request (sym c.requires.request) ∙ c.in_ok-row.ensures.held in
     let place = subst (λ (x : State). IsPlace name x.accounts at) (sym state) c.requires.place in
     let allowed = subst (λ (x : State). (e : NamedAccount) → outcome_in x name key p ≡ Accepts (accepted (now_of x (get_or x.accounts at e).lists) key p)) (sym state) c.requires.accepted in

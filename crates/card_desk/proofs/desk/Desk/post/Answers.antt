@@ -13,55 +13,55 @@ use Rattle.card_desk.proofs.desk.Desk.post.Goals as goal
 
 pub post_known-requires-clause-place : goal.post_known-requires-clause-place
 post_known-requires-clause-place g c =
-    subst (λ (s : State). IsPlace c.args.account.now s.accounts c.in-Some.at) (state_by _ _ c.self.view_is)
-    (found_at c.self.inside.index (named_all c.self.inside.accounts.items) c.args.account.now c.bytes.result.now c.in-Some.at c.self.invariant.index c.bytes.ensures.value c.in-Some.ensures)
+    subst (λ (s : State). IsPlace c.args.given.now.account.now s.accounts c.in-Some.at) (state_by _ _ c.self.view_is)
+    (found_at c.self.inside.index (named_all c.self.inside.accounts.items) c.args.given.now.account.now c.bytes.result.now c.in-Some.at c.self.invariant.index c.bytes.ensures.value c.in-Some.ensures)
 
 pub post_unknown-requires-clause-absent : goal.post_unknown-requires-clause-absent
 post_unknown-requires-clause-absent g c =
-    ap (λ (s : State). place_from c.args.account.now 0 s.accounts) (sym (state_by _ _ c.self.view_is))
-    ∙ found_none c.self.inside.index (named_all c.self.inside.accounts.items) c.args.account.now c.bytes.result.now c.self.invariant.index c.bytes.ensures.value c.in-None.ensures
+    ap (λ (s : State). place_from c.args.given.now.account.now 0 s.accounts) (sym (state_by _ _ c.self.view_is))
+    ∙ found_none c.self.inside.index (named_all c.self.inside.accounts.items) c.args.given.now.account.now c.bytes.result.now c.self.invariant.index c.bytes.ensures.value c.in-None.ensures
 
 pub returns-in-Some-clause-most : goal.returns-in-Some-clause-most
 returns-in-Some-clause-most g c =
-    let there = ap (λ (s : State). place_from c.args.account.now 0 s.accounts) (sym (state_by _ _ c.self.view_is))
-    ∙ placed_at c.self.inside.index (named_all c.self.inside.accounts.items) c.args.account.now c.bytes.result.now c.in-Some.at c.self.invariant.index c.bytes.ensures.value c.in-Some.ensures in
+    let there = ap (λ (s : State). place_from c.args.given.now.account.now 0 s.accounts) (sym (state_by _ _ c.self.view_is))
+    ∙ placed_at c.self.inside.index (named_all c.self.inside.accounts.items) c.args.given.now.account.now c.bytes.result.now c.in-Some.at c.self.invariant.index c.bytes.ensures.value c.in-Some.ensures in
     subst (λ (r : Request). AreFewToApply c.args.self.now r c.args.steps.now c.post_known.new.steps) (sym c.requires.request)
-    (few_on_there c.args.self.now c.args.account.now c.args.key.now c.args.post.now c.in-Some.at c.args.steps.now c.post_known.new.steps there c.post_known.ensures.most)
+    (few_on_there c.args.self.now c.args.given.now.account.now c.args.given.now.key.now c.args.given.now.post.now c.in-Some.at c.args.steps.now c.post_known.new.steps there c.post_known.ensures.most)
 
 pub returns-in-None-clause-most : goal.returns-in-None-clause-most
 returns-in-None-clause-most g c =
-    let absent = ap (λ (s : State). place_from c.args.account.now 0 s.accounts) (sym (state_by _ _ c.self.view_is))
-    ∙ found_none c.self.inside.index (named_all c.self.inside.accounts.items) c.args.account.now c.bytes.result.now c.self.invariant.index c.bytes.ensures.value c.in-None.ensures in
+    let absent = ap (λ (s : State). place_from c.args.given.now.account.now 0 s.accounts) (sym (state_by _ _ c.self.view_is))
+    ∙ found_none c.self.inside.index (named_all c.self.inside.accounts.items) c.args.given.now.account.now c.bytes.result.now c.self.invariant.index c.bytes.ensures.value c.in-None.ensures in
     subst (λ (r : Request). AreFewToApply c.args.self.now r c.args.steps.now c.args.steps.now) (sym c.requires.request)
-    (none_on_absent c.args.self.now c.args.account.now c.args.key.now c.args.post.now c.args.steps.now absent)
+    (none_on_absent c.args.self.now c.args.given.now.account.now c.args.given.now.key.now c.args.given.now.post.now c.args.steps.now absent)
 
 pub returns-in-Some-clause-reached : goal.returns-in-Some-clause-reached
 returns-in-Some-clause-reached g c =
-    let there = ap (λ (s : State). place_from c.args.account.now 0 s.accounts) (sym (state_by _ _ c.self.view_is))
-    ∙ placed_at c.self.inside.index (named_all c.self.inside.accounts.items) c.args.account.now c.bytes.result.now c.in-Some.at c.self.invariant.index c.bytes.ensures.value c.in-Some.ensures in
+    let there = ap (λ (s : State). place_from c.args.given.now.account.now 0 s.accounts) (sym (state_by _ _ c.self.view_is))
+    ∙ placed_at c.self.inside.index (named_all c.self.inside.accounts.items) c.args.given.now.account.now c.bytes.result.now c.in-Some.at c.self.invariant.index c.bytes.ensures.value c.in-Some.ensures in
     subst (λ (r : Request). MovesToApply r c.post_known.result c.args.self.now c.post_known.new.self) (sym c.requires.request)
-    (named-applied c.post_known.result c.args.self.now c.post_known.new.self c.args.account.now c.args.key.now c.args.post.now (Some c.in-Some.at) there c.post_known.ensures.reached)
+    (named-applied c.post_known.result c.args.self.now c.post_known.new.self c.args.given.now.account.now c.args.given.now.key.now c.args.given.now.post.now (Some c.in-Some.at) there c.post_known.ensures.reached)
 
 pub returns-in-None-clause-reached : goal.returns-in-None-clause-reached
 returns-in-None-clause-reached g c =
-    let absent = ap (λ (s : State). place_from c.args.account.now 0 s.accounts) (sym (state_by _ _ c.self.view_is))
-    ∙ found_none c.self.inside.index (named_all c.self.inside.accounts.items) c.args.account.now c.bytes.result.now c.self.invariant.index c.bytes.ensures.value c.in-None.ensures in
+    let absent = ap (λ (s : State). place_from c.args.given.now.account.now 0 s.accounts) (sym (state_by _ _ c.self.view_is))
+    ∙ found_none c.self.inside.index (named_all c.self.inside.accounts.items) c.args.given.now.account.now c.bytes.result.now c.self.invariant.index c.bytes.ensures.value c.in-None.ensures in
     subst (λ (r : Request). MovesToApply r c.post_unknown.result c.args.self.now c.post_unknown.new.self) (sym c.requires.request)
-    (named-applied c.post_unknown.result c.args.self.now c.post_unknown.new.self c.args.account.now c.args.key.now c.args.post.now None absent c.post_unknown.ensures.reached)
+    (named-applied c.post_unknown.result c.args.self.now c.post_unknown.new.self c.args.given.now.account.now c.args.given.now.key.now c.args.given.now.post.now None absent c.post_unknown.ensures.reached)
 
 -- ---- what is recorded
 pub returns-in-Some-clause-recorded : goal.returns-in-Some-clause-recorded
 unfolding AppliedStays
 returns-in-Some-clause-recorded g c =
-    let there : place_from c.args.account.now 0 c.args.self.now.state.accounts ≡ Some c.in-Some.at = ap (λ (s : State). place_from c.args.account.now 0 s.accounts) (sym (state_by _ _ c.self.view_is))
-    ∙ placed_at c.self.inside.index (named_all c.self.inside.accounts.items) c.args.account.now c.bytes.result.now c.in-Some.at c.self.invariant.index c.bytes.ensures.value c.in-Some.ensures in
+    let there : place_from c.args.given.now.account.now 0 c.args.self.now.state.accounts ≡ Some c.in-Some.at = ap (λ (s : State). place_from c.args.given.now.account.now 0 s.accounts) (sym (state_by _ _ c.self.view_is))
+    ∙ placed_at c.self.inside.index (named_all c.self.inside.accounts.items) c.args.given.now.account.now c.bytes.result.now c.in-Some.at c.self.invariant.index c.bytes.ensures.value c.in-Some.ensures in
     subst (λ (r : Request). AppliedStays c.args.self.now r c.post_known.new.self) (sym c.requires.request)
     (subst (λ (o : Option ℕ). StaysBut o c.args.self.now.recorded c.post_known.new.self.recorded) (sym there) c.post_known.ensures.recorded)
 
 pub returns-in-None-clause-recorded : goal.returns-in-None-clause-recorded
 unfolding AppliedStays
 returns-in-None-clause-recorded g c =
-    let absent : place_from c.args.account.now 0 c.args.self.now.state.accounts ≡ None = ap (λ (s : State). place_from c.args.account.now 0 s.accounts) (sym (state_by _ _ c.self.view_is))
-    ∙ found_none c.self.inside.index (named_all c.self.inside.accounts.items) c.args.account.now c.bytes.result.now c.self.invariant.index c.bytes.ensures.value c.in-None.ensures in
+    let absent : place_from c.args.given.now.account.now 0 c.args.self.now.state.accounts ≡ None = ap (λ (s : State). place_from c.args.given.now.account.now 0 s.accounts) (sym (state_by _ _ c.self.view_is))
+    ∙ found_none c.self.inside.index (named_all c.self.inside.accounts.items) c.args.given.now.account.now c.bytes.result.now c.self.invariant.index c.bytes.ensures.value c.in-None.ensures in
     subst (λ (r : Request). AppliedStays c.args.self.now r c.post_unknown.new.self) (sym c.requires.request)
     (subst (λ (o : Option ℕ). StaysBut o c.args.self.now.recorded c.post_unknown.new.self.recorded) (sym absent) c.post_unknown.ensures.recorded)

@@ -32,25 +32,25 @@ judge_at-requires-clause-place g c = c.requires.place.bound
 
 -- ---- its conditions to be kept, in the state that stayed
 pub keep_post-requires-clause-asked : goal.keep_post-requires-clause-asked
-keep_post-requires-clause-asked g c = subst (λ (x : State). IsAsked (g.K.Keeper.rows c.args.keeper.now) x c.args.request.now) (sym c.judge_at.ensures.state) c.requires.asked
+keep_post-requires-clause-asked g c = subst (λ (x : State). IsAsked (g.K.Keeper.rows c.args.keeper.now) x c.args.given.now.request.now) (sym c.judge_at.ensures.state) c.requires.asked
 
 pub keep_post-requires-clause-place : goal.keep_post-requires-clause-place
-keep_post-requires-clause-place g c = subst (λ (x : State). IsPlace c.args.account.now x.accounts c.args.at) (sym c.judge_at.ensures.state) c.requires.place
+keep_post-requires-clause-place g c = subst (λ (x : State). IsPlace c.args.given.now.account.now x.accounts c.args.at) (sym c.judge_at.ensures.state) c.requires.place
 
 pub keep_post-requires-clause-no_reason : goal.keep_post-requires-clause-no_reason
 keep_post-requires-clause-no_reason g c =
     let s = c.args.self.now.state in
-    let key = c.args.key.now in
-    let p = c.args.post.now in
+    let key = c.args.given.now.key.now in
+    let p = c.args.given.now.post.now in
     subst (λ (x : State). (d : NamedAccount) → reason_against (now_at x c.args.at d) p ≡ None) (sym c.judge_at.ensures.state)
     (λ d. none_against (now_of s (get_or s.accounts c.args.at d).lists) key p (with_key key (get_or s.accounts c.args.at d).lists.posts) (sym c.in-Ok-New.field-0-is ∙ c.in-Ok-New.ensures.value d))
 
 pub keep_post-requires-clause-accepted : goal.keep_post-requires-clause-accepted
 keep_post-requires-clause-accepted g c =
     let s = c.args.self.now.state in
-    let name = c.args.account.now in
-    let key = c.args.key.now in
-    let p = c.args.post.now in
+    let name = c.args.given.now.account.now in
+    let key = c.args.given.now.key.now in
+    let p = c.args.given.now.post.now in
     subst (λ (x : State). (d : NamedAccount) → outcome_in x name key p ≡ Accepts (accepted (now_at x c.args.at d) key p)) (sym c.judge_at.ensures.state)
     (λ d.
     let a = get_or s.accounts c.args.at d in
@@ -61,69 +61,69 @@ keep_post-requires-clause-accepted g c =
 pub returns-in-Ok-Refused-clause-carried : goal.returns-in-Ok-Refused-clause-carried
 returns-in-Ok-Refused-clause-carried g c =
     let s = c.args.self.now.state in
-    let key = c.args.key.now in
-    let p = c.args.post.now in
+    let key = c.args.given.now.key.now in
+    let p = c.args.given.now.post.now in
     let e = no_account in
     let judged = sym c.in-Ok-Refused.field-0-is ∙ c.in-Ok-Refused.ensures.value e in
-    let both = outcome_at s c.args.account.now key p c.args.at e (verdict.Refused c.in-Ok-Refused.refusal) c.requires.place judged in
-    subst (λ (x : State). Carried (g.K.Keeper.rows c.args.keeper.now) (g.K.Keeper.rows c.args.keeper.now) (g.K.Keeper.faults c.args.keeper.now) (g.K.Keeper.faults c.args.keeper.now) s c.args.request.now x (Ok (reply.Refused c.in-Ok-Refused.refusal))) (sym c.judge_at.ensures.state)
-    (answered (g.K.Keeper.rows c.args.keeper.now) (g.K.Keeper.faults c.args.keeper.now) s c.args.request.now (reply.Refused c.in-Ok-Refused.refusal)
+    let both = outcome_at s c.args.given.now.account.now key p c.args.at e (verdict.Refused c.in-Ok-Refused.refusal) c.requires.place judged in
+    subst (λ (x : State). Carried (g.K.Keeper.rows c.args.keeper.now) (g.K.Keeper.rows c.args.keeper.now) (g.K.Keeper.faults c.args.keeper.now) (g.K.Keeper.faults c.args.keeper.now) s c.args.given.now.request.now x (Ok (reply.Refused c.in-Ok-Refused.refusal))) (sym c.judge_at.ensures.state)
+    (answered (g.K.Keeper.rows c.args.keeper.now) (g.K.Keeper.faults c.args.keeper.now) s c.args.given.now.request.now (reply.Refused c.in-Ok-Refused.refusal)
     (subst (λ (x : Request). Steps (g.K.Keeper.rows c.args.keeper.now) (g.K.Keeper.rows c.args.keeper.now) s x s (reply.Refused c.in-Ok-Refused.refusal)) (sym c.requires.request)
-    (post_refused (g.K.Keeper.rows c.args.keeper.now) s c.args.account.now key p c.in-Ok-Refused.refusal c.requires.asked.fits (refused_by (outcome_in s c.args.account.now key p) c.in-Ok-Refused.refusal both.0))))
+    (post_refused (g.K.Keeper.rows c.args.keeper.now) s c.args.given.now.account.now key p c.in-Ok-Refused.refusal c.requires.asked.fits (refused_by (outcome_in s c.args.given.now.account.now key p) c.in-Ok-Refused.refusal both.0))))
 
 pub returns-in-Ok-Refused-clause-most : goal.returns-in-Ok-Refused-clause-most
 returns-in-Ok-Refused-clause-most g c =
-    few_left c.args.self.now.state (reached_there c.args.self.now c.args.at) (outcome_in c.args.self.now.state c.args.account.now c.args.key.now c.args.post.now) c.args.steps.now c.judge_at.new.steps c.judge_at.ensures.most
+    few_left c.args.self.now.state (reached_there c.args.self.now c.args.at) (outcome_in c.args.self.now.state c.args.given.now.account.now c.args.given.now.key.now c.args.given.now.post.now) c.args.steps.now c.judge_at.new.steps c.judge_at.ensures.most
 
 pub returns-in-Ok-Repeat-clause-carried : goal.returns-in-Ok-Repeat-clause-carried
 returns-in-Ok-Repeat-clause-carried g c =
     let s = c.args.self.now.state in
-    let key = c.args.key.now in
-    let p = c.args.post.now in
+    let key = c.args.given.now.key.now in
+    let p = c.args.given.now.post.now in
     let e = no_account in
     let judged = sym c.in-Ok-Repeat.field-0-is ∙ c.in-Ok-Repeat.ensures.value e in
-    let both = outcome_at s c.args.account.now key p c.args.at e (verdict.Repeat c.in-Ok-Repeat.number) c.requires.place judged in
-    subst (λ (x : State). Carried (g.K.Keeper.rows c.args.keeper.now) (g.K.Keeper.rows c.args.keeper.now) (g.K.Keeper.faults c.args.keeper.now) (g.K.Keeper.faults c.args.keeper.now) s c.args.request.now x (Ok (reply.Accepted c.in-Ok-Repeat.number))) (sym c.judge_at.ensures.state)
-    (answered (g.K.Keeper.rows c.args.keeper.now) (g.K.Keeper.faults c.args.keeper.now) s c.args.request.now (reply.Accepted c.in-Ok-Repeat.number)
+    let both = outcome_at s c.args.given.now.account.now key p c.args.at e (verdict.Repeat c.in-Ok-Repeat.number) c.requires.place judged in
+    subst (λ (x : State). Carried (g.K.Keeper.rows c.args.keeper.now) (g.K.Keeper.rows c.args.keeper.now) (g.K.Keeper.faults c.args.keeper.now) (g.K.Keeper.faults c.args.keeper.now) s c.args.given.now.request.now x (Ok (reply.Accepted c.in-Ok-Repeat.number))) (sym c.judge_at.ensures.state)
+    (answered (g.K.Keeper.rows c.args.keeper.now) (g.K.Keeper.faults c.args.keeper.now) s c.args.given.now.request.now (reply.Accepted c.in-Ok-Repeat.number)
     (subst (λ (x : Request). Steps (g.K.Keeper.rows c.args.keeper.now) (g.K.Keeper.rows c.args.keeper.now) s x s (reply.Accepted c.in-Ok-Repeat.number)) (sym c.requires.request)
-    (post_repeated (g.K.Keeper.rows c.args.keeper.now) s c.args.account.now key p c.in-Ok-Repeat.number c.requires.asked.fits (repeated_by (outcome_in s c.args.account.now key p) c.in-Ok-Repeat.number both.0))))
+    (post_repeated (g.K.Keeper.rows c.args.keeper.now) s c.args.given.now.account.now key p c.in-Ok-Repeat.number c.requires.asked.fits (repeated_by (outcome_in s c.args.given.now.account.now key p) c.in-Ok-Repeat.number both.0))))
 
 pub returns-in-Ok-Repeat-clause-most : goal.returns-in-Ok-Repeat-clause-most
 returns-in-Ok-Repeat-clause-most g c =
-    few_left c.args.self.now.state (reached_there c.args.self.now c.args.at) (outcome_in c.args.self.now.state c.args.account.now c.args.key.now c.args.post.now) c.args.steps.now c.judge_at.new.steps c.judge_at.ensures.most
+    few_left c.args.self.now.state (reached_there c.args.self.now c.args.at) (outcome_in c.args.self.now.state c.args.given.now.account.now c.args.given.now.key.now c.args.given.now.post.now) c.args.steps.now c.judge_at.new.steps c.judge_at.ensures.most
 
 pub returns-in-Ok-New-clause-carried : goal.returns-in-Ok-New-clause-carried
 returns-in-Ok-New-clause-carried g c =
-    subst (λ (x : State). Carried (g.K.Keeper.rows c.args.keeper.now) (g.K.Keeper.rows c.keep_post.new.keeper) (g.K.Keeper.faults c.args.keeper.now) (g.K.Keeper.faults c.keep_post.new.keeper) x c.args.request.now c.keep_post.new.self.state c.keep_post.result) c.judge_at.ensures.state
+    subst (λ (x : State). Carried (g.K.Keeper.rows c.args.keeper.now) (g.K.Keeper.rows c.keep_post.new.keeper) (g.K.Keeper.faults c.args.keeper.now) (g.K.Keeper.faults c.keep_post.new.keeper) x c.args.given.now.request.now c.keep_post.new.self.state c.keep_post.result) c.judge_at.ensures.state
     c.keep_post.ensures.carried
 
 pub returns-in-Ok-New-clause-most : goal.returns-in-Ok-New-clause-most
 returns-in-Ok-New-clause-most g c =
     let s = c.args.self.now.state in
-    let key = c.args.key.now in
-    let p = c.args.post.now in
+    let key = c.args.given.now.key.now in
+    let p = c.args.given.now.post.now in
     let e = no_account in
     let judged = sym c.in-Ok-New.field-0-is ∙ c.in-Ok-New.ensures.value e in
     let a = get_or s.accounts c.args.at e in
-    let both = outcome_at s c.args.account.now key p c.args.at e verdict.New c.requires.place judged in
+    let both = outcome_at s c.args.given.now.account.now key p c.args.at e verdict.New c.requires.place judged in
     let accepts = both.1 ∙ new_at_key (now_of s a.lists) key p (with_key key a.lists.posts) (both.0 ∙ ap verdict_of both.1) in
-    few_judged c.args.self.now c.judge_at.new.self c.args.account.now key p c.args.at (accepted (now_of s a.lists) key p) c.args.steps.now c.judge_at.new.steps c.keep_post.new.steps
+    few_judged c.args.self.now c.judge_at.new.self c.args.given.now.account.now key p c.args.at (accepted (now_of s a.lists) key p) c.args.steps.now c.judge_at.new.steps c.keep_post.new.steps
     c.judge_at.ensures.state accepts c.in-Ok-New.ensures.spent c.keep_post.ensures.most
 
 pub returns-in-Err-clause-carried : goal.returns-in-Err-clause-carried
-returns-in-Err-clause-carried g c = out_of_memory (g.K.Keeper.rows c.args.keeper.now) (g.K.Keeper.faults c.args.keeper.now) c.args.self.now.state c.judge_at.new.self.state c.args.request.now c.judge_at.ensures.state
+returns-in-Err-clause-carried g c = out_of_memory (g.K.Keeper.rows c.args.keeper.now) (g.K.Keeper.faults c.args.keeper.now) c.args.self.now.state c.judge_at.new.self.state c.args.given.now.request.now c.judge_at.ensures.state
 
 pub returns-in-Err-clause-most : goal.returns-in-Err-clause-most
 returns-in-Err-clause-most g c =
-    few_left c.args.self.now.state (reached_there c.args.self.now c.args.at) (outcome_in c.args.self.now.state c.args.account.now c.args.key.now c.args.post.now) c.args.steps.now c.judge_at.new.steps c.judge_at.ensures.most
+    few_left c.args.self.now.state (reached_there c.args.self.now c.args.at) (outcome_in c.args.self.now.state c.args.given.now.account.now c.args.given.now.key.now c.args.given.now.post.now) c.args.steps.now c.judge_at.new.steps c.judge_at.ensures.most
 
 -- ---- the day that it has reached
 pub returns-in-Ok-Refused-clause-reached : goal.returns-in-Ok-Refused-clause-reached
 returns-in-Ok-Refused-clause-reached g c =
     let d = c.args.self.now in
-    let name = c.args.account.now in
-    let key = c.args.key.now in
-    let p = c.args.post.now in
+    let name = c.args.given.now.account.now in
+    let key = c.args.given.now.key.now in
+    let p = c.args.given.now.post.now in
     let both = outcome_at d.state name key p c.args.at no_account (verdict.Refused c.in-Ok-Refused.refusal) c.requires.place (sym c.in-Ok-Refused.field-0-is ∙ c.in-Ok-Refused.ensures.value no_account) in
     done-moves _ (Some c.args.at) _ _ _
     (refused-moves d c.judge_at.new.self c.args.at (outcome_in d.state name key p) c.in-Ok-Refused.refusal (refused_by (outcome_in d.state name key p) c.in-Ok-Refused.refusal both.0) c.judge_at.ensures.reached)
@@ -131,9 +131,9 @@ returns-in-Ok-Refused-clause-reached g c =
 pub returns-in-Ok-Repeat-clause-reached : goal.returns-in-Ok-Repeat-clause-reached
 returns-in-Ok-Repeat-clause-reached g c =
     let d = c.args.self.now in
-    let name = c.args.account.now in
-    let key = c.args.key.now in
-    let p = c.args.post.now in
+    let name = c.args.given.now.account.now in
+    let key = c.args.given.now.key.now in
+    let p = c.args.given.now.post.now in
     let both = outcome_at d.state name key p c.args.at no_account (verdict.Repeat c.in-Ok-Repeat.number) c.requires.place (sym c.in-Ok-Repeat.field-0-is ∙ c.in-Ok-Repeat.ensures.value no_account) in
     done-moves _ (Some c.args.at) _ _ _
     (repeated-moves d c.judge_at.new.self c.args.at (outcome_in d.state name key p) c.in-Ok-Repeat.number (repeated_by (outcome_in d.state name key p) c.in-Ok-Repeat.number both.0) c.judge_at.ensures.reached)
@@ -142,9 +142,9 @@ pub returns-in-Ok-New-clause-reached : goal.returns-in-Ok-New-clause-reached
 returns-in-Ok-New-clause-reached g c =
     let d = c.args.self.now in
     let s = d.state in
-    let name = c.args.account.now in
-    let key = c.args.key.now in
-    let p = c.args.post.now in
+    let name = c.args.given.now.account.now in
+    let key = c.args.given.now.key.now in
+    let p = c.args.given.now.post.now in
     let both = outcome_at s name key p c.args.at no_account verdict.New c.requires.place (sym c.in-Ok-New.field-0-is ∙ c.in-Ok-New.ensures.value no_account) in
     let a = get_or s.accounts c.args.at no_account in
     let accepts = both.1 ∙ new_at_key (now_of s a.lists) key p (with_key key a.lists.posts) (both.0 ∙ ap verdict_of both.1) in

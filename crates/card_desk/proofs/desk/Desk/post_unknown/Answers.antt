@@ -42,33 +42,33 @@ open_reason-requires g c = record { opens = sym c.is_open.ensures ∙ c.if-not-i
 pub keep_open-requires-clause-no_reason : goal.keep_open-requires-clause-no_reason
 keep_open-requires-clause-no_reason g c =
     let d = c.self.inside in
-    its-reason d.index d.common d.count d.today d.shared.items d.accounts.items c.args.self.now.state c.args.post.now c.len.result c.open_reason.result c.self.invariant (state_by _ _ c.self.view_is)
+    its-reason d.index d.common d.count d.today d.shared.items d.accounts.items c.args.self.now.state c.args.given.now.post.now c.len.result c.open_reason.result c.self.invariant (state_by _ _ c.self.view_is)
     (c.len.ensures ∙ c.self.inside.accounts.ok.0) c.open_reason.ensures.value ∙ c.in-None.is
 
 pub returns-in-Some-clause-carried : goal.returns-in-Some-clause-carried
 returns-in-Some-clause-carried g c =
     let s = c.args.self.now.state in
     let d = c.self.inside in
-    let name = c.args.account.now in
-    let key = c.args.key.now in
-    let p = c.args.post.now in
+    let name = c.args.given.now.account.now in
+    let key = c.args.given.now.key.now in
+    let p = c.args.given.now.post.now in
     let rows = g.K.Keeper.rows c.args.keeper.now in
     let absent = (no_place name 0 s.accounts c.requires.absent).0 in
     let reason = its-reason d.index d.common d.count d.today d.shared.items d.accounts.items s p c.len.result c.open_reason.result c.self.invariant (state_by _ _ c.self.view_is)
     (c.len.ensures ∙ c.self.inside.accounts.ok.0) c.open_reason.ensures.value ∙ c.in-Some.is in
     let outcome = open_refused s name key p c.in-Some.refusal absent (sym c.is_open.ensures ∙ c.if-not-is_open.false) reason in
-    answered (g.K.Keeper.rows c.args.keeper.now) (g.K.Keeper.faults c.args.keeper.now) s c.args.request.now (reply.Refused c.in-Some.refusal)
-    (subst (λ (x : Request). Steps rows rows s x s (reply.Refused c.in-Some.refusal)) (sym c.requires.request) (post_refused rows s name key c.args.post.now c.in-Some.refusal c.requires.asked.fits outcome))
+    answered (g.K.Keeper.rows c.args.keeper.now) (g.K.Keeper.faults c.args.keeper.now) s c.args.given.now.request.now (reply.Refused c.in-Some.refusal)
+    (subst (λ (x : Request). Steps rows rows s x s (reply.Refused c.in-Some.refusal)) (sym c.requires.request) (post_refused rows s name key c.args.given.now.post.now c.in-Some.refusal c.requires.asked.fits outcome))
 
 pub returns-then-not-is_open-clause-carried : goal.returns-then-not-is_open-clause-carried
 returns-then-not-is_open-clause-carried g c =
     let s = c.args.self.now.state in
-    let name = c.args.account.now in
-    let key = c.args.key.now in
-    let p = c.args.post.now in
+    let name = c.args.given.now.account.now in
+    let key = c.args.given.now.key.now in
+    let p = c.args.given.now.post.now in
     let rows = g.K.Keeper.rows c.args.keeper.now in
     let absent = (no_place name 0 s.accounts c.requires.absent).0 in
-    answered rows (g.K.Keeper.faults c.args.keeper.now) s c.args.request.now (reply.Refused refusal.UnknownAccount)
+    answered rows (g.K.Keeper.faults c.args.keeper.now) s c.args.given.now.request.now (reply.Refused refusal.UnknownAccount)
     (subst (λ (x : Request). Steps rows rows s x s (reply.Refused refusal.UnknownAccount)) (sym c.requires.request)
     (post_refused rows s name key p refusal.UnknownAccount c.requires.asked.fits (unknown_refused s name key p absent (sym c.is_open.ensures ∙ c.if-not-is_open.true))))
 
@@ -77,20 +77,20 @@ pub returns-in-Some-clause-reached : goal.returns-in-Some-clause-reached
 returns-in-Some-clause-reached g c =
     let s = c.args.self.now.state in
     let d = c.self.inside in
-    let name = c.args.account.now in
-    let key = c.args.key.now in
-    let p = c.args.post.now in
+    let name = c.args.given.now.account.now in
+    let key = c.args.given.now.key.now in
+    let p = c.args.given.now.post.now in
     let absent = (no_place name 0 s.accounts c.requires.absent).0 in
     let reason = its-reason d.index d.common d.count d.today d.shared.items d.accounts.items s p c.len.result c.open_reason.result c.self.invariant (state_by _ _ c.self.view_is)
     (c.len.ensures ∙ c.self.inside.accounts.ok.0) c.open_reason.ensures.value ∙ c.in-Some.is in
     let outcome = open_refused s name key p c.in-Some.refusal absent (sym c.is_open.ensures ∙ c.if-not-is_open.false) reason in
-    done-moves _ None _ _ _ (away-moves c.args.self.now (outcome_in s name key c.args.post.now) c.in-Some.refusal outcome)
+    done-moves _ None _ _ _ (away-moves c.args.self.now (outcome_in s name key c.args.given.now.post.now) c.in-Some.refusal outcome)
 
 pub returns-then-not-is_open-clause-reached : goal.returns-then-not-is_open-clause-reached
 returns-then-not-is_open-clause-reached g c =
     let s = c.args.self.now.state in
-    let name = c.args.account.now in
-    let key = c.args.key.now in
-    let p = c.args.post.now in
+    let name = c.args.given.now.account.now in
+    let key = c.args.given.now.key.now in
+    let p = c.args.given.now.post.now in
     let absent = (no_place name 0 s.accounts c.requires.absent).0 in
     done-moves _ None _ _ _ (away-moves c.args.self.now (outcome_in s name key p) refusal.UnknownAccount (unknown_refused s name key p absent (sym c.is_open.ensures ∙ c.if-not-is_open.true)))
