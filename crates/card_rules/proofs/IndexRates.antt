@@ -49,7 +49,7 @@ record IsOfTheOpening (opened day : ℕ) (all : List SegmentTerms) (g : SegmentT
   pub itself : last_that (bears_in day g.sort g.id) all ≡ Some g
 
 -- later vintages aren't read for an opening one
-none-later : (day id m : ℕ) (s : Sort) (gs : List SegmentTerms) → AreByNumber m gs → id < m → last_that (bears_in day s id) gs ≡ None
+pub none-later : (day id m : ℕ) (s : Sort) (gs : List SegmentTerms) → AreByNumber m gs → id < m → last_that (bears_in day s id) gs ≡ None
 unfolding AreByNumber
 none-later day id m s [] h l = refl
 none-later day id m s (v ∷ vs) (i, h) l =
@@ -89,7 +89,7 @@ folded-low : (s : Sort) (from day r : ℕ) (ls : List Lowering) → fold (lowere
 folded-low s from day r [] = omega arith
 folded-low s from day r (l ∷ ls) = let one = lowered-low s from day r l in let rest = folded-low s from day (lowered_by s from day r l) ls in omega (arith, one, rest)
 
-capped-low : (ls : List Lowering) (s : Sort) (day : ℕ) (b : Begun) → capped ls s day b ≤ b.rate
+pub capped-low : (ls : List Lowering) (s : Sort) (day : ℕ) (b : Begun) → capped ls s day b ≤ b.rate
 unfolding capped
 capped-low ls s day b = folded-low s b.from day b.rate ls
 
