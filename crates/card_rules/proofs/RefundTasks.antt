@@ -121,7 +121,7 @@ at-front : (o : Option Task) (xs : List Task) (x : Task) → o ≡ Some x → Co
 at-front None xs x e = absurd (cc)
 at-front (Some y) xs x e = let same : y ≡ x = cc in (zero, omega arith, same)
 
-in-mapped : (f : CorrectedPost → Option Task) (xs : List CorrectedPost) (x : CorrectedPost) (y : Task) → Contains xs x → f x ≡ Some y → Contains (filter_map f xs) y
+pub in-mapped : (f : CorrectedPost → Option Task) (xs : List CorrectedPost) (x : CorrectedPost) (y : Task) → Contains xs x → f x ≡ Some y → Contains (filter_map f xs) y
 in-mapped f [] x y (k, l, e) i = absurd (omega arith)
 in-mapped f (z ∷ zs) x y (zero, l, e) i = at-front (f z) (filter_map f zs) y (ap f e ∙ i)
 in-mapped f (z ∷ zs) x y (suc k, l, e) i = in-option (f z) (filter_map f zs) y (in-mapped f zs x y (k, omega arith, e) i)
@@ -145,7 +145,7 @@ with-others t x (u ∷ us) c = by (ltb u.by t.by) c (λ d. with-others t x us d)
     by true (suc k, l, e) r = let d = r (k, omega arith, e) in (suc d.0, omega (arith, d.1), d.2)
     by false (k, l, e) r = (suc k, omega (arith, l), e)
 
-in-order : (x : Task) (ts : List Task) → Contains ts x → Contains (by_day ts) x
+pub in-order : (x : Task) (ts : List Task) → Contains ts x → Contains (by_day ts) x
 unfolding by_day
 in-order x [] (k, l, e) = absurd (omega arith)
 in-order x (t ∷ ts) (zero, l, e) = subst (λ (y : Task). Contains (with_task t (by_day ts)) y) e (with-itself t (by_day ts))
