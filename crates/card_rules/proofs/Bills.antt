@@ -125,11 +125,11 @@ cycle-there zero cs l m = absurd (omega arith)
 cycle-there (suc n) cs l m = some-there cs n (omega arith)
 
 -- ---- a Bill that nothing is against
-record NoReason (now : Present) (p : Post) : Type 0 where
+pub record NoReason (now : Present) (p : Post) : Type 0 where
   pub range : is_out_of_range now p ≡ false
   pub closed : not_closed now p ≡ None
 
-no-reason : (now : Present) (p : Post) → reason_against now p ≡ None → NoReason now p
+pub no-reason : (now : Present) (p : Post) → reason_against now p ≡ None → NoReason now p
 unfolding reason_against
 no-reason now p h =
     let none = all-none (reasons now p) h in
@@ -142,7 +142,7 @@ within (suc n) d top h = (omega arith, grind (arith, nat_tests))
 above : (n m : ℕ) → leb n m ≡ false → m < n
 above n m h = grind (arith, nat_tests)
 
-bill-closed : (now : Present) (c : ℕ) → IsCloseDay (anchor_now now).close_day → NoReason now (post.Bill c) → is_some (cycle_at c (book_today now).cycles) ≡ true
+pub bill-closed : (now : Present) (c : ℕ) → IsCloseDay (anchor_now now).close_day → NoReason now (post.Bill c) → is_some (cycle_at c (book_today now).cycles) ≡ true
 unfolding is_out_of_range not_closed
 bill-closed now c on h =
     let a = anchor_now now in
@@ -176,7 +176,7 @@ issues-billed now (post.Refund c) k on h = refl
 issues-billed now (post.Amend t d c) k on h = refl
 
 -- ---- every run
-record HasIssued (l : Lists) : Type 0 where
+pub record HasIssued (l : Lists) : Type 0 where
   pub begun : 1 ≤ length l.posts
   pub close_day : IsCloseDay (anchor_of l.posts).close_day
   pub issued : (cycle : ℕ) → is_issued cycle l.issued ≡ is_billed cycle l.posts
@@ -185,7 +185,7 @@ same-anchor : (posts : List Kept) (k : Kept) → 1 ≤ length posts → anchor_o
 same-anchor [] k l = absurd (omega arith)
 same-anchor (x ∷ posts) k l = refl
 
-accepts-bills : (now : Present) (key : List ℕ) (p : Post) → is_open p ≡ false → reason_against now p ≡ None → HasIssued now.lists → HasIssued (accepted now key p)
+pub accepts-bills : (now : Present) (key : List ℕ) (p : Post) → is_open p ≡ false → reason_against now p ≡ None → HasIssued now.lists → HasIssued (accepted now key p)
 unfolding accepted
 accepts-bills now key p o e h =
     let k = kept_as (next_number now) key now.today p in
@@ -199,7 +199,7 @@ accepts-bills now key p o e h =
           ∙ sym (list_any-append (λ (j : Kept). bills cycle j.post) now.lists.posts (k ∷ [])));
     }
 
-opens-bills : (key : List ℕ) (today accounts : ℕ) (shared : SharedRows) (p : Post) → is_open p ≡ true → reason_to_open today accounts shared p ≡ None → HasIssued (record { posts = kept_as 1 key today p ∷ []; issued = [] })
+pub opens-bills : (key : List ℕ) (today accounts : ℕ) (shared : SharedRows) (p : Post) → is_open p ≡ true → reason_to_open today accounts shared p ≡ None → HasIssued (record { posts = kept_as 1 key today p ∷ []; issued = [] })
 unfolding reason_to_open
 opens-bills key today accounts shared (post.Open d t) o e =
     let close = where-false ((eqb t.close 0) || ltb 28 t.close) (refusal.BadTerms 1) (none-first _ _ (none-first _ _ e)) in
