@@ -1,7 +1,7 @@
 -- The cycle that holds a day is the one whose closings lie around it.
 use Rattle.std.proofs.Common.{◌≡◌, ℕ, zero, suc, ◌+◌, ◌-◌, ◌≤◌, ◌<◌, ◌⊎◌, inl, inr, arith, refl, subst}
 use Rattle.std.proofs.lemmas.Bool.{cases_lt}
-use Rattle.card_events.proofs.Cycles.{closing_grows, cycle_around, cycle_from_one}
+use Rattle.card_events.proofs.Cycles.{closing_grows, cycle_around}
 use Rattle.card_events.specs.Billing.{closing, cycle_of}
 use Rattle.card_events.specs.Range.{last_calendar_day}
 use Rattle.card_events.specs.declared.anchor.Anchor.{Anchor}

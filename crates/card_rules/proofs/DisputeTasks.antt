@@ -1,10 +1,10 @@
 -- To acknowledge and to resolve a dispute are tasks with their days.
-use Rattle.std.proofs.Common.{◌≡◌, ℕ, zero, suc, ◌+◌, ◌-◌, ◌≤◌, ◌<◌, Bool, true, false, cond, ◌||◌, List, [], ◌∷◌, ◌++◌, eqb, min, refl, sym, ap, ◌∙◌, subst, arith, Option, Some}
+use Rattle.std.proofs.Common.{◌≡◌, ℕ, zero, suc, ◌+◌, ◌≤◌, Bool, true, false, List, [], ◌∷◌, ◌++◌, eqb, min, refl, ap, ◌∙◌, arith, Option, Some}
 use Rattle.std.proofs.lemmas.Bool.{eqb-true}
 use Rattle.std.proofs.lemmas.List.Elements.{Contains-append_left, Contains-append_right}
-use Rattle.std.specs.List.{Contains, list_any}
+use Rattle.std.specs.List.{Contains}
 use Rattle.std.specs.Option.{option_map}
-use Rattle.card_events.specs.Billing.{closing, cycle_of}
+use Rattle.card_events.specs.Billing.{closing}
 use Rattle.card_events.specs.History.{CorrectedPost}
 use Rattle.card_events.specs.Range.{last_calendar_day}
 use Rattle.card_events.specs.declared.anchor.Anchor.{Anchor}

@@ -1,8 +1,8 @@
 -- Six months counted one after another are those of the ledger's definitions.
-use Rattle.std.proofs.Common.{◌≡◌, ℕ, zero, suc, ◌+◌, ◌-◌, ◌*◌, ◌/◌, ◌%◌, ◌≤◌, ◌<◌, Bool, true, false, cond, min, nat_lt, refl, sym, ap, ap₂, ◌∙◌, subst, arith}
+use Rattle.std.proofs.Common.{◌≡◌, ℕ, zero, suc, ◌+◌, ◌-◌, ◌*◌, ◌≤◌, ◌<◌, Bool, true, false, cond, nat_lt, refl, ap, ◌∙◌, arith}
 use Rattle.std.proofs.lemmas.Bool.Decides.{nat_tests}
 use Rattle.card_events.proofs.Cycles.{number_parts}
-use Rattle.card_events.specs.Civil.{Civil, date_in, date_of, day_at, days_before_year, month_length, year_of}
+use Rattle.card_events.specs.Civil.{Civil, date_in, date_of, days_before_year, month_length, year_of}
 use Rattle.card_events.specs.Later.{clipped_day_at, six_months_after, six_months_on}
 use Rattle.card_rules.specs.Months.{day_in, month_of, months_after}
 

@@ -1,8 +1,8 @@
 -- Every run accepts plans of six months or more.
-use Rattle.std.proofs.Common.{◌≡◌, ℕ, zero, suc, ◌+◌, ◌≤◌, ◌<◌, Bool, true, false, ◌||◌, List, [], ◌∷◌, ◌++◌, ltb, refl, sym, ap, ◌∙◌, subst, arith, Option, Some, None}
+use Rattle.std.proofs.Common.{◌≡◌, ℕ, zero, suc, ◌+◌, ◌≤◌, Bool, true, false, ◌||◌, List, [], ◌∷◌, ◌++◌, ltb, refl, sym, ap, ◌∙◌, subst, arith, Option, Some, None}
 use Rattle.std.proofs.lemmas.Bool.Decides.{nat_tests}
 use Rattle.std.proofs.lemmas.List.Elements.{All-nil, All-cons, All-contains, All-push, All-tail}
-use Rattle.std.specs.List.{All, Contains, cons_option}
+use Rattle.std.specs.List.{Contains, cons_option}
 use Rattle.card_events.specs.History.{anchor_of, next_segment, terms_of}
 use Rattle.card_events.specs.Later.{six_months_after}
 use Rattle.card_events.specs.SharedRows.{SharedRows}
@@ -15,7 +15,6 @@ use Rattle.card_events.specs.declared.reply.Refusal.TheVariants as refusal
 use Rattle.card_model.specs.Cycles.{IssuedRow}
 use Rattle.card_model.specs.Folds.{book}
 use Rattle.card_model.specs.Machine.{accepted, is_open, kept_as, next_number}
-use Rattle.card_model.specs.Rates.{period_rate}
 use Rattle.card_model.specs.Refusals.{Lists, Present, plan_too_short, reason_against, reason_to_open, reasons}
 use Rattle.card_model.specs.Segments.{SegmentTerms, is_over, is_plan, is_sort, opening_vintages, segment_of, sort_of_category, sort_of_plan}
 use Rattle.card_model.specs.declared.segment.Sort.TheVariants as sort
@@ -23,7 +22,7 @@ use Rattle.card_rates.proofs.Added.{segments-are}
 use Rattle.card_rates.proofs.DayLaws.{rates_later, segments_of_a_day}
 use Rattle.card_rates.specs.Added.{added_from}
 use Rattle.card_rates.specs.Laws.{segments_on}
-use Rattle.card_rates.specs.RateBooks.{Rates, rate_of, rates_of}
+use Rattle.card_rates.specs.RateBooks.{rates_of}
 use Rattle.card_rules.proofs.EveryRun.{of_every_run}
 use Rattle.card_rules.proofs.Months.{six-months}
 use Rattle.card_rules.proofs.Reasons.{all-none, where-false}

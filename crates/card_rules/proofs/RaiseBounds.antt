@@ -1,19 +1,18 @@
 -- How far a rate may rise.
-use Rattle.std.proofs.Common.{◌≡◌, ℕ, zero, suc, ◌+◌, ◌-◌, ◌≤◌, ◌<◌, ◌⊎◌, inl, inr, min, max, Bool, true, false, cond, not, ◌&&◌, List, [], ◌∷◌, leb, ltb, refl, sym, ap, ◌∙◌, subst, arith, Option, Some, None}
+use Rattle.std.proofs.Common.{◌≡◌, ℕ, zero, suc, ◌+◌, ◌-◌, ◌≤◌, ◌<◌, ◌⊎◌, inl, inr, min, max, Bool, true, false, cond, ◌&&◌, List, [], ◌∷◌, leb, refl, sym, ap, ◌∙◌, subst, arith, Option, Some, None}
 use Rattle.std.proofs.lemmas.Bool.{cases_lt}
 use Rattle.std.proofs.lemmas.List.Elements.{All-weaker, All-contains_itself}
 use Rattle.std.specs.Prelude.{unwrap_or}
-use Rattle.std.specs.List.{All, Contains, cons_option, filter_map, fold}
-use Rattle.card_events.specs.History.{CorrectedPost, anchor_of, corrected, terms_of}
+use Rattle.std.specs.List.{Contains, cons_option, filter_map, fold}
+use Rattle.card_events.specs.History.{CorrectedPost, anchor_of, terms_of}
 use Rattle.card_events.specs.Money.{rate_limit}
 use Rattle.card_events.specs.SharedRows.{IndexRow, SharedRows}
 use Rattle.card_events.specs.declared.kept.Kept.{Kept}
 use Rattle.card_events.specs.declared.post.Category.{Category}
-use Rattle.card_events.specs.declared.post.Post.{Post}
 use Rattle.card_events.specs.declared.post.Post.TheVariants as post
 use Rattle.card_model.specs.Cycles.{IssuedRow}
 use Rattle.card_model.specs.Folds.{book}
-use Rattle.card_model.specs.Rates.{Begun, Lowering, after_end, bears_as, bears_in, begun_of, capped, in_force, index_for, index_on, is_opening, lasts, lowered_by, lowering_of, lowerings, own, period_rate, rate_with, start_of, starts, with_penalty}
+use Rattle.card_model.specs.Rates.{Begun, Lowering, after_end, bears_as, bears_in, begun_of, capped, in_force, index_for, index_on, is_opening, lasts, lowered_by, lowering_of, lowerings, own, rate_with, start_of, starts, with_penalty}
 use Rattle.card_model.specs.Segments.{SegmentTerms, is_over, is_plan, is_sort, last_that, sort_of_category}
 use Rattle.card_model.specs.declared.segment.Interval.{Interval}
 use Rattle.card_model.specs.declared.segment.Sort.{Sort}
@@ -28,10 +27,9 @@ use Rattle.card_rules.proofs.Announced.{opened-or-added}
 use Rattle.card_rules.proofs.IndexRates.{capped-low, none-later}
 use Rattle.card_rules.proofs.Rises.{bears-same, capped-falls, high-is, is-high, is-low, last-same, low-is, rate-lasting, rate-over, rate-vintage}
 use Rattle.card_rules.proofs.Settled.{AreSettled, all-settled}
-use Rattle.card_rules.specs.IndexRates.{index_at}
 use Rattle.card_rules.specs.Notices.{AreNotices}
 use Rattle.card_rules.specs.RaiseBounds.{IsAfterPlan, IsOfAPenalty, IsOfItsNotice, KeepsToLowers, RaisesAreBounded, RoseWithIndex, is_lowered_with, posts_of}
-use Rattle.card_rules.specs.Rises.{HasEnded, IndexRose, TookEffect, is_of_the_opening, rate_at}
+use Rattle.card_rules.specs.Rises.{HasEnded, is_of_the_opening, rate_at}
 
 -- ---- a rate is at most each Lower that caps it
 one-lowered : (s : Sort) (from to r : ℕ) (l : Lowering) → is_sort s l.sort ≡ true → from ≤ l.day → l.day ≤ to → lowered_by s from to r l ≤ l.rate

@@ -14,8 +14,7 @@ use Rattle.card_model.specs.Deadlines.{ack_due, credit_due, increase_of, increas
 use Rattle.card_model.specs.declared.task.TaskKind.TheVariants as task
 use Rattle.card_rules.proofs.Months.{six-months}
 use Rattle.card_rules.proofs.RefundTasks.{in-order}
-use Rattle.card_rules.specs.Months.{months_after}
-use Rattle.card_rules.specs.Reviews.{IsNoticeFrom, IsPenaltyFrom, IsReviewOf, IsToReview, ReviewsComeDue, WasRaised, WasReviewed}
+use Rattle.card_rules.specs.Reviews.{IsNoticeFrom, IsPenaltyFrom, IsReviewOf, ReviewsComeDue, WasRaised, WasReviewed}
 
 -- ---- what is in a list of days
 in-option : (o : Option ℕ) (xs : List ℕ) (x : ℕ) → Contains xs x → Contains (cons_option o xs) x

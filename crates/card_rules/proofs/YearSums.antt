@@ -1,5 +1,5 @@
 -- The totals of a calendar year go on from statement to statement.
-use Rattle.std.proofs.Common.{◌≡◌, ℕ, zero, suc, ◌+◌, ◌-◌, ◌≤◌, ◌<◌, ◌⊎◌, inl, inr, Bool, true, false, cond, List, [], ◌∷◌, ◌++◌, take, eqb, refl, sym, ap, ◌∙◌, subst, arith, Option, Some, None, pos}
+use Rattle.std.proofs.Common.{◌≡◌, ℕ, zero, suc, ◌+◌, ◌-◌, ◌≤◌, ◌<◌, ◌⊎◌, inl, inr, true, false, cond, List, [], ◌∷◌, ◌++◌, take, eqb, refl, sym, ap, ◌∙◌, subst, arith, Some, pos}
 use Rattle.std.proofs.lemmas.Bool.{cases_lt, eq-eqb, ne_eqb}
 use Rattle.std.proofs.lemmas.Int.{ints}
 use Rattle.std.proofs.lemmas.List.Elements.{All-nil, All-cons, All-head, All-tail}
@@ -10,7 +10,7 @@ use Rattle.card_events.proofs.Cycles.{closing_grows}
 use Rattle.card_events.proofs.DateFacts.{after_first, before_year}
 use Rattle.card_events.proofs.Dates.{date_of-has}
 use Rattle.card_events.specs.Billing.{closing}
-use Rattle.card_events.specs.Civil.{date_of, day_at}
+use Rattle.card_events.specs.Civil.{date_of}
 use Rattle.card_events.specs.History.{anchor_of}
 use Rattle.card_events.specs.Range.{last_request_day}
 use Rattle.card_events.specs.SharedRows.{SharedRows}
@@ -18,7 +18,7 @@ use Rattle.card_events.specs.declared.kept.Kept.{Kept}
 use Rattle.card_model.proofs.Calendar.{cycles_are_of_the_calendar}
 use Rattle.card_model.proofs.Cuts.{closing-within, closings_are_cuts}
 use Rattle.card_model.specs.CycleDays.{IsOpening}
-use Rattle.card_model.specs.Cycles.{Cycle, IssuedRow, Sheet, amounts_sum}
+use Rattle.card_model.specs.Cycles.{Cycle, IssuedRow, amounts_sum}
 use Rattle.card_model.specs.Fees.{fees_sum}
 use Rattle.card_model.specs.Folds.{book, book_after, cycle_at}
 use Rattle.card_model.specs.Sheets.{sheet_in, sheet_of, year_sum}
@@ -186,9 +186,9 @@ in-new-year history issued shared day issue k c d h high e i other = by (cases_l
         let each : All (λ (x : Cycle). (date_of x.closing).year < (date_of d.closing).year) (book history issued shared c.closing).cycles =
         all-at (λ (x : Cycle). (date_of x.closing).year < (date_of d.closing).year) (book history issued shared c.closing).cycles
         (λ j x at.
-            let low = closing-within history issued shared c.closing (suc j) x opened-by at in
-            let years = years-ascend x.closing c.closing low (omega (arith, within, high, in-turn)) in
-            omega (arith, years, less)) in
+        let low = closing-within history issued shared c.closing (suc j) x opened-by at in
+        let years = years-ascend x.closing c.closing low (omega (arith, within, high, in-turn)) in
+        omega (arith, years, less)) in
         its-own history issued shared day issue k d next
         (λ f. none-of-year f d.closing (take k (book history issued shared day).cycles) (subst (All (λ (x : Cycle). (date_of x.closing).year < (date_of d.closing).year)) (through history issued shared day k c e) each))
       where

@@ -1,5 +1,5 @@
 -- A temporary rate lasts six months or more (12 CFR 1026.55(b)(1)), for all lists of requests. Days are day numbers.
-use Rattle.std.specs.Prelude.{ℕ, ◌≡◌, ◌≤◌, ◌<◌, true, List}
+use Rattle.std.specs.Prelude.{ℕ, ◌≡◌, ◌≤◌, true, List}
 use Rattle.std.specs.List.{All, Contains}
 use Rattle.card_events.specs.History.{anchor_of}
 use Rattle.card_events.specs.SharedRows.{SharedRows}

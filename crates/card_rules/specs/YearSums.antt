@@ -1,6 +1,6 @@
 -- The totals of the calendar year on a statement are those of its periods (12 CFR 1026.7(b)(6)(ii), (iii)), in the book of every day, for
 -- all lists of posts. Days are day numbers, amounts cents.
-use Rattle.std.specs.Prelude.{ℕ, ℤ, pos, ◌+◌, ◌≡◌, ◌≢◌, ◌≤◌, List, Some, ◌+ℤ◌}
+use Rattle.std.specs.Prelude.{ℕ, pos, ◌+◌, ◌≡◌, ◌≢◌, ◌≤◌, List, Some, ◌+ℤ◌}
 use Rattle.card_events.specs.Civil.{date_of}
 use Rattle.card_events.specs.History.{anchor_of}
 use Rattle.card_events.specs.Range.{last_request_day}
