@@ -19,10 +19,10 @@ use Rattle.card_model.specs.Books.{Account, Book, account_of, present_cycle, wit
 use Rattle.card_model.specs.Caps.{row_for}
 use Rattle.card_model.specs.Closing.{close, closed_cycle, closing_interest}
 use Rattle.card_model.specs.Cycles.{Cycle, IssuedRow, Seen, last_cycle, posts_on, seen_on}
-use Rattle.card_model.specs.DueDates.{cured_by, due_after_day, on_due}
+use Rattle.card_model.specs.DueDates.{awaits_end, cured_by, due_after_day, on_due}
 use Rattle.card_model.specs.Effects.{after_posts, effect, meant_for, payment_at, returned, returned_fee}
 use Rattle.card_model.specs.Folds.{book, book_after, day_after}
-use Rattle.card_model.specs.Payments.{counted, has_due_payment, is_timely, met, owes_sixty_days, sixty_days_late}
+use Rattle.card_model.specs.Payments.{asks, counted, due_cycle_of, has_due_payment, is_timely, met, owes_sixty_days, sixty_days_late}
 use Rattle.card_model.specs.declared.fee.Fee.{Fee}
 use Rattle.card_model.specs.declared.segment.Interval.{Interval}
 use Rattle.card_rules.proofs.PenaltyFees.{any-kept}
@@ -39,11 +39,10 @@ and-parts : (s t : Bool) → (s && t) ≡ true → (s ≡ true) × (t ≡ true)
 and-parts true t e = (refl, e)
 and-parts false t e = cc
 
-three-parts : (p h u : Bool) → (p && h && u) ≡ true → (p ≡ true) × (h ≡ true) × (u ≡ true)
-three-parts true true true e = (refl, refl, refl)
-three-parts true true false e = absurd (cc)
-three-parts true false u e = absurd (cc)
-three-parts false h u e = absurd (cc)
+-- what is below what a due date asks for is below its minimum payment, and that is due
+below-asked : (h : Bool) (n m : ℕ) → ltb n (cond h m 0) ≡ true → (h ≡ true) × (ltb n m ≡ true)
+below-asked true n m e = (refl, e)
+below-asked false n m e = let low = less-is n 0 e in absurd (omega (arith, low))
 
 -- an end changes nothing of it
 ended : (issued : List IssuedRow) (posts : List CorrectedPost) (cs : List Cycle) (i : Interval) (last : Option ℕ) → IsOfSixtyDays issued posts cs i → IsOfSixtyDays issued posts cs (record { begins = i.begins; last = last })
@@ -100,12 +99,13 @@ module _ (history : List Kept) (issued : List IssuedRow) (shared : SharedRows) w
       let is : s.accepted ≡ d = omega (arith, own, on) in
       let some = Any-from_list_any (owes_sixty_days (sees d)) cs late in
       let c = some.1 in
-      let parts = three-parts (ltb (c.due + 60) d) (has_due_payment (sees d).issued c) (ltb (counted (sees d).posts (c.closing + 1) d) c.minimum) some.4 in
-      let row = Any-from_list_any (is_timely c) issued (any-kept (is_timely c) (λ (r : IssuedRow). nat_lt r.day d) issued parts.1) in
+      let parts = and-parts (ltb (c.due + 60) d) (ltb (counted (sees d).posts (c.closing + 1) d) (asks (due_cycle_of (sees d).issued c))) some.4 in
+      let owed = below-asked (has_due_payment (sees d).issued c) (counted (sees d).posts (c.closing + 1) d) c.minimum parts.1 in
+      let row = Any-from_list_any (is_timely c) issued (any-kept (is_timely c) (λ (r : IssuedRow). nat_lt r.day d) issued owed.0) in
       let timely = and-parts (eqb row.1.cycle c.number) (leb (row.1.day + 21) c.due) row.4 in
       let same = counted-seen (sees d) posts (c.closing + 1) d refl (omega arith) in
       let past = less-is (c.due + 60) d parts.0 in
-      let short = less-is (counted (sees d).posts (c.closing + 1) d) c.minimum parts.2 in
+      let short = less-is (counted (sees d).posts (c.closing + 1) d) c.minimum owed.1 in
       let at : counted posts (c.closing + 1) s.accepted ≡ counted posts (c.closing + 1) d = ap (counted posts (c.closing + 1)) is in
       record {
         announced = s;
@@ -162,13 +162,13 @@ module _ (history : List Kept) (issued : List IssuedRow) (shared : SharedRows) w
       posts-hold row a d cs ss (effect row a (sees d) s s.post b) (effect-cycles row a (sees d) s s.post b ∙ c) (All-tail (IsPostOf posts d) s ss o)
       (effect-holds row a d cs s s.post b c (All-head (IsPostOf posts d) s ss o) refl h)
 
-  cured-holds : (d : ℕ) (cs cycles : List Cycle) (c : Cycle) (is : List Interval) → All (Holds cs) is → All (Holds cs) (map (cured_by (sees d) cycles c) is)
-  cured-holds d cs cycles c is h =
-      All-map (Holds cs) (cured_by (sees d) cycles c) is
-      (All-weaker (Holds cs) (λ (i : Interval). Holds cs (cured_by (sees d) cycles c i)) (λ i j. by i j (not (is_some i.last) && eqb (length (due_after_day i.begins cycles)) 6 && list_all (met (sees d)) (due_after_day i.begins cycles))) is h)
+  cured-holds : (d : ℕ) (cs cycles : List Cycle) (due : ℕ) (is : List Interval) → All (Holds cs) is → All (Holds cs) (map (cured_by (sees d) cycles due) is)
+  cured-holds d cs cycles due is h =
+      All-map (Holds cs) (cured_by (sees d) cycles due) is
+      (All-weaker (Holds cs) (λ (i : Interval). Holds cs (cured_by (sees d) cycles due i)) (λ i j. by i j (awaits_end cycles i && list_all (met (sees d)) (due_after_day i.begins cycles))) is h)
     where
-      by : (i : Interval) → Holds cs i → (t : Bool) → Holds cs (cond t (record { begins = i.begins; last = Some c.due }) i)
-      by i j true = ended issued posts cs i (Some c.due) j
+      by : (i : Interval) → Holds cs i → (t : Bool) → Holds cs (cond t (record { begins = i.begins; last = Some due }) i)
+      by i j true = ended issued posts cs i (Some due) j
       by i j false = j
 
   close-holds : (row : Option IssuedRow) (a : Account) (d : ℕ) (b : Book) → All (Holds b.cycles) b.penalties → All (Holds (close row a (sees d) b).cycles) (close row a (sees d) b).penalties
@@ -188,7 +188,7 @@ module _ (history : List Kept) (issued : List IssuedRow) (shared : SharedRows) w
   later-holds row a d b o h =
       subst (λ cs. All (Holds cs) (later-book row a d b).penalties) (sym (later-cycles row a d b))
       (posts-hold row a d b.cycles (posts_on (sees d)) (due-book row a d b) (due-cycles row a (sees d) b (last_cycle b.cycles)) o
-      (due-by (All (Holds b.cycles)) row a (sees d) b (last_cycle b.cycles) h (λ c e. cured-holds d b.cycles b.cycles c b.penalties h)))
+      (due-by (All (Holds b.cycles)) row a (sees d) b (last_cycle b.cycles) h (λ c e. cured-holds d b.cycles b.cycles c.due b.penalties h)))
 
   day-holds : (row : Option IssuedRow) (a : Account) (d : ℕ) (b : Book) → All (IsPostOf posts d) (posts_on (sees d)) → All (Holds b.cycles) b.penalties → All (Holds (day_after row a (sees d) b).cycles) (day_after row a (sees d) b).penalties
   unfolding day_after
