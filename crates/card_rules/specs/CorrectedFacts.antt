@@ -1,5 +1,5 @@
--- An account is what its corrected facts make it, for all lists of posts: what a charge, a payment or a merchant's credit first said of
--- its day and cents leaves no trace. This is the ledger's own rule; 12 CFR 1026.13(e)(1) asks it of errors.
+-- Corrections replace what they correct, for all lists of posts: the first day and cents of a charge, a payment or a merchant's credit
+-- count for nothing. The ledger has this rule for all corrections; 12 CFR 1026.13(e)(1) has it for errors.
 use Rattle.std.specs.Prelude.{ℕ, ◌+◌, ◌≡◌, length, map, List, ◌∷◌, ◌++◌, Some}
 use Rattle.card_events.specs.History.{CorrectedPost, anchor_of, folded, is_variable, last_amend, terms_of}
 use Rattle.card_events.specs.SharedRows.{SharedRows}
@@ -27,7 +27,7 @@ pub record SayTheSame (shared : SharedRows) (history other : List Kept) : Type 0
   pub variable : is_variable other ≡ is_variable history
   pub posts : map plainly (folded (anchor_of other) shared.holidays other) ≡ map plainly (folded (anchor_of history) shared.holidays history)
 
--- then the account is the same on every day, for the same issued statements, which bound what a correction may charge
+-- then their books are equal on all days, if the issued statements are too: an issued statement bounds what a correction may charge
 abbrev pub CorrectedFactsAreEnough : Type 0
 CorrectedFactsAreEnough =
     (history other : List Kept) (issued : List IssuedRow) (shared : SharedRows) (day : ℕ) → SayTheSame shared history other
@@ -44,8 +44,8 @@ with_facts own p = p
 abbrev pub entered_with : ℕ × ℕ → Kept → Kept
 entered_with own k = record { number = k.number; key = k.key; accepted = k.accepted; post = with_facts own k.post }
 
--- Where a later post amends a post, the account is on every day what it would be had the post been entered with any other day and
--- cents; with those of the amendment, too
+-- A post that another one amends may be entered with any day and cents, those of the amendment or others: the books of all days are
+-- the same
 abbrev pub AmendedAsEntered : Type 0
 AmendedAsEntered =
     (before after : List Kept) (k : Kept) (own to : ℕ × ℕ) (issued : List IssuedRow) (shared : SharedRows) (day : ℕ)

@@ -24,8 +24,8 @@ IsAfterFirstYear opened _ = Unit {0}
 abbrev pub KeepsFirstYear : List Kept → Type 0
 KeepsFirstYear posts = All (λ k. IsAfterFirstYear (anchor_of posts).opened k.post) posts
 
--- So do all notices of every account, after every list of requests. And in the first year no balance bears more on a later day, but by
--- the index, the end of its plan, or a penalty
+-- So do all notices of every account, after every list of requests. If they do, three things alone can raise a rate in the first year:
+-- a higher index, a plan that ended, and a penalty
 pub record FirstYearKeepsItsRates : Type 0 where
   pub runs : (requests : List Request) → All (λ (x : NamedAccount). KeepsFirstYear x.lists.posts) (run requests).accounts
   pub rates :

@@ -21,9 +21,8 @@ index_at shared day = unwrap_or (index_on shared.index day) 0
 abbrev pub margin_and_index : SharedRows → ℕ → SegmentTerms → ℕ
 margin_and_index shared day g = min rate_limit (g.rate + index_at shared day)
 
--- Of an opening vintage, on a day from the opening on, whatever notices were given: while no penalty is in force, its rate is at most
--- the margin and the index in force; it is just that where no rate was ever lowered; and it is higher on a later day only where the
--- index is
+-- The rate of an opening vintage on a day from the opening on, whatever notices were given. Without a penalty in force it is the margin
+-- and the index, or less if some rate was lowered. Without a penalty in force on a later day it is higher then only if the index is
 pub record FollowsTheIndex (history : List Kept) (issued : List IssuedRow) (shared : SharedRows) (day : ℕ) (g : SegmentTerms) : Type 0 where
   pub most : starts day (book history issued shared day).penalties ≡ [] → rate_at history issued shared day g ≤ margin_and_index shared day g
   pub exact :

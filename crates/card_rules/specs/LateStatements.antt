@@ -15,12 +15,12 @@ use Rattle.card_model.specs.declared.segment.Sort.TheVariants as sort
 use Rattle.card_rates.specs.Laws.{segments_on}
 use Rattle.card_rules.specs.Grace.{was_paid_if_any}
 
--- every statement of a cycle that was issued was issued less than 21 days before its due date; or there is none
+-- no statement of a cycle came 21 days before its due date or earlier; perhaps none came
 abbrev pub IsTooLate : List IssuedRow → Cycle → Type 0
 IsTooLate issued c = All (λ (r : IssuedRow). r.cycle ≡ c.number → c.due < r.day + 21) issued
 
--- Where the last statement was too late, or wasn't issued, and the one before it was paid, no purchase bears interest in the cycle,
--- whatever is paid
+-- If the last statement came too late, or never, and the one before it was paid, purchases bear no interest in the cycle. It doesn't
+-- matter what is paid on the last one
 abbrev pub LateStatementsCostNoGrace : Type 0
 LateStatementsCostNoGrace =
     (history : List Kept) (issued : List IssuedRow) (shared : SharedRows) (day k : ℕ) (c last : Cycle) (g : SegmentTerms)

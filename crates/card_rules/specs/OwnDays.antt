@@ -1,4 +1,4 @@
--- Interest of any balance counts the days of its own cycle alone (12 CFR 1026.54(a)(1)(i)), in the book of every day, for all
+-- The interest of a cycle, on any balance, counts no day before the cycle (12 CFR 1026.54(a)(1)(i)), in the book of every day, for all
 -- lists of posts. Days are day numbers, amounts cents.
 use Rattle.std.specs.Prelude.{ℕ, ◌≡◌, ◌≤◌, false, List, Some}
 use Rattle.std.specs.List.{Contains}
@@ -14,8 +14,8 @@ use Rattle.card_model.specs.Segments.{SegmentTerms}
 use Rattle.card_rates.specs.Laws.{seen_in, segments_on}
 use Rattle.card_rules.specs.Grace.{balance_of, interest_on}
 
--- What a closed cycle charges a segment of any kind is at most the interest, rounded once, on the balances of that cycle's own days
--- at the rates of those days; a plan of deferred interest whose period ends with that closing aside
+-- A closed cycle charges a segment of any kind no more than its days of that cycle bear: the balance of each day at its rate, added up
+-- and rounded once. The exception is a deferred plan whose period ends with the closing
 abbrev pub BearsItsOwnDaysAlone : Type 0
 BearsItsOwnDaysAlone =
     (history : List Kept) (issued : List IssuedRow) (shared : SharedRows) (day k : ℕ) (c : Cycle) (g : SegmentTerms)

@@ -14,7 +14,7 @@ use Rattle.card_model.specs.Payments.{is_between, is_payment}
 abbrev pub paid_in : List CorrectedPost → ℕ → ℕ → ℕ → ℕ
 paid_in posts n from to = sum_by (λ p. if is_payment p.post && (p.number == n) && is_between from to p then p.cents else 0) posts
 
--- In the book of every day the entries of a payment lower what is owed by its cents, once it is credited, and by nothing before
+-- From the day of its credit on, the entries of a payment add up to its cents below 0; until then it has none
 abbrev pub PaymentsAreInTheBook : Type 0
 PaymentsAreInTheBook =
     (history : List Kept) (issued : List IssuedRow) (shared : SharedRows) (day n : ℕ) → (anchor_of history).opened ≤ day

@@ -22,9 +22,9 @@ pub record IsSeventhBusinessDay (holidays : List ℕ) (day by : ℕ) : Type 0 wh
   pub seven : business_days holidays (day + 1) (by - day) ≡ 7
 
 pub record RefundsAreTasks : Type 0 where
-  -- the day by which a refund is due is the seventh business day after the request
+  -- a refund is due on the seventh business day behind its request
   pub seventh : (holidays : List ℕ) (day : ℕ) → AreHolidays 0 holidays → day ≤ last_request_day → IsSeventhBusinessDay holidays day (refund_by holidays day)
-  -- while there is a credit balance and no later refund, it is an open task with that day
+  -- the task is open, with that day, until a refund comes or the credit balance is gone
   pub task :
       (account : List ℕ) (a : Anchor) (holidays : List ℕ) (posts : List CorrectedPost) (credit : ℕ) (since : Option ℕ) (today : ℕ) (p : CorrectedPost) (day : ℕ)
       → Contains posts p → p.post ≡ post.AskRefund day → 0 < credit → has_later is_refund p.number posts ≡ false

@@ -11,9 +11,9 @@ use Rattle.card_model.specs.Folds.{book}
 use Rattle.card_model.specs.Payments.{counted}
 use Rattle.card_model.specs.declared.segment.Interval.{Interval}
 
--- A penalty rate begins 45 days after its post was accepted. On that day a due date of a closed cycle lay more than 60 days back, its
--- statement had been issued at least 21 days before it, and the payments that are credited after the closing and by that day, without
--- those returned by then, were less than the minimum payment. `posts` is the whole corrected list
+-- A penalty rate begins 45 days after its post was accepted. On the day of that acceptance some minimum payment had been due for more
+-- than 60 days. Its statement had come 21 days before the due date or earlier. The payments credited since its closing, less those
+-- returned by the day of acceptance, fell short of it. `posts` is the whole corrected list
 pub record IsOfSixtyDays (issued : List IssuedRow) (posts : List CorrectedPost) (cycles : List Cycle) (i : Interval) : Type 0 where
   pub announced : CorrectedPost
   pub accepted : Contains posts announced
