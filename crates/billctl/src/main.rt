@@ -5,7 +5,7 @@
 use card_commands::{Keeping, billctl, exit_status, keeping_of, memory_status};
 use card_events::NoMemory;
 use card_ports::{Asking, Keeper, Lent, MemoryKeeper, Replies, StdSink, StdSource, TcpDoor};
-use card_sqlite::{SqliteKeeper, Waiting, WaitingKeeper};
+use card_sqlite::{Ended, SqliteKeeper, Waiting, WaitingKeeper};
 use std::cell::RefCell;
 use std::io::{self, ErrorKind, Read, Write};
 use std::mem::forget;
@@ -122,7 +122,7 @@ fn over_memory(rt: &HostRuntime, words: &Vec<String>) -> u8 {
 }
 
 // Rows in a file that wait with the replies to them. Where they can't be kept, that is the status of the run: the replies that were
-// written are those of a run that ended there.
+// written are those of a run that ended there. At the end the log is joined to the file; where that fails, all rows stand in both.
 fn over_waiting(rt: &HostRuntime, words: &Vec<String>, keeper: SqliteKeeper) -> u8 {
     let Ok(waiting) = Waiting::new(rt.alloc(), keeper, io::writer(rt)) else {
         return memory_status();
@@ -134,7 +134,9 @@ fn over_waiting(rt: &HostRuntime, words: &Vec<String>, keeper: SqliteKeeper) -> 
         waiting: Lent::new(&waiting),
     };
     let called = over(rt, words, reader, &waiting, &mut keeper);
-    exit_status(called.status, called.written, waiting.into_inner().end())
+    let Ended { keeper, kept } = waiting.into_inner().end();
+    let _ = keeper.close();
+    exit_status(called.status, called.written, kept)
 }
 
 // Each reply is written at once, behind its row.

@@ -14,10 +14,8 @@ mod verdict;
 mod work;
 
 pub use account::{Account, is_open};
-pub use card_daily::{Issued, Statement};
-pub use card_disputes::{Task, TaskKind};
+pub use card_daily::Statement;
 pub use card_reasons::open_reason;
-pub use card_replay::Change;
 pub use entry_list::EntryList;
 pub use owing::Owing;
 pub use reach::reach_today;

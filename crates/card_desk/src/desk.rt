@@ -46,6 +46,7 @@ impl Model for Desk {
 }
 
 // A request about an account, and its parts.
+#[derive(Drop)]
 struct Given<'a> {
     request: &'a Request,
     account: &'a Name,

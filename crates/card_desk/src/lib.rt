@@ -12,7 +12,7 @@ mod share;
 pub mod uncounted;
 mod view;
 
-pub use card_account::{EntryList, Statement, Task, TaskKind, Tasks};
+pub use card_account::EntryList;
 pub use desk::Desk;
 pub use fault::{Fault, LoadFault};
 pub use view::{Ask, View};

@@ -14,6 +14,5 @@ mod rewinding;
 mod statement;
 mod taking;
 
-pub use card_book::{Cycle, Entry, Folded, Issued, Statement};
 pub use change::Change;
 pub use replay::Replay;

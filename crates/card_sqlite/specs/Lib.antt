@@ -4,3 +4,4 @@ pub mod Told
 pub mod Closed
 pub mod Calls
 pub mod Connected
+pub mod Waiting

@@ -1,18 +1,18 @@
 // One flush: the rows that wait are kept, and then the replies that wait are written.
 ghost use Rattle.std.specs.Prelude.{◌≡◌, [], OnOk, OnErr, IsErrOf};
 ghost use Rattle.std.specs.Io.KnownBytes.{Appends};
-ghost use Rattle.card_ports.specs.Rows.{GoOn, KeepsRows, AddsRows};
+ghost use Rattle.card_ports.specs.Rows.{GoOn, KeepsRows, AddsRows, SameRowsTold};
 
 use card_ports::{Keeper, KeeperFault, MemoryKeeper};
 use std::alloc::Global;
 use std::io::{self, Write};
 
-// Why rows or replies that waited went.
+/// Why rows or replies that waited went.
 #[derive(Clone, Copy, Debug)]
-pub(crate) enum Lost {
-    // No row was kept, and nothing was written.
+pub enum Lost {
+    /// No row was kept, and nothing was written.
     Rows(KeeperFault),
-    // The rows are kept, and a front of the replies was written.
+    /// The rows are kept, and a front of the replies was written.
     Replies,
 }
 
@@ -26,6 +26,7 @@ fn keep<K: Keeper>(
     requires { GoOn (K.rows keeper.old) rows.old }
     ensures ok { OnOk result (AddsRows (K.rows keeper.old) (K.rows keeper.new) rows.old) }
     ensures err { OnErr result (KeepsRows (K.rows keeper.old) (K.rows keeper.new)) }
+    ensures told { SameRowsTold (K.rows keeper.old) (K.rows keeper.new) }
     ensures none { rows.new ≡ [] }
 {
     if rows.rows().is_empty() {
@@ -59,6 +60,7 @@ pub(crate) fn flush<K: Keeper, W: Write>(
     ensures ok { OnOk result (AddsRows (K.rows keeper.old) (K.rows keeper.new) rows.old × Appends (W.contents writer.old) (W.contents writer.new) replies.old.items) }
     ensures unkept { (fault : KeeperFault) → IsErrOf result (Lost.Rows fault) → KeepsRows (K.rows keeper.old) (K.rows keeper.new) × (writer.new ≡ writer.old) }
     ensures unwritten { IsErrOf result Lost.Replies → AddsRows (K.rows keeper.old) (K.rows keeper.new) rows.old }
+    ensures told { SameRowsTold (K.rows keeper.old) (K.rows keeper.new) }
     ensures none { (rows.new ≡ []) × (replies.new.items ≡ []) }
 {
     if let Err(fault) = keep(alloc, keeper, rows) {

@@ -15,6 +15,7 @@ mod told;
 mod waiting;
 
 pub use file::SqliteKeeper;
+pub use flush::Lost;
 pub use store::StoreKeeper;
 pub use told::Told;
-pub use waiting::{Waiting, WaitingKeeper};
+pub use waiting::{Ended, Waiting, WaitingKeeper};

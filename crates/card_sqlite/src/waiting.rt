@@ -5,32 +5,52 @@ use card_ports::{Keeper, KeeperFault, MemoryKeeper, Row};
 use std::alloc::Global;
 use std::cell::RefCell;
 use std::io::{self, Error, ErrorKind, Write};
+use std::marker::Model;
 
 // How many rows may wait for one commit, and how many bytes of replies behind them.
 const ROWS: usize = 1024;
 
 const REPLIES: usize = 8192;
 
-/// Rows on their way to a file, and replies on their way to a writer of std, which wait for one another: the rows are kept by one
-/// commit, and the replies are written after it. So no reply is written whose row isn't kept. It comes before a row is taken where
+/// Rows on their way to a keeper, and replies on their way to a writer of std, which wait for one another: the rows are kept by one
+/// append, and the replies are written after it. So no reply is written whose row isn't kept. It comes before a row is taken where
 /// 1,024 wait, behind a reply where more than 8,192 bytes of them then wait, and at each `flush`. So where each reply is one `write`,
 /// between its row and the next one, rows and replies that wait are those of the same lines, and no row is kept whose reply waits for
 /// another commit. Where the rows can't be kept, the replies that waited go with them. After that no row and no reply is taken any
-/// more; where replies couldn't be written, no reply is, and rows are kept as before. Like the adapters over std's writers, it tells
-/// no bytes: no clause says any of this; tests over files show it.
+/// more; where replies couldn't be written, no reply is, and rows are kept as before.
+///
+/// Clauses see what is kept and written, where keeper and writer tell it, and what waits.
 #[derive(Drop)]
-pub struct Waiting<W: Write + Drop> {
+pub struct Waiting<K: Keeper + Drop, W: Write + Drop> {
     alloc: Global,
-    keeper: SqliteKeeper,
+    keeper: K,
     rows: MemoryKeeper,
     writer: W,
     replies: Vec<u8>,
     lost: Option<Lost>,
 }
 
-impl<W: Write + Drop> Waiting<W> {
-    /// Nothing waits yet. An error is want of memory.
-    pub fn new(alloc: Global, keeper: SqliteKeeper, writer: W) -> io::Result<Waiting<W>> {
+impl<K: Keeper + Drop, W: Write + Drop> Model for Waiting<K, W> {
+    ghost use Rattle.card_ports.specs.Rows.{GoOn};
+    ghost use Rattle.card_sqlite.specs.Waiting.{Held};
+
+    ghost Value = { Held };
+
+    ghost view = { λ w. record { kept = K.rows w.keeper; waiting = w.rows; written = W.contents w.writer; replies = w.replies.items; lost = w.lost } };
+
+    ghost invariant = { λ w. GoOn (K.rows w.keeper) w.rows };
+}
+
+impl<K: Keeper + Drop, W: Write + Drop> Waiting<K, W> {
+    ghost use Rattle.std.specs.Prelude.{◌≡◌, ◌⊎◌, None, IfOk, IfErr, IfSome, OnOk, OnErr};
+    ghost use Rattle.std.specs.Io.KnownBytes.{Keeps};
+    ghost use Rattle.card_ports.specs.Rows.{AddsRows, GivesRows, GoOn, KeepsRows, SameRowsTold};
+    ghost use Rattle.card_sqlite.specs.Waiting.{LostFor, Settled, WentFor, all_bytes, all_rows, fault_in, starting};
+
+    /// Nothing waits yet. An error says that memory was wanted and isn't there.
+    pub fn new(alloc: Global, keeper: K, writer: W) -> io::Result<Waiting<K, W>>
+        ensures { IfOk result (λ w. w ≡ starting (K.rows keeper) (W.contents writer)) }
+    {
         let replies = Vec::with_capacity(alloc, 2 * REPLIES)?;
         Ok(Waiting {
             alloc,
@@ -43,8 +63,12 @@ impl<W: Write + Drop> Waiting<W> {
     }
 
     // Has the rows kept and the replies written. After rows were lost none is kept. After replies were lost none waits, and rows are
-    // kept as before; the first loss stands.
-    fn settle(&mut self) -> Result<(), Lost> {
+    // kept as before.
+    #[tactic(auto, using(crate::proofs::Flushed::keeps_same, crate::proofs::Flushed::none_goes_on))]
+    fn settle(&mut self) -> Result<(), Lost>
+        ensures ok { OnOk result (Settled self.old self.new) }
+        ensures err { IfErr result (λ lost. WentFor lost self.old self.new) }
+    {
         if let Some(Lost::Rows(fault)) = self.lost {
             return Err(Lost::Rows(fault));
         }
@@ -55,25 +79,33 @@ impl<W: Write + Drop> Waiting<W> {
             &mut self.writer,
             &mut self.replies,
         );
-        if let Err(lost) = settled {
-            self.lost = Some(self.lost.unwrap_or(lost));
-        }
-        match self.lost {
-            Some(lost) => Err(lost),
-            None => Ok(()),
+        match settled {
+            Ok(()) => match self.lost {
+                None => Ok(()),
+                Some(lost) => Err(lost),
+            },
+            Err(lost) => {
+                self.lost = Some(lost);
+                Err(lost)
+            }
         }
     }
 
     // The fault for which rows weren't kept, if there was one.
-    fn fault(&self) -> Option<KeeperFault> {
+    fn fault(&self) -> Option<KeeperFault>
+        ensures { result ≡ fault_in self.now.lost }
+    {
         match self.lost {
             Some(Lost::Rows(fault)) => Some(fault),
             _ => None,
         }
     }
 
-    // The rows of the file, behind those that wait.
-    fn load(&mut self, alloc: Global) -> Result<Vec<Row>, KeeperFault> {
+    /// The rows of the keeper, behind which those stand that waited: they are kept first. An error is the fault of the keeper, now or
+    /// when rows were lost.
+    pub fn load(&mut self, alloc: Global) -> Result<Vec<Row>, KeeperFault>
+        ensures given { IfOk result (λ rows. GivesRows (all_rows self.old) rows.items) }
+    {
         let _ = self.settle();
         match self.fault() {
             Some(fault) => Err(fault),
@@ -81,36 +113,89 @@ impl<W: Write + Drop> Waiting<W> {
         }
     }
 
-    // Has the rows wait.
-    fn append(&mut self, alloc: Global, more: &[Row]) -> Result<(), KeeperFault> {
+    // Has what waits kept and written where no more rows may wait.
+    #[tactic(auto, using(crate::proofs::Flushed::told_behind))]
+    fn make_room(&mut self)
+        ensures told { SameRowsTold (all_rows self.old) (all_rows self.new) }
+        ensures rows { fault_in self.new.lost ≡ None → KeepsRows (all_rows self.old) (all_rows self.new) }
+        ensures lost { IfSome (fault_in self.new.lost) (λ fault. KeepsRows self.old.kept self.new.kept × (self.new.written ≡ self.old.written)) }
+        ensures bytes { self.new.lost ≡ None → Keeps (all_bytes self.old) (all_bytes self.new) }
+    {
         if self.rows.rows().len() >= ROWS {
             let _ = self.settle();
         }
-        match self.fault() {
-            Some(fault) => Err(fault),
-            None => self.rows.append(alloc, more),
+    }
+
+    // Has the rows wait, behind those that are there.
+    #[tactic(auto, using(crate::proofs::Flushed::goes_behind, crate::proofs::Flushed::adds_behind))]
+    fn wait(&mut self, alloc: Global, more: &[Row]) -> Result<(), KeeperFault>
+        requires { GoOn (all_rows self.old) more.now }
+        ensures ok { OnOk result (AddsRows (all_rows self.old) (all_rows self.new) more.now) }
+        ensures err { OnErr result (self.new ≡ self.old) }
+        ensures bytes { all_bytes self.new ≡ all_bytes self.old }
+        ensures lost { self.new.lost ≡ self.old.lost }
+    {
+        match self.rows.append(alloc, more) {
+            Ok(()) => Ok(()),
+            Err(fault) => Err(fault),
         }
     }
 
-    /// Has the rows kept that still wait, and the replies written, and closes the keeper as `SqliteKeeper::close` does, passing over
-    /// its failure. An error is the fault for which rows weren't kept, now or before; after replies were lost none is told. No clause
-    /// says so; tests over files show it.
-    pub fn end(self) -> Result<(), KeeperFault> {
+    /// Has the rows wait, behind those that are there. An error is the fault for which rows were lost, now or before; or `Memory`, and
+    /// then nothing was lost.
+    #[tactic(auto, using(crate::proofs::Flushed::goes_from, crate::proofs::Flushed::adds_from, crate::proofs::Flushed::keeps_same))]
+    pub fn append(&mut self, alloc: Global, more: &[Row]) -> Result<(), KeeperFault>
+        requires { GoOn (all_rows self.old) more.now }
+        ensures ok { OnOk result (AddsRows (all_rows self.old) (all_rows self.new) more.now) }
+        ensures err { IfErr result (λ fault. LostFor fault self.old self.new ⊎ KeepsRows (all_rows self.old) (all_rows self.new)) }
+        ensures bytes { self.new.lost ≡ None → Keeps (all_bytes self.old) (all_bytes self.new) }
+    {
+        self.make_room();
+        match self.fault() {
+            Some(fault) => Err(fault),
+            None => self.wait(alloc, more),
+        }
+    }
+
+    /// Has the rows kept that still wait, and the replies written, and gives the keeper back. An error is the fault for which rows
+    /// were lost, now or before; then the keeper has the rows that it had.
+    pub fn end(self) -> Ended<K>
+        ensures ok { OnOk result.kept (AddsRows self.kept (K.rows result.keeper) self.waiting) }
+        ensures err { OnErr result.kept (KeepsRows self.kept (K.rows result.keeper)) }
+    {
         let mut last = self;
         let _ = last.settle();
-        let fault = last.fault();
-        let _ = last.keeper.close();
-        match fault {
+        let kept = match last.fault() {
             Some(fault) => Err(fault),
             None => Ok(()),
-        }
+        };
+        let Waiting { keeper, .. } = last;
+        Ended { keeper, kept }
     }
 }
 
-impl<W: Write + Drop> Write for Waiting<W> {
+/// The keeper at the end, and whether the rows were kept that waited.
+#[derive(Drop)]
+pub struct Ended<K: Keeper + Drop> {
+    pub keeper: K,
+    pub kept: Result<(), KeeperFault>,
+}
+
+impl<K: Keeper + Drop, W: Write + Drop> Write for Waiting<K, W> {
+    ghost use Rattle.std.specs.Prelude.{◌≡◌, IfOk, OnOk, OnErr, length};
+    ghost use Rattle.std.specs.Io.{WritesAtMost};
+    ghost use Rattle.std.specs.Io.KnownBytes.{Appends};
+    ghost use Rattle.card_ports.specs.Rows.{KeepsRows};
+    ghost use Rattle.card_sqlite.specs.Waiting.{Settled, all_bytes, all_rows};
+
     // Takes the whole reply, and then has what waits kept and written where it is too much. After an error the reply is lost with
     // those that waited, if they were lost then or before; and alone, if memory was wanted for it.
-    fn write(&mut self, bytes: &[u8]) -> io::Result<usize> {
+    fn write(&mut self, bytes: &[u8]) -> io::Result<usize>
+        ensures bound { WritesAtMost result bytes.now }
+        ensures all { IfOk result (λ n. n ≡ length bytes.now) }
+        ensures taken { OnOk result (Appends (all_bytes self.old) (all_bytes self.new) bytes.now) }
+        ensures rows { OnOk result (KeepsRows (all_rows self.old) (all_rows self.new)) }
+    {
         if self.lost.is_some() {
             return Err(Error::from(ErrorKind::BrokenPipe));
         }
@@ -121,7 +206,9 @@ impl<W: Write + Drop> Write for Waiting<W> {
         Ok(bytes.len())
     }
 
-    fn flush(&mut self) -> io::Result<()> {
+    fn flush(&mut self) -> io::Result<()>
+        ensures ok { OnOk result (Settled self.old self.new) }
+    {
         match self.settle() {
             Ok(()) => Ok(()),
             Err(_) => Err(Error::from(ErrorKind::BrokenPipe)),
@@ -129,10 +216,28 @@ impl<W: Write + Drop> Write for Waiting<W> {
     }
 }
 
-/// A keeper whose rows wait with the replies to them. It fails while these are being written elsewhere.
+impl<W: Write + Drop> Waiting<SqliteKeeper, W> {
+    ghost use Rattle.std.specs.Prelude.{◌≡◌, None};
+
+    // A keeper over a file tells no rows.
+    fn tells_none(&self)
+        ensures { self.now.kept ≡ None }
+    {
+        let _keeper = &self.keeper;
+    }
+
+    // Has rows wait for the file.
+    fn append_to_file(&mut self, alloc: Global, more: &[Row]) -> Result<(), KeeperFault> {
+        self.tells_none();
+        self.append(alloc, more)
+    }
+}
+
+/// A keeper whose rows wait for a file with the replies to them. It fails while these are being written elsewhere. What the cell holds
+/// stands in no clause, so neither do its rows.
 #[derive(Drop)]
 pub struct WaitingKeeper<'a, W: Write + Drop> {
-    to: &'a RefCell<Waiting<W>>,
+    to: &'a RefCell<Waiting<SqliteKeeper, W>>,
     faults: u64,
 }
 
@@ -140,7 +245,7 @@ impl<'a, W: Write + Drop> WaitingKeeper<'a, W> {
     ghost use Rattle.std.specs.Prelude.{◌≡◌};
 
     /// What is kept goes there, and no fault is counted yet.
-    pub fn new(to: &'a RefCell<Waiting<W>>) -> WaitingKeeper<'a, W>
+    pub fn new(to: &'a RefCell<Waiting<SqliteKeeper, W>>) -> WaitingKeeper<'a, W>
         ensures { result.faults ≡ 0 }
     {
         WaitingKeeper { to, faults: 0 }
@@ -155,7 +260,7 @@ impl<'a, W: Write + Drop> WaitingKeeper<'a, W> {
 
     fn append_there(&self, alloc: Global, more: &[Row]) -> Result<(), KeeperFault> {
         match self.to.try_borrow_mut() {
-            Ok(mut waiting) => waiting.append(alloc, more),
+            Ok(mut waiting) => waiting.append_to_file(alloc, more),
             Err(_) => Err(KeeperFault::Failed),
         }
     }

@@ -19,11 +19,7 @@ mod tasks;
 mod wide_money;
 
 pub use absent::none_line;
-pub use card_lines::{
-    Line, PostKind, RefusalValue, Word, bad_text, read_category, read_channel, read_day,
-    read_finding, read_line, read_number, read_place, read_plan_kind, read_word, refusal_name,
-    refusal_value, reply_text, show_text,
-};
+pub use card_lines::{Line, read_line, reply_text, show_text};
 pub use export::{export_text, kind_word};
 pub use item::Item;
 pub use record::import_record;

@@ -8,7 +8,6 @@ mod sums;
 mod text;
 mod totals;
 
-pub use card_text::WideMoney;
 pub use ledger::LedgerDesk;
 pub use side::Side;
 pub use text::trial_text;
