@@ -51,14 +51,14 @@ class Talk:
             self.test.assertEqual(back[:13], b"HTTP/1.1 %d " % status)
             self.test.assertEqual(back.count(b"HTTP/1.1 "), 1, "it has more than one answer")
 
-        self.steps.append(Step(repr(pieces[0][:SHOWN]), str(status), do))
+        self.steps.append(Step(pieces[0][:SHOWN].decode("latin-1"), str(status), do))
 
     def exchange(self, sent: bytes, wanted: bytes) -> None:
         """Bytes as they are, and the whole answer, byte by byte; cut where there is none."""
         def do(server: Server) -> None:
             self.test.assertEqual(server.send(sent), wanted)
 
-        self.steps.append(Step(repr(sent[-SHOWN:]), wanted[9:12].decode() or "cut", do))
+        self.steps.append(Step(sent[-SHOWN:].decode("latin-1"), wanted[9:12].decode() or "cut", do))
 
     def cut(self, name: str, do: Callable[[Server], None]) -> None:
         """A client that gets no answer."""
