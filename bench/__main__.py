@@ -69,7 +69,7 @@ def line_of(name: str, row: Row) -> str:
 
 def list_all(found: dict[str, ModuleType]) -> None:
     for name, module in found.items():
-        first = (module.__doc__ or "").strip().split(". ")[0].replace("\n", " ")
+        first = (module.__doc__ or "").split("\n")[0]
         cases = cases_of(module)
         print(f"{name}{' (long)' if is_long(module) else ''}: {first.rstrip('.')}")
         if cases != ["all"]:
