@@ -13,7 +13,7 @@ from contextlib import contextmanager
 from dataclasses import dataclass
 from typing import NamedTuple, NoReturn
 
-from tests.support.program import PROGRAM
+from tests.support.program import PROGRAM, TOP
 
 MEMORY = "/dev/shm"  # a disk of memory, so that no commit waits for a disk
 CALLGRIND = ("valgrind", "--tool=callgrind", "--callgrind-out-file=/dev/null")
@@ -82,8 +82,8 @@ def memory_room() -> "tempfile.TemporaryDirectory[str]":
 
 
 def written(lines: Iterable[str] | Callable[[], Iterable[str]], path: str) -> int:
-    """Writes lines into a file, and counts them. It is done by a process of its own: the most
-    memory that the system notes of a child is at least what its parent had."""
+    """Writes lines into a file, and counts them, by a process of its own, so that this one stays
+    small."""
     sys.stdout.flush()
     child = os.fork()
     if child == 0:
@@ -103,15 +103,14 @@ def written(lines: Iterable[str] | Callable[[], Iterable[str]], path: str) -> in
 def measured(words: Sequence[str], given: str = os.devnull, statuses: tuple[int, ...] = (0,),
              out: str = os.devnull) -> Used:
     """One run, whose input is a file."""
-    begun = time.monotonic()
-    with open(given, "rb") as source, open(out, "wb") as sink:
-        child = subprocess.Popen(words, stdin=source, stdout=sink)
-    _, state, used = os.wait4(child.pid, 0)
-    seconds = time.monotonic() - begun
-    child.returncode = os.waitstatus_to_exitcode(state)
-    if child.returncode not in statuses:
-        stop(f"{' '.join(words)} ends with {child.returncode}")
-    return Used(seconds, used.ru_maxrss / 1024, used.ru_utime + used.ru_stime, child.returncode)
+    alone = [sys.executable, "-I", "-S", str(TOP / "bench" / "alone.py")]
+    done = subprocess.run([*alone, given, out, *words], stdout=subprocess.PIPE, text=True)
+    if done.returncode != 0:
+        stop(f"{' '.join(words)} isn't run")
+    seconds, kilobytes, computed, status = done.stdout.split()
+    if int(status) not in statuses:
+        stop(f"{' '.join(words)} ends with {status}")
+    return Used(float(seconds), int(kilobytes) / 1024, float(computed), int(status))
 
 
 def least(runs: int, call: Callable[[], Used]) -> Used:
