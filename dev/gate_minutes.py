@@ -1,14 +1,15 @@
 #!/usr/bin/env python3
-"""Runs a command, the gate mostly, and prints the processor seconds of its provers by crate and by what they were for.
+"""Runs a command, usually the gate, and prints the processor seconds of its provers by crate.
 
     dev/gate_minutes.py -- rt ci
     dev/gate_minutes.py -- .ci/run
 
-A prover is told apart by its words and its folder: proofs of sources, tests, the checks that a crate's must-fail edits begin and end with
-(seeds), the edits themselves, and the compiling of what was proved. It looks four times a second, so what takes less may be missed. The
-command's own output goes where it goes; the table comes behind it, and the command's status is this one's. Linux and the standard library.
+The seconds are told apart by what a prover's words and folder show: proofs of sources, tests, the
+checks that a crate's must-fail edits begin and end with (seeds), the edits themselves, and the
+compiling of what was proved. It looks four times a second, so what takes less may be missed. The
+command's own output goes where it goes; the table comes after it, and the command's status is
+this one's. Linux and the standard library.
 """
-import collections
 import os
 import subprocess
 import sys
@@ -16,18 +17,25 @@ import time
 
 TICKS = os.sysconf("SC_CLK_TCK")
 KINDS = ("proofs", "tests", "seeds", "edits", "compiling")
+# by the number of a process and when it began, since numbers come again
+Seen = dict[tuple[int, str], tuple[str, str, float]]
 
 
-def stat_of(process):
-    return open(f"/proc/{process}/stat", encoding="utf-8", errors="replace").read().rsplit(")", 1)[1].split()
+def read(path: str) -> str:
+    with open(path, encoding="utf-8", errors="replace") as file:
+        return file.read()
 
 
-def below(root):
+def stat_of(process: int) -> list[str]:
+    return read(f"/proc/{process}/stat").rsplit(")", 1)[1].split()
+
+
+def below(root: int) -> set[int]:
     """The processes that a process started, and theirs."""
     parents = {}
     for name in filter(str.isdigit, os.listdir("/proc")):
         try:
-            parents[int(name)] = int(stat_of(name)[1])
+            parents[int(name)] = int(stat_of(int(name))[1])
         except OSError:
             pass
     found, grown = {root}, True
@@ -37,7 +45,7 @@ def below(root):
     return found
 
 
-def kind_of(words, folder):
+def kind_of(words: list[str], folder: str) -> str:
     if "--crate-checked" in words:
         return "compiling"
     if "rt-edit" in folder:
@@ -46,42 +54,47 @@ def kind_of(words, folder):
     return "tests" if "--test" in words else "proofs"
 
 
-def look(root, seen):
+def look(root: int, seen: Seen) -> None:
+    """Notes what each prover below the process has used so far."""
     for process in below(root):
         try:
-            words = open(f"/proc/{process}/cmdline", encoding="utf-8", errors="replace").read().split("\0")
+            words = read(f"/proc/{process}/cmdline").split("\0")
             if os.path.basename(words[0]) != "rattle" or "--crate-name" not in words:
                 continue
             stat, folder = stat_of(process), os.readlink(f"/proc/{process}/cwd")
         except OSError:
             continue
         name = words[words.index("--crate-name") + 1]
-        # a process by its number and when it began, since numbers come again
-        seen[process, stat[19]] = name, kind_of(words, folder), (int(stat[11]) + int(stat[12])) / TICKS
+        seconds = (int(stat[11]) + int(stat[12])) / TICKS
+        seen[process, stat[19]] = name, kind_of(words, folder), seconds
 
 
-def tell(seen, minutes):
-    table = collections.defaultdict(collections.Counter)
+def table_of(seen: Seen, minutes: float) -> list[str]:
+    table: dict[str, dict[str, float]] = {}
     for name, kind, seconds in seen.values():
-        table[name][kind] += seconds
-    print(f"{'processor seconds':<20}" + "".join(f"{kind:>11}" for kind in KINDS))
+        row = table.setdefault(name, dict.fromkeys(KINDS, 0.0))
+        row[kind] += seconds
+    lines = [f"{'processor seconds':<20}" + "".join(f"{kind:>11}" for kind in KINDS)]
     for name in sorted(table, key=lambda it: -sum(table[it].values())):
-        print(f"{name:<20}" + "".join(f"{table[name][kind]:>11.0f}" for kind in KINDS))
+        lines.append(f"{name:<20}" + "".join(f"{table[name][kind]:>11.0f}" for kind in KINDS))
     sums = [sum(row[kind] for row in table.values()) / 60 for kind in KINDS]
-    print(f"{'minutes':<20}" + "".join(f"{it:>11.1f}" for it in sums) + f"   {sum(sums):.0f} in all, {minutes:.0f} by the clock")
+    told = "".join(f"{it:>11.1f}" for it in sums)
+    return [*lines, f"{'minutes':<20}{told}   {sum(sums):.0f} in all, {minutes:.0f} by the clock"]
 
 
-def main():
+def main() -> int:
     if "--" not in sys.argv[:-1]:
-        sys.exit(__doc__.strip())
-    seen, begun = {}, time.time()
+        print((__doc__ or "").strip(), file=sys.stderr)
+        return 1
+    seen: Seen = {}
+    begun = time.time()
     run = subprocess.Popen(sys.argv[sys.argv.index("--") + 1:])
     while run.poll() is None:
         look(run.pid, seen)
         time.sleep(0.25)
-    tell(seen, (time.time() - begun) / 60)
-    sys.exit(run.returncode)
+    print("\n".join(table_of(seen, (time.time() - begun) / 60)))
+    return run.returncode
 
 
 if __name__ == "__main__":
-    main()
+    sys.exit(main())

@@ -1,0 +1,1 @@
+"""Requests over HTTP: what is answered, and what hostile clients get."""
