@@ -147,3 +147,49 @@ def run_to_call(words: Sequence[Word], calls: int | None, *, given: Channel,
             made -= 1
     running.returncode = os.waitstatus_to_exitcode(state)
     return made, running.returncode
+
+
+class Session:
+    """A run to which a line is sent once the reply to the one before was read. At the end of the
+    block it is killed where it still runs."""
+
+    def __init__(self, words: Sequence[Word], **how: Any) -> None:
+        self.running = start(words, **how)
+        self.pid = self.running.pid
+
+    def __enter__(self) -> "Session":
+        return self
+
+    def __exit__(self, *error: object) -> None:
+        self.kill()
+        for end in (self.running.stdin, self.running.stdout, self.running.stderr):
+            if end:
+                end.close()
+
+    def write(self, data: bytes) -> None:
+        assert self.running.stdin
+        self.running.stdin.write(data)
+
+    def read_line(self) -> str:
+        """The next reply, with its line feed; empty at the end of what the run writes."""
+        assert self.running.stdout
+        return self.running.stdout.readline().decode()
+
+    def ask(self, line: str) -> str:
+        """Sends a line, and gives the reply to it."""
+        self.write(line.encode() + b"\n")
+        return self.read_line()
+
+    def close(self) -> None:
+        """Ends the input."""
+        assert self.running.stdin
+        self.running.stdin.close()
+
+    def end(self, seconds: float = 60) -> int:
+        """Ends the input: the status with which the run ends."""
+        self.close()
+        return self.running.wait(seconds)
+
+    def kill(self) -> None:
+        self.running.kill()
+        self.running.wait()
