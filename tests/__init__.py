@@ -1,0 +1,5 @@
+"""The tests: `python3 -m tests`."""
+
+import sys
+
+sys.dont_write_bytecode = True
