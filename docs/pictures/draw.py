@@ -120,7 +120,8 @@ def picture(width: int, height: int, title: str, parts: list[str]) -> str:
               'markerHeight="8" orient="auto">'
               f'<path d="M0 0L10 5L0 10z" fill="{LINE}"/></marker></defs>')
     paper = f'<rect width="{width}" height="{height}" fill="{PAPER}"/>'
-    return "\n".join([head, f"<title>{escape(title)}</title>", marker, paper, *parts, "</svg>"]) + "\n"
+    name = f"<title>{escape(title)}</title>"
+    return "\n".join([head, name, marker, paper, *parts, "</svg>"]) + "\n"
 
 
 def rows_of(crates: list[str], width: int) -> list[str]:
@@ -181,8 +182,8 @@ def layers_text(text: str) -> str:
              for heading in groups}
     lines = []
     for heading, crates in reversed(list(groups.items())):
-        on = " on " + ", ".join(map(str, sorted(lower[heading], reverse=True))) if lower[heading] else ""
-        lines.append(f"{number[heading]:2}  {heading}{on}")
+        on = ", ".join(map(str, sorted(lower[heading], reverse=True)))
+        lines.append(f"{number[heading]:2}  {heading}" + (f", on {on}" if on else ""))
         lines += [f"      {row}" for row in rows_of(crates, 640)]
     return "\n".join(lines) + "\n"
 
@@ -261,7 +262,8 @@ def request() -> str:
     parts = [words(30, 38, "A post is answered", 17, "bold")] + step_boxes()
     parts.append(words(30, 176, AFTER, 13))
     parts.append(words(30, 250, LATER, 17, "bold"))
-    return picture(1000, 530, "The life of a post, and the fold below it", parts + day_line() + fold_arrows())
+    parts += day_line() + fold_arrows()
+    return picture(1000, 530, "The life of a post, and the fold below it", parts)
 
 
 def main(arguments: list[str]) -> None:

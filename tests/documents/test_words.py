@@ -14,6 +14,9 @@ PLAIN = (
 LONGEST_PLAIN = 40
 LONGEST = 60
 
+# RULES states laws as one sentence each, to be read against the regulation.
+LONGEST_LAW = 90
+
 # Turns of phrase that aren't plain, with the plain ones.
 IDIOMS = {
     r"wants? (?:of|no) memory|wants memory|takes no memory": "out of memory, doesn't allocate",
@@ -52,6 +55,8 @@ class PlainEnglish(unittest.TestCase):
     def test_sentences_are_short(self) -> None:
         for name in documents():
             longest = LONGEST_PLAIN if name in PLAIN else LONGEST
+            if name == "docs/RULES.md":
+                longest = LONGEST_LAW
             for sentence in sentences(name):
                 with self.subTest(page=name):
                     count = len(sentence.split())
@@ -111,7 +116,9 @@ class Named(unittest.TestCase):
 MODULES = re.compile(r"python3 -m ((?:audit|tests|bench|dev)(?:\.\w+)*)")
 
 # Paths from the top of the repository as documents write them.
-PATHS = re.compile(r"(?<![\w/.-])((?:docs|tests|bench|dev|examples|audit|ops)/[\w./-]*\w)(?![\w*<{@-])")
+PATHS = re.compile(
+    r"(?<![\w/.-])((?:docs|tests|bench|dev|examples|audit|ops)/[\w./-]*\w)(?![\w*<{@-])"
+)
 
 
 def is_there(path: str) -> bool:
