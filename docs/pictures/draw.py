@@ -183,7 +183,7 @@ def layers_text(text: str) -> str:
     lines = []
     for heading, crates in reversed(list(groups.items())):
         on = ", ".join(map(str, sorted(lower[heading], reverse=True)))
-        lines.append(f"{number[heading]:2}  {heading}" + (f", on {on}" if on else ""))
+        lines.append(f"{number[heading]:2}  {heading}" + (f" (on {on})" if on else ""))
         lines += [f"      {row}" for row in rows_of(crates, 640)]
     return "\n".join(lines) + "\n"
 
