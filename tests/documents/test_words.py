@@ -21,7 +21,6 @@ LONGEST_LAW = 90
 IDIOMS = {
     r"wants? (?:of|no) memory|wants memory|takes no memory": "out of memory, doesn't allocate",
     r"\btells?\b|\btold\b": "is visible to the contract; reports, says",
-    r"^(?:- )?Of (?:a|an|the|all|two|each)?\s?`?\w+[^.:]{0,60}, ": "For .. (in front of a clause)",
     r"\bbut for\b": "except",
     r"stands? beside|stands? in\b": "is next to; is in",
     r"\b(?:comes?|came) to\b(?! (?:be|an end))": "is, amounts to",
@@ -51,6 +50,13 @@ class PlainEnglish(unittest.TestCase):
                     found = re.search(idiom, line)
                     with self.subTest(page=name, line=number, idiom=idiom):
                         self.assertIsNone(found, f"{line[:200]!r}: write {instead!r}")
+
+    def test_no_sentence_begins_with_of(self) -> None:
+        for name in PLAIN:
+            for sentence in sentences(name):
+                with self.subTest(page=name):
+                    message = "put the clause first, or write For"
+                    self.assertNotRegex(sentence, r"^(?:[-*] |\d+\. )?Of \w", message)
 
     def test_sentences_are_short(self) -> None:
         for name in documents():
