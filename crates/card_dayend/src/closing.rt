@@ -100,34 +100,34 @@ fn purchases(inputs: &Inputs, day: Day, cycles: &[Cycle], tally: &Tally) -> Grac
     requires tally { Tallies inputs.now day tally.now }
     ensures { result ≡ model.purchase_case_in (seen_in inputs.now day) (posted inputs.now day) }
 {
-    let anchor = inputs.anchor();
+    let _anchor = inputs.anchor();
     let count = cycles.len();
     let before = due_at(inputs, day, cycles, count.saturating_sub(1));
     let last = due_at(inputs, day, cycles, count);
-    purchase_case(inputs.posts(), &anchor, before, last, tally)
+    purchase_case(inputs.posts(), before, last, tally)
 }
 
 // What is left of a minimum payment at the closing after its own.
-fn left_of(inputs: &Inputs, day: Day, cycle: &Cycle, tally: &mut Tally) -> Cents
+fn left_of(inputs: &Inputs, day: Day, cycle: &Cycle, tally: &mut Tally) -> u64
     requires dated { IsDayOf inputs.now day }
     requires closes { day_of_month day ≡ (anchor_of inputs.now.history).close_day }
     requires last { last_cycle (posted inputs.now day).cycles ≡ Some cycle.now }
     requires tally { Tallies inputs.now day tally.old }
-    ensures value { result ≡ pos (payments.past_due (seen_in inputs.now day) day (Some cycle.now)) }
+    ensures value { result ≡ payments.past_due (seen_in inputs.now day) day (Some cycle.now) }
     ensures tally { Tallies inputs.now day tally.new }
 {
-    let anchor = inputs.anchor();
+    let _anchor = inputs.anchor();
     let due = due_cycle(inputs, day, cycle);
-    past_due(inputs.posts(), &anchor, &due, day, tally)
+    past_due(inputs.posts(), &due, day, tally)
 }
 
 // What is left of the last minimum payment, 0 at the first closing.
-fn left_at(inputs: &Inputs, day: Day, last: Option<&Cycle>, tally: &mut Tally) -> Cents
+fn left_at(inputs: &Inputs, day: Day, last: Option<&Cycle>, tally: &mut Tally) -> u64
     requires dated { IsDayOf inputs.now day }
     requires closes { day_of_month day ≡ (anchor_of inputs.now.history).close_day }
     requires last { option_copied last ≡ last_cycle (posted inputs.now day).cycles }
     requires tally { Tallies inputs.now day tally.old }
-    ensures value { result ≡ pos (payments.past_due (seen_in inputs.now day) day (last_cycle (posted inputs.now day).cycles)) }
+    ensures value { result ≡ payments.past_due (seen_in inputs.now day) day (last_cycle (posted inputs.now day).cycles) }
     ensures tally { Tallies inputs.now day tally.new }
 {
     match last {
@@ -145,7 +145,6 @@ fn closing_on(inputs: &Inputs, day: Day, cycles: &[Cycle], tally: &mut Tally) ->
     ensures of_book { IsOfBook result (account_in inputs.now) (seen_in inputs.now day) (posted inputs.now day) }
     ensures floor { pos 0 ≤ℤ result.floor }
     ensures part { result.pct ≤ 10_000 }
-    ensures past_due { pos 0 ≤ℤ result.past_due }
     ensures tally { Tallies inputs.now day tally.new }
 {
     let anchor = inputs.anchor();

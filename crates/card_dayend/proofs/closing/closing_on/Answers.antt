@@ -73,5 +73,5 @@ returns-clause-of_book c =
       owed_before = to_z-of_z w64 c.previous.result (record { sfits = c.previous.type_inv }) ∙ (c.previous.ensures ∙ ap previous_of last);
       least = ap unsigned_abs (to_z_pos w64 c.get.result (omega (arith, few))) ∙ (c.get.ensures.value ∙ ap (λ (t : Terms). t.floor) c.terms-terms.ensures.value);
       part = c.get-2.ensures.value ∙ ap (λ (t : Terms). t.pct) c.terms-terms.ensures.value;
-      left = ap unsigned_abs (to_z-of_z w64 c.left_at.result (record { sfits = c.left_at.type_inv }) ∙ c.left_at.ensures.value);
+      left = c.left_at.ensures.value;
     }

@@ -1,7 +1,7 @@
 use Rattle.std.proofs.Common.{◌≡◌, ◌≤◌, Some, sym, ap, ◌∙◌, subst, arith}
 use Rattle.std.specs.Option.{option_map}
 use Rattle.std.specs.Prelude.{option_copied}
-use Rattle.card_fees.specs.DueLaws.{due_cycle_of}
+use Rattle.card_model.specs.Payments.{due_cycle_of}
 use Rattle.card_events.specs.History.{anchor_of}
 use Rattle.card_model.specs.CycleDays.{HasItsDays}
 use Rattle.card_model.specs.Folds.{cycle_at}
@@ -36,9 +36,9 @@ returns-in-Some c =
     let cycle = c.in-Some.cycle.now in
     let at : cycle_at c.args.number c.args.cycles.now ≡ Some cycle = sym c.closed_at.ensures ∙ ap option_copied c.in-Some.is in
     let seen = seen_in c.args.inputs.now c.args.day in
-    ap Some c.due_cycle.ensures ∙ ap (option_map (due_cycle_of seen)) (sym at)
+    ap Some c.due_cycle.ensures ∙ ap (option_map (due_cycle_of seen.issued)) (sym at)
 
 pub returns-in-None : goal.returns-in-None
 returns-in-None c =
     let seen = seen_in c.args.inputs.now c.args.day in
-    ap (option_map (due_cycle_of seen)) (sym (ap option_copied c.in-None.is) ∙ c.closed_at.ensures)
+    ap (option_map (due_cycle_of seen.issued)) (sym (ap option_copied c.in-None.is) ∙ c.closed_at.ensures)
