@@ -1,5 +1,5 @@
 -- The refund of a credit balance is a task, six months after its first day.
-use Rattle.std.proofs.Common.{◌≡◌, ℕ, zero, suc, ◌+◌, ◌-◌, ◌≤◌, ◌<◌, ◌⊎◌, inl, inr, Bool, true, false, cond, List, [], ◌∷◌, ◌++◌, eqb, ltb, refl, sym, ap, ◌∙◌, subst, arith, Option, Some, None}
+use Rattle.std.proofs.Common.{◌≡◌, ℕ, zero, suc, ◌+◌, ◌-◌, ◌≤◌, ◌<◌, ◌⊎◌, inl, inr, Bool, true, false, cond, List, ◌++◌, eqb, ltb, refl, sym, ap, subst, arith, Option, Some}
 use Rattle.std.proofs.lemmas.Bool.{cases_lt, eqb-true, ne_eqb}
 use Rattle.std.proofs.lemmas.Bool.Decides.{nat_tests}
 use Rattle.std.proofs.lemmas.List.Elements.{Contains-append_left, Contains-append_right}
@@ -13,8 +13,7 @@ use Rattle.card_model.specs.declared.entry.Entry.{Entry}
 use Rattle.card_model.specs.declared.task.TaskKind.TheVariants as task
 use Rattle.card_rules.proofs.Months.{six-months}
 use Rattle.card_rules.proofs.RefundTasks.{in-order}
-use Rattle.card_rules.specs.CreditTasks.{CreditBalancesAreTasks, HasStoodSince, IsToRefund}
-use Rattle.card_rules.specs.Months.{months_after}
+use Rattle.card_rules.specs.CreditTasks.{CreditBalancesAreTasks, HasStoodSince}
 
 -- ---- the run of days that end with a credit balance
 stood : (entries : List Entry) (opened n day : ℕ) → day ≡ opened + n → 0 < credit_on entries day → HasStoodSince entries opened day (credit_run entries n day)
