@@ -29,7 +29,8 @@ use Rattle.card_model.specs.declared.segment.Sort.TheVariants as sort
 use Rattle.card_rates.proofs.ByNumber.{at-place}
 use Rattle.card_rates.proofs.DayLaws.{segments_of_a_day}
 use Rattle.card_rates.specs.RateBooks.{rates_of}
-use Rattle.card_book.specs.Compliance.{NoticesKeepEarlierRates, rate_among, segments_seen, without}
+use Rattle.card_book.specs.Compliance.{NoticesKeepEarlierRates, rate_among, without}
+use Rattle.card_bounds.specs.Places.{segments_by}
 use Rattle.card_book.proofs.EveryEntry.{Adds, is_other, of_every_entry}
 
 -- ---- the vintage that a notice adds
@@ -74,9 +75,9 @@ abbrev IsOnly : SegmentTerms → SegmentTerms → Type 0
 IsOnly v g = g.id ≡ v.id → g ≡ v
 
 all-only : (history : List Kept) (issued : List IssuedRow) (shared : SharedRows) (on : ℕ) (v : SegmentTerms) → Contains (rates_of shared.holidays history []).segments v
-    → All (IsOnly v) (segments_seen history issued shared on)
+    → All (IsOnly v) (segments_by history issued shared on)
 all-only history issued shared on v h =
-    let gs = segments_seen history issued shared on in
+    let gs = segments_by history issued shared on in
     let every = (rates_of shared.holidays history []).segments in
     let numbers = segments_of_a_day.numbers shared.holidays history in
     All-weaker (Contains gs) (IsOnly v)
@@ -216,7 +217,7 @@ all-any (g ∷ gs) = All-cons (λ (g : SegmentTerms). IsAny g.id) g gs tt (all-a
 adds : (history : List Kept) (issued : List IssuedRow) (shared : SharedRows) (v : SegmentTerms) → 2 < v.id → is_plan v ≡ false → Contains (rates_of shared.holidays history []).segments v
     → (day : ℕ) → Adds IsAny (IsLater v.id v.begins) (account_of history) (seen_on (anchor_of history) shared history issued day)
 adds history issued shared v high f there day =
-    let gs = segments_seen history issued shared day in
+    let gs = segments_by history issued shared day in
     record {
       credit = tt;
       purchase = tt;
@@ -285,6 +286,6 @@ notices_keep_earlier_rates history issued shared p given rate effective c h e =
       charges = λ day.
           of_every_entry IsAny (IsLater v.id v.begins) issued (account_of history) (seen_on (anchor_of history) shared history issued) (day + 1 - (anchor_of history).opened)
           (λ d. adds history issued shared v (omega (arith, high)) plain there d);
-      places = λ on day at l. same-place at day v (segments_seen history issued shared on) (omega (arith, l)) plain (all-only history issued shared on v there);
-      rates = λ on day b g l. same-rate history issued shared on day p.segment b g (segments_seen history issued shared on) l;
+      places = λ on day at l. same-place at day v (segments_by history issued shared on) (omega (arith, l)) plain (all-only history issued shared on v there);
+      rates = λ on day b g l. same-rate history issued shared on day p.segment b g (segments_by history issued shared on) l;
     }

@@ -23,7 +23,7 @@ use Rattle.card_model.specs.Cycles.{Cycle, IssuedRow, Seen, last_cycle, post_at,
 use Rattle.card_model.specs.DueDates.{after_due_date, late_fee, on_due}
 use Rattle.card_model.specs.Effects.{after_posts, credit_parts, disputed_cents, disputed_charge, disputed_segment, effect, is_part_of, meant_for, moved_by, payment_at, payment_parts, put_back, returned, returned_fee, size}
 use Rattle.card_model.specs.Entries.{credit_balance, debit, is_kind, raises}
-use Rattle.card_model.specs.Fees.{fee_amount, fee_cents, fee_for, fees_sum, is_charged_for, is_repeat, last_due, row_in_force, tier_amount}
+use Rattle.card_model.specs.Fees.{fee_amount, fee_cents, fee_by, fee_for, fees_sum, is_charged_for, is_repeat, last_due, row_in_force, tier_amount}
 use Rattle.card_model.specs.Folds.{book, book_after, day_after}
 use Rattle.card_model.specs.Laws.{total}
 use Rattle.card_model.specs.Payments.{asked, has_due_payment, is_timely, met}
@@ -186,17 +186,17 @@ least-of-three : (x y z : ℕ) → min x (min y z) ≤ z
 least-of-three x y z = omega arith
 
 for-today : (seen : Seen) (cs : List Cycle) (fees : List Fee) (n : ℕ) (k : FeeKind) (c : Cycle) (f : Fee) → fee_for seen cs fees n k c ≡ Some f → IsOfToday seen cs f
-unfolding fee_for
+unfolding fee_by
 for-today seen cs fees n k c f h =
-    by (is_charged_for c.number fees || eqb (fee_amount seen cs (is_repeat k n fees) c) 0) h
+    by (is_charged_for c.number fees || eqb (fee_amount (row_in_force seen.fees) (is_repeat k n fees) c.minimum (asked seen.issued (last_due seen.day cs))) 0) h
   where
     made : Fee
-    made = record { due_cycle = c.number; kind = k; repeat = is_repeat k n fees; cycle = n; day = seen.day; cents = pos (fee_amount seen cs (is_repeat k n fees) c) }
+    made = record { due_cycle = c.number; kind = k; repeat = is_repeat k n fees; cycle = n; day = seen.day; cents = pos (fee_amount (row_in_force seen.fees) (is_repeat k n fees) c.minimum (asked seen.issued (last_due seen.day cs))) }
 
-    by : (t : Bool) → cond t None (Some (record { due_cycle = c.number; kind = k; repeat = is_repeat k n fees; cycle = n; day = seen.day; cents = pos (fee_amount seen cs (is_repeat k n fees) c) })) ≡ Some f → IsOfToday seen cs f
+    by : (t : Bool) → cond t None (Some (record { due_cycle = c.number; kind = k; repeat = is_repeat k n fees; cycle = n; day = seen.day; cents = pos (fee_amount (row_in_force seen.fees) (is_repeat k n fees) c.minimum (asked seen.issued (last_due seen.day cs))) })) ≡ Some f → IsOfToday seen cs f
     by true e = absurd (cc)
     by false e =
-        let same : record { due_cycle = c.number; kind = k; repeat = is_repeat k n fees; cycle = n; day = seen.day; cents = pos (fee_amount seen cs (is_repeat k n fees) c) } ≡ f = cc in
+        let same : record { due_cycle = c.number; kind = k; repeat = is_repeat k n fees; cycle = n; day = seen.day; cents = pos (fee_amount (row_in_force seen.fees) (is_repeat k n fees) c.minimum (asked seen.issued (last_due seen.day cs))) } ≡ f = cc in
         subst (IsOfToday seen cs) same (record { day = refl; amount = least-of-three (tier_amount (row_in_force seen.fees) (is_repeat k n fees)) c.minimum (asked seen.issued (last_due seen.day cs)) })
 
 capped-least : (x : IssuedRow → ℕ) (o : Option IssuedRow) (n : ℕ) → capped_by x o n ≤ n

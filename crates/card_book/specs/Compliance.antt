@@ -8,7 +8,8 @@ use Rattle.card_events.specs.declared.kept.Kept.{Kept}
 use Rattle.card_events.specs.declared.post.Category.{Category}
 use Rattle.card_events.specs.declared.post.Place.{Place}
 use Rattle.card_events.specs.declared.post.Post.TheVariants as post
-use Rattle.card_model.specs.Books.{Book, account_of, all_segments}
+use Rattle.card_bounds.specs.Places.{segments_by}
+use Rattle.card_model.specs.Books.{Book, account_of}
 use Rattle.card_model.specs.Cycles.{IssuedRow, seen_on}
 use Rattle.card_model.specs.Entries.{is_kind}
 use Rattle.card_model.specs.Fees.{fee_cents, fees_sum, last_due}
@@ -42,10 +43,6 @@ PenaltyFeesAreReasonable =
 abbrev pub without : ℕ → List SegmentTerms → List SegmentTerms
 without id all = filter (λ g. not (g.id == id)) all
 
--- the segments that the posts up to a day have added
-abbrev pub segments_seen : List Kept → List IssuedRow → SharedRows → ℕ → List SegmentTerms
-segments_seen history issued shared on = all_segments (account_of history) (seen_on (anchor_of history) shared history issued on)
-
 -- the rate of one of these segments on a day, where penalties are those of a book
 abbrev pub rate_among : List SegmentTerms → List Kept → List IssuedRow → SharedRows → ℕ → Book → ℕ → SegmentTerms → ℕ
 rate_among segments history issued shared on b day g =
@@ -60,11 +57,11 @@ pub record KeepsEarlierRates (history : List Kept) (issued : List IssuedRow) (sh
       (day : ℕ) → All (λ e. is_kind kind.Charge e.kind ≡ true → e.segment ≡ vintage → given + 15 ≤ e.day) (book history issued shared day).entries
   pub places :
       (on day : ℕ) (place : Place) → day ≤ given + 14
-      → segment_at place day (segments_seen history issued shared on) ≡ segment_at place day (without vintage (segments_seen history issued shared on))
+      → segment_at place day (segments_by history issued shared on) ≡ segment_at place day (without vintage (segments_by history issued shared on))
   pub rates :
       (on day : ℕ) (b : Book) (g : SegmentTerms) → g.id < vintage
-      → rate_among (segments_seen history issued shared on) history issued shared on b day g
-      ≡ rate_among (without vintage (segments_seen history issued shared on)) history issued shared on b day g
+      → rate_among (segments_by history issued shared on) history issued shared on b day g
+      ≡ rate_among (without vintage (segments_by history issued shared on)) history issued shared on b day g
 
 -- so does every notice of an account
 abbrev pub NoticesKeepEarlierRates : Type 0
