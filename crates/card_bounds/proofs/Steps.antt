@@ -16,7 +16,7 @@ use Rattle.card_model.specs.Cycles.{Cycle, IssuedRow, Seen, post_at}
 use Rattle.card_model.specs.DueDates.{late_fee}
 use Rattle.card_model.specs.Effects.{charge_at, corrected_cents, credit_parts, disputed_cents, disputed_charge, disputed_segment, effect, is_charge, is_held_by, is_part_of, meant_for, moved_by, payment_at, payment_parts, returned, returned_fee}
 use Rattle.card_model.specs.Entries.{at_least_zero, credit_balance, debit, owing, sum_of}
-use Rattle.card_model.specs.Fees.{fee_cents, fee_for, is_repeat, later_row, row_in_force, tier_amount}
+use Rattle.card_model.specs.Fees.{fee_cents, fee_by, fee_for, is_repeat, later_row, row_in_force, tier_amount}
 use Rattle.card_model.specs.Machine.{step}
 use Rattle.card_model.specs.Payments.{met}
 use Rattle.card_model.specs.Segments.{newest}
@@ -94,7 +94,7 @@ tier-small (Some r) true h = h.1
 tier-small (Some r) false h = h.0
 
 fee_for-small : (seen : Seen) (cs : List Cycle) (fs : List Fee) (n : ℕ) (k : FeeKind) (c : Cycle) → Limits seen → (f : Fee) → fee_for seen cs fs n k c ≡ Some f → fee_cents f ≤ 100000
-unfolding fee_for
+unfolding fee_by
 fee_for-small seen cs fs n k c l f h = by _ _ (small (tier_amount (row_in_force seen.fees) (is_repeat k n fs)) _ (tier-small (row_in_force seen.fees) (is_repeat k n fs) (row-small seen.fees l.fees))) h
   where
     small : (x y : ℕ) → x ≤ 100000 → min x y ≤ 100000

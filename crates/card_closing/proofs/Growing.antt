@@ -5,12 +5,13 @@ use Rattle.std.proofs.lemmas.Bool.Decides.{nat_tests}
 use Rattle.std.proofs.lemmas.List.{map-append}
 use Rattle.std.proofs.lemmas.List.Elements.{All-head, All-tail, All-weaker, filter-append}
 use Rattle.std.proofs.lemmas.List.FromFn.{length-map-range_with_len}
-use Rattle.card_closing.specs.BookRows.{brought, day_row, is_brought, repayment_of, repayments, repays, rows_of}
+use Rattle.card_closing.specs.BookRows.{brought, day_row, is_brought, repayment_of, repayments, rows_of}
 use Rattle.card_closing.specs.Growth.{GoesOn, IsOfNoCredit, RowsGrow, or_post, with_repaid}
 use Rattle.card_closing.specs.Rows.{DayRow, no_rows, others, row_of, with_days}
 use Rattle.card_model.specs.Books.{Account, Book}
 use Rattle.card_model.specs.Cycles.{Seen}
 use Rattle.card_model.specs.Entries.{is_kind}
+use Rattle.card_model.specs.Interest.{repays}
 use Rattle.card_model.specs.Payments.{is_returned}
 use Rattle.card_model.specs.Segments.{SegmentTerms}
 use Rattle.card_model.specs.declared.entry.Entry.{Entry}
@@ -30,7 +31,7 @@ unfolding brought
 none_before returned s first [] h = refl
 none_before returned s first (e ∷ es) h =
     let early : leb first e.day ≡ false = let l = All-head (λ e. e.day < first) e es h in grind (arith, nat_tests) in
-    rw (early, never (eqb e.segment s) (repays returned e)) (none_before returned s first es (All-tail (λ e. e.day < first) e es h))
+    rw (early, never (eqb e.segment s) (repays returned e.kind e.post)) (none_before returned s first es (All-tail (λ e. e.day < first) e es h))
   where
     never : (a r : Bool) → (a && r && false) ≡ false
     never true true = refl
@@ -61,7 +62,7 @@ taken returned post s first (e ∷ es) h =
     let P : Entry → Type 0 = λ e. is_kind kind.Credit e.kind ≡ true → eqb e.post post ≡ false in
     let kept = split (is_kind kind.Credit e.kind) (is_kind kind.Payment e.kind) (returned e.post) (eqb e.post post) (All-head P e es h) in
     let test : is_brought (or_post returned post) s first e ≡ (is_brought returned s first e && not (eqb e.post post)) =
-    ap (λ r. eqb e.segment s && r && leb first e.day) kept ∙ regroup (eqb e.segment s) (repays returned e) (not (eqb e.post post)) (leb first e.day) in
+    ap (λ r. eqb e.segment s && r && leb first e.day) kept ∙ regroup (eqb e.segment s) (repays returned e.kind e.post) (not (eqb e.post post)) (leb first e.day) in
     rw test (one (is_brought returned s first e) (eqb e.post post) refl (taken returned post s first es (All-tail P e es h)))
   where
     one : (k q : Bool) → eqb e.post post ≡ q → map repayment_of (filter (is_brought (or_post returned post) s first) es) ≡ others post (map repayment_of (filter (is_brought returned s first) es))

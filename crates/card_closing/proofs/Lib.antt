@@ -16,4 +16,3 @@ pub mod OfClosing
 pub mod Recorded
 pub mod Steps
 pub mod Untouched
-pub mod PenaltyFold

@@ -13,7 +13,7 @@ use Rattle.card_closing.proofs.OfBook.{rows_of_a_book}
 use Rattle.card_model.specs.Books.{Account, Book, all_segments, present_cycle}
 use Rattle.card_model.specs.Caps.{capped_by, issued_grace, issued_minimum}
 use Rattle.card_model.specs.Closing.{Posting, by_segment, closed_cycle, closing_interest, ends_after, first_day_of, grace_amount, interest_note, minimum_of, minimum_payment, net_balance, nonzero, purchase_case_in}
-use Rattle.card_model.specs.Cycles.{IssuedRow, Seen, amount_at, amounts_sum}
+use Rattle.card_model.specs.Cycles.{Cycle, IssuedRow, Seen, amount_at, amounts_sum}
 use Rattle.card_model.specs.Entries.{AreBalances, at_least_zero, balance, owed, owing}
 use Rattle.card_model.specs.Fees.{fees_in, fees_sum}
 use Rattle.card_model.specs.Interest.{average_balance, case_of, half_up}
@@ -29,7 +29,7 @@ use Rattle.card_segments.proofs.Totals.{total-owed}
 use Rattle.card_closing.specs.Closes.{IsOfBook}
 use Rattle.card_closing.specs.Interest.{IsTurnOf, StandFor, accrual_charge, accruals_turn, amounts_of, cycle_charge, interest_turn, statement_of}
 use Rattle.card_closing.specs.Record.{balance_later, by_number, cycle_average, deferred_after, grace_by, minimum_by, net_of, nonzero_of, recorded}
-use Rattle.card_closing.specs.Turns.{Turn, asked_of, asked_where_owed, of_segment, row_of}
+use Rattle.card_closing.specs.Turns.{Turn, asked_of, asked_where_owed, of_segment}
 use Rattle.card_closing.specs.declared.closing.Closing.{Closing}
 use Rattle.card_closing.proofs.Bridge.{later-in}
 use Rattle.card_closing.proofs.ByNumber.{length-amounts_of}
@@ -108,11 +108,11 @@ no-average : (c : GraceCase) (first n : ℕ) → average_of c (with_days n 0 0 (
 no-average c first n = ap (λ m. half_up m (length (with_days n 0 0 (no_rows first)).days)) (no-balance c first n) ∙ average-none (length (with_days n 0 0 (no_rows first)).days)
 
 -- ---- caps
-minimum-cap : (row : Option IssuedRow) (n : ℕ) → capped_by issued_minimum (row_of (statement_of row)) n ≡ capped_by issued_minimum row n
+minimum-cap : (row : Option IssuedRow) (n : ℕ) → capped_by (λ (s : Cycle). s.minimum) (statement_of row) n ≡ capped_by issued_minimum row n
 minimum-cap None n = refl
 minimum-cap (Some r) n = refl
 
-grace-cap : (row : Option IssuedRow) (n : ℕ) → capped_by issued_grace (row_of (statement_of row)) n ≡ capped_by issued_grace row n
+grace-cap : (row : Option IssuedRow) (n : ℕ) → capped_by (λ (s : Cycle). s.grace_amount) (statement_of row) n ≡ capped_by issued_grace row n
 grace-cap None n = refl
 grace-cap (Some r) n = refl
 
@@ -224,7 +224,7 @@ module _ (row : Option IssuedRow) (all : List SegmentTerms) (sees : SegmentTerms
         → minimum_by c (statement_of row) ended.amounts fees after ≡ capped_by issued_minimum row (minimum_payment a seen b posting)
     unfolding minimum_by minimum_payment
     minimum-is c fees k f =
-        minimum-cap row (minimum_of (net_of after) (unsigned_abs c.floor) c.pct (amounts_sum ended.amounts + fees_sum fees) (unsigned_abs c.past_due))
+        minimum-cap row (minimum_of (net_of after) (unsigned_abs c.floor) c.pct (amounts_sum ended.amounts + fees_sum fees) c.past_due)
         ∙ ap (capped_by issued_minimum row) (rw (net-is, k.least, k.part, tied.sum, f, k.left) refl)
 
     pub grace-is : (c : Closing) → IsOfBook c a seen b → grace_by c (statement_of row) after ≡ capped_by issued_grace row (grace_amount a seen posting)

@@ -1,5 +1,5 @@
 -- The rows and repayments that the book of a day gives a segment in the cycle that the day lies in.
-use Rattle.std.specs.Prelude.{ℕ, ◌≡◌, ◌≤◌, true, ◌&&◌, ◌||◌, not, nat_le, ◌==◌, Bool, map, List, pos, ◌≤ℤ◌, ◌⊎◌, if◌then◌else◌}
+use Rattle.std.specs.Prelude.{ℕ, ◌≡◌, ◌≤◌, true, ◌&&◌, ◌||◌, nat_le, ◌==◌, Bool, map, List, pos, ◌≤ℤ◌, ◌⊎◌, if◌then◌else◌}
 use Rattle.std.specs.List.{All, filter}
 use Rattle.card_closing.specs.Rows.{DayRow, Rows, row_of}
 use Rattle.card_closing.specs.declared.rows.Repayment.{Repayment}
@@ -7,7 +7,7 @@ use Rattle.card_model.specs.Books.{Account, Book, rate_in}
 use Rattle.card_model.specs.Cycles.{Seen}
 use Rattle.card_model.specs.Effects.{size}
 use Rattle.card_model.specs.Entries.{is_kind}
-use Rattle.card_model.specs.Interest.{case_of, days_from, row}
+use Rattle.card_model.specs.Interest.{case_of, days_from, repays, row}
 use Rattle.card_model.specs.Payments.{is_returned}
 use Rattle.card_model.specs.Segments.{SegmentTerms}
 use Rattle.card_model.specs.declared.entry.Entry.{Entry}
@@ -22,13 +22,9 @@ rate_of balance rate = if balance == 0 then 0 else rate
 abbrev pub day_row : Account → Seen → Book → SegmentTerms → ℕ → DayRow
 day_row a seen b g day = row_of (row b.entries g.id day) (rate_of (row b.entries g.id day) (rate_in a seen b day g)) day
 
--- an entry of a credit, or of a payment that isn't among those returned
-abbrev pub repays : (ℕ → Bool) → Entry → Bool
-repays returned e = is_kind kind.Credit e.kind || (is_kind kind.Payment e.kind && not (returned e.post))
-
 -- an entry that repaid a segment, from a day on
 abbrev pub is_brought : (ℕ → Bool) → ℕ → ℕ → Entry → Bool
-is_brought returned s first e = (e.segment == s) && repays returned e && nat_le first e.day
+is_brought returned s first e = (e.segment == s) && repays returned e.kind e.post && nat_le first e.day
 
 -- what it brought
 abbrev pub repayment_of : Entry → Repayment

@@ -27,7 +27,7 @@ pub record IsOfBook (c : Closing) (a : Account) (seen : Seen) (b : Book) : Type 
   pub owed_before : c.previous ≡ previous_of (last_cycle b.cycles)
   pub least : unsigned_abs c.floor ≡ a.terms.floor
   pub part : c.pct ≡ a.terms.pct
-  pub left : unsigned_abs c.past_due ≡ past_due seen seen.day (last_cycle b.cycles)
+  pub left : c.past_due ≡ past_due seen seen.day (last_cycle b.cycles)
 
 -- What a closing is given is of a book: its days and amounts, the issued statement, the entries, segments, rows and accruals,
 -- and, among fees, those of the cycle

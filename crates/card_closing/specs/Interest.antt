@@ -5,14 +5,13 @@ use Rattle.std.specs.List.{All, Contains, filter}
 use Rattle.card_events.specs.Money.{interest}
 use Rattle.card_closing.specs.Accruals.{Accrued, nothing_accrued}
 use Rattle.card_closing.specs.BookRows.{AreLowering, HasOneCase, rows_of}
-use Rattle.card_closing.specs.Cases.{case_in, is_deferred_in}
 use Rattle.card_closing.specs.Rows.{Rows, interest_on}
 use Rattle.card_model.specs.Books.{Account, Book, all_segments}
 use Rattle.card_model.specs.Closing.{Posting, closing_interest, first_day_of, purchase_case_in}
 use Rattle.card_model.specs.Cycles.{Cycle, IssuedRow, Seen, amount_at, amounts_sum}
 use Rattle.card_model.specs.Entries.{owing}
-use Rattle.card_model.specs.Interest.{accrual, ends_today}
-use Rattle.card_model.specs.Segments.{SegmentTerms, is_deferred_on, is_over, kept_segment}
+use Rattle.card_model.specs.Interest.{accrual, case_in, ends_today}
+use Rattle.card_model.specs.Segments.{SegmentTerms, is_deferred_in, is_deferred_on, is_over, kept_segment}
 use Rattle.card_model.specs.declared.entry.Entry.{Entry}
 use Rattle.card_model.specs.declared.entry.EntryKind.TheVariants as kind
 use Rattle.card_model.specs.declared.entry.Note.{Note}

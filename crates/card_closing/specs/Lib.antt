@@ -1,6 +1,5 @@
 pub mod Accruals
 pub mod BookRows
-pub mod Cases
 pub mod Growth
 pub mod GraceLaws
 pub mod Rows
@@ -9,6 +8,3 @@ pub mod Closes
 pub mod Interest
 pub mod Record
 pub mod Turns
-pub mod PenaltyEnd
-pub mod PenaltyLate
-pub mod PenaltyLaws

@@ -1,9 +1,8 @@
 -- The record of a closed cycle, from what the ledger keeps (12 CFR 1026.7(b), .54(a)(1)). Days are day numbers, amounts cents.
 use Rattle.std.specs.Prelude.{ℕ, ◌+◌, ◌-◌, ◌==◌, ◌≤◌, ◌&&◌, if◌then◌else◌, drop, length, List, Option, Some, None, ℤ, pos, ◌-ℤ◌, ◌≤ℤ◌, slice_index_or, unsigned_abs}
 use Rattle.std.specs.List.{filter_map, range_with_len, sum_by}
-use Rattle.card_closing.specs.Cases.{case_in}
 use Rattle.card_closing.specs.Rows.{Rows, average_of}
-use Rattle.card_model.specs.Caps.{capped_by, issued_grace, issued_minimum}
+use Rattle.card_model.specs.Caps.{capped_by}
 use Rattle.card_model.specs.Closing.{ends_after, minimum_of}
 use Rattle.card_model.specs.Cycles.{Amounts, Cycle, amount_at, amounts_sum}
 use Rattle.card_model.specs.Entries.{at_least_zero}
@@ -15,7 +14,8 @@ use Rattle.card_model.specs.declared.segment.Segment.{Segment}
 use Rattle.card_model.specs.declared.segment.Sort.TheVariants as sort
 use Rattle.card_segments.specs.Balances.{Balances, total}
 use Rattle.card_closing.specs.Interest.{amounts_of}
-use Rattle.card_closing.specs.Turns.{of_segment, row_of}
+use Rattle.card_model.specs.Interest.{case_in}
+use Rattle.card_closing.specs.Turns.{of_segment}
 use Rattle.card_closing.specs.declared.closing.Closing.{Closing}
 
 -- ---- amounts by segment
@@ -44,12 +44,10 @@ AreSmall amounts = (s : ℕ) → amount_at s amounts ≤ 10_000_000_000_000_000
 abbrev pub largest_cents : ℕ
 largest_cents = 9_223_372_036_854_775_807
 
--- the account's terms and what is past due are in their ranges: no amount is below 0, and the part of the balance is at most
--- 10,000 basis points
+-- the account's terms are in their ranges: the floor isn't below 0, and the part of the balance is at most 10,000 basis points
 pub record HasTermsInRange (c : Closing) : Type 0 where
   pub least : pos 0 ≤ℤ c.floor
   pub part : c.pct ≤ 10_000
-  pub left : pos 0 ≤ℤ c.past_due
 
 -- what is owed, less what is held
 abbrev pub net_of : Balances → ℤ
@@ -66,11 +64,11 @@ deferred_after day b = sum_by (λ n. n) (amounts_of (balance_later day) (drop 2 
 -- the minimum payment, at most that of the issued statement
 unfoldable pub minimum_by : Closing → Option Cycle → Amounts → List Fee → Balances → ℕ
 minimum_by c issued done fees b =
-    capped_by issued_minimum (row_of issued) (minimum_of (net_of b) (unsigned_abs c.floor) c.pct (amounts_sum done + fees_sum fees) (unsigned_abs c.past_due))
+    capped_by (λ s. s.minimum) issued (minimum_of (net_of b) (unsigned_abs c.floor) c.pct (amounts_sum done + fees_sum fees) c.past_due)
 
 -- the grace amount, at most that of the issued statement
 unfoldable pub grace_by : Closing → Option Cycle → Balances → ℕ
-grace_by c issued b = capped_by issued_grace (row_of issued) (at_least_zero (net_of b -ℤ pos (deferred_after c.next_closing b)))
+grace_by c issued b = capped_by (λ s. s.grace_amount) issued (at_least_zero (net_of b -ℤ pos (deferred_after c.next_closing b)))
 
 -- ---- the record
 -- of the balances and the count of entries at the end of a closing that charged these amounts

@@ -1,8 +1,8 @@
 -- Amounts that a closing charges to the segments in turn, from segment 2 on (12 CFR 1026.14(b)). Cents.
-use Rattle.std.specs.Prelude.{ℕ, zero, suc, ◌≡◌, ◌+◌, ◌-◌, ◌==◌, nat_lt, if◌then◌else◌, take, length, List, [], ◌∷◌, ◌++◌, Option, Some, None, slice_index_or}
-use Rattle.card_model.specs.Caps.{capped_by, issued_interest}
+use Rattle.std.specs.Prelude.{ℕ, zero, suc, ◌≡◌, ◌+◌, ◌-◌, ◌==◌, nat_lt, if◌then◌else◌, take, length, List, [], ◌∷◌, ◌++◌, Option, slice_index_or}
+use Rattle.card_model.specs.Caps.{capped_by}
 use Rattle.card_model.specs.Closing.{within_limit}
-use Rattle.card_model.specs.Cycles.{Amounts, Cycle, IssuedRow, no_sheet}
+use Rattle.card_model.specs.Cycles.{Amounts, Cycle, amount_at}
 use Rattle.card_model.specs.Entries.{AreBalances, credit_balance, debit, owing}
 use Rattle.card_model.specs.Limits.{balance_limit}
 use Rattle.card_model.specs.declared.entry.Entry.{Entry}
@@ -18,18 +18,13 @@ pub record Turn : Type 0 where
 abbrev pub turn_of : Amounts → List Entry → Turn
 turn_of charges all = record { amounts = charges; entries = all }
 
--- the issued row of a statement. Caps read nothing of it but the statement
-abbrev pub row_of : Option Cycle → Option IssuedRow
-row_of None = None
-row_of (Some c) = Some (record { cycle = c.number; bill = 0; day = 0; statement = c; sheet = no_sheet })
-
 -- amounts with one more, none for 0
 abbrev pub with_amount : ℕ → ℕ → Amounts → Amounts
 with_amount s cents amounts = amounts ++ (if cents == 0 then [] else (s, cents) ∷ [])
 
 -- what an issued statement leaves of an amount for a segment, where so much was charged
 unfoldable pub left_by : Option Cycle → Amounts → ℕ → ℕ → ℕ
-left_by issued done s cents = capped_by (issued_interest s done) (row_of issued) cents
+left_by issued done s cents = capped_by (λ c. amount_at s c.interest - amount_at s done) issued cents
 
 -- of what is asked of a segment, what keeps it within 10^13 cents, and what the issued statement leaves
 unfoldable pub charge_for : Option Cycle → Turn → ℕ → ℕ → ℕ

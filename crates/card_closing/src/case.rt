@@ -1,5 +1,6 @@
 ghost use Rattle.std.specs.Prelude.{◌≡◌};
-ghost use Rattle.card_closing.specs.Cases.{case_in, is_deferred_in};
+ghost use Rattle.card_model.specs.Interest.{case_in};
+ghost use Rattle.card_model.specs.Segments.{is_deferred_in};
 
 use crate::GraceCase;
 use card_events::Day;

@@ -29,8 +29,8 @@ pub struct Closing {
     pub floor: Cents,
     /// The part of the balance in a minimum payment by the account's terms, in basis points, at most 10,000.
     pub pct: u16,
-    /// What is left of the minimum payment of the cycle before, at least 0.
-    pub past_due: Cents,
+    /// What is left of the minimum payment of the cycle before.
+    pub past_due: u64,
 }
 
 // The record of the cycle, of the balances after its interest.

@@ -1,6 +1,5 @@
 //! Laws on the interest of a cycle. Their functions do nothing; their clauses are what holds.
 ghost use Rattle.card_closing.specs.Accruals.{AccrualOfABook};
-ghost use Rattle.card_closing.specs.Cases.{CasesOfTerms};
 ghost use Rattle.card_closing.specs.Growth.{InterestInTurn, RepaymentsLower, RowsGrow};
 ghost use Rattle.card_closing.specs.GraceLaws.{KeptRowsToo, NoEarlierDayNoRepaidPortion, OneCaseACycle, RowsOfABook};
 
@@ -42,9 +41,4 @@ pub fn interest_in_turn()
 /// In the book of every day payments and credits lower what is owed.
 pub fn repayments_lower()
     ensures { RepaymentsLower }
-{}
-
-/// A segment bears interest by its kept form as it does by its terms.
-pub fn cases_of_terms()
-    ensures { CasesOfTerms }
 {}

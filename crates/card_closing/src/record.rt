@@ -142,37 +142,21 @@ fn net(segments: &Segments) -> Cents
     segments.owed() - held(segments)
 }
 
-// An amount, at most 10^17.
-fn limited(amount: u128) -> u64
-    ensures { result ≡ min amount statement_limit }
-{
-    amount.min(100_000_000_000_000_000) as u64
-}
-
-// The interest and the fees of a cycle, at most 10^17.
-fn charges(done: &Amounts, fees: &Fees) -> u64
-    ensures { result ≡ min (amounts_sum done.now + fees_sum fees.now) statement_limit }
-{
-    limited(limited(done.sum()) as u128 + limited(fees.sum()) as u128)
-}
-
 // The minimum payment by the account's terms.
 fn minimum_by_terms(closing: &Closing, done: &Amounts, fees: &Fees, segments: &Segments) -> u64
     requires small { AreWithin balance_limit segments.now.balances }
     requires terms { HasTermsInRange closing.now }
-    ensures value { result ≡ minimum_of (net_of segments.now) (unsigned_abs closing.now.floor) closing.now.pct (amounts_sum done.now + fees_sum fees.now) (unsigned_abs closing.now.past_due) }
+    ensures value { result ≡ minimum_of (net_of segments.now) (unsigned_abs closing.now.floor) closing.now.pct (amounts_sum done.now + fees_sum fees.now) closing.now.past_due }
     ensures bound { result ≤ largest_cents }
 {
-    let floor = limited(closing.floor as u64 as u128);
-    let past_due = limited(closing.past_due as u64 as u128);
-    let charges = charges(done, fees);
+    let charges = done.sum().saturating_add(fees.sum());
     minimum(
         net(segments),
-        floor as i64,
+        closing.floor as u64,
         closing.pct,
-        charges as i64,
-        past_due as i64,
-    ) as u64
+        charges,
+        closing.past_due,
+    )
 }
 
 // What a balance has beyond an amount.

@@ -1,28 +1,26 @@
 -- The fee for a payment that is returned.
-use Rattle.std.proofs.Common.{◌≡◌, ℕ, zero, suc, ◌+◌, ◌-◌, ◌≤◌, List, length, refl, sym, ap, ◌∙◌, subst, arith, Option, Some, None, ℤ, pos, negsuc}
+use Rattle.std.proofs.Common.{nat_le, ◌≡◌, ℕ, zero, suc, ◌+◌, ◌-◌, ◌≤◌, List, length, refl, sym, ap, ◌∙◌, subst, arith, Option, Some, None, ℤ, pos, negsuc}
 use Rattle.std.specs.Prelude.{◌≤ℤ◌, nat_lt}
 use Rattle.std.proofs.lemmas.Bool.{ltb-true}
 use Rattle.std.proofs.lemmas.Int.{ints}
 use Rattle.card_bounds.proofs.Steps.{returned-small}
 use Rattle.card_bounds.proofs.Whole.{folded-few, limits-on}
+use Rattle.std.specs.List.{filter}
 use Rattle.card_events.specs.Billing.{cycle_of}
 use Rattle.card_events.specs.Range.{last_request_day}
 use Rattle.card_events.specs.declared.anchor.Anchor.{Anchor}
 use Rattle.card_fees.proofs.LateFees.{caps-fold}
-use Rattle.card_fees.specs.DueFee.{capped_if_any}
 use Rattle.card_fees.specs.DueLaws.{issued_fees}
 use Rattle.card_events.specs.History.{anchor_of}
 use Rattle.card_events.specs.SharedRows.{FeeRow}
-use Rattle.card_fees.proofs.Charges.{fee-fold}
-use Rattle.card_fees.specs.Charged.{fee_by}
 use Rattle.card_model.proofs.Calendar.{cycles_are_of_the_calendar}
 use Rattle.card_model.specs.Books.{Book, penalty_fee, present_cycle}
 use Rattle.card_model.specs.CycleDays.{HasItsDays}
-use Rattle.card_model.specs.Caps.{capped_by, charged_fee, fee_above, issued_fee, row_for}
+use Rattle.card_model.specs.Caps.{charged_by, fees_for, capped_by, charged_fee, fee_above, issued_fee, row_for}
 use Rattle.card_model.specs.Cycles.{Cycle, IssuedRow, Seen}
 use Rattle.card_model.specs.Effects.{returned_fee}
 use Rattle.card_model.specs.Entries.{at_least_zero}
-use Rattle.card_model.specs.Fees.{fee_cents, fee_for, last_due}
+use Rattle.card_model.specs.Fees.{fee_by, row_in_force, fee_cents, fee_for, last_due}
 use Rattle.card_model.specs.Folds.{cycle_at}
 use Rattle.card_model.specs.Limits.{balance_limit}
 use Rattle.card_model.specs.Payments.{asked}
@@ -66,28 +64,27 @@ few-cycles g day cycles s o l same =
 
 -- ---- the fee
 pub by-parts : (t : List FeeRow) (fs : List Fee) (i : Option (List Fee)) (k n e day x m y l : ℕ) → k ≡ n → x ≡ m → y ≡ l
-    → capped_if_any i (fee_by t fs (record { kind = kind.Returned; due_cycle = k; cycle = e; day = day }) x y) ≡ capped_if_any i (fee_by t fs (record { kind = kind.Returned; due_cycle = n; cycle = e; day = day }) m l)
+    → charged_by fees_for i (fee_by (row_in_force (filter (λ r. nat_le r.day day) t)) fs (record { kind = kind.Returned; due_cycle = k; cycle = e; day = day }) x y) ≡ charged_by fees_for i (fee_by (row_in_force (filter (λ r. nat_le r.day day) t)) fs (record { kind = kind.Returned; due_cycle = n; cycle = e; day = day }) m l)
 by-parts t fs i k n e day x m y l p q r = rw (p, q, r) refl
 
 -- what is charged is the fold's fee
 pub fee-is : (g : Given) (day : ℕ) (c : Cycle) (b : Book) (t : List FeeRow) (i : Option (List Fee)) (fs : List Fee) (a : Anchor) (cycles : List Cycle) (least : ℕ)
     → IsSound g → opened_in g ≤ day → day ≤ last_request_day → cycles ≡ (before g day).cycles → b.cycles ≡ cycles → b.fees ≡ fs → t ≡ g.shared.fees → i ≡ issued_fees (row_for (length cycles + 1) g.issued) → a ≡ anchor_of g.history
     → least ≡ asked (seen_in g day).issued (last_due day cycles)
-    → capped_if_any i (fee_by t fs (record { kind = kind.Returned; due_cycle = c.number; cycle = cycle_of a day; day = day }) c.minimum least) ≡ penalty_fee (row_in g (day - opened_in g)) (seen_in g day) b kind.Returned c
+    → charged_by fees_for i (fee_by (row_in_force (filter (λ r. nat_le r.day day) t)) fs (record { kind = kind.Returned; due_cycle = c.number; cycle = cycle_of a day; day = day }) c.minimum least) ≡ penalty_fee (row_in g (day - opened_in g)) (seen_in g day) b kind.Returned c
 fee-is g day c b t i fs a cycles least s o l same own fees table issued anchor asks =
     let seen = seen_in g day in
     let row = row_in g (day - opened_in g) in
     let count : present_cycle b ≡ cycle_of (anchor_of g.history) day = counted-cycles g day b.cycles s o (own ∙ same) in
     let its : i ≡ issued_fees row = issued ∙ ap (λ (cs : List Cycle). issued_fees (row_for (length cs + 1) g.issued)) same in
-    let fold = fee-fold seen g.shared.fees b.cycles b.fees (present_cycle b) kind.Returned c refl in
-    let alike : fee_by t fs (record { kind = kind.Returned; due_cycle = c.number; cycle = cycle_of a day; day = day }) c.minimum least
-    ≡ fee_by g.shared.fees b.fees (record { kind = kind.Returned; due_cycle = c.number; cycle = present_cycle b; day = day }) c.minimum (asked seen.issued (last_due day b.cycles)) =
+    let alike : fee_by (row_in_force (filter (λ r. nat_le r.day day) t)) fs (record { kind = kind.Returned; due_cycle = c.number; cycle = cycle_of a day; day = day }) c.minimum least
+    ≡ fee_by (row_in_force (filter (λ r. nat_le r.day day) g.shared.fees)) b.fees (record { kind = kind.Returned; due_cycle = c.number; cycle = present_cycle b; day = day }) c.minimum (asked seen.issued (last_due day b.cycles)) =
     many t g.shared.fees fs b.fees (cycle_of a day) (present_cycle b) least (asked seen.issued (last_due day b.cycles)) table (sym fees) (ap (λ x. cycle_of x day) anchor ∙ sym count) (asks ∙ ap (λ cs. asked seen.issued (last_due day cs)) (sym own)) in
-    ap (λ u. capped_if_any u (fee_by t fs (record { kind = kind.Returned; due_cycle = c.number; cycle = cycle_of a day; day = day }) c.minimum least)) its
-    ∙ (ap (capped_if_any (issued_fees row)) (alike ∙ sym fold) ∙ sym (caps-fold row (fee_for seen b.cycles b.fees (present_cycle b) kind.Returned c)))
+    ap (λ u. charged_by fees_for u (fee_by (row_in_force (filter (λ r. nat_le r.day day) t)) fs (record { kind = kind.Returned; due_cycle = c.number; cycle = cycle_of a day; day = day }) c.minimum least)) its
+    ∙ (ap (charged_by fees_for (issued_fees row)) alike ∙ sym (caps-fold row (fee_for seen b.cycles b.fees (present_cycle b) kind.Returned c)))
   where
     many : (t u : List FeeRow) (fs gs : List Fee) (d e x y : ℕ) → t ≡ u → fs ≡ gs → d ≡ e → x ≡ y
-        → fee_by t fs (record { kind = kind.Returned; due_cycle = c.number; cycle = d; day = day }) c.minimum x ≡ fee_by u gs (record { kind = kind.Returned; due_cycle = c.number; cycle = e; day = day }) c.minimum y
+        → fee_by (row_in_force (filter (λ r. nat_le r.day day) t)) fs (record { kind = kind.Returned; due_cycle = c.number; cycle = d; day = day }) c.minimum x ≡ fee_by (row_in_force (filter (λ r. nat_le r.day day) u)) gs (record { kind = kind.Returned; due_cycle = c.number; cycle = e; day = day }) c.minimum y
     many t u fs gs d e x y p q r w = rw (p, q, r, w) refl
 
 -- ---- it is of few cents

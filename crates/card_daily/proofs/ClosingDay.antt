@@ -8,22 +8,20 @@ use Rattle.card_events.specs.Range.{last_request_day, last_calendar_day, first_c
 use Rattle.card_events.specs.declared.anchor.Anchor.{Anchor}
 use Rattle.card_events.proofs.Cycles.{IsAnchor, closing_grows, cycle_around, cycle_from_one, due_day-bounds}
 use Rattle.card_events.proofs.DueLaws.{closing_laws, due_before_next}
-use Rattle.card_fees.proofs.Cases.{case-fold}
-use Rattle.card_fees.specs.Asked.{case_by}
+use Rattle.card_fees.proofs.Cases.{by-places, due-at}
+use Rattle.card_fees.proofs.PastPosts.{past-posts}
 use Rattle.card_fees.specs.DueLaws.{AreDueBy, AreOfTheCalendar, due_cycle_at}
-use Rattle.card_fees.specs.declared.due_cycle.DueCycle.{DueCycle}
+use Rattle.card_model.specs.declared.due_cycle.DueCycle.{DueCycle}
 use Rattle.card_events.specs.History.{CorrectedPost, anchor_of, corrected}
 use Rattle.card_fees.proofs.Days.{closing-from, due-later}
-use Rattle.card_fees.proofs.Fold.{past-due-fold}
-use Rattle.card_fees.specs.Due.{past_due_at}
 use Rattle.card_model.proofs.Calendar.{cycles_are_of_the_calendar, is-anchor}
 use Rattle.card_model.specs.Books.{Book, present_cycle}
 use Rattle.card_model.specs.Closing.{purchase_case_in}
 use Rattle.card_model.specs.CycleDays.{HasItsDays}
 use Rattle.card_model.specs.Cycles.{Cycle, last_cycle}
 use Rattle.card_model.specs.Folds.{cycle_at}
-use Rattle.card_model.specs.Interest.{purchase_case}
-use Rattle.card_model.specs.Payments.{asked, past_due}
+use Rattle.card_model.specs.Interest.{case_after, purchase_case}
+use Rattle.card_model.specs.Payments.{due_cycle_of, left_by, past_due}
 use Rattle.card_daily.specs.Closing.{IsClosing, IsClosingOf}
 use Rattle.card_daily.specs.Given.{Given, IsSound, opened_in, seen_in}
 use Rattle.card_daily.specs.Stands.{before, posted, posts_of}
@@ -193,32 +191,19 @@ last-at g day number c s o l h e =
     record { days = is.days; first = is.first; next = next; due = omega (arith, own, by); closed = omega (arith, at, grow, by) }
 
 -- what is left of its minimum payment
-pub left-is : (g : Given) (day number : ℕ) (c : Cycle) → IsSound g → opened_in g ≤ day → day ≤ last_request_day → IsClosingOf g number day → last_cycle (posted g day).cycles ≡ Some c
-    → past_due (seen_in g day) day (Some c) ≡ past_due_at (anchor_of g.history) (corrected (anchor_of g.history) g.shared.holidays g.history) number (asked (seen_in g day).issued (Some c))
-left-is g day number c s o l h e =
-    let a = anchor_of g.history in
-    let is = last-at g day number c s o l h e in
-    let on : closing a (c.number + 1) ≡ day = ap (closing a) (sym is.next) ∙ h.closing.on in
-    let posts = corrected a g.shared.holidays g.history in
-    ap (λ d. past_due (seen_in g day) d (Some c)) (sym on)
-    ∙ (past-due-fold a posts (seen_in g day) c.number c refl is.days (omega (arith, on))
-    ∙ ap (λ k. past_due_at a posts k (asked (seen_in g day).issued (Some c))) (sym is.next))
-
-pub left-alike : (a b : Anchor) (ps qs : List CorrectedPost) (k m n : ℕ) → a ≡ b → ps ≡ qs → m ≡ n → past_due_at a ps k m ≡ past_due_at b qs k n
-left-alike a b ps qs k m n e f h = rw (e, f, h) refl
+pub left-is : (g : Given) (day : ℕ) (c : Cycle) (posts : List CorrectedPost) (d : DueCycle) → posts ≡ corrected (anchor_of g.history) g.shared.holidays g.history
+    → d ≡ due_cycle_of (seen_in g day).issued c → left_by posts day d ≡ past_due (seen_in g day) day (Some c)
+left-is g day c posts d ep ed = rw (ep, ed) (sym (past-posts.left day (corrected (anchor_of g.history) g.shared.holidays g.history) (due_cycle_of (seen_in g day).issued c)))
 
 -- ---- purchases
-alike : (a b : Anchor) (ps qs : List CorrectedPost) (x y u v : Option DueCycle) → a ≡ b → ps ≡ qs → x ≡ u → y ≡ v → case_by a ps x y ≡ case_by b qs u v
-alike a b ps qs x y u v e f h k = rw (e, f, h, k) refl
-
-pub cases-are : (g : Given) (day : ℕ) (cycles : List Cycle) (a : Anchor) (posts : List CorrectedPost) (count : ℕ) (x y : Option DueCycle)
-    → AreOfTheCalendar (anchor_of g.history) cycles → AreDueBy day cycles → cycles ≡ (posted g day).cycles → a ≡ anchor_of g.history
+pub cases-are : (g : Given) (day : ℕ) (cycles : List Cycle) (posts : List CorrectedPost) (count : ℕ) (x y : Option DueCycle)
+    → AreOfTheCalendar (anchor_of g.history) cycles → AreDueBy day cycles → cycles ≡ (posted g day).cycles
     → posts ≡ corrected (anchor_of g.history) g.shared.holidays g.history → count ≡ length cycles - 1
     → x ≡ due_cycle_at (seen_in g day) count cycles → y ≡ due_cycle_at (seen_in g day) (length cycles) cycles
-    → case_by a posts x y ≡ purchase_case_in (seen_in g day) (posted g day)
-cases-are g day cycles a posts count x y days dues same anchor post counted before last =
+    → case_after posts x y ≡ purchase_case_in (seen_in g day) (posted g day)
+cases-are g day cycles posts count x y days dues same post counted before last =
     let seen = seen_in g day in
-    alike a (anchor_of g.history) posts (corrected (anchor_of g.history) g.shared.holidays g.history) x y (due_cycle_at seen (length cycles - 1) cycles) (due_cycle_at seen (length cycles) cycles) anchor post
-    (before ∙ ap (λ n. due_cycle_at seen n cycles) counted) last
-    ∙ (sym (case-fold (anchor_of g.history) (corrected (anchor_of g.history) g.shared.holidays g.history) seen cycles refl days dues)
-    ∙ ap (λ cs. purchase_case seen cs (last_cycle cs)) same)
+    let all = corrected (anchor_of g.history) g.shared.holidays g.history in
+    rw (post, before ∙ ap (λ n. due_cycle_at seen n cycles) counted, last)
+    (sym (past-posts.case day all (due_cycle_at seen (length cycles - 1) cycles) (due_cycle_at seen (length cycles) cycles) (due-at seen day (length cycles - 1) cycles dues) (due-at seen day (length cycles) cycles dues))
+    ∙ (sym (by-places (anchor_of g.history) seen cycles days) ∙ ap (λ cs. purchase_case seen cs (last_cycle cs)) same))

@@ -49,7 +49,7 @@ due-is issued a seen b None = refl
 due-is issued a seen b (Some c) = by (eqb seen.day (c.due + 1))
   where
     cured : List Interval
-    cured = map (cured_by seen b.cycles c) b.penalties
+    cured = map (cured_by seen b.cycles c.due) b.penalties
 
     by : (t : Bool) → cond t (after_due_date issued a seen b c) b ≡ with_penalties (cond t cured b.penalties) (with_fee a seen 0 (cond t (late_fee issued seen b c) None) b)
     by true = refl

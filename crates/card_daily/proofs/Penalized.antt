@@ -9,8 +9,7 @@ use Rattle.card_events.specs.Billing.{closing, cycle_of, due}
 use Rattle.card_events.specs.Range.{last_request_day}
 use Rattle.card_events.specs.declared.anchor.Anchor.{Anchor}
 use Rattle.card_events.proofs.Cycles.{cycle_around}
-use Rattle.card_fees.specs.DueLaws.{due_cycle_of}
-use Rattle.card_fees.specs.declared.due_cycle.DueCycle.{DueCycle}
+use Rattle.card_model.specs.declared.due_cycle.DueCycle.{DueCycle}
 use Rattle.card_events.specs.History.{CorrectedPost, anchor_of, corrected}
 use Rattle.card_events.specs.declared.post.Post.{Post}
 use Rattle.card_events.specs.declared.post.Post.TheVariants as post
@@ -24,13 +23,11 @@ use Rattle.card_model.specs.DueDates.{cured_by, on_due}
 use Rattle.card_model.specs.Effects.{effect}
 use Rattle.card_model.specs.Entries.{AreBalances}
 use Rattle.card_model.specs.Folds.{cycle_at}
-use Rattle.card_model.specs.Payments.{met, owes_sixty_days, returns}
+use Rattle.card_model.specs.Payments.{due_cycle_of, is_met, is_owed_sixty_days, met, owes_sixty_days, returns}
 use Rattle.card_model.specs.Rates.{starts}
 use Rattle.card_model.specs.Segments.{SegmentTerms}
 use Rattle.card_model.specs.declared.segment.Interval.{Interval}
-use Rattle.card_closing.proofs.PenaltyFold.{cured-fold, met-own, owes-fold}
-use Rattle.card_closing.specs.PenaltyEnd.{cured_with, met_by}
-use Rattle.card_closing.specs.PenaltyLate.{owes_by}
+use Rattle.card_fees.proofs.PastPosts.{past-posts}
 use Rattle.card_rates.proofs.Penalties.{penalties_stay}
 use Rattle.card_rates.specs.RateBooks as rates
 use Rattle.card_rates.specs.RateBooks.{Rates}
@@ -162,20 +159,19 @@ all-due g day c s o l e on = all-numbered (IsDueBy g day) (before g day).cycles 
             let own = is.days.due in
             record { days = closed.days; first = closed.first; due = omega (arith, its, own, on) }
 
--- ---- the words of the fold
-pub owes-is : (g : Given) (day : ℕ) (c : Cycle) (a : Anchor) (posts : List CorrectedPost) (d : DueCycle) → IsClosed g c → a ≡ anchor_of g.history → posts ≡ corrected (anchor_of g.history) g.shared.holidays g.history
-    → d ≡ due_cycle_of (seen_in g day) c → owes_by a posts d day ≡ owes_sixty_days (seen_in g day) c
-owes-is g day c a posts d h ea ep ed = alike ∙ sym (owes-fold (anchor_of g.history) (corrected (anchor_of g.history) g.shared.holidays g.history) (seen_in g day) c.number c refl h.days)
-  where
-    alike : owes_by a posts d day ≡ owes_by (anchor_of g.history) (corrected (anchor_of g.history) g.shared.holidays g.history) (due_cycle_of (seen_in g day) c) day
-    alike = rw (ea, ep, ed) refl
+-- ---- what the fold of a day sees
+pub closed-before-due : (g : Given) (day : ℕ) (c : Cycle) (d : DueCycle) → HasItsDays (anchor_of g.history) c.number c → d ≡ due_cycle_of (seen_in g day).issued c → d.closing < d.due
+closed-before-due g day c d h e =
+    let l = due-later (anchor_of g.history) c.number in
+    subst (λ (x : DueCycle). x.closing < x.due) (sym e) (omega (arith, l, h.closing, h.due))
 
-pub met-is : (g : Given) (day : ℕ) (c : Cycle) (a : Anchor) (posts : List CorrectedPost) (d : DueCycle) → IsDueBy g day c → a ≡ anchor_of g.history → posts ≡ corrected (anchor_of g.history) g.shared.holidays g.history
-    → d ≡ due_cycle_of (seen_in g day) c → met_by a posts d ≡ met (seen_in g day) c
-met-is g day c a posts d h ea ep ed = alike ∙ sym (met-own (anchor_of g.history) (corrected (anchor_of g.history) g.shared.holidays g.history) (seen_in g day) c.number c refl h.days h.due)
-  where
-    alike : met_by a posts d ≡ met_by (anchor_of g.history) (corrected (anchor_of g.history) g.shared.holidays g.history) (due_cycle_of (seen_in g day) c)
-    alike = rw (ea, ep, ed) refl
+pub owes-is : (g : Given) (day : ℕ) (c : Cycle) (posts : List CorrectedPost) (d : DueCycle) → posts ≡ corrected (anchor_of g.history) g.shared.holidays g.history
+    → d ≡ due_cycle_of (seen_in g day).issued c → is_owed_sixty_days posts day d ≡ owes_sixty_days (seen_in g day) c
+owes-is g day c posts d ep ed = rw (ep, ed) (sym (past-posts.owed day (corrected (anchor_of g.history) g.shared.holidays g.history) (due_cycle_of (seen_in g day).issued c)))
+
+pub met-is : (g : Given) (day : ℕ) (c : Cycle) (posts : List CorrectedPost) (d : DueCycle) → c.due ≤ day → posts ≡ corrected (anchor_of g.history) g.shared.holidays g.history
+    → d ≡ due_cycle_of (seen_in g day).issued c → is_met posts d ≡ met (seen_in g day) c
+met-is g day c posts d l ep ed = rw (ep, ed) (sym (past-posts.met day (corrected (anchor_of g.history) g.shared.holidays g.history) (due_cycle_of (seen_in g day).issued c) l))
 
 -- ---- penalty by penalty
 abbrev pub done-to : {X : Type 0} → (X → X) → ℕ → List X → List X
@@ -210,13 +206,12 @@ set-same (x ∷ xs) zero d l = refl
 set-same (x ∷ xs) (suc i) d l = ap (λ ys. x ∷ ys) (set-same xs i d (omega arith))
 
 -- ---- with the due date of a cycle
-pub cured-then : (seen : Seen) (cs : List Cycle) (c : Cycle) (due : ℕ) (ps : List Interval) (o : Option Cycle) → o ≡ Some c → due ≡ c.due → (seen.day == c.due + 1) ≡ true → map (cured_with seen cs due) ps ≡ cured_on seen cs o ps
+pub cured-then : (seen : Seen) (cs : List Cycle) (c : Cycle) (due : ℕ) (ps : List Interval) (o : Option Cycle) → o ≡ Some c → due ≡ c.due → (seen.day == c.due + 1) ≡ true → map (cured_by seen cs due) ps ≡ cured_on seen cs o ps
 unfolding cured_on
 cured-then seen cs c due ps o e d t =
-    ap (λ x. map (cured_with seen cs x) ps) d
-    ∙ (map-each (cured_with seen cs c.due) (cured_by seen cs c) (λ i. sym (cured-fold seen cs c i)) ps
-    ∙ (sym (ap (λ b. cond b (map (cured_by seen cs c) ps) ps) t) ∙ sym (ap (λ o. cured_on seen cs o ps) e)))
+    ap (λ x. map (cured_by seen cs x) ps) d
+    ∙ (sym (ap (λ b. cond b (map (cured_by seen cs c.due) ps) ps) t) ∙ sym (ap (λ o. cured_on seen cs o ps) e))
 
 pub cured-else : (seen : Seen) (cs : List Cycle) (c : Cycle) (ps : List Interval) (o : Option Cycle) → o ≡ Some c → (seen.day == c.due + 1) ≡ false → ps ≡ cured_on seen cs o ps
 unfolding cured_on
-cured-else seen cs c ps o e t = sym (ap (λ b. cond b (map (cured_by seen cs c) ps) ps) t) ∙ sym (ap (λ o. cured_on seen cs o ps) e)
+cured-else seen cs c ps o e t = sym (ap (λ b. cond b (map (cured_by seen cs c.due) ps) ps) t) ∙ sym (ap (λ o. cured_on seen cs o ps) e)

@@ -6,7 +6,7 @@ use Rattle.std.proofs.lemmas.Bool.Decides.{nat_tests}
 use Rattle.std.proofs.lemmas.List.{append_assoc}
 use Rattle.std.proofs.lemmas.List.Elements.{All-append, All-nil}
 use Rattle.std.proofs.lemmas.Int.{ints, to_z-of_z}
-use Rattle.card_effects.specs.Repaid.{AreRepaid, is_repaying, repaid_rows}
+use Rattle.card_effects.specs.Repaid.{AreRepaid, repaid_rows}
 use Rattle.card_events.specs.declared.anchor.Channel.{Channel}
 use Rattle.card_effects.specs.Standing.{IsSlotOf, StandsAt}
 use Rattle.card_events.specs.History.{CorrectedPost}
@@ -24,6 +24,7 @@ use Rattle.card_model.specs.Cycles.{IssuedRow, Seen}
 use Rattle.card_model.specs.Effects.{effect, is_part_of, meant_for, parts_entries, payment_at, put_back, returned, returned_fee, size}
 use Rattle.card_model.specs.Entries.{credit_balance, debit}
 use Rattle.card_model.specs.Fees.{fee_cents}
+use Rattle.card_model.specs.Interest.{repays}
 use Rattle.card_model.specs.Limits.{balance_limit}
 use Rattle.card_model.specs.Payments.{returns}
 use Rattle.card_model.specs.Segments.{SegmentTerms, segment_at}
@@ -113,7 +114,7 @@ refund-stand issued a seen first returned rows_by p b cents s new t after h at r
 
 -- parts that count as repaid
 pub repaid-stand : (k : EntryKind) (a : Account) (seen : Seen) (first : ℕ) (returned : ℕ → Bool) (rows_by : SegmentTerms → Rows) (b c : Book) (s new : State) (t after : Track) (slot : Slot) (parts : List (ℕ × ℕ)) (old now : List Rows)
-    → AreByNumber 2 s.rates.segments → first ≤ slot.day → is_repaying returned (record { day = slot.day; kind = k; post = slot.number }) ≡ true
+    → AreByNumber 2 s.rates.segments → first ≤ slot.day → repays returned k slot.number ≡ true
     → StandWith a seen first returned rows_by b s t → StandsAt a seen c new.rates new.segments.balances after.entries.items → new.rates ≡ s.rates → after.fees.items ≡ t.fees.items → c.fees ≡ b.fees
     → after.entries.items ≡ t.entries.items ++ parts_entries (record { day = slot.day; kind = k; post = slot.number }) parts
     → AreRepaid slot.day slot.number parts old now → old ≡ s.rows.items → new.rows.items ≡ now → StandWith a seen first returned rows_by c new after
@@ -283,8 +284,8 @@ on-ok (Ok x) P Q h f = f h
 on-ok (Err e) P Q h f = h
 
 -- the lesser of two amounts
-pub lesser-is : (r x y : ℤ) (m n : ℕ) → r ≡ pos (min (unsigned_abs x) (unsigned_abs y)) → x ≡ pos m → y ≡ pos n → r ≡ pos (min m n)
-lesser-is r x y m n e f g = e ∙ (ap (λ u. pos (min (unsigned_abs u) (unsigned_abs y))) f ∙ ap (λ u. pos (min m (unsigned_abs u))) g)
+pub lesser-is : (r x : ℤ) (y m n : ℕ) → r ≡ pos (min (unsigned_abs x) y) → x ≡ pos m → y ≡ n → r ≡ pos (min m n)
+lesser-is r x y m n e f g = e ∙ (ap (λ u. pos (min (unsigned_abs u) y)) f ∙ ap (λ u. pos (min m u)) g)
 
 -- ---- a post's slot
 pub slot-is : (seen : Seen) (p : CorrectedPost) (x : DayPost) → x ≡ day_post p → x.slot.day ≡ seen.day → IsSlotOf seen p x.slot

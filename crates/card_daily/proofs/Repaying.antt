@@ -4,8 +4,9 @@ use Rattle.std.specs.Prelude.{◌==◌, nat_le}
 use Rattle.std.specs.List.{All, filter}
 use Rattle.std.proofs.lemmas.List.Elements.{All-head, All-tail}
 use Rattle.card_closing.proofs.Growing.{rows_grow}
-use Rattle.card_closing.specs.BookRows.{brought, is_brought, repayment_of, repays}
+use Rattle.card_closing.specs.BookRows.{brought, is_brought, repayment_of}
 use Rattle.card_model.specs.Entries.{is_kind}
+use Rattle.card_model.specs.Interest.{repays}
 use Rattle.card_model.specs.declared.entry.Entry.{Entry}
 use Rattle.card_model.specs.declared.entry.EntryKind.TheVariants as kind
 
@@ -33,7 +34,7 @@ no-repayment false false v h = refl
 none-brought : (f : ℕ → Bool) (s first : ℕ) (es : List Entry) → All IsOther es → filter (is_brought f s first) es ≡ []
 none-brought f s first [] h = refl
 none-brought f s first (e ∷ es) h =
-    let here : repays f e ≡ false = no-repayment (is_kind kind.Credit e.kind) (is_kind kind.Payment e.kind) (f e.post) (All-head IsOther e es h) in
+    let here : repays f e.kind e.post ≡ false = no-repayment (is_kind kind.Credit e.kind) (is_kind kind.Payment e.kind) (f e.post) (All-head IsOther e es h) in
     let rest = none-brought f s first es (All-tail IsOther e es h) in
     rw (here, and-false (e.segment == s), rest) refl
   where

@@ -7,7 +7,6 @@ use Rattle.card_model.specs.Cycles.{Cycle, Seen}
 use Rattle.card_model.specs.DueDates.{cured_by}
 use Rattle.card_model.specs.Payments.{sixty_days_late}
 use Rattle.card_model.specs.declared.segment.Interval.{Interval}
-use Rattle.card_closing.specs.PenaltyEnd.{cured_with}
 use Rattle.card_daily.specs.Given.{Given}
 
 -- a closed cycle with its number and days, which are there
@@ -24,9 +23,9 @@ begun_on seen cycles penalties =
 
 -- the penalties, where the one at a place has this due date for its last day if it is cured; i stands for one that isn't there
 abbrev pub cured_at : Seen → List Cycle → ℕ → ℕ → Interval → List Interval → List Interval
-cured_at seen cycles due which i penalties = slice_set penalties which (cured_with seen cycles due (slice_index_or penalties which i))
+cured_at seen cycles due which i penalties = slice_set penalties which (cured_by seen cycles due (slice_index_or penalties which i))
 
 -- the penalties after the due date of a cycle: on the day after it, those that are cured have ended
 unfoldable pub cured_on : Seen → List Cycle → Option Cycle → List Interval → List Interval
 cured_on seen cycles None penalties = penalties
-cured_on seen cycles (Some c) penalties = let cured = map (cured_by seen cycles c) penalties in if seen.day == c.due + 1 then cured else penalties
+cured_on seen cycles (Some c) penalties = let cured = map (cured_by seen cycles c.due) penalties in if seen.day == c.due + 1 then cured else penalties

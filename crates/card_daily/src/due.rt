@@ -1,9 +1,7 @@
 // What a due date brings on the day after it.
 ghost use Rattle.std.specs.Prelude.{◌≡◌, ◌+◌, ◌-◌, ◌<◌, ◌≤◌, ◌==◌, ℕ, List, [], ◌∷◌, ◌++◌, Some, None, OnOk, OnErr, pos, ◌≤ℤ◌, option_copied, option_map, vec_len, vec_capacity};
 ghost use Rattle.card_model.specs.Limits.{balance_limit};
-ghost use Rattle.card_events.specs.Billing.{due as due_of};
 ghost use Rattle.card_events.specs.Range.{last_request_day, last_calendar_day};
-ghost use Rattle.card_events.specs.declared.anchor.Anchor.{Anchor};
 ghost use Rattle.card_fees.specs.Asked.{is_due_by};
 ghost use Rattle.card_effects.specs.Entering.{ChargesFee, MayMove};
 ghost use Rattle.card_model.specs.Books.{Account, Book, with_fee};
@@ -12,10 +10,11 @@ ghost use Rattle.card_daily.specs.Due as spec;
 ghost use Rattle.card_daily.specs.Due.{AreCharged};
 ghost use Rattle.card_events.specs.History.{anchor_of};
 ghost use Rattle.card_model.specs.CycleDays.{HasItsDays};
-ghost use Rattle.card_fees.specs.DueLaws.{due_cycle_of, issue_day, issued_fees};
+ghost use Rattle.card_fees.specs.DueLaws.{issue_day, issued_fees};
 ghost use Rattle.card_model.specs.Caps.{row_for};
 ghost use Rattle.card_model.specs.Cycles.{Cycle, Seen, last_cycle};
 ghost use Rattle.card_model.specs.DueDates as model;
+ghost use Rattle.card_model.specs.Payments.{due_cycle_of};
 ghost use Rattle.card_daily.specs.Given.{IsDayOf, Tallies, opened_in, row_in, seen_in};
 ghost use Rattle.card_daily.specs.Stands.{AreAmid, AreBefore, Begins, before, KeepsRoom};
 
@@ -39,22 +38,22 @@ fn issue_day(issued: Option<&Issued>) -> Option<Day>
 }
 
 // Its minimum payment in cents.
-pub(crate) fn minimum_of(cycle: &Cycle) -> Cents
-    ensures { result ≡ pos cycle.now.minimum }
+pub(crate) fn minimum_of(cycle: &Cycle) -> u64
+    ensures { result ≡ cycle.now.minimum }
 {
-    cycle.minimum
+    cycle.minimum as u64
 }
 
 // Its grace amount in cents.
-fn grace_of(cycle: &Cycle) -> Cents
-    ensures { result ≡ pos cycle.now.grace_amount }
+fn grace_of(cycle: &Cycle) -> u64
+    ensures { result ≡ cycle.now.grace_amount }
 {
-    cycle.grace_amount
+    cycle.grace_amount as u64
 }
 
 // A closed cycle with its due payment.
 fn with_due_payment(cycle: &Cycle, has_due_payment: bool) -> DueCycle
-    ensures { result ≡ record { cycle = cycle.now.number; closing = cycle.now.closing; due = cycle.now.due; minimum = pos cycle.now.minimum; grace_amount = pos cycle.now.grace_amount; has_due_payment = has_due_payment } }
+    ensures { result ≡ record { cycle = cycle.now.number; closing = cycle.now.closing; due = cycle.now.due; minimum = cycle.now.minimum; grace_amount = cycle.now.grace_amount; has_due_payment = has_due_payment } }
 {
     DueCycle {
         cycle: cycle.number,
@@ -68,7 +67,7 @@ fn with_due_payment(cycle: &Cycle, has_due_payment: bool) -> DueCycle
 
 // Whether a statement was issued before a day, and at least 21 days before its due date.
 fn is_due(issued: Option<Day>, due: Day, day: Day) -> bool
-    ensures { (a : Anchor) (cycle : ℕ) → due ≡ due_of a cycle → result ≡ is_due_by a cycle day issued }
+    ensures { result ≡ is_due_by due day issued }
 {
     match issued {
         Some(issue) => issue < day && has_due_payment(issue, due),
@@ -82,7 +81,7 @@ pub fn due_cycle(inputs: &Inputs, day: Day, cycle: &Cycle) -> DueCycle
     requires days { HasItsDays (anchor_of inputs.now.history) cycle.now.number cycle.now }
     requires number { 1 ≤ cycle.now.number }
     requires last { cycle.now.due ≤ last_calendar_day }
-    ensures { result ≡ due_cycle_of (seen_in inputs.now day) cycle.now }
+    ensures { result ≡ due_cycle_of (seen_in inputs.now day).issued cycle.now }
 {
     let _anchor = inputs.anchor();
     let issued = issue_day(inputs.issued_since(cycle.number as u64, cycle.closing));

@@ -4,11 +4,10 @@ ghost use Rattle.card_events.specs.Range.{last_request_day};
 ghost use Rattle.std.specs.List.{All, list_all};
 ghost use Rattle.card_events.specs.History.{anchor_of};
 ghost use Rattle.card_model.specs.Cycles.{last_cycle};
-ghost use Rattle.card_model.specs.DueDates.{due_after_day};
+ghost use Rattle.card_model.specs.DueDates.{awaits_end, cured_by, due_after_day};
 ghost use Rattle.card_model.specs.Payments as model;
 ghost use Rattle.card_model.specs.Payments.{met, sixty_days_late};
 ghost use Rattle.card_model.specs.declared.segment.Interval.{Interval};
-ghost use Rattle.card_closing.specs.PenaltyEnd.{awaits_end, cured_with};
 ghost use Rattle.card_rates.specs.RateBooks.{with_penalties};
 ghost use Rattle.card_daily.specs.Given.{seen_in};
 ghost use Rattle.card_daily.specs.Penalties.{IsClosed, begun_on, cured_at, cured_on};
@@ -17,8 +16,9 @@ ghost use Rattle.card_daily.specs.Stands.{AreClosedBefore};
 
 use crate::Inputs;
 use crate::due::{due_cycle, is_day_after};
-use card_closing::{Cycle, awaits_end, begin_after, is_due_after, is_met, owes_sixty_days};
+use card_closing::{Cycle, awaits_end, begin_after, is_due_after};
 use card_events::{Day, NoMemory};
+use card_fees::{met, owes_sixty_days};
 use card_model::Interval;
 use card_rates::RateBook;
 
@@ -27,9 +27,9 @@ fn owes(inputs: &Inputs, day: Day, cycle: &Cycle) -> bool
     requires closed { IsClosed inputs.now cycle.now }
     ensures { result ≡ model.owes_sixty_days (seen_in inputs.now day) cycle.now }
 {
-    let anchor = inputs.anchor();
+    let _anchor = inputs.anchor();
     let due = due_cycle(inputs, day, cycle);
-    owes_sixty_days(inputs.posts(), &anchor, &due, day)
+    owes_sixty_days(inputs.posts(), &due, day)
 }
 
 /// Whether the account is sixty days late on a day (12 CFR 1026.55(b)(4)): the due date of one of these closed cycles lies more
@@ -72,9 +72,9 @@ fn is_due_met(inputs: &Inputs, day: Day, cycle: &Cycle) -> bool
     requires last { day ≤ last_request_day }
     ensures { result ≡ met (seen_in inputs.now day) cycle.now }
 {
-    let anchor = inputs.anchor();
+    let _anchor = inputs.anchor();
     let due = due_cycle(inputs, day, cycle);
-    is_met(inputs.posts(), &anchor, &due)
+    met(inputs.posts(), &due)
 }
 
 // Whether it lies after a day and wasn't met.
@@ -128,7 +128,7 @@ fn end_if_cured(
 // So has each of them.
 fn end_cured(inputs: &Inputs, day: Day, cycles: &[Cycle], due: Day, rates: &mut RateBook)
     requires due { AreDueOn inputs.now day cycles.now }
-    ensures { rates.new ≡ with_penalties (map (cured_with (seen_in inputs.now day) cycles.now due) rates.old.penalties) rates.old }
+    ensures { rates.new ≡ with_penalties (map (cured_by (seen_in inputs.now day) cycles.now due) rates.old.penalties) rates.old }
 {
     for which in 0..rates.penalties().len() {
         end_if_cured(inputs, day, cycles, due, which, rates);

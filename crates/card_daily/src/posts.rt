@@ -52,28 +52,26 @@ fn following_closing(anchor: &Anchor, day: Day) -> Day
 }
 
 // The lesser of two amounts.
-fn lesser(cents: Cents, left: Cents) -> Cents
-    requires low { pos 0 ≤ℤ cents }
-    requires left { pos 0 ≤ℤ left }
-    ensures value { result ≡ pos (min (unsigned_abs cents) (unsigned_abs left)) }
+fn lesser(cents: Cents, left: u64) -> Cents
+    requires { pos 0 ≤ℤ cents }
+    ensures value { result ≡ pos (min (unsigned_abs cents) left) }
     ensures low { pos 0 ≤ℤ result }
     ensures within { result ≤ℤ cents }
 {
-    if cents < left { cents } else { left }
+    (cents as u64).min(left) as i64
 }
 
 // What is left of the minimum payment of the last closed cycle for the payment of a day with this number.
-fn left_of(inputs: &Inputs, day: Day, number: u32, cycle: &Cycle, tally: &mut Tally) -> Cents
+fn left_of(inputs: &Inputs, day: Day, number: u32, cycle: &Cycle, tally: &mut Tally) -> u64
     requires dated { IsDayOf inputs.now day }
     requires cycle { last_cycle (before inputs.now day).cycles ≡ Some cycle.now }
     requires tally { Tallies inputs.now day tally.old }
-    ensures value { (p : CorrectedPost) → p.day ≡ day → p.number ≡ number → result ≡ pos (model.minimum_left (seen_in inputs.now day) p (Some cycle.now)) }
-    ensures low { pos 0 ≤ℤ result }
+    ensures value { (p : CorrectedPost) → p.day ≡ day → p.number ≡ number → result ≡ model.minimum_left (seen_in inputs.now day) p (Some cycle.now) }
     ensures tally { Tallies inputs.now day tally.new }
 {
-    let anchor = inputs.anchor();
+    let _anchor = inputs.anchor();
     let due = due_cycle(inputs, day, cycle);
-    minimum_left(inputs.posts(), &anchor, &due, day, number, tally)
+    minimum_left(inputs.posts(), &due, day, number, tally)
 }
 
 // The same, 0 where no cycle is closed.
@@ -83,12 +81,11 @@ fn left_if_any(
     number: u32,
     last: Option<&Cycle>,
     tally: &mut Tally,
-) -> Cents
+) -> u64
     requires dated { IsDayOf inputs.now day }
     requires last { option_copied last ≡ last_cycle (before inputs.now day).cycles }
     requires tally { Tallies inputs.now day tally.old }
-    ensures value { (p : CorrectedPost) → p.day ≡ day → p.number ≡ number → result ≡ pos (model.minimum_left (seen_in inputs.now day) p (last_cycle (before inputs.now day).cycles)) }
-    ensures low { pos 0 ≤ℤ result }
+    ensures value { (p : CorrectedPost) → p.day ≡ day → p.number ≡ number → result ≡ model.minimum_left (seen_in inputs.now day) p (last_cycle (before inputs.now day).cycles) }
     ensures tally { Tallies inputs.now day tally.new }
 {
     match last {

@@ -87,11 +87,10 @@ fn meant_for(cycles: &[Cycle], payment: Option<Slot>) -> Option<&Cycle>
 }
 
 // What the due date of a cycle asks for, 0 where there is none.
-fn asked_by(inputs: &Inputs, day: Day, cycle: Option<&Cycle>) -> Cents
+fn asked_by(inputs: &Inputs, day: Day, cycle: Option<&Cycle>) -> u64
     requires due { (c : Cycle) → option_copied cycle ≡ Some c → IsDueBy inputs.now day c }
     requires last { day ≤ last_request_day }
-    ensures value { result ≡ pos (asked (seen_in inputs.now day).issued (option_copied cycle.entry)) }
-    ensures low { pos 0 ≤ℤ result }
+    ensures { result ≡ asked (seen_in inputs.now day).issued (option_copied cycle.entry) }
 {
     match cycle {
         Some(cycle) => asked(&due_cycle(inputs, day, cycle)),

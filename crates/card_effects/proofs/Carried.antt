@@ -12,12 +12,13 @@ use Rattle.card_closing.specs.declared.rows.Repayment.{Repayment}
 use Rattle.card_closing.proofs.Growing.{rows_grow}
 use Rattle.card_model.specs.Effects.{parts_entries}
 use Rattle.card_model.specs.Entries.{lowers}
+use Rattle.card_model.specs.Interest.{repays}
 use Rattle.card_model.specs.Segments.{SegmentTerms}
 use Rattle.card_model.specs.declared.entry.Entry.{Entry}
 use Rattle.card_model.specs.declared.entry.EntryKind.{EntryKind}
 use Rattle.card_model.specs.declared.entry.Note.{Note}
 use Rattle.card_rates.specs.RateBooks.{AreByNumber}
-use Rattle.card_effects.specs.Repaid.{AreRepaid, is_repaying, repaid_rows}
+use Rattle.card_effects.specs.Repaid.{AreRepaid, repaid_rows}
 
 -- ---- what one part brings to one segment
 elsewhere : (returned : ℕ → Bool) (s first : ℕ) (note : Note) (to n : ℕ) → (to ≡ s → ⊥) → brought returned s first (lowers note to n) ≡ []
@@ -25,7 +26,7 @@ unfolding brought
 elsewhere returned s first note to zero h = refl
 elsewhere returned s first note to (suc n) h = rw (ne_eqb to s h) refl
 
-here : (returned : ℕ → Bool) (s first : ℕ) (note : Note) (to n : ℕ) → to ≡ s → 0 < n → first ≤ note.day → is_repaying returned note ≡ true
+here : (returned : ℕ → Bool) (s first : ℕ) (note : Note) (to n : ℕ) → to ≡ s → 0 < n → first ≤ note.day → repays returned note.kind note.post ≡ true
     → brought returned s first (lowers note to n) ≡ record { day = note.day; cents = n; post = note.post } ∷ []
 unfolding brought
 here returned s first note to zero e l f r = absurd (omega arith)

@@ -5,19 +5,12 @@ use Rattle.std.proofs.lemmas.Bool.{ne_eqb}
 use Rattle.std.proofs.lemmas.List.{append-nil, drop_all, drop_more}
 use Rattle.std.proofs.lemmas.List.Elements.{All-nil, All-cons, All-head, All-tail}
 use Rattle.card_events.specs.declared.post.Place.{Place}
-use Rattle.card_events.specs.declared.post.Place.TheVariants as place
-use Rattle.card_model.specs.Segments.{SegmentTerms, is_of_place, kept_segment}
+use Rattle.card_model.specs.Segments.{SegmentTerms, is_kept_of, is_of_place, kept_segment}
 use Rattle.card_model.specs.declared.segment.Segment.{Segment}
 use Rattle.card_rates.specs.RateBooks.{AreByNumber}
-use Rattle.card_effects.specs.Places.{is_kept_of, numbers_of}
+use Rattle.card_effects.specs.Places.{numbers_of}
 use Rattle.card_effects.proofs.Places.{all-above, how-many, kept-at, no_segment, number-at}
 use Rattle.card_effects.proofs.Reached.{AreNumbersOf}
-
-kept-of : (p : Place) (g : SegmentTerms) → is_kept_of p (kept_segment g) ≡ is_of_place p g
-kept-of place.Purchase g = refl
-kept-of place.Cash g = refl
-kept-of place.Transfer g = refl
-kept-of (place.Plan n) g = refl
 
 -- ---- the list grows
 append-one : (xs : List ℕ) (t : Bool) (n : ℕ) (g : SegmentTerms) (rest : List SegmentTerms) (p : Place) → n ≡ g.id → (xs ++ cond t (n ∷ []) []) ++ numbers_of p rest ≡ xs ++ map (λ (g : SegmentTerms). g.id) (cond t (g ∷ filter (is_of_place p) rest) (filter (is_of_place p) rest))
@@ -34,7 +27,7 @@ numbers-step p segs gs s xs new all id numbers e low l here n h =
     let rest = drop (id - 2 + 1) gs in
     let next : id - 2 + 1 ≡ id + 1 - 2 = omega arith in
     let number : id ≡ g.id = sym (number-at 2 gs (id - 2) no_segment numbers in_list ∙ omega (arith, low)) in
-    let test : is_kept_of p s ≡ is_of_place p g = ap (is_kept_of p) (kept-at segs gs id no_segment s e low l here) ∙ kept-of p g in
+    let test : is_kept_of p s ≡ is_of_place p g = ap (is_kept_of p) (kept-at segs gs id no_segment s e low l here) in
     ap (λ us. us ++ numbers_of p (drop (id + 1 - 2) gs)) (n ∙ ap (λ t. xs ++ cond t (id ∷ []) []) test)
     ∙ (ap (λ k. (xs ++ cond (is_of_place p g) (id ∷ []) []) ++ numbers_of p (drop k gs)) (sym next)
     ∙ (append-one xs (is_of_place p g) id g rest p number

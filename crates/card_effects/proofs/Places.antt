@@ -11,7 +11,7 @@ use Rattle.card_model.specs.declared.segment.Sort.{Sort}
 use Rattle.card_model.specs.declared.segment.Sort.TheVariants as sort
 use Rattle.card_rates.specs.RateBooks.{AreByNumber}
 use Rattle.card_rates.proofs.ByNumber.{number-above}
-use Rattle.card_effects.specs.Places.{is_plan_by}
+use Rattle.card_rates.specs.Segments.{is_plan_of}
 use Rattle.card_effects.specs.Standing.{is_added}
 
 -- ---- vintages
@@ -79,13 +79,13 @@ kept-at segs gs id d s e low l here =
     let at : 2 + (id - 2) ≡ id = omega arith in
     here ∙ (ap (λ k. get_or segs k s) (sym at) ∙ (sym (get_or-drop 2 segs (id - 2) s) ∙ (ap (λ us. get_or us (id - 2) s) e ∙ get_or-map kept_segment gs (id - 2) d s (omega arith))))
 
-plan-over : (n day : ℕ) (g : SegmentTerms) (gs : List SegmentTerms) → is_plan_by n day (kept_segment g) ≡ false → find (λ x. (eqb x.post n) && is_plan x) (filter (is_added day) (g ∷ gs)) ≡ find (λ x. (eqb x.post n) && is_plan x) (filter (is_added day) gs)
+plan-over : (n day : ℕ) (g : SegmentTerms) (gs : List SegmentTerms) → is_plan_of n day (kept_segment g) ≡ false → find (λ x. (eqb x.post n) && is_plan x) (filter (is_added day) (g ∷ gs)) ≡ find (λ x. (eqb x.post n) && is_plan x) (filter (is_added day) gs)
 plan-over n day g gs e = by (is_plan g) (eqb g.post n) (leb g.begins day) (leb g.begins (day + 15)) refl refl refl e
   where
     rest : Option SegmentTerms
     rest = find (λ (x : SegmentTerms). (eqb x.post n) && is_plan x) (filter (is_added day) gs)
 
-    by : (t u v w : Bool) → is_plan g ≡ t → eqb g.post n ≡ u → leb g.begins day ≡ v → (t && u && v) ≡ false
+    by : (t u v w : Bool) → is_plan g ≡ t → eqb g.post n ≡ u → leb g.begins day ≡ v → (u && t && v) ≡ false
         → find (λ x. (eqb x.post n) && is_plan x) (cond (cond t v w) (g ∷ filter (is_added day) gs) (filter (is_added day) gs)) ≡ rest
     by true true true w p q r e = cc
     by true u false w p q r e = refl
@@ -94,32 +94,33 @@ plan-over n day g gs e = by (is_plan g) (eqb g.post n) (leb g.begins day) (leb g
     by false true v true p q r e = rw (q, p) refl
     by false false v true p q r e = rw (q) refl
 
-plan-here : (n day : ℕ) (g : SegmentTerms) (gs : List SegmentTerms) → is_plan_by n day (kept_segment g) ≡ true → find (λ x. (eqb x.post n) && is_plan x) (filter (is_added day) (g ∷ gs)) ≡ Some g
+plan-here : (n day : ℕ) (g : SegmentTerms) (gs : List SegmentTerms) → is_plan_of n day (kept_segment g) ≡ true → find (λ x. (eqb x.post n) && is_plan x) (filter (is_added day) (g ∷ gs)) ≡ Some g
 plan-here n day g gs e = by (is_plan g) (eqb g.post n) (leb g.begins day) (leb g.begins (day + 15)) refl refl refl e
   where
-    by : (t u v w : Bool) → is_plan g ≡ t → eqb g.post n ≡ u → leb g.begins day ≡ v → (t && u && v) ≡ true
+    by : (t u v w : Bool) → is_plan g ≡ t → eqb g.post n ≡ u → leb g.begins day ≡ v → (u && t && v) ≡ true
         → find (λ x. (eqb x.post n) && is_plan x) (cond (cond t v w) (g ∷ filter (is_added day) gs) (filter (is_added day) gs)) ≡ Some g
     by true true true w p q r e = rw (q, p) refl
     by true true false w p q r e = cc
     by true false v w p q r e = cc
-    by false u v w p q r e = cc
+    by false true v w p q r e = cc
+    by false false v w p q r e = cc
 
-pub plan-step : (n day id : ℕ) (segs : List Segment) (gs : List SegmentTerms) (s : Segment) → drop 2 segs ≡ map kept_segment gs → 2 ≤ id → id < length segs → s ≡ get_or segs id s → is_plan_by n day s ≡ false
+pub plan-step : (n day id : ℕ) (segs : List Segment) (gs : List SegmentTerms) (s : Segment) → drop 2 segs ≡ map kept_segment gs → 2 ≤ id → id < length segs → s ≡ get_or segs id s → is_plan_of n day s ≡ false
     → plan_segment n (filter (is_added day) (drop (id - 2) gs)) ≡ plan_segment n (filter (is_added day) (drop (id + 1 - 2) gs))
 plan-step n day id segs gs s e low l here f =
     let m = how-many segs gs e in
     let next : id - 2 + 1 ≡ id + 1 - 2 = omega arith in
     let kept = kept-at segs gs id no_segment s e low l here in
     ap (λ us. plan_segment n (filter (is_added day) us)) (drop_more gs (id - 2) no_segment (omega arith))
-    ∙ (ap id_of (plan-over n day (get_or gs (id - 2) no_segment) (drop (id - 2 + 1) gs) (ap (is_plan_by n day) (sym kept) ∙ f))
+    ∙ (ap id_of (plan-over n day (get_or gs (id - 2) no_segment) (drop (id - 2 + 1) gs) (ap (is_plan_of n day) (sym kept) ∙ f))
     ∙ ap (λ k. plan_segment n (filter (is_added day) (drop k gs))) next)
 
-pub plan-found : (n day id : ℕ) (segs : List Segment) (gs : List SegmentTerms) (s : Segment) → AreByNumber 2 gs → drop 2 segs ≡ map kept_segment gs → 2 ≤ id → id < length segs → s ≡ get_or segs id s → is_plan_by n day s ≡ true
+pub plan-found : (n day id : ℕ) (segs : List Segment) (gs : List SegmentTerms) (s : Segment) → AreByNumber 2 gs → drop 2 segs ≡ map kept_segment gs → 2 ≤ id → id < length segs → s ≡ get_or segs id s → is_plan_of n day s ≡ true
     → plan_segment n (filter (is_added day) (drop (id - 2) gs)) ≡ id
 plan-found n day id segs gs s numbers e low l here f =
     let m = how-many segs gs e in
     let kept = kept-at segs gs id no_segment s e low l here in
     let number = number-at 2 gs (id - 2) no_segment numbers (omega arith) in
     ap (λ us. plan_segment n (filter (is_added day) us)) (drop_more gs (id - 2) no_segment (omega arith))
-    ∙ (ap id_of (plan-here n day (get_or gs (id - 2) no_segment) (drop (id - 2 + 1) gs) (ap (is_plan_by n day) (sym kept) ∙ f))
+    ∙ (ap id_of (plan-here n day (get_or gs (id - 2) no_segment) (drop (id - 2 + 1) gs) (ap (is_plan_of n day) (sym kept) ∙ f))
     ∙ (number ∙ omega arith))

@@ -18,7 +18,7 @@ use Rattle.card_events.specs.declared.post.Post.TheVariants as post
 use Rattle.card_model.specs.Allocation.{allocated, placed}
 use Rattle.card_model.specs.Books.{Account, Book, note_of}
 use Rattle.card_model.specs.Cycles.{IssuedRow, Seen, last_cycle}
-use Rattle.card_model.specs.Effects.{credit_parts, effect, holdings, parts_entries, payment_parts, second_closing}
+use Rattle.card_model.specs.Effects.{credit_parts, effect, end_by, holdings, parts_entries, payment_parts, second_closing}
 use Rattle.card_model.specs.Entries.{at_least_zero, balance, lowers, negated}
 use Rattle.card_model.specs.Payments.{minimum_left}
 use Rattle.card_events.specs.SharedRows.{IndexRow}
@@ -34,7 +34,7 @@ use Rattle.card_rates.proofs.DayLaws.{same-index}
 use Rattle.card_rates.proofs.ByNumber.{number-above, number-below}
 use Rattle.card_segments.specs.Balances.{Balances, after_entries}
 use Rattle.card_effects.specs.Places.{numbers_of}
-use Rattle.card_effects.specs.Ranks.{end_by, no_rank, rank_on, ranks_on}
+use Rattle.card_effects.specs.Ranks.{no_rank, rank_on, ranks_on}
 use Rattle.card_effects.specs.Standing.{IsSlotOf, StandsAt, is_added}
 use Rattle.card_effects.proofs.Named.{named}
 use Rattle.card_effects.proofs.Reached.{allocated-is, placed-is}

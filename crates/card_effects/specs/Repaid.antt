@@ -5,16 +5,13 @@ use Rattle.card_closing.specs.Growth.{with_repaid}
 use Rattle.card_closing.specs.Rows.{Rows}
 use Rattle.card_model.specs.Effects.{parts_entries}
 use Rattle.card_model.specs.Entries.{is_kind}
+use Rattle.card_model.specs.Interest.{repays}
 use Rattle.card_model.specs.Segments.{SegmentTerms}
 use Rattle.card_model.specs.declared.entry.Entry.{Entry}
 use Rattle.card_model.specs.declared.entry.EntryKind.{EntryKind}
 use Rattle.card_model.specs.declared.entry.EntryKind.TheVariants as kind
 use Rattle.card_model.specs.declared.entry.Note.{Note}
 use Rattle.card_rates.specs.RateBooks.{AreByNumber}
-
--- the note of entries that count as repaid: a credit's, or those of a payment that isn't among the returned ones
-abbrev pub is_repaying : (ℕ → Bool) → Note → Bool
-is_repaying returned note = is_kind kind.Credit note.kind || (is_kind kind.Payment note.kind && not (returned note.post))
 
 -- the rows of segments, with what entries have brought to each from a day on
 abbrev pub repaid_rows : (ℕ → Bool) → ℕ → (SegmentTerms → Rows) → List SegmentTerms → List Entry → List Rows
@@ -24,6 +21,6 @@ repaid_rows returned first rows gs entries = map (λ g. with_repaid (brought ret
 abbrev pub AreRepaid : ℕ → ℕ → List (ℕ × ℕ) → List Rows → List Rows → Type 0
 AreRepaid day post parts old new =
     (k : EntryKind) (returned : ℕ → Bool) (gs : List SegmentTerms) (rows : SegmentTerms → Rows) (first : ℕ) (entries : List Entry) → AreByNumber 2 gs → first ≤ day
-    → is_repaying returned (record { day = day; kind = k; post = post }) ≡ true
+    → repays returned k post ≡ true
     → old ≡ repaid_rows returned first rows gs entries
     → new ≡ repaid_rows returned first rows gs (entries ++ parts_entries (record { day = day; kind = k; post = post }) parts)

@@ -1,10 +1,11 @@
 // The segments of places.
 ghost use Rattle.std.specs.Prelude.{◌≡◌, ◌++◌, ◌<◌, ◌≤◌, if◌then◌else◌, List, [], ◌∷◌, IfOk, OnOk, drop, length, map};
 ghost use Rattle.std.specs.List.{filter};
-ghost use Rattle.card_model.specs.Segments.{SegmentTerms, kept_segment, newest, plan_segment, segment_at, sort_of_category};
-ghost use Rattle.card_effects.specs.Places.{IsBilled, is_kept_of, is_plan_by, numbers_of};
+ghost use Rattle.card_model.specs.Segments.{SegmentTerms, is_kept_of, kept_segment, newest, plan_segment, segment_at, sort_of_category};
+ghost use Rattle.card_effects.specs.Places.{IsBilled, numbers_of};
 ghost use Rattle.card_effects.specs.Standing.{AreRated, is_added};
 ghost use Rattle.card_rates.specs.RateBooks.{AreByNumber};
+ghost use Rattle.card_rates.specs.Segments.{is_plan_of};
 
 use card_events::{Category, Day, NoMemory, Place};
 use card_model::{Segment, Sort};
@@ -14,7 +15,7 @@ use std::alloc::Global;
 
 // The plan that a post began, by a day.
 fn is_plan_by(post: u64, day: Day, segment: &Segment) -> bool
-    ensures { result ≡ is_plan_by post day segment.now }
+    ensures { result ≡ is_plan_of post day segment.now }
 {
     let is_plan = match segment.sort {
         Sort::Promo => true,

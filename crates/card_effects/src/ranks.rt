@@ -1,7 +1,8 @@
 // The rank of each segment on a day.
 ghost use Rattle.std.specs.Prelude.{◌≡◌, ◌-◌, ◌<◌, ◌≤◌, ◌++◌, [], ◌∷◌, IfOk, OnOk, length, slice_index_or};
-ghost use Rattle.card_effects.specs.Ranks.{end_by, no_rank, rank_on, ranks_on};
+ghost use Rattle.card_effects.specs.Ranks.{no_rank, rank_on, ranks_on};
 ghost use Rattle.card_effects.specs.Standing.{AreRated};
+ghost use Rattle.card_model.specs.Effects.{end_by};
 ghost use Rattle.card_model.specs.Segments.{SegmentTerms};
 
 use card_closing::is_deferred;

@@ -9,9 +9,9 @@ use Rattle.card_events.specs.declared.kept.Kept.{Kept}
 use Rattle.card_events.specs.declared.kept.Slot.{Slot}
 use Rattle.card_events.specs.declared.post.Post.{Post}
 use Rattle.card_events.specs.declared.post.Post.TheVariants as post
-use Rattle.card_model.specs.Payments.{counted, credited, is_between, is_credit, is_payment, is_returned, returns}
+use Rattle.card_model.specs.Payments.{folded_before, is_before, counted, credited, is_between, is_credit, is_payment, is_returned, returns}
 use Rattle.card_posts.specs.Posted.{folding_order}
-use Rattle.card_fees.specs.Counting.{counts, credits, earlier_posts, in_front, is_before, is_credit_at, is_payment_at, is_returned_until, since, slots_sum, up_to}
+use Rattle.card_fees.specs.Counting.{counts, credits, in_front, is_credit_at, is_payment_at, is_returned_until, since, slots_sum, up_to}
 use Rattle.card_fees.specs.declared.returning.Until.TheVariants as until
 use Rattle.card_fees.specs.Due.{seen_of}
 use Rattle.card_fees.proofs.Fold.{alike, by-then, each, payment-folded, return-folded}
@@ -31,7 +31,7 @@ both false true D g = refl
 both false false D g = refl
 
 returned-before : (a : Anchor) (holidays : List ℕ) (history : List Kept) (day number n : ℕ)
-    → is_returned_until (until.Post day number) history (corrected a holidays history) n ≡ is_returned (earlier_posts day number (corrected a holidays history)) day n
+    → is_returned_until (until.Post day number) history (corrected a holidays history) n ≡ is_returned (folded_before day number (corrected a holidays history)) day n
 returned-before a holidays history day number n =
     returned-corrected (until.Post day number) a holidays history n
     ∙ any-same (λ q. returns n q.post && is_before day number q.day q.number) (λ q. is_before day number q.day q.number && (returns n q.post && nat_le q.day day)) xs
@@ -54,7 +54,7 @@ four false false D false R S c g h = refl
 
 pub slots-before : (a : Anchor) (holidays : List ℕ) (history : List Kept) (from day number : ℕ)
     → slots_sum (until.Post day number) history (corrected a holidays history) (in_front day number (since from (folding_order (corrected a holidays history))))
-    ≡ counted (earlier_posts day number (corrected a holidays history)) from day
+    ≡ counted (folded_before day number (corrected a holidays history)) from day
 unfolding counted
 slots-before a holidays history from day number =
     sum-filter g (λ s. is_before day number s.day s.number) (since from (folding_order xs))
@@ -72,13 +72,13 @@ slots-before a holidays history from day number =
     g s = counts (until.Post day number) history (corrected a holidays history) s
 
     worth : CorrectedPost → ℕ
-    worth p = cond (is_payment p.post && is_between from day p && not (is_returned (earlier_posts day number xs) day p.number)) p.cents 0
+    worth p = cond (is_payment p.post && is_between from day p && not (is_returned (folded_before day number xs) day p.number)) p.cents 0
 
     one : (p : CorrectedPost) → Stands a holidays history p → cond (nat_le from p.day) (cond (is_before day number p.day p.number) (g (slot_of p)) 0) 0 ≡ cond (is_before day number p.day p.number) (worth p) 0
     one p s =
         let is : is_payment_at (at_number p.number history) ≡ is_payment p.post = ap is_payment_at s.found ∙ ap is_payment (sym s.same) in
         ap (λ b. cond (nat_le from p.day) (cond (is_before day number p.day p.number) (cond (b && not (is_returned_until (until.Post day number) history xs p.number)) p.cents 0) 0) 0) is
-        ∙ four (is_payment p.post) (nat_le from p.day) (nat_le p.day day) (is_before day number p.day p.number) (is_returned_until (until.Post day number) history xs p.number) (is_returned (earlier_posts day number xs) day p.number) p.cents
+        ∙ four (is_payment p.post) (nat_le from p.day) (nat_le p.day day) (is_before day number p.day p.number) (is_returned_until (until.Post day number) history xs p.number) (is_returned (folded_before day number xs) day p.number) p.cents
         (front-by day number p.day p.number)
         (returned-before a holidays history day number p.number)
 
@@ -166,7 +166,7 @@ seven F false T true h = none F T
     none false true = refl
     none false false = refl
 
-returned-past : (day number : ℕ) (posts : List CorrectedPost) (n : ℕ) → is_returned (earlier_posts day number (seen_of day posts)) day n ≡ is_returned (earlier_posts day number posts) day n
+returned-past : (day number : ℕ) (posts : List CorrectedPost) (n : ℕ) → is_returned (folded_before day number (seen_of day posts)) day n ≡ is_returned (folded_before day number posts) day n
 returned-past day number posts n =
     any-filter test (λ p. is_before day number p.day p.number) (seen_of day posts)
     ∙ any-filter (λ p. is_before day number p.day p.number && test p) (λ p. nat_le p.day day) (filter (λ p. is_folded p.post) posts)
@@ -191,7 +191,7 @@ eight F false T true true R S c h e = zero-all F false T 0
 eight F D T true false R S c h e = zero-all F D T 0
 eight F D T false B R S c h e = zero-all F D T 0
 
-pub before-past : (day number : ℕ) (posts : List CorrectedPost) (from : ℕ) → counted (earlier_posts day number (seen_of day posts)) from day ≡ counted (earlier_posts day number posts) from day
+pub before-past : (day number : ℕ) (posts : List CorrectedPost) (from : ℕ) → counted (folded_before day number (seen_of day posts)) from day ≡ counted (folded_before day number posts) from day
 unfolding counted
 before-past day number posts from =
     sum-filter (worth (seen_of day posts)) (λ p. is_before day number p.day p.number) (seen_of day posts)
@@ -199,11 +199,11 @@ before-past day number posts from =
     ∙ sum-filter (λ p. cond (nat_le p.day day) (cond (is_before day number p.day p.number) (worth (seen_of day posts) p) 0) 0) (λ p. is_folded p.post) posts
     ∙ sum-same (λ p. cond (is_folded p.post) (cond (nat_le p.day day) (cond (is_before day number p.day p.number) (worth (seen_of day posts) p) 0) 0) 0) (λ p. cond (is_before day number p.day p.number) (worth posts p) 0) posts
     (each (λ p. cond (is_folded p.post) (cond (nat_le p.day day) (cond (is_before day number p.day p.number) (worth (seen_of day posts) p) 0) 0) 0 ≡ cond (is_before day number p.day p.number) (worth posts p) 0)
-    (λ p. eight (is_folded p.post) (nat_le p.day day) (is_before day number p.day p.number) (is_payment p.post) (nat_le from p.day) (is_returned (earlier_posts day number (seen_of day posts)) day p.number) (is_returned (earlier_posts day number posts) day p.number) p.cents (payment-folded p.post) (returned-past day number posts p.number)) posts)
+    (λ p. eight (is_folded p.post) (nat_le p.day day) (is_before day number p.day p.number) (is_payment p.post) (nat_le from p.day) (is_returned (folded_before day number (seen_of day posts)) day p.number) (is_returned (folded_before day number posts) day p.number) p.cents (payment-folded p.post) (returned-past day number posts p.number)) posts)
     ∙ sym (sum-filter (worth posts) (λ p. is_before day number p.day p.number) posts)
   where
     worth : List CorrectedPost → CorrectedPost → ℕ
-    worth all p = cond (is_payment p.post && is_between from day p && not (is_returned (earlier_posts day number all) day p.number)) p.cents 0
+    worth all p = cond (is_payment p.post && is_between from day p && not (is_returned (folded_before day number all) day p.number)) p.cents 0
 
 nine : (F D T A B : Bool) (c : ℕ) → (A ≡ true → F ≡ true) → cond F (cond D (cond T (cond (A && (B && D)) c 0) 0) 0) 0 ≡ cond T (cond (A && (B && D)) c 0) 0
 nine F true T true true c h = rw (h refl) refl
@@ -211,7 +211,7 @@ nine F false T true true c h = zero-all F false T 0
 nine F D T true false c h = zero-all F D T 0
 nine F D T false B c h = zero-all F D T 0
 
-pub credited-before-past : (day number : ℕ) (posts : List CorrectedPost) (from : ℕ) → credited (earlier_posts day number (seen_of day posts)) from day ≡ credited (earlier_posts day number posts) from day
+pub credited-before-past : (day number : ℕ) (posts : List CorrectedPost) (from : ℕ) → credited (folded_before day number (seen_of day posts)) from day ≡ credited (folded_before day number posts) from day
 unfolding credited
 credited-before-past day number posts from =
     sum-filter worth (λ p. is_before day number p.day p.number) (seen_of day posts)

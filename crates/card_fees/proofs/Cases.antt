@@ -1,23 +1,17 @@
--- How purchases bear interest, in the fold and by the last two cycles.
-use Rattle.std.proofs.Common.{◌≡◌, ℕ, zero, suc, ◌+◌, ◌-◌, ◌≤◌, true, false, ◌==◌, cond, List, [], ◌∷◌, length, Option, Some, None, refl, sym, ap, ◌∙◌, arith}
+-- The last two cycles.
+use Rattle.std.proofs.Common.{◌≡◌, ℕ, zero, suc, ◌+◌, ◌-◌, ◌≤◌, true, false, ◌==◌, List, [], ◌∷◌, length, Option, Some, None, refl, sym, ap, ◌∙◌, arith}
 use Rattle.std.specs.List.{last_or}
 use Rattle.std.specs.Option.{option_map, option_or}
-use Rattle.std.specs.Prelude.{slice_get}
+use Rattle.std.specs.Prelude.{IfSome, slice_get}
 use Rattle.std.proofs.lemmas.Bool.Decides.{nat_tests}
-use Rattle.card_events.specs.Billing.{due}
 use Rattle.card_events.specs.declared.anchor.Anchor.{Anchor}
-use Rattle.card_events.specs.History.{CorrectedPost}
-use Rattle.card_fees.specs.Laws.{SeesPosts}
-use Rattle.card_model.specs.CycleDays.{HasItsDays}
 use Rattle.card_model.specs.Cycles.{Cycle, Seen, last_cycle}
 use Rattle.card_model.specs.Folds.{cycle_at}
-use Rattle.card_model.specs.Interest.{cycle_before, purchase_case}
-use Rattle.card_model.specs.Payments.{paid, paid_if_any}
+use Rattle.card_model.specs.Interest.{case_after, cycle_before, purchase_case}
+use Rattle.card_model.specs.Payments.{due_cycle_of}
+use Rattle.card_model.specs.declared.due_cycle.DueCycle.{DueCycle}
 use Rattle.card_model.specs.Segments.{last_that}
-use Rattle.card_model.specs.declared.grace.GraceCase.TheVariants as case
-use Rattle.card_fees.specs.Asked.{case_by, is_paid, paid_before}
-use Rattle.card_fees.specs.DueLaws.{AreDueBy, AreOfTheCalendar, due_cycle_at, due_cycle_of}
-use Rattle.card_fees.proofs.Repaid.{paid-fold}
+use Rattle.card_fees.specs.DueLaws.{AreDueBy, AreOfTheCalendar, due_cycle_at}
 
 -- the cycles have numbers in turn, the first k
 abbrev AreNumbered : ℕ → List Cycle → Type 0
@@ -76,32 +70,43 @@ before-is : (n : ℕ) (cs : List Cycle) (l : Cycle) → AreNumbered 1 cs → l.n
 before-is zero cs l h e = ap (λ m. last_that (λ d. d.number + 1 == m) cs) e ∙ none-before 1 1 cs h (omega arith)
 before-is (suc n) cs l h e = let on : l.number ≡ 1 + 1 + n = omega (arith, e) in ap (λ m. last_that (λ d. d.number + 1 == m) cs) on ∙ before-at 1 n cs h
 
-if-any : (a : Anchor) (posts : List CorrectedPost) (seen : Seen) (o : Option Cycle) → ((c : Cycle) → o ≡ Some c → paid seen c ≡ is_paid a posts (due_cycle_of seen c))
-    → paid_if_any seen o ≡ paid_before a posts (option_map (due_cycle_of seen) o)
-if-any a posts seen None h = refl
-if-any a posts seen (Some c) h = h c refl
+last-place : (cs : List Cycle) → last_cycle cs ≡ cycle_at (length cs) cs
+last-place [] = refl
+last-place (c ∷ cs) = last-get None c cs ∙ sym (last-at c cs)
 
-pub case-fold : (a : Anchor) (posts : List CorrectedPost) (seen : Seen) (cycles : List Cycle) → SeesPosts seen posts → AreOfTheCalendar a cycles → AreDueBy seen.day cycles
-    → purchase_case seen cycles (last_cycle cycles) ≡ case_by a posts (due_cycle_at seen (length cycles - 1) cycles) (due_cycle_at seen (length cycles) cycles)
-case-fold a posts seen [] sees days dues = refl
-case-fold a posts seen (c ∷ cs) sees days dues =
-    let back : suc (length cs) - 1 ≡ length cs = omega arith in
-    let own : HasItsDays a (suc (length cs)) l = days (suc (length cs)) l at in
-    let before : paid_if_any seen (cycle_before (c ∷ cs) l) ≡ paid_before a posts (due_cycle_at seen (suc (length cs) - 1) (c ∷ cs)) =
-    ap (paid_if_any seen) (before-is (length cs) (c ∷ cs) l numbered own.number)
-    ∙ if-any a posts seen (cycle_at (length cs) (c ∷ cs)) (λ d e. paid-fold a posts seen (length cs) d sees (days (length cs) d e) (dues (length cs) d e))
-    ∙ ap (λ m. paid_before a posts (due_cycle_at seen m (c ∷ cs))) (sym back) in
-    ap (purchase_case seen (c ∷ cs)) (last-get None c cs)
-    ∙ ap (λ b. cond b (cond (paid seen l) case.None (case.Lowered l.due)) case.Plain) before
-    ∙ ap (λ b. cond (paid_before a posts (due_cycle_at seen (suc (length cs) - 1) (c ∷ cs))) (cond b case.None (case.Lowered l.due)) case.Plain) (paid-fold a posts seen (suc (length cs)) l sees own (dues (suc (length cs)) l at))
-    ∙ ap (λ d. cond (paid_before a posts (due_cycle_at seen (suc (length cs) - 1) (c ∷ cs))) (cond (is_paid a posts (due_cycle_of seen l)) case.None (case.Lowered d)) case.Plain) (own.due ∙ ap (due a) (sym own.number))
-    ∙ ap (λ o. case_by a posts (due_cycle_at seen (suc (length cs) - 1) (c ∷ cs)) (option_map (due_cycle_of seen) o)) (sym at)
+-- of cycles that have the calendar's numbers, the one before the last has the number before
+pub before-last : (a : Anchor) (cycles : List Cycle) (c : Cycle) → AreOfTheCalendar a cycles → last_cycle cycles ≡ Some c → cycle_before cycles c ≡ cycle_at (length cycles - 1) cycles
+before-last a [] c days is = absurd (cc)
+before-last a (x ∷ xs) c days is =
+    let same : last-of x xs ≡ c = some-is (last-of x xs) c (sym (last-get None x xs) ∙ is) in
+    let own = days (suc (length xs)) (last-of x xs) (last-at x xs) in
+    let back : suc (length xs) - 1 ≡ length xs = omega arith in
+    ap (cycle_before (x ∷ xs)) (sym same) ∙ before-is (length xs) (x ∷ xs) (last-of x xs) numbered own.number ∙ ap (λ m. cycle_at m (x ∷ xs)) (sym back)
   where
-    l : Cycle
-    l = last-of c cs
+    some-is : (y z : Cycle) → Some y ≡ Some z → y ≡ z
+    some-is y z e = cc
 
-    at : cycle_at (suc (length cs)) (c ∷ cs) ≡ Some l
-    at = last-at c cs
-
-    numbered : AreNumbered 1 (c ∷ cs)
+    numbered : AreNumbered 1 (x ∷ xs)
     numbered i d e = let n = (days (suc i) d e).number in omega (arith, n)
+
+-- their due dates lie no later than a day
+pub due-at : (seen : Seen) (day k : ℕ) (cycles : List Cycle) → AreDueBy day cycles → IfSome (due_cycle_at seen k cycles) (λ d. d.due ≤ day)
+due-at seen day k cycles dues = by (cycle_at k cycles) (dues k)
+  where
+    by : (o : Option Cycle) → ((c : Cycle) → o ≡ Some c → c.due ≤ day) → IfSome (option_map (due_cycle_of seen.issued) o) (λ d. d.due ≤ day)
+    by None h = tt
+    by (Some c) h = h c refl
+
+-- by the last two places as by the last cycle and the one before it
+pub by-places : (a : Anchor) (seen : Seen) (cycles : List Cycle) → AreOfTheCalendar a cycles
+    → purchase_case seen cycles (last_cycle cycles) ≡ case_after seen.posts (due_cycle_at seen (length cycles - 1) cycles) (due_cycle_at seen (length cycles) cycles)
+by-places a seen cycles days = by (last_cycle cycles) refl
+  where
+    before : Option DueCycle
+    before = due_cycle_at seen (length cycles - 1) cycles
+
+    by : (o : Option Cycle) → last_cycle cycles ≡ o → purchase_case seen cycles o ≡ case_after seen.posts before (due_cycle_at seen (length cycles) cycles)
+    by None e = ap (λ o. case_after seen.posts before (option_map (due_cycle_of seen.issued) o)) (sym e ∙ last-place cycles)
+    by (Some c) e =
+        ap (λ o. case_after seen.posts (option_map (due_cycle_of seen.issued) o) (Some (due_cycle_of seen.issued c))) (before-last a cycles c days e)
+        ∙ ap (λ o. case_after seen.posts before (option_map (due_cycle_of seen.issued) o)) (sym e ∙ last-place cycles)

@@ -1,5 +1,5 @@
 -- Penalty fees: their bounds, and one for a due date.
-use Rattle.std.proofs.Common.{◌≡◌, ℕ, ◌+◌, ◌≤◌, Bool, true, false, cond, not, ◌||◌, ◌==◌, nat_le, nat_lt, List, [], ◌∷◌, ◌++◌, min, Some, None, refl, sym, ap, ◌∙◌, subst, arith}
+use Rattle.std.proofs.Common.{◌≡◌, ℕ, ◌+◌, ◌≤◌, Bool, true, false, cond, ◌||◌, ◌==◌, nat_le, nat_lt, List, [], ◌∷◌, ◌++◌, min, Option, Some, None, refl, sym, ap, ◌∙◌, subst, arith}
 use Rattle.std.specs.List.{count_by}
 use Rattle.std.specs.Option.{option_or}
 use Rattle.std.proofs.lemmas.Bool.{eqb-true}
@@ -7,40 +7,36 @@ use Rattle.std.proofs.lemmas.Bool.Decides.{nat_tests}
 use Rattle.std.proofs.lemmas.List.Sums.{sum_by_push}
 use Rattle.card_events.specs.SharedRows.{FeeRow}
 use Rattle.card_model.specs.Cycles.{Cycle, Seen}
-use Rattle.card_model.specs.Fees.{fee_cents, fee_for, is_charged_for, is_repeat, last_due, tier_amount}
-use Rattle.card_model.specs.Payments.{asked, counted, has_due_payment, met}
+use Rattle.card_model.specs.Fees.{fee_amount, fee_by, fee_cents, fee_of, is_charged_for, is_repeat, last_due, tier_amount}
+use Rattle.card_model.specs.Payments.{asked, counted, has_due_payment, is_met, met}
 use Rattle.card_model.specs.Segments.{last_that}
 use Rattle.card_model.specs.declared.fee.Fee.{Fee}
-use Rattle.card_model.specs.declared.fee.FeeKind.{FeeKind}
-use Rattle.card_model.specs.declared.fee.FeeKind.TheVariants as fee
-use Rattle.card_fees.specs.Charged.{AreOneEach, amount_by, fee_by, fee_of}
-use Rattle.card_fees.specs.Laws.{SeesRows}
-use Rattle.card_shared.specs.Table.{row_on}
-use Rattle.card_fees.specs.declared.charge.Cause.{Cause}
+use Rattle.card_fees.specs.Laws.{AreOneEach}
+use Rattle.card_model.specs.declared.fee.Cause.{Cause}
 
 -- what is known of a fee that is charged
-record IsCharged (fees : List Fee) (c : Cause) (t minimum last : ℕ) (f : Fee) : Type 0 where
+pub record IsCharged (fees : List Fee) (c : Cause) (t minimum last : ℕ) (f : Fee) : Type 0 where
   pub cents : fee_cents f ≡ min t (min minimum last)
   pub first : is_charged_for c.due_cycle fees ≡ false
   pub for_it : f.due_cycle ≡ c.due_cycle
 
-charged-parts : (rows : List FeeRow) (fees : List Fee) (c : Cause) (minimum last : ℕ) (f : Fee) → fee_by rows fees c minimum last ≡ Some f → IsCharged fees c (tier_amount (row_on rows c.day) (is_repeat c.kind c.cycle fees)) minimum last f
+pub charged-parts : (row : Option FeeRow) (fees : List Fee) (c : Cause) (minimum last : ℕ) (f : Fee) → fee_by row fees c minimum last ≡ Some f → IsCharged fees c (tier_amount row (is_repeat c.kind c.cycle fees)) minimum last f
 unfolding fee_by
-charged-parts rows fees c minimum last f h = at (is_charged_for c.due_cycle fees) refl (amount == 0) h
+charged-parts row fees c minimum last f h = at (is_charged_for c.due_cycle fees) refl (amount == 0) h
   where
     amount : ℕ
-    amount = amount_by rows c.day (is_repeat c.kind c.cycle fees) minimum last
+    amount = fee_amount row (is_repeat c.kind c.cycle fees) minimum last
 
     some : Some (fee_of c (is_repeat c.kind c.cycle fees) amount) ≡ Some f → fee_of c (is_repeat c.kind c.cycle fees) amount ≡ f
     some e = cc
 
-    at : (b : Bool) → is_charged_for c.due_cycle fees ≡ b → (z : Bool) → cond (b || z) None (Some (fee_of c (is_repeat c.kind c.cycle fees) amount)) ≡ Some f → IsCharged fees c (tier_amount (row_on rows c.day) (is_repeat c.kind c.cycle fees)) minimum last f
+    at : (b : Bool) → is_charged_for c.due_cycle fees ≡ b → (z : Bool) → cond (b || z) None (Some (fee_of c (is_repeat c.kind c.cycle fees) amount)) ≡ Some f → IsCharged fees c (tier_amount row (is_repeat c.kind c.cycle fees)) minimum last f
     at true e z h = absurd (cc)
     at false e true h = absurd (cc)
     at false e false h = record { cents = sym (ap fee_cents (some h)); first = e; for_it = sym (ap (λ (x : Fee). x.due_cycle) (some h)) }
 
-pub fees-within : (rows : List FeeRow) (fees : List Fee) (c : Cause) (minimum last : ℕ) (f : Fee) → fee_by rows fees c minimum last ≡ Some f → (fee_cents f ≤ minimum) × (fee_cents f ≤ last)
-fees-within rows fees c minimum last f h = let p = (charged-parts rows fees c minimum last f h).cents in (omega (arith, p), omega (arith, p))
+pub fees-within : (row : Option FeeRow) (fees : List Fee) (c : Cause) (minimum last : ℕ) (f : Fee) → fee_by row fees c minimum last ≡ Some f → (fee_cents f ≤ minimum) × (fee_cents f ≤ last)
+fees-within row fees c minimum last f h = let p = (charged-parts row fees c minimum last f h).cents in (omega (arith, p), omega (arith, p))
 
 -- one where it is so
 abbrev one-if : Bool → ℕ
@@ -72,32 +68,25 @@ one-more-each fees f one first k = at (f.due_cycle == k) refl
         let is = ap one-if e in
         omega (arith, before, more, is)
 
-pub fees-one-each : (rows : List FeeRow) (fees : List Fee) (c : Cause) (minimum last : ℕ) (f : Fee) → AreOneEach fees → fee_by rows fees c minimum last ≡ Some f → AreOneEach (fees ++ f ∷ [])
-fees-one-each rows fees c minimum last f one h =
-    let p = charged-parts rows fees c minimum last f h in
+pub fees-one-each : (row : Option FeeRow) (fees : List Fee) (c : Cause) (minimum last : ℕ) (f : Fee) → AreOneEach fees → fee_by row fees c minimum last ≡ Some f → AreOneEach (fees ++ f ∷ [])
+fees-one-each row fees c minimum last f one h =
+    let p = charged-parts row fees c minimum last f h in
     one-more-each fees f one (ap (λ n. is_charged_for n fees) p.for_it ∙ p.first)
 
--- ---- the fold's fee
-pub fee-fold : (seen : Seen) (rows : List FeeRow) (cycles : List Cycle) (fees : List Fee) (cycle : ℕ) (kind : FeeKind) (c : Cycle) → SeesRows seen rows
-    → fee_for seen cycles fees cycle kind c ≡ fee_by rows fees (record { kind = kind; due_cycle = c.number; cycle = cycle; day = seen.day }) c.minimum (asked seen.issued (last_due seen.day cycles))
-unfolding fee_for fee_by
-fee-fold seen rows cycles fees cycle kind c sees = rw sees refl
-
+-- ---- a missed due date
 last-passes : (p : Cycle → Bool) (before : List Cycle) (c : Cycle) → p c ≡ true → last_that p (before ++ c ∷ []) ≡ Some c
 last-passes p [] c e = rw e refl
 last-passes p (x ∷ xs) c e = ap (λ o. option_or o (cond (p x) (Some x) None)) (last-passes p xs c e)
 
 missed-asks : (seen : Seen) (c : Cycle) → met seen c ≡ false → asked seen.issued (Some c) ≡ c.minimum
-unfolding met
+unfolding is_met
 missed-asks seen c e = at (has_due_payment seen.issued c) e
   where
-    at : (b : Bool) → (not b || nat_le c.minimum (counted seen.posts (c.closing + 1) c.due)) ≡ false → cond b c.minimum 0 ≡ c.minimum
+    at : (b : Bool) → nat_le (cond b c.minimum 0) (counted seen.posts (c.closing + 1) c.due) ≡ false → cond b c.minimum 0 ≡ c.minimum
     at true e = refl
-    at false e = absurd (cc)
+    at false e = grind (arith, nat_tests)
 
-pub late-fee-fold : (seen : Seen) (rows : List FeeRow) (before : List Cycle) (fees : List Fee) (cycle : ℕ) (c : Cycle) → SeesRows seen rows → seen.day ≡ c.due + 1 → met seen c ≡ false
-    → fee_for seen (before ++ c ∷ []) fees cycle fee.Late c ≡ fee_by rows fees (record { kind = fee.Late; due_cycle = c.number; cycle = cycle; day = seen.day }) c.minimum c.minimum
-late-fee-fold seen rows before fees cycle c sees on missed =
+pub missed-asks-last : (seen : Seen) (before : List Cycle) (c : Cycle) → seen.day ≡ c.due + 1 → met seen c ≡ false → asked seen.issued (last_due seen.day (before ++ c ∷ [])) ≡ c.minimum
+missed-asks-last seen before c on missed =
     let is : nat_lt c.due seen.day ≡ true = grind (arith, nat_tests) in
-    let least : asked seen.issued (last_due seen.day (before ++ c ∷ [])) ≡ c.minimum = ap (asked seen.issued) (last-passes (λ (x : Cycle). nat_lt x.due seen.day) before c is) ∙ missed-asks seen c missed in
-    fee-fold seen rows (before ++ c ∷ []) fees cycle fee.Late c sees ∙ ap (fee_by rows fees (record { kind = fee.Late; due_cycle = c.number; cycle = cycle; day = seen.day }) c.minimum) least
+    ap (asked seen.issued) (last-passes (λ (x : Cycle). nat_lt x.due seen.day) before c is) ∙ missed-asks seen c missed

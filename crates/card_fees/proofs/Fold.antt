@@ -1,19 +1,14 @@
--- The words of the fold are those of this crate.
-use Rattle.std.proofs.Common.{◌≡◌, ℕ, ◌+◌, ◌-◌, ◌≤◌, Bool, true, false, cond, not, ◌&&◌, ◌||◌, nat_le, nat_lt, List, [], ◌∷◌, Some, refl, ap, ◌∙◌, arith, pos}
+-- The fold of a day counts payments up to it as they are counted over the whole corrected list.
+use Rattle.std.proofs.Common.{◌≡◌, ℕ, ◌≤◌, Bool, true, false, cond, not, ◌&&◌, nat_le, List, [], ◌∷◌, refl, ap, ◌∙◌, arith}
 use Rattle.std.specs.List.{All, filter}
 use Rattle.std.proofs.lemmas.Bool.Decides.{nat_tests}
 use Rattle.std.proofs.lemmas.List.Elements.{All-cons, All-nil}
-use Rattle.card_events.specs.Billing.{closing, due}
-use Rattle.card_events.specs.declared.anchor.Anchor.{Anchor}
 use Rattle.card_events.specs.History.{CorrectedPost, is_folded}
 use Rattle.card_events.specs.declared.post.Post.{Post}
 use Rattle.card_events.specs.declared.post.Post.TheVariants as post
-use Rattle.card_model.specs.CycleDays.{HasItsDays}
-use Rattle.card_model.specs.Cycles.{Cycle, Seen}
-use Rattle.card_model.specs.Payments.{asked, counted, has_due_payment, is_between, is_payment, is_returned, met, past_due, returns}
-use Rattle.card_model.specs.Payments as fold
-use Rattle.card_fees.specs.Due.{is_met, owes_sixty_days, past_due_at, seen_of}
-use Rattle.card_fees.specs.Laws.{SeesPosts}
+use Rattle.card_model.specs.Cycles.{Seen}
+use Rattle.card_model.specs.Payments.{counted, is_between, is_payment, is_returned, returns}
+use Rattle.card_fees.specs.Due.{seen_of}
 use Rattle.card_fees.proofs.Slots.{any-filter, any-same, sum-filter, sum-same}
 
 -- ---- posts that the fold sees
@@ -111,36 +106,6 @@ counted-past day posts from to l =
     worth : List CorrectedPost → CorrectedPost → ℕ
     worth all p = cond (is_payment p.post && is_between from to p && not (is_returned all to p.number)) p.cents 0
 
--- ---- due dates
-pub counted-seen : (seen : Seen) (posts : List CorrectedPost) (from to : ℕ) → SeesPosts seen posts → to ≤ seen.day → counted seen.posts from to ≡ counted posts from to
+-- ---- what the fold of a day sees
+pub counted-seen : (seen : Seen) (posts : List CorrectedPost) (from to : ℕ) → seen.posts ≡ seen_of seen.day posts → to ≤ seen.day → counted seen.posts from to ≡ counted posts from to
 counted-seen seen posts from to sees l = ap (λ ps. counted ps from to) sees ∙ counted-past seen.day posts from to l
-
-met-by : (h : Bool) (m n : ℕ) → (not h || nat_le m n) ≡ nat_le (cond h m 0) n
-met-by true m n = refl
-met-by false m n = grind (arith, nat_tests)
-
-pub met-fold : (a : Anchor) (posts : List CorrectedPost) (seen : Seen) (k : ℕ) (c : Cycle) → SeesPosts seen posts → HasItsDays a k c → due a k ≤ seen.day → met seen c ≡ is_met a posts k (asked seen.issued (Some c))
-unfolding met
-met-fold a posts seen k c sees h l =
-    met-by (has_due_payment seen.issued c) c.minimum (counted seen.posts (c.closing + 1) c.due)
-    ∙ ap (nat_le (asked seen.issued (Some c)))
-    (ap (λ x. counted seen.posts (x + 1) c.due) h.closing ∙ ap (counted seen.posts (closing a k + 1)) h.due ∙ counted-seen seen posts (closing a k + 1) (due a k) sees l)
-
-pub past-due-fold : (a : Anchor) (posts : List CorrectedPost) (seen : Seen) (k : ℕ) (c : Cycle) → SeesPosts seen posts → HasItsDays a k c → closing a (k + 1) ≤ seen.day → past_due seen (closing a (k + 1)) (Some c) ≡ past_due_at a posts (k + 1) (asked seen.issued (Some c))
-past-due-fold a posts seen k c sees h l =
-    let back : k ≡ k + 1 - 1 = omega arith in
-    ap (λ n. asked seen.issued (Some c) - n)
-    (ap (λ x. counted seen.posts (x + 1) (closing a (k + 1))) (h.closing ∙ ap (closing a) back)
-    ∙ counted-seen seen posts (closing a (k + 1 - 1) + 1) (closing a (k + 1)) sees l)
-
-owes-by : (p h : Bool) (n m : ℕ) → (p && h && nat_lt n m) ≡ (p && nat_lt n (cond h m 0))
-owes-by true true n m = refl
-owes-by true false n m = grind (arith, nat_tests)
-owes-by false h n m = refl
-
-owes-fold : (a : Anchor) (posts : List CorrectedPost) (seen : Seen) (k : ℕ) (c : Cycle) → SeesPosts seen posts → HasItsDays a k c → fold.owes_sixty_days seen c ≡ owes_sixty_days a posts seen.day k (pos (asked seen.issued (Some c)))
-owes-fold a posts seen k c sees h =
-    owes-by (nat_lt (c.due + 60) seen.day) (has_due_payment seen.issued c) (counted seen.posts (c.closing + 1) seen.day) c.minimum
-    ∙ ap (λ d. nat_lt (d + 60) seen.day && nat_lt (counted seen.posts (c.closing + 1) seen.day) (asked seen.issued (Some c))) h.due
-    ∙ ap (λ n. nat_lt (due a k + 60) seen.day && nat_lt n (asked seen.issued (Some c)))
-    (ap (λ x. counted seen.posts (x + 1) seen.day) h.closing ∙ counted-seen seen posts (closing a k + 1) seen.day sees (omega arith))

@@ -4,13 +4,10 @@ use Rattle.std.specs.List.{All, filter, list_any}
 use Rattle.std.specs.Option.{option_map}
 use Rattle.std.proofs.lemmas.Bool.{eqb-true}
 use Rattle.std.proofs.lemmas.List.Elements.{All-head, All-tail, All-weaker}
-use Rattle.card_events.specs.Billing.{due}
-use Rattle.card_events.specs.declared.anchor.Anchor.{Anchor}
 use Rattle.card_fees.proofs.Fold.{each}
 use Rattle.card_fees.proofs.Slots.{any-filter, any-same}
 use Rattle.card_model.specs.Accepted.{AreSingle}
 use Rattle.card_model.specs.Caps.{row_for}
-use Rattle.card_model.specs.CycleDays.{HasItsDays}
 use Rattle.card_model.specs.Cycles.{Cycle, IssuedRow}
 use Rattle.card_model.specs.Payments.{has_due_payment, is_timely}
 use Rattle.card_fees.specs.Asked.{is_due_by}
@@ -57,23 +54,20 @@ any-timely n day limit issued (Some x) single found =
     (All-weaker (λ r. row_for r.cycle issued ≡ Some r) (λ r. (r.cycle == n) ≡ true → in-time day limit r ≡ in-time day limit x) (λ r h e. let is = its-row n issued r h e in let same : r ≡ x = cc in ap (in-time day limit) same) issued single)
     ∙ ap (λ o. is_some o && in-time day limit x) found
 
-timely-is : (a : Anchor) (k day : ℕ) (o : Option IssuedRow) → timely-if day (due a k) o ≡ is_due_by a k day (option_map (λ r. r.day) o)
-timely-is a k day None = refl
-timely-is a k day (Some r) = refl
-
 swapped : (x y z : Bool) → (x && (y && z)) ≡ (y && (x && z))
 swapped true true z = refl
 swapped true false z = refl
 swapped false true z = refl
 swapped false false z = refl
 
-pub due-fold : (a : Anchor) (issued : List IssuedRow) (day k : ℕ) (c : Cycle) → AreSingle issued → HasItsDays a k c
-    → has_due_payment (filter (λ r. nat_lt r.day day) issued) c ≡ is_due_by a k day (issue_day k issued)
-due-fold a issued day k c single h =
+timely-is : (due day : ℕ) (o : Option IssuedRow) → timely-if day due o ≡ is_due_by due day (option_map (λ r. r.day) o)
+timely-is due day None = refl
+timely-is due day (Some r) = refl
+
+pub due-single : (issued : List IssuedRow) (day : ℕ) (c : Cycle) → AreSingle issued → has_due_payment (filter (λ r. nat_lt r.day day) issued) c ≡ is_due_by c.due day (issue_day c.number issued)
+due-single issued day c single =
     any-filter (is_timely c) (λ r. nat_lt r.day day) issued
     ∙ any-same (λ r. nat_lt r.day day && is_timely c r) (λ r. (r.cycle == c.number) && in-time day c.due r) issued
     (each (λ r. (nat_lt r.day day && is_timely c r) ≡ ((r.cycle == c.number) && in-time day c.due r)) (λ r. swapped (nat_lt r.day day) (r.cycle == c.number) (nat_le (r.day + 21) c.due)) issued)
-    ∙ ap (λ n. list_any (λ r. (r.cycle == n) && in-time day c.due r) issued) h.number
-    ∙ ap (λ d. list_any (λ r. (r.cycle == k) && in-time day d r) issued) h.due
-    ∙ any-timely k day (due a k) issued (row_for k issued) single refl
-    ∙ timely-is a k day (row_for k issued)
+    ∙ any-timely c.number day c.due issued (row_for c.number issued) single refl
+    ∙ timely-is c.due day (row_for c.number issued)

@@ -11,8 +11,7 @@ pub mod Tallies
 pub mod TallyBounds
 pub mod Charges
 pub mod OneFee
-pub mod Repaid
 pub mod Cases
-pub mod Remainder
 pub mod Issued
+pub mod PastPosts
 pub mod LateFees

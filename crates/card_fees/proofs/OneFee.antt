@@ -1,5 +1,5 @@
 -- In the book of every day no due date has two fees.
-use Rattle.std.proofs.Common.{◌≡◌, ℕ, zero, suc, ◌+◌, Bool, true, false, cond, ◌||◌, ◌==◌, eqb, List, [], ◌∷◌, Option, Some, None, refl, sym, ap, ◌∙◌, arith}
+use Rattle.std.proofs.Common.{◌≡◌, ℕ, zero, suc, ◌+◌, Bool, true, false, cond, eqb, List, [], ◌∷◌, Option, Some, None, refl, ap, ◌∙◌, arith}
 use Rattle.card_events.specs.Civil.{day_of_month}
 use Rattle.card_events.specs.History.{CorrectedPost}
 use Rattle.card_events.specs.declared.post.Post.{Post}
@@ -10,29 +10,22 @@ use Rattle.card_model.specs.Closing.{close}
 use Rattle.card_model.specs.Cycles.{Cycle, IssuedRow, Seen, last_cycle, posts_on}
 use Rattle.card_model.specs.DueDates.{after_due_date, late_fee, on_due}
 use Rattle.card_model.specs.Effects.{after_posts, effect, meant_for, payment_at, returned, returned_fee}
-use Rattle.card_model.specs.Fees.{fee_amount, fee_cents, fee_for, is_charged_for, is_repeat}
+use Rattle.card_model.specs.Fees.{fee_cents, fee_for, is_charged_for}
 use Rattle.card_model.specs.Folds.{book, book_after, day_after}
 use Rattle.card_model.specs.Payments.{met}
 use Rattle.card_model.specs.declared.fee.Fee.{Fee}
 use Rattle.card_model.specs.declared.fee.FeeKind.{FeeKind}
 use Rattle.card_model.specs.declared.fee.FeeKind.TheVariants as fee
 use Rattle.card_model.proofs.Caps.{above-is}
-use Rattle.card_fees.specs.Charged.{AreOneEach}
-use Rattle.card_fees.specs.Laws.{DueDatesHaveOneFee}
-use Rattle.card_fees.proofs.Charges.{one-more-each}
+use Rattle.card_fees.specs.Laws.{AreOneEach, DueDatesHaveOneFee}
+use Rattle.card_fees.proofs.Charges.{charged-parts, one-more-each}
 
 -- no fee was charged for the due date of this one
 abbrev IsFirst : List Fee → Fee → Type 0
 IsFirst fees f = is_charged_for f.due_cycle fees ≡ false
 
 fee-first : (seen : Seen) (cs : List Cycle) (fees : List Fee) (n : ℕ) (k : FeeKind) (c : Cycle) (f : Fee) → fee_for seen cs fees n k c ≡ Some f → IsFirst fees f
-unfolding fee_for
-fee-first seen cs fees n k c f h = by (is_charged_for c.number fees) refl (fee_amount seen cs (is_repeat k n fees) c == 0) _ refl h
-  where
-    by : (b : Bool) → is_charged_for c.number fees ≡ b → (z : Bool) (g : Fee) → g.due_cycle ≡ c.number → cond (b || z) None (Some g) ≡ Some f → IsFirst fees f
-    by true e z g d h = absurd (cc)
-    by false e true g d h = absurd (cc)
-    by false e false g d h = let same : g ≡ f = cc in ap (λ m. is_charged_for m fees) (sym (ap (λ (x : Fee). x.due_cycle) same) ∙ d) ∙ e
+fee-first seen cs fees n k c f h = let p = charged-parts _ fees _ _ _ f h in ap (λ m. is_charged_for m fees) p.for_it ∙ p.first
 
 charged-first : (issued : Option IssuedRow) (fees : List Fee) (o : Option Fee) → ((f : Fee) → o ≡ Some f → IsFirst fees f) → (g : Fee) → charged_fee issued o ≡ Some g → IsFirst fees g
 charged-first issued fees None first g h = absurd (cc)

@@ -6,10 +6,10 @@ use Rattle.std.proofs.lemmas.Bool.Decides.{nat_tests}
 use Rattle.std.proofs.lemmas.List.{length-drop, take_all}
 use Rattle.std.proofs.lemmas.List.Elements.{All-head, All-tail}
 use Rattle.std.proofs.lemmas.List.Sums.{sum_by-cons}
+use Rattle.card_model.specs.Payments.{is_before}
 use Rattle.card_events.specs.declared.kept.Slot.{Slot}
 use Rattle.card_posts.specs.Order.{before, placed, in_order, IsAscending}
 use Rattle.card_posts.proofs.Ordered.{ascending-parted}
-use Rattle.card_fees.specs.Counting.{is_before}
 
 -- a slot in front of all those of a day
 abbrev pub start_of : ℕ → Slot

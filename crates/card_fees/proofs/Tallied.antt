@@ -11,10 +11,10 @@ use Rattle.card_events.specs.History.{CorrectedPost, at_number, corrected, slot_
 use Rattle.card_events.specs.declared.kept.Kept.{Kept}
 use Rattle.card_events.specs.declared.kept.Slot.{Slot}
 use Rattle.card_events.specs.declared.post.Post.{Post}
-use Rattle.card_model.specs.Payments.{counted, credited, is_between, is_credit, is_payment, is_returned, returns}
+use Rattle.card_model.specs.Payments.{folded_before, is_before, counted, credited, is_between, is_credit, is_payment, is_returned, returns}
 use Rattle.card_posts.specs.Order.{IsAscending}
 use Rattle.card_posts.specs.Posted.{folding_order}
-use Rattle.card_fees.specs.Counting.{counts, credits, earlier_posts, is_before, is_credit_at, is_payment_at, is_returned_until, reaches, since}
+use Rattle.card_fees.specs.Counting.{counts, credits, is_credit_at, is_payment_at, is_returned_until, reaches, since}
 use Rattle.card_fees.specs.Tallied.{IsBy, Leads, credited_before, credited_since, is_return, is_return_at, not_before, paid_before, paid_since, return_read}
 use Rattle.card_fees.specs.declared.returning.Until.{Until}
 use Rattle.card_fees.specs.declared.returning.Until.TheVariants as until
@@ -210,10 +210,10 @@ unfolding counted
 none-paid posts from day l =
     sum-filter worth (λ p. is_before day 0 p.day p.number) posts
     ∙ sum-none (λ p. cond (is_before day 0 p.day p.number) (worth p) 0) posts
-    (λ p. nothing (is_before day 0 p.day p.number) (is_payment p.post) (nat_le from p.day) (nat_le p.day day) (is_returned (earlier_posts day 0 posts) day p.number) p.cents (early from day 0 p.day p.number l))
+    (λ p. nothing (is_before day 0 p.day p.number) (is_payment p.post) (nat_le from p.day) (nat_le p.day day) (is_returned (folded_before day 0 posts) day p.number) p.cents (early from day 0 p.day p.number l))
   where
     worth : CorrectedPost → ℕ
-    worth p = cond (is_payment p.post && is_between from day p && not (is_returned (earlier_posts day 0 posts) day p.number)) p.cents 0
+    worth p = cond (is_payment p.post && is_between from day p && not (is_returned (folded_before day 0 posts) day p.number)) p.cents 0
 
 nothing-credited : (F A L D : Bool) (c : ℕ) → (F ≡ true → L ≡ false) → cond F (cond (A && (L && D)) c 0) 0 ≡ 0
 nothing-credited false A L D c g = refl
@@ -240,7 +240,7 @@ within true true g = refl
 within true false g = let no : false ≡ true = g refl in absurd (cc)
 within false D g = refl
 
-pub returned-days : (posts : List CorrectedPost) (to n : ℕ) → is_returned (earlier_posts (to + 1) 0 posts) (to + 1) n ≡ is_returned posts to n
+pub returned-days : (posts : List CorrectedPost) (to n : ℕ) → is_returned (folded_before (to + 1) 0 posts) (to + 1) n ≡ is_returned posts to n
 returned-days posts to n =
     any-filter (λ p. returns n p.post && nat_le p.day (to + 1)) (λ p. is_before (to + 1) 0 p.day p.number) posts
     ∙ any-same (λ p. is_before (to + 1) 0 p.day p.number && (returns n p.post && nat_le p.day (to + 1))) (λ p. returns n p.post && nat_le p.day to) posts (all posts)

@@ -4,8 +4,7 @@ use Rattle.std.specs.List.{filter}
 use Rattle.std.proofs.lemmas.Bool.Decides.{nat_tests}
 use Rattle.std.proofs.lemmas.Option.{IfSome_then}
 use Rattle.card_events.specs.History.{CorrectedPost, is_folded}
-use Rattle.card_model.specs.Payments.{counted, credited, is_between, is_credit, is_payment, is_returned}
-use Rattle.card_fees.specs.Counting.{earlier_posts, is_before}
+use Rattle.card_model.specs.Payments.{folded_before, is_before, counted, credited, is_between, is_credit, is_payment, is_returned}
 use Rattle.card_fees.specs.Due.{seen_of}
 use Rattle.card_fees.specs.Tallied.{IsBy, IsSumOf, IsTallyOf, credited_before, paid_before}
 use Rattle.card_fees.specs.declared.tally.Sum.{Sum}
@@ -34,7 +33,7 @@ paid-days posts from to =
     (each (λ p. cond (is_before (to + 1) 0 p.day p.number) (worth p) 0 ≡ whole p) one posts)
   where
     worth : CorrectedPost → ℕ
-    worth p = cond (is_payment p.post && is_between from (to + 1) p && not (is_returned (earlier_posts (to + 1) 0 posts) (to + 1) p.number)) p.cents 0
+    worth p = cond (is_payment p.post && is_between from (to + 1) p && not (is_returned (folded_before (to + 1) 0 posts) (to + 1) p.number)) p.cents 0
 
     whole : CorrectedPost → ℕ
     whole p = cond (is_payment p.post && is_between from to p && not (is_returned posts to p.number)) p.cents 0
@@ -42,7 +41,7 @@ paid-days posts from to =
     one : (p : CorrectedPost) → cond (is_before (to + 1) 0 p.day p.number) (worth p) 0 ≡ whole p
     one p =
         ap (λ b. cond b (worth p) 0) (by-next to p.day p.number)
-        ∙ days (is_payment p.post) (nat_le from p.day) (nat_le p.day to) (nat_le p.day (to + 1)) (is_returned (earlier_posts (to + 1) 0 posts) (to + 1) p.number) (is_returned posts to p.number) p.cents
+        ∙ days (is_payment p.post) (nat_le from p.day) (nat_le p.day to) (nat_le p.day (to + 1)) (is_returned (folded_before (to + 1) 0 posts) (to + 1) p.number) (is_returned posts to p.number) p.cents
         (by-then p.day to (to + 1) (omega arith)) (returned-days posts to p.number)
 
 credit-days : (A L T N : Bool) (c : ℕ) → (T ≡ true → N ≡ true) → cond T (cond (A && (L && N)) c 0) 0 ≡ cond (A && (L && T)) c 0
@@ -142,14 +141,14 @@ credited-same last old new from to l e = sym (credited-past last old from to l) 
 paid-same : (last day number from : ℕ) (old new : List CorrectedPost) → seen_of last old ≡ seen_of last new → IsBy last day number → paid_before old from day number ≡ paid_before new from day number
 paid-same last day number from old new e (inl l) =
     sym (before-past day number old from)
-    ∙ ap (λ ps. counted (earlier_posts day number ps) from day) (seen-same day last old new l e)
+    ∙ ap (λ ps. counted (folded_before day number ps) from day) (seen-same day last old new l e)
     ∙ before-past day number new from
 paid-same last day number from old new e (inr (d, n)) = next-paid last day number from old d n ∙ counted-same last old new from last (omega arith) e ∙ sym (next-paid last day number from new d n)
 
 credited-alike : (last day number from : ℕ) (old new : List CorrectedPost) → seen_of last old ≡ seen_of last new → IsBy last day number → credited_before old from day number ≡ credited_before new from day number
 credited-alike last day number from old new e (inl l) =
     sym (credited-before-past day number old from)
-    ∙ ap (λ ps. credited (earlier_posts day number ps) from day) (seen-same day last old new l e)
+    ∙ ap (λ ps. credited (folded_before day number ps) from day) (seen-same day last old new l e)
     ∙ credited-before-past day number new from
 credited-alike last day number from old new e (inr (d, n)) = next-credited last day number from old d n ∙ credited-same last old new from last (omega arith) e ∙ sym (next-credited last day number from new d n)
 

@@ -1,23 +1,15 @@
 -- Payments counted over the slots of some days.
-use Rattle.std.specs.Prelude.{ℕ, Bool, false, ◌&&◌, ◌||◌, ◌==◌, not, nat_le, nat_lt, if◌then◌else◌, List, Option, Some, None, unsigned_abs}
+use Rattle.std.specs.Prelude.{ℕ, Bool, false, ◌&&◌, not, nat_le, if◌then◌else◌, List, Option, Some, None, unsigned_abs}
 use Rattle.std.specs.List.{filter, list_any, sum_by}
 use Rattle.card_events.specs.History.{CorrectedPost, at_number}
 use Rattle.card_events.specs.declared.kept.Kept.{Kept}
 use Rattle.card_events.specs.declared.kept.Slot.{Slot}
 use Rattle.card_fees.specs.declared.returning.Until.{Until}
 use Rattle.card_fees.specs.declared.returning.Until.TheVariants as until
-use Rattle.card_model.specs.Payments.{is_credit, is_payment, returns}
+use Rattle.card_model.specs.Payments.{is_before, is_credit, is_payment, returns}
 use Rattle.card_model.specs.Refusals.{holds_of}
 use Rattle.card_posts.specs.Posted.{slot_with}
 use Rattle.card_waits.specs.Waits.{waiting}
-
--- to be folded before the post with a day and a number: on an earlier day, or on that day with a smaller number
-abbrev pub is_before : ℕ → ℕ → ℕ → ℕ → Bool
-is_before day number d n = nat_lt d day || ((d == day) && nat_lt n number)
-
--- the posts that are folded before it
-abbrev pub earlier_posts : ℕ → ℕ → List CorrectedPost → List CorrectedPost
-earlier_posts day number posts = filter (λ q. is_before day number q.day q.number) posts
 
 -- the slots that stand in front of it
 abbrev pub in_front : ℕ → ℕ → List Slot → List Slot

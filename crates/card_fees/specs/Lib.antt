@@ -1,4 +1,3 @@
-pub mod Charged
 pub mod Counting
 pub mod Due
 pub mod Laws

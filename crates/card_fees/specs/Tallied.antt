@@ -6,12 +6,12 @@ use Rattle.card_events.specs.declared.kept.Kept.{Kept}
 use Rattle.card_events.specs.declared.kept.Slot.{Slot}
 use Rattle.card_events.specs.declared.post.Post.{Post}
 use Rattle.card_events.specs.declared.post.Post.TheVariants as post
-use Rattle.card_fees.specs.Counting.{credits, earlier_posts, is_before, reaches, read_counts}
+use Rattle.card_fees.specs.Counting.{credits, reaches, read_counts}
 use Rattle.card_fees.specs.Due.{seen_of}
 use Rattle.card_fees.specs.declared.returning.Until.{Until}
 use Rattle.card_fees.specs.declared.tally.Sum.{Sum}
 use Rattle.card_fees.specs.declared.tally.Tally.{Tally}
-use Rattle.card_model.specs.Payments.{counted, credited}
+use Rattle.card_model.specs.Payments.{folded_before, is_before, counted, credited}
 use Rattle.card_posts.specs.Posted.{Posted, StandsFor}
 
 -- ---- over slots
@@ -48,10 +48,10 @@ Leads day number later last = (day < later) ⊎ ((day ≡ later) × (number ≤ 
 -- the payments with effective days from one on that are folded before the post with a day and a number, less those that a Return
 -- before it takes back; and the merchants' credits
 abbrev pub paid_before : List CorrectedPost → ℕ → ℕ → ℕ → ℕ
-paid_before posts from day number = counted (earlier_posts day number posts) from day
+paid_before posts from day number = counted (folded_before day number posts) from day
 
 abbrev pub credited_before : List CorrectedPost → ℕ → ℕ → ℕ → ℕ
-credited_before posts from day number = credited (earlier_posts day number posts) from day
+credited_before posts from day number = credited (folded_before day number posts) from day
 
 -- the sums of some whole days, none after a day
 pub record IsSumOf (posts : List CorrectedPost) (last : ℕ) (s : Sum) : Type 0 where

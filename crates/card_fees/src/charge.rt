@@ -1,24 +1,15 @@
 // Penalty fees.
 ghost use Rattle.std.specs.Prelude.{◌≡◌, ◌+◌, ◌<◌, ◌≤◌, ◌≤ℤ◌, min, pos, unsigned_abs, Some};
-ghost use Rattle.card_events.specs.Billing.{IsCloseDay, cycle_of, due};
+ghost use Rattle.card_events.specs.Billing.{IsCloseDay, cycle_of};
 ghost use Rattle.card_events.specs.Range.{last_reckoned_day};
-ghost use Rattle.card_fees.specs.Charged as charged;
+ghost use Rattle.card_fees.specs.DueFee.{late_by};
 ghost use Rattle.card_shared.specs.Table.{row_on};
 ghost use Rattle.card_model.specs.Fees as words;
 ghost use Rattle.card_model.specs.declared.fee.FeeKind.TheVariants as kind;
 
-use crate::FeeTable;
-use card_events::{Anchor, Cents, Day, cycle_of, due_date};
-use card_model::{Fee, FeeKind};
-
-// What a fee is charged for: its kind, its due date, and the cycle and the day on which it is charged.
-#[derive(Drop)]
-struct Cause {
-    kind: FeeKind,
-    due_cycle: u32,
-    cycle: u32,
-    day: Day,
-}
+use crate::{DueCycle, FeeTable};
+use card_events::{Anchor, Cents, Day, cycle_of};
+use card_model::{Cause, Fee, FeeKind};
 
 fn is_kind(a: FeeKind, b: FeeKind) -> bool
     ensures { result ≡ words.is_fee_kind a b }
@@ -75,26 +66,17 @@ fn amount(table: &FeeTable, day: Day, repeat: bool) -> Cents
 }
 
 // the least of three amounts
-fn least(amount: Cents, minimum: Cents, last_due: Cents) -> u64
-    ensures value { result ≡ min (unsigned_abs amount) (min (unsigned_abs minimum) (unsigned_abs last_due)) }
+fn least(amount: Cents, minimum: u64, last_due: u64) -> u64
+    ensures value { result ≡ min (unsigned_abs amount) (min minimum last_due) }
     ensures bound { result ≤ 9_223_372_036_854_775_808 }
 {
-    let minimums = minimum.unsigned_abs().min(last_due.unsigned_abs());
-    amount.unsigned_abs().min(minimums)
+    amount.unsigned_abs().min(minimum.min(last_due))
 }
 
 // the fee of a cause, where the table's amount is at most these minimum payments
-#[tactic(auto, unfolding(crate::specs::Charged::fee_by))]
-fn charge(
-    table: &FeeTable,
-    fees: &[Fee],
-    cause: &Cause,
-    minimum: Cents,
-    last_due: Cents,
-) -> Option<Fee>
-    requires low { pos 0 ≤ℤ minimum }
-    requires last_low { pos 0 ≤ℤ last_due }
-    ensures { result ≡ charged.fee_by table.now fees.now cause.now (unsigned_abs minimum) (unsigned_abs last_due) }
+#[tactic(auto, unfolding(card_model::specs::Fees::fee_by))]
+fn charge(table: &FeeTable, fees: &[Fee], cause: &Cause, minimum: u64, last_due: u64) -> Option<Fee>
+    ensures { result ≡ words.fee_by (row_on table.now cause.now.day) fees.now cause.now minimum last_due }
 {
     let repeat = is_repeat(cause.kind, cause.cycle, fees);
     let cents = least(amount(table, cause.day, repeat), minimum, last_due);
@@ -111,49 +93,45 @@ fn charge(
     })
 }
 
-/// The late fee for due date k, which wasn't met, charged on the day after it (12 CFR 1026.52(b)(1)(ii), (b)(2)(i)(A),
+/// The late fee for a due date that wasn't met, charged on the day after it (12 CFR 1026.52(b)(1)(ii), (b)(2)(i)(A),
 /// (b)(2)(ii)): the table's amount of that day, at most the minimum payment, in cents. It is at the repeat amount where a
 /// late fee at the first amount is among the fees of its cycle or of one of the six before. The fees are those charged so
-/// far. None comes exactly where the fee is 0 or one was charged for the due date before. Cycle k is at least 1, and its
-/// due date is there and before 2100-12-31; the minimum payment is at least 0. It takes no memory.
-pub fn late_fee(table: &FeeTable, fees: &[Fee], a: Anchor, k: u32, minimum: Cents) -> Option<Fee>
-    requires close_day { IsCloseDay a.close_day }
-    requires cycle { 1 ≤ k }
-    requires last { due a k < last_reckoned_day }
-    requires low { pos 0 ≤ℤ minimum }
-    ensures { result ≡ charged.fee_by table.now fees.now record { kind = kind.Late; due_cycle = k; cycle = cycle_of a (due a k + 1); day = due a k + 1 } (unsigned_abs minimum) (unsigned_abs minimum) }
+/// far. None comes exactly where the fee is 0 or one was charged for the due date before. The due date isn't before the
+/// opening day, and before 2100-12-31. It takes no memory.
+pub fn late_fee(table: &FeeTable, fees: &[Fee], a: &Anchor, c: &DueCycle) -> Option<Fee>
+    requires close_day { IsCloseDay a.now.close_day }
+    requires opened { a.now.opened ≤ c.now.due }
+    requires last { c.now.due < last_reckoned_day }
+    ensures { result ≡ late_by table.now fees.now a.now c.now }
 {
-    let day = due_date(&a, k).next();
+    let day = c.due.next();
     let cause = Cause {
         kind: FeeKind::Late,
-        due_cycle: k,
-        cycle: cycle_of(a, day),
+        due_cycle: c.cycle,
+        cycle: cycle_of(*a, day),
         day,
     };
-    charge(table, fees, &cause, minimum, minimum)
+    charge(table, fees, &cause, c.minimum, c.minimum)
 }
 
 /// The fee for a payment that was meant for due date k and was returned, charged on a day (12 CFR 1026.52(b)(1)(ii),
 /// (b)(2)(i)(A), (b)(2)(ii)): the table's amount of that day, at most the minimum payment of cycle k and that of the last
 /// due date before the day, in cents. It is at the repeat amount where such a fee at the first amount is among the fees
 /// of its cycle or of one of the six before. The fees are those charged so far. None comes exactly where the fee is 0 or
-/// one was charged for the due date before. The day isn't before the opening day or after 2100-12-31; both minimum
-/// payments are at least 0. It takes no memory.
+/// one was charged for the due date before. The day isn't before the opening day or after 2100-12-31. It takes no memory.
 pub fn returned_fee(
     table: &FeeTable,
     fees: &[Fee],
     a: Anchor,
     k: u32,
     day: Day,
-    minimum: Cents,
-    last_due: Cents,
+    minimum: u64,
+    last_due: u64,
 ) -> Option<Fee>
     requires close_day { IsCloseDay a.close_day }
     requires opened { a.opened ≤ day }
     requires last { day ≤ last_reckoned_day }
-    requires low { pos 0 ≤ℤ minimum }
-    requires last_low { pos 0 ≤ℤ last_due }
-    ensures { result ≡ charged.fee_by table.now fees.now record { kind = kind.Returned; due_cycle = k; cycle = cycle_of a day; day = day } (unsigned_abs minimum) (unsigned_abs last_due) }
+    ensures { result ≡ words.fee_by (row_on table.now day) fees.now record { kind = kind.Returned; due_cycle = k; cycle = cycle_of a day; day = day } minimum last_due }
 {
     let cause = Cause {
         kind: FeeKind::Returned,

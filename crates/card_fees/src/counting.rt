@@ -2,7 +2,7 @@
 ghost use Rattle.std.specs.Prelude.{◌≡◌, ◌+◌, ◌≤◌, ℕ, List, min, nat_le, nat_lt, unsigned_abs};
 ghost use Rattle.std.specs.List.{sum_by};
 ghost use Rattle.card_events.specs.History.{at_number};
-ghost use Rattle.card_fees.specs.Counting.{counts, credits, earlier_posts, is_credit_at, is_payment_at, read_counts, since, up_to};
+ghost use Rattle.card_fees.specs.Counting.{counts, credits, is_credit_at, is_payment_at, read_counts, since, up_to};
 ghost use Rattle.card_fees.specs.Limits.{payments_limit};
 ghost use Rattle.card_model.specs.Payments as payments;
 ghost use Rattle.card_posts.specs.Order.{IsAscending};
@@ -12,25 +12,13 @@ use crate::returning::{Until, is_returned, reaches};
 use card_events::{Day, Post, Slot};
 use card_posts::Posts;
 
-fn is_before(slot: &Slot, day: Day) -> bool
-    ensures { result ≡ nat_lt slot.now.day day }
-{
-    slot.day < day
-}
-
-fn is_by(slot: &Slot, day: Day) -> bool
-    ensures { result ≡ nat_le slot.now.day day }
-{
-    slot.day <= day
-}
-
 // the slots from a day on
 fn since(slots: &[Slot], from: Day) -> &[Slot]
     requires { IsAscending slots.now }
     ensures value { result.now ≡ since from slots.now }
     ensures order { IsAscending result.now }
 {
-    &slots[slots.partition_point(|slot| is_before(slot, from))..]
+    &slots[slots.partition_point(|slot| slot.day < from)..]
 }
 
 // the slots up to a day
@@ -38,7 +26,7 @@ fn up_to(slots: &[Slot], to: Day) -> &[Slot]
     requires { IsAscending slots.now }
     ensures { result.now ≡ up_to to slots.now }
 {
-    &slots[..slots.partition_point(|slot| is_by(slot, to))]
+    &slots[..slots.partition_point(|slot| slot.day <= to)]
 }
 
 // those of all posts
@@ -127,7 +115,7 @@ pub fn counted_up_to(posts: &Posts, from: Day, to: Day, limit: u64) -> u64
 
 // The payments that are folded before a post, less those returned before it.
 pub fn counted_in_front(posts: &Posts, from: Day, day: Day, number: u32) -> u64
-    ensures { (holidays : List ℕ) → StandsFor holidays posts.now → result ≡ payments.counted (earlier_posts day number posts.now.corrected) from day }
+    ensures { (holidays : List ℕ) → StandsFor holidays posts.now → result ≡ payments.counted (payments.folded_before day number posts.now.corrected) from day }
 {
     let slots = slots_since(posts, from);
     sum(posts, slots, &Until::Post(day, number), u64::MAX)
@@ -174,15 +162,6 @@ fn credited_between(posts: &Posts, from: Day, to: Day) -> u64
     credits_sum(posts, slots_of(posts, from, to))
 }
 
-// Whether payments and credits reach an amount together.
-fn reach(paid: u64, credited: u64, amount: u64) -> bool
-    requires paid { paid ≤ payments_limit }
-    requires credited { credited ≤ payments_limit }
-    ensures { result ≡ nat_le amount (paid + credited) }
-{
-    amount <= paid + credited
-}
-
 // Whether the payments with effective days from one day to another, less those returned by its end, reach an amount together
 // with the merchants' credits of these days. It looks at no credit where the payments do.
 pub fn repaid_reaches(posts: &Posts, from: Day, to: Day, amount: u64) -> bool
@@ -192,5 +171,5 @@ pub fn repaid_reaches(posts: &Posts, from: Day, to: Day, amount: u64) -> bool
     if is_enough(paid, amount) {
         return true;
     }
-    reach(paid, credited_between(posts, from, to), amount)
+    amount <= paid + credited_between(posts, from, to)
 }

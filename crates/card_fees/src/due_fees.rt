@@ -1,38 +1,27 @@
 // The late fee for a due date that wasn't met.
-ghost use Rattle.std.specs.Prelude.{◌≡◌, ℕ, ◌+◌, ◌<◌, ◌≤◌, ◌≤ℤ◌, List, Some, min, pos, option_copied};
-ghost use Rattle.card_events.specs.Billing.{IsCloseDay, closing, due};
+ghost use Rattle.std.specs.Prelude.{◌≡◌, ◌==◌, if◌then◌else◌, ℕ, ◌<◌, ◌≤◌, ◌≤ℤ◌, List, Some, min, pos, option_copied};
+ghost use Rattle.card_events.specs.Billing.{IsCloseDay};
 ghost use Rattle.card_events.specs.Range.{last_reckoned_day};
-ghost use Rattle.card_fees.specs.DueFee.{capped, cents_for, fee_sum, late_by};
+ghost use Rattle.card_fees.specs.DueFee.{due_fee_by};
 ghost use Rattle.card_fees.specs.Tallied.{IsTallyOf, StaysRight};
-ghost use Rattle.card_model.specs.Caps.{fee_above};
+ghost use Rattle.card_model.specs.Caps.{charged_by, fee_above, fees_for};
 ghost use Rattle.card_model.specs.Fees.{fee_cents};
 ghost use Rattle.card_posts.specs.Posted.{StandsFor};
 
-use crate::due_cycle::DueCycle;
-use crate::{FeeTable, Tally, late_fee, met_in_time};
-use card_events::{Anchor, Cents};
+use crate::{DueCycle, FeeTable, Tally, late_fee, met_in_time};
+use card_events::Anchor;
 use card_model::Fee;
 use card_posts::Posts;
 
-// the cents of a fee for a due date, 0 for those of others
-fn cents_for(due_cycle: u32, fee: &Fee) -> u64
-    ensures value { result ≡ cents_for due_cycle fee.now }
-    ensures bound { result ≤ 9_223_372_036_854_775_807 }
-{
-    if fee.due_cycle == due_cycle {
-        cents_of(fee)
-    } else {
-        0
-    }
-}
-
 // the fees for a due date together
 fn fee_sum(due_cycle: u32, fees: &[Fee]) -> u128
-    ensures { result ≡ fee_sum due_cycle fees.now }
+    ensures { result ≡ fees_for due_cycle fees.now }
 {
     let mut total = 0;
     for fee in fees {
-        total += cents_for(due_cycle, fee) as u128;
+        if fee.due_cycle == due_cycle {
+            total += cents_of(fee) as u128;
+        }
     }
     total
 }
@@ -61,7 +50,7 @@ fn above(cents: u64, fee: &Fee) -> Option<Fee>
 
 // the cents of a fee, at most those of the fees for its due date among issued ones
 fn lower(issued: &[Fee], fee: &Fee) -> u64
-    ensures value { result ≡ min (fee_cents fee.now) (fee_sum fee.now.due_cycle issued.now) }
+    ensures value { result ≡ min (fee_cents fee.now) (fees_for fee.now.due_cycle issued.now) }
     ensures bound { result ≤ 9_223_372_036_854_775_807 }
 {
     let cents = cents_of(fee);
@@ -70,9 +59,8 @@ fn lower(issued: &[Fee], fee: &Fee) -> u64
 
 /// A penalty fee, at most what the issued statement of its cycle has for its due date, in cents. None comes exactly where
 /// that is 0. Without an issued statement it stays as it is. It takes no memory.
-#[tactic(auto, unfolding(crate::specs::DueFee::capped))]
 pub fn capped_fee(issued: Option<&[Fee]>, fee: &Fee) -> Option<Fee>
-    ensures { result ≡ capped (option_copied issued.entry) fee.now }
+    ensures { result ≡ charged_by fees_for (option_copied issued.entry) (Some fee.now) }
 {
     match issued {
         Some(fees) => above(lower(fees, fee), fee),
@@ -80,14 +68,13 @@ pub fn capped_fee(issued: Option<&[Fee]>, fee: &Fee) -> Option<Fee>
     }
 }
 
-/// The late fee for the due date of a cycle, charged on the day after it where the payments up to it didn't reach the
-/// minimum payment (12 CFR 1026.52(b)(1)(ii), (b)(2)): the table's amount of that day, at most the minimum payment, and at
-/// most what the issued statement of the cycle that is charged has for this due date, in cents. The fees are those charged
-/// so far. None comes exactly where the due date was met or the fee is 0, or where one was charged for the due date
-/// before. The cycle is at least 1, and its due date is there and before 2100-12-31; its minimum payment is at least 0;
-/// its days are those of the calendar. What the tally counted is right for these posts, and stays so; where the cycle asks for
-/// something, it holds the sum up to the due date from then on. The corrected list is that of the posts under some calendar. It
-/// takes no memory.
+/// The late fee for the due date of a cycle, charged on the day after it where the payments up to it didn't reach the minimum
+/// payment (12 CFR 1026.52(b)(1)(ii), (b)(2)): the table's amount of that day, at most the minimum payment, and at most what
+/// the issued statement of the cycle that is charged has for this due date, in cents. The fees are those charged so far. None
+/// comes exactly where the due date was met or the fee is 0, or where one was charged for the due date before. The cycle
+/// closed before its due date, which isn't before the opening day, and before 2100-12-31. What the tally counted is right for
+/// these posts, and stays so; where the cycle asks for something, it holds the sum up to the due date from then on. The
+/// corrected list is that of the posts under some calendar. It takes no memory.
 pub fn due_fee(
     table: &FeeTable,
     fees: &[Fee],
@@ -98,18 +85,16 @@ pub fn due_fee(
     tally: &mut Tally,
 ) -> Option<Fee>
     requires close_day { IsCloseDay a.now.close_day }
-    requires cycle { 1 ≤ c.now.cycle }
-    requires closing { c.now.closing ≡ closing a.now c.now.cycle }
-    requires due { c.now.due ≡ due a.now c.now.cycle }
-    requires last { due a.now c.now.cycle < last_reckoned_day }
-    requires low { pos 0 ≤ℤ c.now.minimum }
-    ensures value { (holidays : List ℕ) (last : ℕ) → StandsFor holidays posts.now → IsTallyOf posts.now.corrected last tally.old → result ≡ late_by table.now (option_copied issued.entry) fees.now a.now posts.now.corrected c.now }
+    requires opened { a.now.opened ≤ c.now.due }
+    requires closed { c.now.closing < c.now.due }
+    requires last { c.now.due < last_reckoned_day }
+    ensures value { (holidays : List ℕ) (last : ℕ) → StandsFor holidays posts.now → IsTallyOf posts.now.corrected last tally.old → result ≡ due_fee_by table.now (option_copied issued.entry) fees.now a.now posts.now.corrected c.now }
     ensures tally { StaysRight posts.now c.now.due tally.old tally.new }
 {
-    if met_in_time(posts, a, c, tally) {
+    if met_in_time(posts, c, tally) {
         return None;
     }
-    match late_fee(table, fees, *a, c.cycle, c.minimum) {
+    match late_fee(table, fees, a, c) {
         Some(fee) => capped_fee(issued, &fee),
         None => None,
     }

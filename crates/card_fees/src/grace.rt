@@ -1,14 +1,15 @@
 // Whether a statement was paid, and how purchases bear interest after it.
 ghost use Rattle.std.specs.Prelude.{◌≡◌, ℕ, ◌+◌, List, Some, nat_le};
-ghost use Rattle.card_fees.specs.Asked.{IsInCalendar, case_by, is_paid, paid_before, repaid_by};
+ghost use Rattle.card_fees.specs.Asked.{IsInCalendar};
 ghost use Rattle.card_fees.specs.Tallied.{IsTallyOf};
-ghost use Rattle.card_fees.specs.declared.due_cycle.DueCycle.{DueCycle};
+ghost use Rattle.card_model.specs.Interest.{case_after};
+ghost use Rattle.card_model.specs.Payments as payments;
+ghost use Rattle.card_model.specs.declared.due_cycle.DueCycle.{DueCycle};
 ghost use Rattle.card_posts.specs.Posted.{StandsFor};
 
+use crate::DueCycle;
 use crate::counting::repaid_reaches;
-use crate::due_cycle::{DueCycle, cents_in};
 use crate::tally::{Sum, Tally};
-use card_events::{Anchor, Day};
 use card_model::GraceCase;
 use card_posts::Posts;
 
@@ -20,9 +21,9 @@ fn reaches(sum: &Sum, amount: u64) -> bool
 }
 
 // whether the payments and credits after the closing of a cycle, up to its due date, reach an amount
-fn is_repaid(posts: &Posts, _a: &Anchor, c: &DueCycle, amount: u64, tally: &Tally) -> bool
-    requires known { IsInCalendar _a.now c.now }
-    ensures { (holidays : List ℕ) (day : ℕ) → StandsFor holidays posts.now → IsTallyOf posts.now.corrected day tally.now → result ≡ nat_le amount (repaid_by _a.now posts.now.corrected c.now.cycle) }
+fn is_repaid(posts: &Posts, c: &DueCycle, amount: u64, tally: &Tally) -> bool
+    requires known { IsInCalendar c.now }
+    ensures { (holidays : List ℕ) (day : ℕ) → StandsFor holidays posts.now → IsTallyOf posts.now.corrected day tally.now → result ≡ nat_le amount (payments.counted posts.now.corrected (c.now.closing + 1) c.now.due + payments.credited posts.now.corrected (c.now.closing + 1) c.now.due) }
 {
     let from = c.closing.next();
     match tally.held(from, c.due) {
@@ -31,69 +32,60 @@ fn is_repaid(posts: &Posts, _a: &Anchor, c: &DueCycle, amount: u64, tally: &Tall
     }
 }
 
-/// Whether the payments and the merchants' credits with effective days after a cycle's closing and up to its due date,
-/// without the payments returned by then, reach its grace amount. A statement without a due payment counts as paid (12
-/// CFR 1026.54(a)(1)). The cycle is at least 1, its due date is there, its days are those of the calendar, and its grace
-/// amount is at least 0. Sums that the tally holds are read off it; what it counted is right for these posts. The corrected list
-/// is that of the posts under some calendar. It takes no memory.
-#[tactic(auto, unfolding(crate::specs::Asked::is_paid))]
-pub fn paid(posts: &Posts, a: &Anchor, c: &DueCycle, tally: &Tally) -> bool
-    requires known { IsInCalendar a.now c.now }
-    ensures { (holidays : List ℕ) (day : ℕ) → StandsFor holidays posts.now → IsTallyOf posts.now.corrected day tally.now → result ≡ is_paid a.now posts.now.corrected c.now }
+/// Whether the payments and the merchants' credits with effective days after a cycle's closing and up to its due date, without
+/// the payments returned by then, reach its grace amount. A statement without a due payment counts as paid (12 CFR
+/// 1026.54(a)(1)). The cycle closed before its due date, which is there. Sums that the tally holds are read off it; what it
+/// counted is right for these posts. The corrected list is that of the posts under some calendar. It takes no memory.
+#[tactic(auto, unfolding(card_model::specs::Payments::is_paid))]
+pub fn paid(posts: &Posts, c: &DueCycle, tally: &Tally) -> bool
+    requires known { IsInCalendar c.now }
+    ensures { (holidays : List ℕ) (day : ℕ) → StandsFor holidays posts.now → IsTallyOf posts.now.corrected day tally.now → result ≡ payments.is_paid posts.now.corrected c.now }
 {
-    !c.has_due_payment || is_repaid(posts, a, c, cents_in(c.grace_amount), tally)
+    !c.has_due_payment || is_repaid(posts, c, c.grace_amount, tally)
 }
 
 // whether a statement was paid, where there is one
-fn paid_before(posts: &Posts, a: &Anchor, before: Option<DueCycle>, tally: &Tally) -> bool
-    requires known { (c : DueCycle) → before ≡ Some c → IsInCalendar a.now c }
-    ensures { (holidays : List ℕ) (day : ℕ) → StandsFor holidays posts.now → IsTallyOf posts.now.corrected day tally.now → result ≡ paid_before a.now posts.now.corrected before }
+fn paid_before(posts: &Posts, before: Option<DueCycle>, tally: &Tally) -> bool
+    requires known { (c : DueCycle) → before ≡ Some c → IsInCalendar c }
+    ensures { (holidays : List ℕ) (day : ℕ) → StandsFor holidays posts.now → IsTallyOf posts.now.corrected day tally.now → result ≡ payments.is_paid_if_any posts.now.corrected before }
 {
     match before {
-        Some(c) => paid(posts, a, &c, tally),
+        Some(c) => paid(posts, &c, tally),
         None => true,
     }
 }
 
 /// How purchases bear interest in a cycle, at its closing (12 CFR 1026.54(a)(1)), by the cycle before it and the one before
-/// that: none does where the last statement was paid and the one before it too; where the last wasn't, what was repaid by
-/// its due date bears none; where the one before it wasn't, all bear interest. The first cycle has no cycle before it.
-/// Their numbers are at least 1, their due dates are there, their days are those of the calendar, and their grace amounts are at
-/// least 0. Sums that the tally holds are read off it; what it counted is right for these posts. The corrected list is that of
-/// the posts under some calendar. It takes no memory.
+/// that: none does where the last statement was paid and the one before it too; where the last wasn't, what was repaid by its
+/// due date bears none; where the one before it wasn't, all bear interest. The first cycle has no cycle before it. They closed
+/// before their due dates, which are there. Sums that the tally holds are read off it; what it counted is right for these
+/// posts. The corrected list is that of the posts under some calendar. It takes no memory.
 pub fn purchase_case(
     posts: &Posts,
-    a: &Anchor,
     before: Option<DueCycle>,
     last: Option<DueCycle>,
     tally: &Tally,
 ) -> GraceCase
-    requires before { (c : DueCycle) → before ≡ Some c → IsInCalendar a.now c }
-    requires last { (c : DueCycle) → last ≡ Some c → IsInCalendar a.now c }
-    ensures { (holidays : List ℕ) (day : ℕ) → StandsFor holidays posts.now → IsTallyOf posts.now.corrected day tally.now → result ≡ case_by a.now posts.now.corrected before last }
+    requires before { (c : DueCycle) → before ≡ Some c → IsInCalendar c }
+    requires last { (c : DueCycle) → last ≡ Some c → IsInCalendar c }
+    ensures { (holidays : List ℕ) (day : ℕ) → StandsFor holidays posts.now → IsTallyOf posts.now.corrected day tally.now → result ≡ case_after posts.now.corrected before last }
 {
     match last {
-        Some(c) => case_after(posts, a, before, &c, tally),
+        Some(c) => case_after(posts, before, &c, tally),
         None => GraceCase::None,
     }
 }
 
 // how purchases bear interest after a statement
-fn case_after(
-    posts: &Posts,
-    a: &Anchor,
-    before: Option<DueCycle>,
-    last: &DueCycle,
-    tally: &Tally,
-) -> GraceCase
-    requires before { (c : DueCycle) → before ≡ Some c → IsInCalendar a.now c }
-    requires last { IsInCalendar a.now last.now }
-    ensures { (holidays : List ℕ) (day : ℕ) → StandsFor holidays posts.now → IsTallyOf posts.now.corrected day tally.now → result ≡ case_by a.now posts.now.corrected before (Some last.now) }
+fn case_after(posts: &Posts, before: Option<DueCycle>, last: &DueCycle, tally: &Tally) -> GraceCase
+    requires before { (c : DueCycle) → before ≡ Some c → IsInCalendar c }
+    requires last { IsInCalendar last.now }
+    ensures { (holidays : List ℕ) (day : ℕ) → StandsFor holidays posts.now → IsTallyOf posts.now.corrected day tally.now → result ≡ case_after posts.now.corrected before (Some last.now) }
 {
-    if !paid_before(posts, a, before, tally) {
+    if !paid_before(posts, before, tally) {
         return GraceCase::Plain;
     }
-    if paid(posts, a, last, tally) {
+    if paid(posts, last, tally) {
         return GraceCase::None;
     }
     GraceCase::Lowered(last.due)

@@ -16,13 +16,13 @@ mod returning;
 mod tally;
 pub mod tally_laws;
 
-pub use card_model::{Fee, FeeKind, GraceCase};
+pub use card_model::{DueCycle, Fee, FeeKind, GraceCase};
 pub use card_shared::{
     FeeTable, IndexTable, SharedRows, fees_reason, holiday_reason, index_reason, roll_reason,
 };
 pub use charge::{late_fee, returned_fee};
 pub use due::{met, met_in_time, owes_sixty_days, past_due};
-pub use due_cycle::{DueCycle, asked};
+pub use due_cycle::asked;
 pub use due_fees::{capped_fee, due_fee};
 pub use grace::{paid, purchase_case};
 pub use left::minimum_left;

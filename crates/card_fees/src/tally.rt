@@ -74,12 +74,6 @@ fn kinds_of(posts: &Posts, number: u32) -> Kinds
     }
 }
 
-fn is_early(slot: &Slot, from: Day) -> bool
-    ensures { result ≡ nat_lt slot.now.day from }
-{
-    slot.day < from
-}
-
 // what a slot that is read counts from a day on
 fn paid_since(posts: &Posts, until: &Until, from: Day, slot: &Slot, is_payment: bool) -> u64
     requires read { reaches until.now slot.now.day slot.now.number ≡ true }
@@ -87,7 +81,7 @@ fn paid_since(posts: &Posts, until: &Until, from: Day, slot: &Slot, is_payment: 
     ensures value { result ≡ paid_since until.now posts.now.history posts.now.corrected from slot.now }
     ensures bound { result ≤ unsigned_abs slot.now.cents }
 {
-    if !is_payment || is_early(slot, from) || is_returned(posts, slot.number, until) {
+    if !is_payment || slot.day < from || is_returned(posts, slot.number, until) {
         0
     } else {
         slot.cents.unsigned_abs()
@@ -101,7 +95,7 @@ fn credited_since(_posts: &Posts, _until: &Until, from: Day, slot: &Slot, is_cre
     ensures value { result ≡ credited_since _until.now _posts.now.history from slot.now }
     ensures bound { result ≤ unsigned_abs slot.now.cents }
 {
-    if !is_credit || is_early(slot, from) {
+    if !is_credit || slot.day < from {
         0
     } else {
         slot.cents.unsigned_abs()

@@ -51,13 +51,13 @@ one-cured day due i true l h =
     rw (other, none) refl
 one-cured day due i false l h = refl
 
-cured-same : (day : ℕ) (seen : Seen) (cycles : List Cycle) (c : Cycle) (ps : List Interval) → day ≤ c.due → list_any (breaks_penalty day) (map (cured_by seen cycles c) ps) ≡ list_any (breaks_penalty day) ps
+cured-same : (day : ℕ) (seen : Seen) (cycles : List Cycle) (c : Cycle) (ps : List Interval) → day ≤ c.due → list_any (breaks_penalty day) (map (cured_by seen cycles c.due) ps) ≡ list_any (breaks_penalty day) ps
 cured-same day seen cycles c [] l = refl
 cured-same day seen cycles c (p ∷ ps) l =
     let dues = due_after_day p.begins cycles in
     let six = eqb (length dues) 6 in
     let kept = list_all (met seen) dues in
-    ap (λ b. b || list_any (breaks_penalty day) (map (cured_by seen cycles c) ps)) (one-cured day c.due p (not (is_some p.last) && six && kept) l (had_no_end p.last six kept))
+    ap (λ b. b || list_any (breaks_penalty day) (map (cured_by seen cycles c.due) ps)) (one-cured day c.due p ((not (is_some p.last) && six) && kept) l (had_no_end p.last six kept))
     ∙ ap (λ b. breaks_penalty day p || b) (cured-same day seen cycles c ps l)
 
 day-same : (day : ℕ) (issued : Option IssuedRow) (a : Account) (seen : Seen) (b : Book) → day ≤ seen.day → (seen.day ≡ day → on_due issued a seen b (last_cycle b.cycles) ≡ b)

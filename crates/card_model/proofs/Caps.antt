@@ -14,7 +14,7 @@ use Rattle.card_model.specs.Cycles.{Cycle, IssuedRow, Seen, amount_at, last_cycl
 use Rattle.card_model.specs.DueDates.{after_due_date, late_fee, on_due}
 use Rattle.card_model.specs.Effects.{after_posts, effect, meant_for, payment_at, returned, returned_fee}
 use Rattle.card_model.specs.Entries.{owing}
-use Rattle.card_model.specs.Fees.{fee_cents, fee_for}
+use Rattle.card_model.specs.Fees.{fee_cents, fee_by, fee_for}
 use Rattle.card_model.specs.Folds.{book, book_after, day_after}
 use Rattle.card_model.specs.Interest.{row}
 use Rattle.card_model.specs.Laws.{IsCycleWithin, IsFeeWithin, IsWithin, IssuedCaps}
@@ -35,7 +35,7 @@ capped-within x n None r h = cc
 capped-within x n (Some t) r h = let e : t ≡ r = cc in rw e (omega arith)
 
 pub fee_for-cycle : (seen : Seen) (cs : List Cycle) (fs : List Fee) (n : ℕ) (k : FeeKind) (c : Cycle) (f : Fee) → fee_for seen cs fs n k c ≡ Some f → f.cycle ≡ n
-unfolding fee_for
+unfolding fee_by
 fee_for-cycle seen cs fs n k c f h = by _ _ refl h
   where
     by : (t : Bool) (g : Fee) → g.cycle ≡ n → cond t None (Some g) ≡ Some f → f.cycle ≡ n

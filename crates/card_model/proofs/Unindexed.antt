@@ -15,11 +15,11 @@ use Rattle.card_model.specs.Closing.{Posting, close, closed_cycle, closing_inter
 use Rattle.card_model.specs.Cycles.{Cycle, IssuedRow, Seen, amounts_sum, last_cycle, posts_on}
 use Rattle.card_model.specs.DueDates.{cured_by, late_fee, on_due}
 use Rattle.card_model.specs.Effects.{after_posts, credit_parts, effect, holding, holdings, meant_for, parts_entries, payment_at, payment_parts, returned, returned_fee}
-use Rattle.card_model.specs.Fees.{fee_for, fees_in, fees_sum}
+use Rattle.card_model.specs.Fees.{fee_by, fees_in, fees_sum}
 use Rattle.card_model.specs.Folds.{book_after, day_after}
-use Rattle.card_model.specs.Interest.{average_balance, accrual, case_of, charged, charged_on, cycle_before, cycle_interest, days_from, deferred_interest, half_up, interest_sum, purchase_case}
+use Rattle.card_model.specs.Interest.{average_balance, accrual, case_of, charged, charged_on, cycle_interest, days_from, deferred_interest, half_up, interest_sum, purchase_case}
 use Rattle.card_events.specs.Money.{daily, interest}
-use Rattle.card_model.specs.Payments.{met, minimum_left, paid, paid_if_any, past_due, sixty_days_late}
+use Rattle.card_model.specs.Payments.{is_met, is_paid, minimum_left, past_due, sixty_days_late}
 use Rattle.card_model.specs.Segments.{SegmentTerms}
 use Rattle.card_model.specs.declared.entry.Entry.{Entry}
 use Rattle.card_model.specs.declared.entry.EntryKind.TheVariants as kind
@@ -50,13 +50,13 @@ fee-blind a seen n None b = refl
 fee-blind a seen n (Some f) b = refl
 
 due-blind : (row : Option IssuedRow) (a : Account) (seen : Seen) (b : Book) (c : Option Cycle) → on_due row a seen b c ≡ on_due row a (without_index seen) b c
-unfolding on_due met fee_for
+unfolding on_due is_met fee_by
 due-blind row a seen b None = refl
 due-blind row a seen b (Some c) =
-    ap (λ (x : Book). cond (eqb seen.day (c.due + 1)) (with_penalties (map (cured_by seen b.cycles c) b.penalties) x) b) (fee-blind a seen 0 (late_fee row seen b c) b)
+    ap (λ (x : Book). cond (eqb seen.day (c.due + 1)) (with_penalties (map (cured_by seen b.cycles c.due) b.penalties) x) b) (fee-blind a seen 0 (late_fee row seen b c) b)
 
 returned-blind : (row : Option IssuedRow) (seen : Seen) (b : Book) (c : Option Cycle) → returned_fee row seen b c ≡ returned_fee row (without_index seen) b c
-unfolding fee_for
+unfolding fee_by
 returned-blind row seen b None = refl
 returned-blind row seen b (Some c) = refl
 
@@ -64,19 +64,14 @@ left-blind : (seen : Seen) (p : CorrectedPost) (c : Option Cycle) → minimum_le
 left-blind seen p None = refl
 left-blind seen p (Some c) = refl
 
-paid-blind : (seen : Seen) (c : Option Cycle) → paid_if_any seen c ≡ paid_if_any (without_index seen) c
-unfolding paid
-paid-blind seen None = refl
-paid-blind seen (Some c) = refl
-
 past-blind : (seen : Seen) (closing : ℕ) (c : Option Cycle) → past_due seen closing c ≡ past_due (without_index seen) closing c
 past-blind seen closing None = refl
 past-blind seen closing (Some c) = refl
 
 case-blind : (seen : Seen) (cycles : List Cycle) (c : Option Cycle) → purchase_case seen cycles c ≡ purchase_case (without_index seen) cycles c
-unfolding paid
+unfolding is_paid
 case-blind seen cycles None = refl
-case-blind seen cycles (Some c) = ap (λ t. cond t (cond (paid seen c) case.None (case.Lowered c.due)) case.Plain) (paid-blind seen (cycle_before cycles c))
+case-blind seen cycles (Some c) = refl
 
 charged-blind : (k : GraceCase) (seen : Seen) (entries : List Entry) (s day : ℕ) → charged k seen entries s day ≡ charged k (without_index seen) entries s day
 charged-blind case.None seen entries s day = refl

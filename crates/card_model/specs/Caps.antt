@@ -12,10 +12,10 @@ unfoldable pub row_for : ℕ → List IssuedRow → Option IssuedRow
 row_for cycle [] = None
 row_for cycle (r ∷ rs) = let later = row_for cycle rs in if r.cycle == cycle then Some r else later
 
--- a number, at most that of the issued row
-abbrev pub capped_by : (IssuedRow → ℕ) → Option IssuedRow → ℕ → ℕ
+-- a number, at most that of what was issued: of the row, or of a part of it
+abbrev pub capped_by : {A : Type 0} → (A → ℕ) → Option A → ℕ → ℕ
 capped_by f None n = n
-capped_by f (Some row) n = min n (f row)
+capped_by f (Some issued) n = min n (f issued)
 
 -- the minimum payment of an issued row
 abbrev pub issued_minimum : IssuedRow → ℕ
@@ -25,9 +25,13 @@ issued_minimum r = r.statement.minimum
 abbrev pub issued_grace : IssuedRow → ℕ
 issued_grace r = r.statement.grace_amount
 
--- the fee for a due date in an issued row, 0 where it has none
+-- the cents of fees for a due date, 0 where there is none
+abbrev pub fees_for : ℕ → List Fee → ℕ
+fees_for due_cycle fees = sum_by (λ f. if f.due_cycle == due_cycle then fee_cents f else 0) fees
+
+-- those in an issued row
 abbrev pub issued_fee : ℕ → IssuedRow → ℕ
-issued_fee due_cycle r = sum_by (λ f. if f.due_cycle == due_cycle then fee_cents f else 0) r.statement.fees
+issued_fee due_cycle r = fees_for due_cycle r.statement.fees
 
 -- what an issued row leaves of a segment's interest where so much was posted
 abbrev pub issued_interest : ℕ → Amounts → IssuedRow → ℕ
@@ -43,7 +47,11 @@ abbrev pub fee_above : ℕ → Fee → Option Fee
 fee_above zero f = None
 fee_above (suc n) f = Some (at_cents (suc n) f)
 
--- a fee of the present cycle, as its issued row lowers it. One of 0 isn't charged
+-- a fee, at most what was issued for its due date. One of 0 isn't charged
+abbrev pub charged_by : {A : Type 0} → (ℕ → A → ℕ) → Option A → Option Fee → Option Fee
+charged_by cents issued None = None
+charged_by cents issued (Some f) = fee_above (capped_by (cents f.due_cycle) issued (fee_cents f)) f
+
+-- a fee of the present cycle, as its issued row lowers it
 abbrev pub charged_fee : Option IssuedRow → Option Fee → Option Fee
-charged_fee issued None = None
-charged_fee issued (Some f) = fee_above (capped_by (issued_fee f.due_cycle) issued (fee_cents f)) f
+charged_fee issued fee = charged_by issued_fee issued fee

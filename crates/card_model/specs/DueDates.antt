@@ -1,5 +1,5 @@
 -- The day after a due date: the late fee (12 CFR 1026.52(b)(1)(ii)), and the end of a penalty rate (12 CFR 1026.55(b)(4)(ii)).
-use Rattle.std.specs.Prelude.{ℕ, ◌+◌, ◌&&◌, not, ◌==◌, nat_lt, if◌then◌else◌, is_some, length, map, List, Option, Some, None}
+use Rattle.std.specs.Prelude.{ℕ, ◌+◌, Bool, ◌&&◌, not, ◌==◌, nat_lt, if◌then◌else◌, is_some, length, map, List, Option, Some, None}
 use Rattle.std.specs.List.{filter, list_all}
 use Rattle.card_model.specs.Books.{Account, Book, penalty_fee, with_fee, with_penalties}
 use Rattle.card_model.specs.Cycles.{Cycle, IssuedRow, Seen}
@@ -12,13 +12,14 @@ use Rattle.card_model.specs.declared.segment.Interval.{Interval}
 abbrev pub due_after_day : ℕ → List Cycle → List Cycle
 due_after_day day cycles = filter (λ c. nat_lt day c.due) cycles
 
--- A penalty without an end has this due date for its last day where it is the sixth after its beginning, and all six
--- were met
-abbrev pub cured_by : Seen → List Cycle → Cycle → Interval → Interval
-cured_by seen cycles c i =
-    let dues = due_after_day i.begins cycles in
-    if not (is_some i.last) && (length dues == 6) && list_all (met seen) dues
-    then record { begins = i.begins; last = Some c.due } else i
+-- a penalty without an end, with six due dates after its beginning
+abbrev pub awaits_end : List Cycle → Interval → Bool
+awaits_end cycles i = not (is_some i.last) && (length (due_after_day i.begins cycles) == 6)
+
+-- it has this due date, the sixth, for its last day where all six were met
+abbrev pub cured_by : Seen → List Cycle → ℕ → Interval → Interval
+cured_by seen cycles due i =
+    if awaits_end cycles i && list_all (met seen) (due_after_day i.begins cycles) then record { begins = i.begins; last = Some due } else i
 
 -- the late fee, where the due date wasn't met
 abbrev pub late_fee : Option IssuedRow → Seen → Book → Cycle → Option Fee
@@ -29,7 +30,7 @@ late_fee issued seen b c =
 -- the late fee is charged, and penalties end
 abbrev pub after_due_date : Option IssuedRow → Account → Seen → Book → Cycle → Book
 after_due_date issued a seen b c =
-    with_penalties (map (cured_by seen b.cycles c) b.penalties) (with_fee a seen 0 (late_fee issued seen b c) b)
+    with_penalties (map (cured_by seen b.cycles c.due) b.penalties) (with_fee a seen 0 (late_fee issued seen b c) b)
 
 -- where today is the day after the last cycle's due date
 unfoldable pub on_due : Option IssuedRow → Account → Seen → Book → Option Cycle → Book

@@ -11,13 +11,14 @@ use Rattle.card_model.specs.Books.{Account, Book, all_segments, newest_purchase,
 use Rattle.card_model.specs.Cycles.{Cycle, IssuedRow, Seen, last_cycle, post_at}
 use Rattle.card_model.specs.Entries.{at_least_zero, credit_balance, debit, holds, is_kind, lowers, owing, releases, sum_of}
 use Rattle.card_model.specs.Payments.{is_payment, minimum_left, sixty_days_late}
-use Rattle.card_model.specs.Segments.{SegmentTerms, is_deferred_on, is_of_place, last_that, segment_at}
+use Rattle.card_model.specs.Segments.{SegmentTerms, is_deferred_in, is_of_place, kept_segment, last_that, segment_at}
 use Rattle.card_model.specs.declared.entry.Entry.{Entry}
 use Rattle.card_model.specs.declared.entry.EntryKind.TheVariants as kind
 use Rattle.card_model.specs.declared.entry.Note.{Note}
 use Rattle.card_model.specs.declared.fee.Fee.{Fee}
 use Rattle.card_model.specs.declared.fee.FeeKind.TheVariants as fee
 use Rattle.card_model.specs.declared.holding.Holding.{Holding}
+use Rattle.card_model.specs.declared.segment.Segment.{Segment}
 
 -- ---- what a payment may reach
 -- the first closing on or after a day
@@ -28,10 +29,13 @@ closing_from a day = next_on a.anchor.close_day day
 abbrev pub second_closing : Account → ℕ → ℕ
 second_closing a day = closing_from a (closing_from a day + 1)
 
+-- the end of a Deferred in its period on a day, where it is a later day at most
+abbrev pub end_by : ℕ → ℕ → Segment → Option ℕ
+end_by until day s = if is_deferred_in day s && nat_le (unwrap_or s.ends 0) until then s.ends else None
+
 -- the end of a Deferred in the last two cycles of its period: it ends with the day's closing or the next one
 abbrev pub last_two_of : Account → Seen → SegmentTerms → Option ℕ
-last_two_of a seen g =
-    if is_deferred_on seen.day g && nat_le (unwrap_or g.ends 0) (second_closing a seen.day) then g.ends else None
+last_two_of a seen g = end_by (second_closing a seen.day) seen.day (kept_segment g)
 
 -- a segment of the place, where one is named
 abbrev pub is_in_place : Option Place → SegmentTerms → Bool

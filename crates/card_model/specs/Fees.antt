@@ -6,6 +6,7 @@ use Rattle.card_model.specs.Cycles.{Cycle, Seen}
 use Rattle.card_model.specs.Entries.{at_least_zero}
 use Rattle.card_model.specs.Payments.{asked}
 use Rattle.card_model.specs.Segments.{last_that}
+use Rattle.card_model.specs.declared.fee.Cause.{Cause}
 use Rattle.card_model.specs.declared.fee.Fee.{Fee}
 use Rattle.card_model.specs.declared.fee.FeeKind.{FeeKind}
 use Rattle.card_model.specs.declared.fee.FeeKind.TheVariants as fee
@@ -62,16 +63,23 @@ is_charged_for due_cycle fees = list_any (λ f. f.due_cycle == due_cycle) fees
 abbrev pub last_due : ℕ → List Cycle → Option Cycle
 last_due day cycles = last_that (λ c. nat_lt c.due day) cycles
 
--- the least of the table amount, the minimum payment of the due date, and that of the last due date before today
+-- the least of the table's amount, the minimum payment of the due date, and that of the last due date before the fee's day
 -- (12 CFR 1026.52(b)(2)(i))
-abbrev pub fee_amount : Seen → List Cycle → Bool → Cycle → ℕ
-fee_amount seen cycles repeat c =
-    min (tier_amount (row_in_force seen.fees) repeat) (min c.minimum (asked seen.issued (last_due seen.day cycles)))
+abbrev pub fee_amount : Option FeeRow → Bool → ℕ → ℕ → ℕ
+fee_amount row repeat minimum last_due = min (tier_amount row repeat) (min minimum last_due)
 
--- the fee for a due date, charged today, in a cycle: none for 0 cents, and no second one
-unfoldable pub fee_for : Seen → List Cycle → List Fee → ℕ → FeeKind → Cycle → Option Fee
+-- a fee of so many cents
+abbrev pub fee_of : Cause → Bool → ℕ → Fee
+fee_of c repeat cents = record { due_cycle = c.due_cycle; kind = c.kind; repeat = repeat; cycle = c.cycle; day = c.day; cents = pos cents }
+
+-- the fee for a cause, by the row in force and the fees so far: none for 0 cents, and no second one for a due date
+unfoldable pub fee_by : Option FeeRow → List Fee → Cause → ℕ → ℕ → Option Fee
+fee_by row fees c minimum last_due =
+    let repeat = is_repeat c.kind c.cycle fees in
+    let cents = fee_amount row repeat minimum last_due in
+    if is_charged_for c.due_cycle fees || (cents == 0) then None else Some (fee_of c repeat cents)
+
+-- the fee for the due date of a closed cycle, charged today, in a cycle
+abbrev pub fee_for : Seen → List Cycle → List Fee → ℕ → FeeKind → Cycle → Option Fee
 fee_for seen cycles fees cycle k c =
-    let repeat = is_repeat k cycle fees in
-    let cents = fee_amount seen cycles repeat c in
-    if is_charged_for c.number fees || (cents == 0) then None
-    else Some (record { due_cycle = c.number; kind = k; repeat = repeat; cycle = cycle; day = seen.day; cents = pos cents })
+    fee_by (row_in_force seen.fees) fees (record { kind = k; due_cycle = c.number; cycle = cycle; day = seen.day }) c.minimum (asked seen.issued (last_due seen.day cycles))

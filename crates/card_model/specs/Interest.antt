@@ -1,17 +1,22 @@
 -- The interest of a segment (12 CFR 1026.14(b), .54): balances of days, what of them bears interest, and their sums.
 use Rattle.std.specs.Prelude.{ℕ, ◌+◌, ◌-◌, ◌*◌, ◌/◌, Bool, ◌&&◌, ◌||◌, not, ◌==◌, nat_le, nat_lt, if◌then◌else◌, List, Option, Some, None}
 use Rattle.std.specs.List.{range_with_len, sum_by}
+use Rattle.std.specs.Option.{option_map}
+use Rattle.card_events.specs.History.{CorrectedPost}
 use Rattle.card_events.specs.Money.{daily, interest}
 use Rattle.card_model.specs.Books.{Account, Book, rate_in}
 use Rattle.card_model.specs.Cycles.{Cycle, Seen}
 use Rattle.card_model.specs.Effects.{size}
 use Rattle.card_model.specs.Entries.{at_least_zero, is_kind, owing, sum_of}
-use Rattle.card_model.specs.Payments.{is_returned, paid, paid_if_any}
-use Rattle.card_model.specs.Segments.{SegmentTerms, is_deferred_on, is_over, is_sort, last_that}
+use Rattle.card_model.specs.Payments.{due_cycle_of, is_paid, is_paid_if_any, is_returned}
+use Rattle.card_model.specs.Segments.{SegmentTerms, is_deferred_in, is_deferred_on, is_over, is_sort, kept_segment, last_that}
+use Rattle.card_model.specs.declared.due_cycle.DueCycle.{DueCycle}
 use Rattle.card_model.specs.declared.entry.Entry.{Entry}
+use Rattle.card_model.specs.declared.entry.EntryKind.{EntryKind}
 use Rattle.card_model.specs.declared.entry.EntryKind.TheVariants as kind
 use Rattle.card_model.specs.declared.grace.GraceCase.{GraceCase}
 use Rattle.card_model.specs.declared.grace.GraceCase.TheVariants as case
+use Rattle.card_model.specs.declared.segment.Segment.{Segment}
 use Rattle.card_model.specs.declared.segment.Sort.TheVariants as sort
 
 -- ---- the balance of a day
@@ -23,10 +28,13 @@ is_in_row s day e = (e.segment == s) && (nat_lt e.day day || ((e.day == day) && 
 unfoldable pub row : List Entry → ℕ → ℕ → ℕ
 row entries s day = at_least_zero (sum_of (is_in_row s day) entries)
 
+-- what is noted of an entry of a credit, or of a payment that isn't among the returned ones
+abbrev pub repays : (ℕ → Bool) → EntryKind → ℕ → Bool
+repays returned k post = is_kind kind.Credit k || (is_kind kind.Payment k && not (returned post))
+
 -- an entry of a credit, or of a payment that wasn't returned by today
 abbrev pub is_repayment : Seen → Entry → Bool
-is_repayment seen e =
-    is_kind kind.Credit e.kind || (is_kind kind.Payment e.kind && not (is_returned seen.posts seen.day e.post))
+is_repayment seen e = repays (is_returned seen.posts seen.day) e.kind e.post
 
 -- what payments and credits brought to a segment on the days after one, up to a due date
 abbrev pub repaid_after : Seen → List Entry → ℕ → ℕ → ℕ → ℕ
@@ -38,17 +46,24 @@ repaid_after seen entries s day due =
 abbrev pub cycle_before : List Cycle → Cycle → Option Cycle
 cycle_before cycles c = last_that (λ d. d.number + 1 == c.number) cycles
 
--- Purchases of the present cycle, at its closing: none bears interest where the last statement was paid under a grace
--- period; where it wasn't, what was repaid by its due date bears none; without a grace period all does
+-- Purchases of a cycle, after the last statement and the one before it: none bears interest where the last statement was paid under a
+-- grace period; where it wasn't, what was repaid by its due date bears none; without a grace period all does
+abbrev pub case_after : List CorrectedPost → Option DueCycle → Option DueCycle → GraceCase
+case_after posts before None = case.None
+case_after posts before (Some c) = if is_paid_if_any posts before then (if is_paid posts c then case.None else case.Lowered c.due) else case.Plain
+
+-- those of the present cycle, at its closing
 abbrev pub purchase_case : Seen → List Cycle → Option Cycle → GraceCase
 purchase_case seen cycles None = case.None
-purchase_case seen cycles (Some c) =
-    if paid_if_any seen (cycle_before cycles c) then (if paid seen c then case.None else case.Lowered c.due) else case.Plain
+purchase_case seen cycles (Some c) = case_after seen.posts (option_map (due_cycle_of seen.issued) (cycle_before cycles c)) (Some (due_cycle_of seen.issued c))
 
 -- a segment on a day, where purchases bear interest in this way. A Deferred in its period bears none
+abbrev pub case_in : GraceCase → ℕ → Segment → GraceCase
+case_in purchase day s = if is_sort sort.Purchase s.sort then purchase else (if is_deferred_in day s then case.None else case.Plain)
+
+-- the same of a segment with its terms
 abbrev pub case_of : GraceCase → ℕ → SegmentTerms → GraceCase
-case_of purchase day g =
-    if is_sort sort.Purchase g.sort then purchase else (if is_deferred_on day g then case.None else case.Plain)
+case_of purchase day g = case_in purchase day (kept_segment g)
 
 -- the balance of a day that bears interest
 abbrev pub charged : GraceCase → Seen → List Entry → ℕ → ℕ → ℕ

@@ -115,12 +115,16 @@ segment_at place.Cash day all = newest sort.Cash day all
 segment_at place.Transfer day all = newest sort.Transfer day all
 segment_at (place.Plan n) day all = plan_segment n all
 
--- a segment of a credit's place: any vintage of the category, or the plan
+-- a segment of a credit's place, as it is kept: any vintage of the category, or the plan
+abbrev pub is_kept_of : Place → Segment → Bool
+is_kept_of place.Purchase s = is_sort sort.Purchase s.sort
+is_kept_of place.Cash s = is_sort sort.Cash s.sort
+is_kept_of place.Transfer s = is_sort sort.Transfer s.sort
+is_kept_of (place.Plan n) s = (s.post == n) && (is_sort sort.Promo s.sort || is_sort sort.Deferred s.sort)
+
+-- the same of a segment with its terms
 abbrev pub is_of_place : Place → SegmentTerms → Bool
-is_of_place place.Purchase g = is_sort sort.Purchase g.sort
-is_of_place place.Cash g = is_sort sort.Cash g.sort
-is_of_place place.Transfer g = is_sort sort.Transfer g.sort
-is_of_place (place.Plan n) g = (g.post == n) && is_plan g
+is_of_place p g = is_kept_of p (kept_segment g)
 
 -- ---- the period of a plan: from its day to its end
 -- an end that lies before a day; what has no end is over
@@ -129,5 +133,9 @@ is_over None day = true
 is_over (Some end) day = nat_lt end day
 
 -- a Deferred in its period
+abbrev pub is_deferred_in : ℕ → Segment → Bool
+is_deferred_in day s = is_sort sort.Deferred s.sort && nat_le s.begins day && not (is_over s.ends day)
+
+-- the same of a segment with its terms
 abbrev pub is_deferred_on : ℕ → SegmentTerms → Bool
-is_deferred_on day g = is_sort sort.Deferred g.sort && nat_le g.begins day && not (is_over g.ends day)
+is_deferred_on day g = is_deferred_in day (kept_segment g)

@@ -18,3 +18,13 @@ pub struct Fee {
     pub day: Day,
     pub cents: Cents,
 }
+
+/// What a penalty fee is charged for: its kind, the cycle whose due date it is for, and the cycle and the day on which it is
+/// charged.
+#[derive(Clone, Copy)]
+pub struct Cause {
+    pub kind: FeeKind,
+    pub due_cycle: u32,
+    pub cycle: u32,
+    pub day: Day,
+}

@@ -26,7 +26,7 @@ use Rattle.card_rates.specs.Laws.{PenaltiesStay}
 
 -- one that is cured later counts alike
 cured-last : (x due : ℕ) (i : Interval) (l : Option ℕ) (six all : Bool) → x ≤ due → i.last ≡ l
-    → start_of x (cond (not (is_some l) && six && all) (record { begins = i.begins; last = Some due }) i) ≡ start_of x i
+    → start_of x (cond ((not (is_some l) && six) && all) (record { begins = i.begins; last = Some due }) i) ≡ start_of x i
 cured-last x due i (Some d) six all l e = refl
 cured-last x due i None true true l e = rw (e, yes-leb x due l) refl
 cured-last x due i None true false l e = refl
@@ -46,11 +46,11 @@ unfolding on_due
 due-starts x issued a seen b None l = refl
 due-starts x issued a seen b (Some c) l = by (eqb seen.day (c.due + 1)) refl
   where
-    cured : x ≤ c.due → (i : Interval) → start_of x (cured_by seen b.cycles c i) ≡ start_of x i
+    cured : x ≤ c.due → (i : Interval) → start_of x (cured_by seen b.cycles c.due i) ≡ start_of x i
     cured m i = let dues = due_after_day i.begins b.cycles in cured-last x c.due i i.last (eqb (length dues) 6) (list_all (met seen) dues) m refl
 
     by : (t : Bool) → eqb seen.day (c.due + 1) ≡ t → starts x (cond t (after_due_date issued a seen b c) b).penalties ≡ starts x b.penalties
-    by true e = let d : seen.day ≡ c.due + 1 = eqb-true seen.day (c.due + 1) e in cured-starts x (cured_by seen b.cycles c) (cured (omega arith)) b.penalties
+    by true e = let d : seen.day ≡ c.due + 1 = eqb-true seen.day (c.due + 1) e in cured-starts x (cured_by seen b.cycles c.due) (cured (omega arith)) b.penalties
     by false e = refl
 
 -- one that begins later doesn't count

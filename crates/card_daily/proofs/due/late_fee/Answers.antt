@@ -1,16 +1,18 @@
-use Rattle.std.proofs.Common.{◌≡◌, ℕ, ◌+◌, ◌<◌, ◌≤◌, sym, ap, ◌∙◌, arith, subst}
-use Rattle.card_events.specs.Billing.{closing, due}
+use Rattle.std.proofs.Common.{ℕ, ◌+◌, ◌<◌, ◌≤◌, sym, ap, ◌∙◌, arith, subst}
+use Rattle.card_events.specs.Billing.{closing}
 use Rattle.card_events.specs.History.{anchor_of}
 use Rattle.card_events.specs.Range.{last_reckoned_day}
 use Rattle.card_events.specs.declared.anchor.Anchor.{Anchor}
 use Rattle.card_fees.specs.DueLaws.{issued_fees}
-use Rattle.card_fees.specs.declared.due_cycle.DueCycle.{DueCycle}
+use Rattle.card_model.specs.declared.due_cycle.DueCycle.{DueCycle}
 use Rattle.card_model.specs.Caps.{row_for}
 use Rattle.card_model.specs.Cycles.{Cycle}
+use Rattle.card_fees.proofs.Days.{due-later, opened-before}
 use Rattle.card_daily.proofs.Counting.{list-is, of-posts, stays}
 use Rattle.card_daily.proofs.DueFee.{few, late-is}
 use Rattle.card_daily.proofs.Following.{upto-closing}
 use Rattle.card_daily.proofs.Lasts.{last-is}
+use Rattle.card_daily.proofs.Penalized.{closed-before-due}
 use Rattle.card_daily.specs.Given.{Given, IsSound, opened_in}
 use Rattle.card_daily.proofs.due.late_fee.Goals as goal
 
@@ -45,40 +47,29 @@ issued_since-requires c =
     let number = ap (λ (x : Cycle). x.number + 1) c.cycle.view_is ∙ (sym is.present ∙ is.now) in
     subst (λ n. c.args.day ≤ closing (anchor_of g.history) n) (sym number) (upto-closing (anchor_of g.history) c.args.day s.opening c.requires.dated.opened c.requires.dated.last)
 
-pub due_fee-requires-clause-cycle : goal.due_fee-requires-clause-cycle
-due_fee-requires-clause-cycle c =
+pub due_fee-requires-clause-opened : goal.due_fee-requires-clause-opened
+due_fee-requires-clause-opened c =
     let s = c.anchor-anchor.ensures.sound in
     let g = c.args.inputs.now in
     let is = last-is g c.args.day c.args.cycle.now s (late-days g c.args.day s c.requires.dated.opened) c.requires.dated.last c.requires.cycle in
-    subst (λ (x : DueCycle). 1 ≤ x.cycle) (sym c.due_cycle-due.ensures) is.first
+    let first = opened-before (anchor_of g.history) c.args.cycle.now.number in
+    let later = due-later (anchor_of g.history) c.args.cycle.now.number in
+    let on = is.days.due in
+    subst (λ (x : DueCycle). c.anchor-anchor.result.opened ≤ x.due) (sym c.due_cycle-due.ensures)
+    (subst (λ (a : Anchor). a.opened ≤ c.args.cycle.now.due) (sym c.anchor-anchor.ensures.value) (omega (arith, first, later, on)))
+
+pub due_fee-requires-clause-closed : goal.due_fee-requires-clause-closed
+due_fee-requires-clause-closed c =
+    let s = c.anchor-anchor.ensures.sound in
+    let g = c.args.inputs.now in
+    let is = last-is g c.args.day c.args.cycle.now s (late-days g c.args.day s c.requires.dated.opened) c.requires.dated.last c.requires.cycle in
+    closed-before-due g c.args.day c.args.cycle.now c.due_cycle-due.result is.days c.due_cycle-due.ensures
 
 pub due_fee-requires-clause-last : goal.due_fee-requires-clause-last
 due_fee-requires-clause-last c =
-    let s = c.anchor-anchor.ensures.sound in
-    let g = c.args.inputs.now in
-    let is = last-is g c.args.day c.args.cycle.now s (late-days g c.args.day s c.requires.dated.opened) c.requires.dated.last c.requires.cycle in
     let day = c.requires.due in
     let last = c.requires.dated.last in
-    let on = is.days.due in
-    let here : due (anchor_of g.history) c.args.cycle.now.number < last_reckoned_day = omega arith in
-    subst (λ (x : DueCycle). due c.anchor-anchor.result x.cycle < last_reckoned_day) (sym c.due_cycle-due.ensures)
-    (subst (λ a. due a c.args.cycle.now.number < last_reckoned_day) (sym c.anchor-anchor.ensures.value) here)
-
-pub due_fee-requires-clause-closing : goal.due_fee-requires-clause-closing
-due_fee-requires-clause-closing c =
-    let s = c.anchor-anchor.ensures.sound in
-    let g = c.args.inputs.now in
-    let is = last-is g c.args.day c.args.cycle.now s (late-days g c.args.day s c.requires.dated.opened) c.requires.dated.last c.requires.cycle in
-    subst (λ (x : DueCycle). x.closing ≡ closing c.anchor-anchor.result x.cycle) (sym c.due_cycle-due.ensures)
-    (subst (λ (a : Anchor). c.args.cycle.now.closing ≡ closing a c.args.cycle.now.number) (sym c.anchor-anchor.ensures.value) is.days.closing)
-
-pub due_fee-requires-clause-due : goal.due_fee-requires-clause-due
-due_fee-requires-clause-due c =
-    let s = c.anchor-anchor.ensures.sound in
-    let g = c.args.inputs.now in
-    let is = last-is g c.args.day c.args.cycle.now s (late-days g c.args.day s c.requires.dated.opened) c.requires.dated.last c.requires.cycle in
-    subst (λ (x : DueCycle). x.due ≡ due c.anchor-anchor.result x.cycle) (sym c.due_cycle-due.ensures)
-    (subst (λ (a : Anchor). c.args.cycle.now.due ≡ due a c.args.cycle.now.number) (sym c.anchor-anchor.ensures.value) is.days.due)
+    subst (λ (x : DueCycle). x.due < last_reckoned_day) (sym c.due_cycle-due.ensures) (omega arith)
 
 pub returns-clause-value : goal.returns-clause-value
 returns-clause-value c =

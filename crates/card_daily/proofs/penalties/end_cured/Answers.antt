@@ -1,6 +1,6 @@
 use Rattle.std.proofs.Common.{◌+◌, None, List, length, get_or, ap, ◌∙◌, refl, arith}
 use Rattle.card_model.specs.declared.segment.Interval.{Interval}
-use Rattle.card_closing.specs.PenaltyEnd.{cured_with}
+use Rattle.card_model.specs.DueDates.{cured_by}
 use Rattle.card_rates.specs.RateBooks.{Rates, with_penalties}
 use Rattle.card_daily.proofs.Penalized.{done-all, done-length, done-set, done-to}
 use Rattle.card_daily.specs.Given.{seen_in}
@@ -12,7 +12,7 @@ no_interval = record { begins = 0; last = None }
 
 pub end_if_cured-requires-clause-which : goal.end_if_cured-requires-clause-which
 end_if_cured-requires-clause-which c =
-    let f : Interval → Interval = cured_with (seen_in c.args.inputs.now c.args.day) c.args.cycles.now c.args.due in
+    let f : Interval → Interval = cured_by (seen_in c.args.inputs.now c.args.day) c.args.cycles.now c.args.due in
     let old = c.args.rates.now.penalties in
     let kept = ap (λ (r : Rates). length r.penalties) c.loop-which.invariant ∙ done-length f c.loop-which.which old in
     let all = ap (λ (ps : List Interval). length ps) c.penalties-which-end.ensures in
@@ -20,7 +20,7 @@ end_if_cured-requires-clause-which c =
 
 pub loop-which-preserved : goal.loop-which-preserved
 loop-which-preserved c =
-    let f : Interval → Interval = cured_with (seen_in c.args.inputs.now c.args.day) c.args.cycles.now c.args.due in
+    let f : Interval → Interval = cured_by (seen_in c.args.inputs.now c.args.day) c.args.cycles.now c.args.due in
     let first = c.args.rates.now in
     let old = first.penalties in
     let i = c.loop-which.which in
@@ -34,7 +34,7 @@ loop-which-preserved c =
 
 pub returns : goal.returns
 returns c =
-    let f : Interval → Interval = cured_with (seen_in c.args.inputs.now c.args.day) c.args.cycles.now c.args.due in
+    let f : Interval → Interval = cured_by (seen_in c.args.inputs.now c.args.day) c.args.cycles.now c.args.due in
     let old = c.args.rates.now.penalties in
     let all = ap (λ (ps : List Interval). length ps) c.penalties-which-end.ensures in
     c.loop-which.invariant

@@ -31,7 +31,7 @@ returns-clause-stands c on minute cents by issued first returned rows_by p b un 
     let number : p.number ≡ c.args.slot.now.number = sym (ap (λ (s : Slot). s.number) is.same) in
     let left = c.left_if_any-left.ensures.value p is.day number in
     let part = to_z-of_z w64 c.lesser.result (record { sfits = c.lesser.type_inv }) ∙ (lesser-is c.lesser.result _ _ p.cents _ c.lesser.ensures.value (handed c.args.slot.now.cents c.requires.asked.amount c.requires.asked.limit ∙ ap (λ (s : Slot). s.cents) is.same)
-    (to_z-of_z w64 c.left_if_any-left.result (record { sfits = c.left_if_any-left.type_inv }) ∙ left)
+    left
     ∙ ap (λ (cs : List Cycle). pos (min p.cents (minimum_left (seen_in g day) p (last_cycle cs)))) (sym un.cycles)) in
     let following = c.following_closing.ensures (account_in g) (sym c.anchor-anchor.ensures.value) in
     let at = c.in_ok-parts.ensures.stands on minute cents by issued (account_in g) (seen_in g day) p b h.at is (record { following = following; index = ap (λ (rows : List IndexRow). index_on rows day) c.index.ensures ∙ sym (index-up_to day day g.shared.index (omega arith)); minimum = part }) in

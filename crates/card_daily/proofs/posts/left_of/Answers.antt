@@ -1,12 +1,9 @@
-use Rattle.std.proofs.Common.{◌≡◌, ℕ, ◌+◌, ◌-◌, ◌<◌, ◌≤◌, pos, sym, ap, ◌∙◌, arith, subst, refl, List, w64}
-use Rattle.std.proofs.lemmas.Int.{to_z-of_z}
+use Rattle.std.proofs.Common.{◌≡◌, ℕ, ◌+◌, ◌-◌, ◌<◌, ◌≤◌, sym, ap, ◌∙◌, arith, subst, refl, List}
 use Rattle.card_events.specs.Billing.{closing}
 use Rattle.card_events.specs.Range.{last_request_day}
-use Rattle.card_events.specs.declared.anchor.Anchor.{Anchor}
-use Rattle.card_fees.proofs.Remainder.{left-fold}
-use Rattle.card_fees.specs.Asked.{left_by}
-use Rattle.card_fees.specs.DueLaws.{due_cycle_of}
-use Rattle.card_fees.specs.declared.due_cycle.DueCycle.{DueCycle}
+use Rattle.card_fees.proofs.PastPosts.{past-posts}
+use Rattle.card_model.specs.Payments.{due_cycle_of, left_before}
+use Rattle.card_model.specs.declared.due_cycle.DueCycle.{DueCycle}
 use Rattle.card_events.specs.History.{CorrectedPost, anchor_of}
 use Rattle.card_model.specs.Cycles.{Cycle}
 use Rattle.card_daily.proofs.Counting.{list-is, of-posts, stays}
@@ -46,25 +43,17 @@ due_cycle-due-requires-clause-last c =
     let last = c.requires.dated.last in
     omega (arith, before, most, on, last)
 
-pub minimum_left-requires-clause-closing : goal.minimum_left-requires-clause-closing
-minimum_left-requires-clause-closing c =
-    let s = c.anchor-anchor.ensures.sound in
-    let g = c.args.inputs.now in
-    let is = last-is g c.args.day c.args.cycle.now s (from-one g c.args.day s c.requires.dated.opened) c.requires.dated.last c.requires.cycle in
-    subst (λ (x : DueCycle). x.closing ≡ closing c.anchor-anchor.result x.cycle) (sym c.due_cycle-due.ensures)
-    (subst (λ (a : Anchor). c.args.cycle.now.closing ≡ closing a c.args.cycle.now.number) (sym c.anchor-anchor.ensures.value) is.days.closing)
-
-pub minimum_left-requires-clause-closed : goal.minimum_left-requires-clause-closed
-minimum_left-requires-clause-closed c =
+pub minimum_left-requires : goal.minimum_left-requires
+minimum_left-requires c =
     let s = c.anchor-anchor.ensures.sound in
     let g = c.args.inputs.now in
     let is = last-is g c.args.day c.args.cycle.now s (from-one g c.args.day s c.requires.dated.opened) c.requires.dated.last c.requires.cycle in
     let before = closed g c.args.day c.args.cycle.now s c.requires.dated.opened c.requires.dated.last is in
     let at = is.days.closing in
-    subst (λ (x : DueCycle). x.closing < c.args.day) (sym c.due_cycle-due.ensures) (omega (arith, before, at))
+    record { closed = subst (λ (x : DueCycle). x.closing < c.args.day) (sym c.due_cycle-due.ensures) (omega (arith, before, at)) }
 
-alike : (a b : Anchor) (ps qs : List CorrectedPost) (x y : DueCycle) (day m n : ℕ) → a ≡ b → ps ≡ qs → x ≡ y → m ≡ n → left_by a ps x day m ≡ left_by b qs y day n
-alike a b ps qs x y day m n e f h k = rw (e, f, h, k) refl
+alike : (ps qs : List CorrectedPost) (x y : DueCycle) (day m n : ℕ) → ps ≡ qs → x ≡ y → m ≡ n → left_before ps day m x ≡ left_before qs day n y
+alike ps qs x y day m n f h k = rw (f, h, k) refl
 
 pub returns-clause-value : goal.returns-clause-value
 returns-clause-value c p on number =
@@ -75,10 +64,9 @@ returns-clause-value c p on number =
     let is = last-is g c.args.day cycle s (from-one g c.args.day s c.requires.dated.opened) c.requires.dated.last c.requires.cycle in
     let posts = list-is g c.posts.result.now c.posts.ensures.stands c.posts.ensures.history in
     let counted = of-posts g c.posts.result.now c.args.day c.args.tally.now c.posts.ensures.stands c.posts.ensures.history c.requires.tally in
-    to_z-of_z w64 c.minimum_left.result (record { sfits = c.minimum_left.type_inv })
-    ∙ (c.minimum_left.ensures.value g.shared.holidays c.args.day c.posts.ensures.stands counted
-    ∙ ap pos (alike c.anchor-anchor.result (anchor_of g.history) c.posts.result.now.corrected all c.due_cycle-due.result (due_cycle_of (seen_in g c.args.day) cycle) c.args.day c.args.number p.number c.anchor-anchor.ensures.value posts c.due_cycle-due.ensures (sym number)
-    ∙ sym (left-fold (anchor_of g.history) all (seen_in g c.args.day) cycle.number cycle p refl is.days on)))
+    c.minimum_left.ensures.value g.shared.holidays c.args.day c.posts.ensures.stands counted
+    ∙ (alike c.posts.result.now.corrected all c.due_cycle-due.result (due_cycle_of (seen_in g c.args.day).issued cycle) c.args.day c.args.number p.number posts c.due_cycle-due.ensures (sym number)
+    ∙ sym (past-posts.before c.args.day p.number all (due_cycle_of (seen_in g c.args.day).issued cycle)))
 
 pub returns-clause-tally : goal.returns-clause-tally
 returns-clause-tally c =

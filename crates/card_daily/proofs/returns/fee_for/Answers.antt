@@ -1,9 +1,8 @@
-use Rattle.std.proofs.Common.{◌≤◌, pos, refl, sym, ap, ◌∙◌, subst, arith, w64}
-use Rattle.std.proofs.lemmas.Int.{to_z-of_z}
-use Rattle.std.specs.Prelude.{option_copied, unsigned_abs}
+use Rattle.std.proofs.Common.{◌≤◌, refl, sym, ap, ◌∙◌, subst, arith}
+use Rattle.std.specs.Prelude.{option_copied}
 use Rattle.card_events.specs.Billing.{closing, cycle_of}
 use Rattle.card_events.specs.History.{anchor_of}
-use Rattle.card_fees.specs.DueFee.{capped_if_any}
+use Rattle.card_model.specs.Caps.{charged_by, fees_for}
 use Rattle.card_fees.specs.DueLaws.{issued_fees}
 use Rattle.card_model.specs.Cycles.{Cycle}
 use Rattle.card_model.specs.Fees.{last_due}
@@ -39,11 +38,10 @@ returns-in-Some c b own fees =
     let least = asked (seen_in g day).issued (last_due day cycles) in
     let issued = c.fees_of-issued.ensures ∙ ap issued_fees c.issued_since.ensures in
     let number = ap (λ (x : Cycle). x.number) c.meant.view_is in
-    let minimum = ap unsigned_abs (to_z-of_z w64 c.minimum_of.result (record { sfits = c.minimum_of.type_inv }) ∙ c.minimum_of.ensures) in
-    let asks = ap unsigned_abs (to_z-of_z w64 c.asked_by-least.result (record { sfits = c.asked_by-least.type_inv }) ∙ (c.asked_by-least.ensures.value ∙ ap (λ o. pos (asked (seen_in g day).issued o)) c.due_before.ensures)) in
+    let asks = c.asked_by-least.ensures ∙ ap (asked (seen_in g day).issued) c.due_before.ensures in
     c.capped_fee.ensures
-    ∙ (ap (capped_if_any i) (sym c.in-Some.is ∙ c.returned_fee.ensures)
-    ∙ (by-parts c.fees.result.now c.args.fees.now i _ meant.number (cycle_of c.anchor-anchor.result day) day _ meant.minimum _ least number minimum asks
+    ∙ (ap (charged_by fees_for i) (sym c.in-Some.is ∙ c.returned_fee.ensures)
+    ∙ (by-parts c.fees.result.now c.args.fees.now i _ meant.number (cycle_of c.anchor-anchor.result day) day _ meant.minimum _ least number c.minimum_of.ensures asks
     ∙ fee-is g day meant b c.fees.result.now i c.args.fees.now c.anchor-anchor.result cycles least c.anchor-anchor.ensures.sound c.requires.closed.dated.opened c.requires.closed.dated.last c.requires.closed.cycles own fees c.fees.ensures issued c.anchor-anchor.ensures.value refl))
 
 pub returns-in-None : goal.returns-in-None
@@ -56,8 +54,7 @@ returns-in-None c b own fees =
     let least = asked (seen_in g day).issued (last_due day cycles) in
     let issued = c.fees_of-issued.ensures ∙ ap issued_fees c.issued_since.ensures in
     let number = ap (λ (x : Cycle). x.number) c.meant.view_is in
-    let minimum = ap unsigned_abs (to_z-of_z w64 c.minimum_of.result (record { sfits = c.minimum_of.type_inv }) ∙ c.minimum_of.ensures) in
-    let asks = ap unsigned_abs (to_z-of_z w64 c.asked_by-least.result (record { sfits = c.asked_by-least.type_inv }) ∙ (c.asked_by-least.ensures.value ∙ ap (λ o. pos (asked (seen_in g day).issued o)) c.due_before.ensures)) in
-    ap (capped_if_any i) (sym c.in-None.is ∙ c.returned_fee.ensures)
-    ∙ (by-parts c.fees.result.now c.args.fees.now i _ meant.number (cycle_of c.anchor-anchor.result day) day _ meant.minimum _ least number minimum asks
+    let asks = c.asked_by-least.ensures ∙ ap (asked (seen_in g day).issued) c.due_before.ensures in
+    ap (charged_by fees_for i) (sym c.in-None.is ∙ c.returned_fee.ensures)
+    ∙ (by-parts c.fees.result.now c.args.fees.now i _ meant.number (cycle_of c.anchor-anchor.result day) day _ meant.minimum _ least number c.minimum_of.ensures asks
     ∙ fee-is g day meant b c.fees.result.now i c.args.fees.now c.anchor-anchor.result cycles least c.anchor-anchor.ensures.sound c.requires.closed.dated.opened c.requires.closed.dated.last c.requires.closed.cycles own fees c.fees.ensures issued c.anchor-anchor.ensures.value refl)

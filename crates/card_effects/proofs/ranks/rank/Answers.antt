@@ -1,7 +1,7 @@
 use Rattle.std.proofs.Common.{◌≡◌, ◌-◌, ◌<◌, ℕ, length, get_or, ap, ◌∙◌, arith, Option}
 use Rattle.std.proofs.lemmas.List.Elements.{Contains-get_or}
 use Rattle.card_segments.specs.declared.rank.Rank.{Rank}
-use Rattle.card_effects.specs.Ranks.{end_by}
+use Rattle.card_model.specs.Effects.{end_by}
 use Rattle.card_effects.proofs.Places.{how-many, kept-at, number-at}
 use Rattle.card_effects.proofs.ranks.rank.Goals as goal
 

@@ -1,9 +1,9 @@
 use Rattle.std.proofs.Common.{ℕ, min, ap, sym, ◌∙◌, arith}
 use Rattle.card_events.specs.History.{anchor_of}
-use Rattle.card_model.specs.Payments.{counted}
+use Rattle.card_model.specs.Payments.{folded_before, is_before, counted}
 use Rattle.card_posts.specs.Posted.{folding_order}
 use Rattle.card_events.specs.declared.kept.Slot.{Slot}
-use Rattle.card_fees.specs.Counting.{counts, earlier_posts, in_front, is_before, since, slots_sum}
+use Rattle.card_fees.specs.Counting.{counts, in_front, since, slots_sum}
 use Rattle.card_fees.specs.declared.returning.Until.TheVariants as until
 use Rattle.card_fees.proofs.Before.{slots-before}
 use Rattle.card_fees.proofs.Slots.{sum-filter}
@@ -23,6 +23,6 @@ returns c holidays stands =
     ∙ ap (λ w. min limit (slots_sum (until.Post day number) history listed (in_front day number w))) c.slots_since-slots.ensures.value
     ∙ ap (λ l. min limit (slots_sum (until.Post day number) history l (in_front day number (since c.args.from (folding_order l))))) stands
     ∙ ap (min limit) (slots-before (anchor_of history) holidays history c.args.from day number)
-    ∙ ap (λ l. min limit (counted (earlier_posts day number l) c.args.from day)) (sym stands)
+    ∙ ap (λ l. min limit (counted (folded_before day number l) c.args.from day)) (sym stands)
     in
-    unlimited limit payments_limit c.sum.result (counted (earlier_posts day number listed) c.args.from day) value c.sum.ensures.bound (omega arith)
+    unlimited limit payments_limit c.sum.result (counted (folded_before day number listed) c.args.from day) value c.sum.ensures.bound (omega arith)

@@ -11,5 +11,4 @@ returns-then-is_enough c holidays stands =
 pub returns : goal.returns
 returns c holidays stands =
     let listed = c.args.posts.now.corrected in
-    c.reach.ensures
-    ∙ both-reach c.args.amount c.counted_up_to-paid.result c.credited_between.result (counted listed c.args.from c.args.to) (credited listed c.args.from c.args.to) (c.counted_up_to-paid.ensures.value holidays stands) (sym c.is_enough.ensures ∙ c.if-is_enough.false) (c.credited_between.ensures.value holidays stands)
+    both-reach c.args.amount c.counted_up_to-paid.result c.credited_between.result (counted listed c.args.from c.args.to) (credited listed c.args.from c.args.to) (c.counted_up_to-paid.ensures.value holidays stands) (sym c.is_enough.ensures ∙ c.if-is_enough.false) (c.credited_between.ensures.value holidays stands)

@@ -1,7 +1,7 @@
 use Rattle.std.proofs.Common.{rules, arith}
 use Rattle.std.proofs.lemmas.List.Sorted.{IsPartitionPoint-from_clause}
+use Rattle.card_model.specs.Payments.{is_before}
 use Rattle.card_events.specs.declared.kept.Slot.{Slot}
-use Rattle.card_fees.specs.Counting.{is_before}
 use Rattle.card_fees.proofs.Slots.{parted-in_front}
 use Rattle.card_fees.proofs.Tallied.{cut-drop}
 use Rattle.card_fees.proofs.tally.place_of.Goals as goal
