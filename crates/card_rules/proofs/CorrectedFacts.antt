@@ -1,6 +1,6 @@
 -- The fold reads of a charge, a payment or a merchant's credit its corrected day and cents alone.
 use Rattle.std.proofs.Common.{◌≡◌, ℕ, zero, suc, ◌+◌, ◌*◌, ◌-◌, Bool, true, false, cond, not, ◌&&◌, ◌||◌, eqb, List, [], ◌∷◌, ◌++◌, refl, sym, ap, ◌∙◌, Option, Some, None, pos, ◌-ℤ◌}
-use Rattle.std.specs.Prelude.{is_some, length, map, min, nat_le, nat_lt}
+use Rattle.std.specs.Prelude.{map, min, nat_le, nat_lt}
 use Rattle.std.specs.List.{filter, filter_map, find, list_all, list_any, sum_by}
 use Rattle.std.specs.Option.{option_map}
 use Rattle.std.proofs.lemmas.List.Sums.{sum_by-cons}
@@ -19,13 +19,13 @@ use Rattle.card_model.specs.Books.{Account, Book, account_of, all_segments, note
 use Rattle.card_model.specs.Caps.{row_for}
 use Rattle.card_model.specs.Closing.{Posting, ends_after, close, closed_cycle, closing_interest, first_day_of, grace_amount, minimum_of, minimum_payment, nonzero, net_balance, post_interest, post_one, posted_for, purchase_case_in}
 use Rattle.card_model.specs.Cycles.{Cycle, IssuedRow, Seen, amount_at, amounts_sum, last_cycle, post_at, posts_on, seen_on}
-use Rattle.card_model.specs.DueDates.{cured_by, due_after_day, late_fee, on_due}
+use Rattle.card_model.specs.DueDates.{awaits_end, cured_by, due_after_day, late_fee, on_due}
 use Rattle.card_model.specs.Effects.{closing_from, disputed_cents, is_part_of, place_segment, put_back, size, after_posts, charge_at, charge_segment, corrected_cents, credit_parts, disputed_charge, disputed_segment, effect, holding, holdings, is_charge, meant_for, moved_by, parts_entries, payment_at, payment_parts, place_charged, returned, returned_fee}
 use Rattle.card_model.specs.Entries.{at_least_zero, credit_balance, debit, holds, is_kind, owing, releases, sum_of}
-use Rattle.card_model.specs.Fees.{fee_cents, fee_for, fees_in, fees_sum}
+use Rattle.card_model.specs.Fees.{fee_by, fee_cents, fees_in, fees_sum}
 use Rattle.card_model.specs.Folds.{book, book_after, day_after}
 use Rattle.card_model.specs.Interest.{average_balance, accrual, case_of, charged, charged_on, cycle_before, cycle_interest, days_from, deferred_interest, half_up, interest_sum, is_repayment, purchase_case, repaid_after, row}
-use Rattle.card_model.specs.Payments.{asked, counted, credited, folded_before, has_due_payment, is_between, is_credit, is_payment, is_returned, met, minimum_left, owes_sixty_days, paid, paid_if_any, past_due, returns, sixty_days_late}
+use Rattle.card_model.specs.Payments.{asked, asks, counted, credited, due_cycle_of, folded_before, has_due_payment, is_before, is_between, is_credit, is_met, is_paid, is_paid_if_any, is_payment, is_returned, met, minimum_left, owes_sixty_days, paid, past_due, returns, sixty_days_late}
 use Rattle.card_model.specs.Rates.{Lowering, index_for, lowering_of, lowerings, rate_on, starts}
 use Rattle.card_model.specs.Segments.{SegmentTerms, is_sort, newest, opening_vintages, segment_at, segment_of, segments}
 use Rattle.card_model.specs.declared.entry.Entry.{Entry}
@@ -283,8 +283,8 @@ lowerings-is : (ps : List CorrectedPost) → lowerings ps ≡ lowerings (map pla
 unfolding lowerings
 lowerings-is ps = filter_map-plain (λ p. lowering_of p.post) (λ p. lowering_of p.post) (λ p. lowering-is p.post) ps
 
-before-is : (seen : Seen) (p : CorrectedPost) → map plainly (folded_before seen p) ≡ folded_before (plain-seen seen) (plainly p)
-before-is seen p = filter-plain (λ q. nat_lt q.day p.day || (eqb q.day p.day && nat_lt q.number p.number)) (λ q. refl) seen.posts
+before-is : (day n : ℕ) (ps : List CorrectedPost) → map plainly (folded_before day n ps) ≡ folded_before day n (map plainly ps)
+before-is day n ps = filter-plain (λ q. is_before day n q.day q.number) (λ q. refl) ps
 
 posts-on-is : (seen : Seen) → map plainly (posts_on seen) ≡ posts_on (plain-seen seen)
 posts-on-is seen = filter-plain (λ p. eqb p.day seen.day) (λ p. refl) seen.posts
@@ -300,16 +300,19 @@ post-at-is n ps = find-plain (λ p. eqb p.number n) (λ p. eqb p.number n) (λ p
 
 -- ---- due dates
 met-is : (seen : Seen) (c : Cycle) → met seen c ≡ met (plain-seen seen) c
-unfolding met
-met-is seen c = ap (λ n. not (has_due_payment seen.issued c) || nat_le c.minimum n) (counted-is seen.posts (c.closing + 1) c.due)
+unfolding is_met
+met-is seen c = ap (λ n. nat_le (asks (due_cycle_of seen.issued c)) n) (counted-is seen.posts (c.closing + 1) c.due)
 
 paid-is : (seen : Seen) (c : Cycle) → paid seen c ≡ paid (plain-seen seen) c
-unfolding paid
+unfolding is_paid
 paid-is seen c =
     let a = counted-is seen.posts (c.closing + 1) c.due in
     let b = credited-is seen.posts (c.closing + 1) c.due in
     ap (λ n. not (has_due_payment seen.issued c) || nat_le c.grace_amount (n + credited seen.posts (c.closing + 1) c.due)) a
     ∙ ap (λ n. not (has_due_payment seen.issued c) || nat_le c.grace_amount (counted (map plainly seen.posts) (c.closing + 1) c.due + n)) b
+
+abbrev paid_if_any : Seen → Option Cycle → Bool
+paid_if_any seen o = is_paid_if_any seen.posts (option_map (due_cycle_of seen.issued) o)
 
 paid-any-is : (seen : Seen) (c : Option Cycle) → paid_if_any seen c ≡ paid_if_any (plain-seen seen) c
 paid-any-is seen None = refl
@@ -323,13 +326,13 @@ sixty-is : (seen : Seen) (cycles : List Cycle) → sixty_days_late seen cycles �
 unfolding sixty_days_late
 sixty-is seen cycles =
     any-agree (owes_sixty_days seen) (owes_sixty_days (plain-seen seen))
-    (λ c. ap (λ n. nat_lt (c.due + 60) seen.day && has_due_payment seen.issued c && nat_lt n c.minimum) (counted-is seen.posts (c.closing + 1) seen.day)) cycles
+    (λ c. ap (λ n. nat_lt (c.due + 60) seen.day && nat_lt n (asks (due_cycle_of seen.issued c))) (counted-is seen.posts (c.closing + 1) seen.day)) cycles
 
 left-is : (seen : Seen) (p : CorrectedPost) (c : Option Cycle) → minimum_left seen p c ≡ minimum_left (plain-seen seen) (plainly p) c
 left-is seen p None = refl
 left-is seen p (Some c) =
     ap (λ n. asked seen.issued (Some c) - n)
-    (counted-is (folded_before seen p) (c.closing + 1) seen.day ∙ ap (λ ps. counted ps (c.closing + 1) seen.day) (before-is seen p))
+    (counted-is (folded_before seen.day p.number seen.posts) (c.closing + 1) seen.day ∙ ap (λ ps. counted ps (c.closing + 1) seen.day) (before-is seen.day p.number seen.posts))
 
 case-is : (seen : Seen) (cycles : List Cycle) (c : Option Cycle) → purchase_case seen cycles c ≡ purchase_case (plain-seen seen) cycles c
 case-is seen cycles None = refl
@@ -337,9 +340,9 @@ case-is seen cycles (Some c) =
     ap (λ t. cond t (cond (paid seen c) case.None (case.Lowered c.due)) case.Plain) (paid-any-is seen (cycle_before cycles c))
     ∙ ap (λ u. cond (paid_if_any (plain-seen seen) (cycle_before cycles c)) (cond u case.None (case.Lowered c.due)) case.Plain) (paid-is seen c)
 
-cured-is : (seen : Seen) (cycles : List Cycle) (c : Cycle) (i : Interval) → cured_by seen cycles c i ≡ cured_by (plain-seen seen) cycles c i
-cured-is seen cycles c i =
-    ap (λ t. cond (not (is_some i.last) && eqb (length (due_after_day i.begins cycles)) 6 && t) (record { begins = i.begins; last = Some c.due }) i)
+cured-is : (seen : Seen) (cycles : List Cycle) (due : ℕ) (i : Interval) → cured_by seen cycles due i ≡ cured_by (plain-seen seen) cycles due i
+cured-is seen cycles due i =
+    ap (λ t. cond (awaits_end cycles i && t) (record { begins = i.begins; last = Some due }) i)
     (all-agree (met seen) (met (plain-seen seen)) (met-is seen) (due_after_day i.begins cycles))
 
 -- ---- fees
@@ -357,17 +360,17 @@ fee-is a seen n None b = refl
 fee-is a seen n (Some f) b = ap (fee-on b seen n f) (segments-is a seen)
 
 due-is : (row : Option IssuedRow) (a : Account) (seen : Seen) (b : Book) (c : Option Cycle) → on_due row a seen b c ≡ on_due row a (plain-seen seen) b c
-unfolding on_due fee_for
+unfolding on_due fee_by
 due-is row a seen b None = refl
 due-is row a seen b (Some c) =
     ap (λ (ps : List Interval). cond (eqb seen.day (c.due + 1)) (with_penalties ps (with_fee a seen 0 (late_fee row seen b c) b)) b)
-    (map-agree (cured_by seen b.cycles c) (cured_by (plain-seen seen) b.cycles c) (cured-is seen b.cycles c) b.penalties)
-    ∙ (ap (λ (t : Bool). cond (eqb seen.day (c.due + 1)) (with_penalties (map (cured_by (plain-seen seen) b.cycles c) b.penalties) (with_fee a seen 0 (cond t None (penalty_fee row seen b fee.Late c)) b)) b) (met-is seen c)
-    ∙ ap (λ (x : Book). cond (eqb seen.day (c.due + 1)) (with_penalties (map (cured_by (plain-seen seen) b.cycles c) b.penalties) x) b)
+    (map-agree (cured_by seen b.cycles c.due) (cured_by (plain-seen seen) b.cycles c.due) (cured-is seen b.cycles c.due) b.penalties)
+    ∙ (ap (λ (t : Bool). cond (eqb seen.day (c.due + 1)) (with_penalties (map (cured_by (plain-seen seen) b.cycles c.due) b.penalties) (with_fee a seen 0 (cond t None (penalty_fee row seen b fee.Late c)) b)) b) (met-is seen c)
+    ∙ ap (λ (x : Book). cond (eqb seen.day (c.due + 1)) (with_penalties (map (cured_by (plain-seen seen) b.cycles c.due) b.penalties) x) b)
     (fee-is a seen 0 (cond (met (plain-seen seen) c) None (penalty_fee row seen b fee.Late c)) b))
 
 returned-fee-is : (row : Option IssuedRow) (seen : Seen) (b : Book) (c : Option Cycle) → returned_fee row seen b c ≡ returned_fee row (plain-seen seen) b c
-unfolding fee_for
+unfolding fee_by
 returned-fee-is row seen b None = refl
 returned-fee-is row seen b (Some c) = refl
 

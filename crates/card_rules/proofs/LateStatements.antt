@@ -5,7 +5,7 @@ use Rattle.std.proofs.lemmas.Bool.Decides.{nat_tests}
 use Rattle.std.proofs.lemmas.List.Elements.{All-head, All-tail}
 use Rattle.card_events.specs.History.{CorrectedPost}
 use Rattle.card_model.specs.Cycles.{Cycle, IssuedRow}
-use Rattle.card_model.specs.Payments.{has_due_payment}
+use Rattle.card_model.specs.Payments.{has_due_payment, is_paid}
 use Rattle.card_rules.proofs.Grace.{purchases_bear_no_more}
 use Rattle.card_rules.specs.Grace.{was_paid}
 use Rattle.card_rules.specs.LateStatements.{IsTooLate, LateStatementsCostNoGrace}
@@ -26,6 +26,7 @@ not-due (r ∷ rs) c h =
     by true e true f late i = let l = late (eqb-true r.cycle c.number e) in let m = low-is (r.day + 21) c.due f in absurd (omega (arith, l, m))
 
 as-paid : (issued : List IssuedRow) (posts : List CorrectedPost) (c : Cycle) → IsTooLate issued c → was_paid issued posts c ≡ true
+unfolding is_paid
 as-paid issued posts c h = rw (not-due issued c h) refl
 
 pub late_statements_cost_no_grace : LateStatementsCostNoGrace

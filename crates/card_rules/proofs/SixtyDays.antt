@@ -1,10 +1,10 @@
 -- A penalty begins only of an account that is sixty days late.
-use Rattle.std.proofs.Common.{◌≡◌, ℕ, zero, suc, ◌+◌, ◌-◌, ◌≤◌, ◌<◌, Bool, true, false, cond, not, ◌&&◌, List, [], ◌∷◌, ◌++◌, length, map, eqb, leb, ltb, refl, sym, ap, ◌∙◌, subst, arith, Option, Some, None}
+use Rattle.std.proofs.Common.{◌≡◌, ℕ, zero, suc, ◌+◌, ◌-◌, ◌≤◌, ◌<◌, Bool, true, false, cond, ◌&&◌, List, [], ◌∷◌, ◌++◌, map, eqb, leb, ltb, refl, sym, ap, ◌∙◌, subst, arith, Option, Some, None}
 use Rattle.std.proofs.lemmas.Bool.{eqb-true}
 use Rattle.std.proofs.lemmas.Bool.Decides.{nat_tests}
 use Rattle.std.proofs.lemmas.List.Elements.{All-nil, All-cons, All-head, All-tail, All-append, All-contains, All-contains_itself, All-filter, All-map, All-weaker, Contains-append_left}
 use Rattle.std.proofs.lemmas.List.Folds.{Any-from_list_any}
-use Rattle.std.specs.Prelude.{is_some, nat_lt}
+use Rattle.std.specs.Prelude.{nat_lt}
 use Rattle.std.specs.List.{All, Contains, list_all}
 use Rattle.card_events.specs.Civil.{day_of_month}
 use Rattle.card_events.specs.History.{CorrectedPost, anchor_of, corrected, is_folded}
@@ -19,7 +19,7 @@ use Rattle.card_model.specs.Books.{Account, Book, account_of, present_cycle, wit
 use Rattle.card_model.specs.Caps.{row_for}
 use Rattle.card_model.specs.Closing.{close, closed_cycle, closing_interest}
 use Rattle.card_model.specs.Cycles.{Cycle, IssuedRow, Seen, last_cycle, posts_on, seen_on}
-use Rattle.card_model.specs.DueDates.{cured_by, due_after_day, on_due}
+use Rattle.card_model.specs.DueDates.{awaits_end, cured_by, due_after_day, on_due}
 use Rattle.card_model.specs.Effects.{after_posts, effect, meant_for, payment_at, returned, returned_fee}
 use Rattle.card_model.specs.Folds.{book, book_after, day_after}
 use Rattle.card_model.specs.Payments.{counted, has_due_payment, is_timely, met, owes_sixty_days, sixty_days_late}
@@ -39,11 +39,10 @@ and-parts : (s t : Bool) → (s && t) ≡ true → (s ≡ true) × (t ≡ true)
 and-parts true t e = (refl, e)
 and-parts false t e = cc
 
-three-parts : (p h u : Bool) → (p && h && u) ≡ true → (p ≡ true) × (h ≡ true) × (u ≡ true)
-three-parts true true true e = (refl, refl, refl)
-three-parts true true false e = absurd (cc)
-three-parts true false u e = absurd (cc)
-three-parts false h u e = absurd (cc)
+three-parts : (p h : Bool) (n minimum : ℕ) → (p && ltb n (cond h minimum 0)) ≡ true → (p ≡ true) × (h ≡ true) × (ltb n minimum ≡ true)
+three-parts true true n minimum e = (refl, refl, e)
+three-parts true false n minimum e = let l = less-is n 0 e in absurd (omega arith)
+three-parts false h n minimum e = absurd (cc)
 
 -- an end changes nothing of it
 ended : (issued : List IssuedRow) (posts : List CorrectedPost) (cs : List Cycle) (i : Interval) (last : Option ℕ) → IsOfSixtyDays issued posts cs i → IsOfSixtyDays issued posts cs (record { begins = i.begins; last = last })
@@ -100,7 +99,7 @@ module _ (history : List Kept) (issued : List IssuedRow) (shared : SharedRows) w
       let is : s.accepted ≡ d = omega (arith, own, on) in
       let some = Any-from_list_any (owes_sixty_days (sees d)) cs late in
       let c = some.1 in
-      let parts = three-parts (ltb (c.due + 60) d) (has_due_payment (sees d).issued c) (ltb (counted (sees d).posts (c.closing + 1) d) c.minimum) some.4 in
+      let parts = three-parts (ltb (c.due + 60) d) (has_due_payment (sees d).issued c) (counted (sees d).posts (c.closing + 1) d) c.minimum some.4 in
       let row = Any-from_list_any (is_timely c) issued (any-kept (is_timely c) (λ (r : IssuedRow). nat_lt r.day d) issued parts.1) in
       let timely = and-parts (eqb row.1.cycle c.number) (leb (row.1.day + 21) c.due) row.4 in
       let same = counted-seen (sees d) posts (c.closing + 1) d refl (omega arith) in
@@ -162,13 +161,13 @@ module _ (history : List Kept) (issued : List IssuedRow) (shared : SharedRows) w
       posts-hold row a d cs ss (effect row a (sees d) s s.post b) (effect-cycles row a (sees d) s s.post b ∙ c) (All-tail (IsPostOf posts d) s ss o)
       (effect-holds row a d cs s s.post b c (All-head (IsPostOf posts d) s ss o) refl h)
 
-  cured-holds : (d : ℕ) (cs cycles : List Cycle) (c : Cycle) (is : List Interval) → All (Holds cs) is → All (Holds cs) (map (cured_by (sees d) cycles c) is)
-  cured-holds d cs cycles c is h =
-      All-map (Holds cs) (cured_by (sees d) cycles c) is
-      (All-weaker (Holds cs) (λ (i : Interval). Holds cs (cured_by (sees d) cycles c i)) (λ i j. by i j (not (is_some i.last) && eqb (length (due_after_day i.begins cycles)) 6 && list_all (met (sees d)) (due_after_day i.begins cycles))) is h)
+  cured-holds : (d : ℕ) (cs cycles : List Cycle) (due : ℕ) (is : List Interval) → All (Holds cs) is → All (Holds cs) (map (cured_by (sees d) cycles due) is)
+  cured-holds d cs cycles due is h =
+      All-map (Holds cs) (cured_by (sees d) cycles due) is
+      (All-weaker (Holds cs) (λ (i : Interval). Holds cs (cured_by (sees d) cycles due i)) (λ i j. by i j (awaits_end cycles i && list_all (met (sees d)) (due_after_day i.begins cycles))) is h)
     where
-      by : (i : Interval) → Holds cs i → (t : Bool) → Holds cs (cond t (record { begins = i.begins; last = Some c.due }) i)
-      by i j true = ended issued posts cs i (Some c.due) j
+      by : (i : Interval) → Holds cs i → (t : Bool) → Holds cs (cond t (record { begins = i.begins; last = Some due }) i)
+      by i j true = ended issued posts cs i (Some due) j
       by i j false = j
 
   close-holds : (row : Option IssuedRow) (a : Account) (d : ℕ) (b : Book) → All (Holds b.cycles) b.penalties → All (Holds (close row a (sees d) b).cycles) (close row a (sees d) b).penalties
@@ -188,7 +187,7 @@ module _ (history : List Kept) (issued : List IssuedRow) (shared : SharedRows) w
   later-holds row a d b o h =
       subst (λ cs. All (Holds cs) (later-book row a d b).penalties) (sym (later-cycles row a d b))
       (posts-hold row a d b.cycles (posts_on (sees d)) (due-book row a d b) (due-cycles row a (sees d) b (last_cycle b.cycles)) o
-      (due-by (All (Holds b.cycles)) row a (sees d) b (last_cycle b.cycles) h (λ c e. cured-holds d b.cycles b.cycles c b.penalties h)))
+      (due-by (All (Holds b.cycles)) row a (sees d) b (last_cycle b.cycles) h (λ c e. cured-holds d b.cycles b.cycles c.due b.penalties h)))
 
   day-holds : (row : Option IssuedRow) (a : Account) (d : ℕ) (b : Book) → All (IsPostOf posts d) (posts_on (sees d)) → All (Holds b.cycles) b.penalties → All (Holds (day_after row a (sees d) b).cycles) (day_after row a (sees d) b).penalties
   unfolding day_after
