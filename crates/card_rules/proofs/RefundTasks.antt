@@ -1,6 +1,7 @@
 -- A refund that was asked for is a task by the seventh business day.
-use Rattle.std.proofs.Common.{◌≡◌, ℕ, zero, suc, ◌+◌, ◌-◌, ◌*◌, ◌≤◌, ◌<◌, Bool, true, false, cond, eqb, ltb, List, [], ◌∷◌, ◌++◌, max, refl, ap, ◌∙◌, subst, arith, Option, Some, None}
+use Rattle.std.proofs.Common.{◌≡◌, ℕ, zero, suc, ◌+◌, ◌-◌, ◌*◌, ◌≤◌, ◌<◌, Bool, true, false, cond, ◌&&◌, ◌||◌, eqb, ltb, List, [], ◌∷◌, ◌++◌, max, refl, ap, ◌∙◌, subst, arith, Option, Some, None}
 use Rattle.std.proofs.lemmas.Bool.{ne_eqb}
+use Rattle.std.proofs.lemmas.Bool.Decides.{nat_tests}
 use Rattle.std.proofs.lemmas.List.Elements.{Contains-append_left, Contains-append_right}
 use Rattle.std.proofs.lemmas.List.Sums.{sum_by-cons}
 use Rattle.std.specs.List.{Contains, cons_option, filter_map, range_with_len, sum_by}
@@ -12,11 +13,12 @@ use Rattle.card_events.specs.History.{CorrectedPost}
 use Rattle.card_events.specs.Kept.{AreHolidays}
 use Rattle.card_events.specs.Range.{last_request_day}
 use Rattle.card_events.specs.declared.anchor.Anchor.{Anchor}
+use Rattle.card_events.specs.declared.post.Post.{Post}
 use Rattle.card_events.specs.declared.post.Post.TheVariants as post
 use Rattle.card_model.specs.Deadlines.{ack_due, business_day_after, by_day, credit_due, has_later, is_refund, lower_due, open_tasks, refund_by, refund_due, resolve_due, review_by, task_of, task_without_post, tasks_of, with_task}
 use Rattle.card_model.specs.declared.task.Task.{Task}
 use Rattle.card_model.specs.declared.task.TaskKind.TheVariants as task
-use Rattle.card_rules.specs.RefundTasks.{IsSeventhBusinessDay, RefundsAreTasks, business_days}
+use Rattle.card_rules.specs.RefundTasks.{IsSeventhBusinessDay, NoneIsRefunded, RefundsAreTasks, business_days}
 
 -- ---- counting days
 split : (f : ℕ → ℕ) (a p q : ℕ) → sum_by f (range_with_len a (p + q)) ≡ sum_by f (range_with_len a p) + sum_by f (range_with_len (a + p) q)
@@ -151,11 +153,44 @@ in-order x [] (k, l, e) = absurd (omega arith)
 in-order x (t ∷ ts) (zero, l, e) = subst (λ (y : Task). Contains (with_task t (by_day ts)) y) e (with-itself t (by_day ts))
 in-order x (t ∷ ts) (suc k, l, e) = with-others t x (by_day ts) (in-order x ts (k, omega arith, e))
 
+-- no refund follows
+is-no-refund : (p : Post) → ((cents : ℕ) → p ≡ post.Refund cents → ⊥) → is_refund p ≡ false
+is-no-refund (post.Refund z) h = absurd (h z refl)
+is-no-refund (post.Open d t) h = refl
+is-no-refund (post.OpenVariable d t) h = refl
+is-no-refund (post.Charge d a z) h = refl
+is-no-refund (post.Credit d a z) h = refl
+is-no-refund (post.Payment d m y z) h = refl
+is-no-refund (post.Return d t) h = refl
+is-no-refund (post.Plan d k r f a) h = refl
+is-no-refund (post.Notice d c r f) h = refl
+is-no-refund (post.Lower d y r) h = refl
+is-no-refund post.Penalty h = refl
+is-no-refund (post.Review d f) h = refl
+is-no-refund (post.Dispute d t z) h = refl
+is-no-refund (post.Ack d t) h = refl
+is-no-refund (post.Resolve d t z) h = refl
+is-no-refund (post.AskRefund d) h = refl
+is-no-refund (post.Amend t d z) h = refl
+is-no-refund (post.Bill z) h = refl
+
+none-later : (posts : List CorrectedPost) (n : ℕ) → NoneIsRefunded posts n → has_later is_refund n posts ≡ false
+none-later [] n h = refl
+none-later (q ∷ qs) n h = by (ltb n q.number) refl (none-later qs n (λ p cents c. h p cents (suc c.0, omega (arith, c.1), c.2)))
+  where
+    by : (t : Bool) → ltb n q.number ≡ t → has_later is_refund n qs ≡ false → ((t && is_refund q.post) || has_later is_refund n qs) ≡ false
+    by false e rest = rest
+    by true e rest =
+        let later : n < q.number = grind (arith, nat_tests) in
+        let out = is-no-refund q.post (λ cents. h q cents (zero, omega arith, refl) later) in
+        rw out rest
+
 refund-task : (account : List ℕ) (a : Anchor) (holidays : List ℕ) (posts : List CorrectedPost) (credit : ℕ) (since : Option ℕ) (today : ℕ) (p : CorrectedPost) (day : ℕ)
-    → Contains posts p → p.post ≡ post.AskRefund day → 0 < credit → has_later is_refund p.number posts ≡ false
+    → Contains posts p → p.post ≡ post.AskRefund day → 0 < credit → NoneIsRefunded posts p.number
     → Contains (open_tasks account a holidays posts credit since today) (task_of account task.Refund p.number (refund_by holidays day))
 unfolding open_tasks
-refund-task account a holidays posts credit since today p day c e some none =
+refund-task account a holidays posts credit since today p day c e some unrefunded =
+    let none = none-later posts p.number unrefunded in
     let x = task_of account task.Refund p.number (refund_by holidays day) in
     let first = tasks_of account task.Ack (ack_due posts) posts in
     let second = tasks_of account task.Resolve (resolve_due a posts) posts in
