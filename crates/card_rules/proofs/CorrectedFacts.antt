@@ -1,6 +1,6 @@
 -- The fold reads of a charge, a payment or a merchant's credit its corrected day and cents alone.
 use Rattle.std.proofs.Common.{◌≡◌, ℕ, zero, suc, ◌+◌, ◌*◌, ◌-◌, Bool, true, false, cond, not, ◌&&◌, ◌||◌, eqb, List, [], ◌∷◌, ◌++◌, refl, sym, ap, ◌∙◌, Option, Some, None, pos, ◌-ℤ◌}
-use Rattle.std.specs.Prelude.{is_some, length, map, min, nat_le, nat_lt}
+use Rattle.std.specs.Prelude.{map, min, nat_le, nat_lt}
 use Rattle.std.specs.List.{filter, filter_map, find, list_all, list_any, sum_by}
 use Rattle.std.specs.Option.{option_map}
 use Rattle.std.proofs.lemmas.List.Sums.{sum_by-cons}
@@ -25,7 +25,7 @@ use Rattle.card_model.specs.Entries.{at_least_zero, credit_balance, debit, holds
 use Rattle.card_model.specs.Fees.{fee_by, fee_cents, fees_in, fees_sum}
 use Rattle.card_model.specs.Folds.{book, book_after, day_after}
 use Rattle.card_model.specs.Interest.{average_balance, accrual, case_of, charged, charged_on, cycle_before, cycle_interest, days_from, deferred_interest, half_up, interest_sum, is_repayment, purchase_case, repaid_after, row}
-use Rattle.card_model.specs.Payments.{asks, counted, credited, due_cycle_of, folded_before, has_due_payment, is_before, is_between, is_credit, is_met, is_paid, is_paid_if_any, is_payment, is_returned, met, minimum_left, owes_sixty_days, past_due, returns, sixty_days_late}
+use Rattle.card_model.specs.Payments.{asked, asks, counted, credited, due_cycle_of, folded_before, has_due_payment, is_before, is_between, is_credit, is_met, is_paid, is_paid_if_any, is_payment, is_returned, met, minimum_left, owes_sixty_days, paid, past_due, returns, sixty_days_late}
 use Rattle.card_model.specs.Rates.{Lowering, index_for, lowering_of, lowerings, rate_on, starts}
 use Rattle.card_model.specs.Segments.{SegmentTerms, is_sort, newest, opening_vintages, segment_at, segment_of, segments}
 use Rattle.card_model.specs.declared.entry.Entry.{Entry}
@@ -283,8 +283,8 @@ lowerings-is : (ps : List CorrectedPost) → lowerings ps ≡ lowerings (map pla
 unfolding lowerings
 lowerings-is ps = filter_map-plain (λ p. lowering_of p.post) (λ p. lowering_of p.post) (λ p. lowering-is p.post) ps
 
-before-is : (day number : ℕ) (ps : List CorrectedPost) → map plainly (folded_before day number ps) ≡ folded_before day number (map plainly ps)
-before-is day number ps = filter-plain (λ q. is_before day number q.day q.number) (λ q. refl) ps
+before-is : (day n : ℕ) (ps : List CorrectedPost) → map plainly (folded_before day n ps) ≡ folded_before day n (map plainly ps)
+before-is day n ps = filter-plain (λ q. is_before day n q.day q.number) (λ q. refl) ps
 
 posts-on-is : (seen : Seen) → map plainly (posts_on seen) ≡ posts_on (plain-seen seen)
 posts-on-is seen = filter-plain (λ p. eqb p.day seen.day) (λ p. refl) seen.posts
@@ -303,18 +303,20 @@ met-is : (seen : Seen) (c : Cycle) → met seen c ≡ met (plain-seen seen) c
 unfolding is_met
 met-is seen c = ap (λ n. nat_le (asks (due_cycle_of seen.issued c)) n) (counted-is seen.posts (c.closing + 1) c.due)
 
-paid-is : (issued : List IssuedRow) (ps : List CorrectedPost) (c : Cycle) → is_paid ps (due_cycle_of issued c) ≡ is_paid (map plainly ps) (due_cycle_of issued c)
+paid-is : (seen : Seen) (c : Cycle) → paid seen c ≡ paid (plain-seen seen) c
 unfolding is_paid
-paid-is issued ps c =
-    let a = counted-is ps (c.closing + 1) c.due in
-    let b = credited-is ps (c.closing + 1) c.due in
-    ap (λ n. not (has_due_payment issued c) || nat_le c.grace_amount (n + credited ps (c.closing + 1) c.due)) a
-    ∙ ap (λ n. not (has_due_payment issued c) || nat_le c.grace_amount (counted (map plainly ps) (c.closing + 1) c.due + n)) b
+paid-is seen c =
+    let a = counted-is seen.posts (c.closing + 1) c.due in
+    let b = credited-is seen.posts (c.closing + 1) c.due in
+    ap (λ n. not (has_due_payment seen.issued c) || nat_le c.grace_amount (n + credited seen.posts (c.closing + 1) c.due)) a
+    ∙ ap (λ n. not (has_due_payment seen.issued c) || nat_le c.grace_amount (counted (map plainly seen.posts) (c.closing + 1) c.due + n)) b
 
-paid-any-is : (issued : List IssuedRow) (ps : List CorrectedPost) (o : Option Cycle)
-    → is_paid_if_any ps (option_map (due_cycle_of issued) o) ≡ is_paid_if_any (map plainly ps) (option_map (due_cycle_of issued) o)
-paid-any-is issued ps None = refl
-paid-any-is issued ps (Some c) = paid-is issued ps c
+abbrev paid_if_any : Seen → Option Cycle → Bool
+paid_if_any seen o = is_paid_if_any seen.posts (option_map (due_cycle_of seen.issued) o)
+
+paid-any-is : (seen : Seen) (c : Option Cycle) → paid_if_any seen c ≡ paid_if_any (plain-seen seen) c
+paid-any-is seen None = refl
+paid-any-is seen (Some c) = paid-is seen c
 
 past-is : (seen : Seen) (closing : ℕ) (c : Option Cycle) → past_due seen closing c ≡ past_due (plain-seen seen) closing c
 past-is seen closing None = refl
@@ -329,7 +331,7 @@ sixty-is seen cycles =
 left-is : (seen : Seen) (p : CorrectedPost) (c : Option Cycle) → minimum_left seen p c ≡ minimum_left (plain-seen seen) (plainly p) c
 left-is seen p None = refl
 left-is seen p (Some c) =
-    ap (λ n. asks (due_cycle_of seen.issued c) - n)
+    ap (λ n. asked seen.issued (Some c) - n)
     (counted-is (folded_before seen.day p.number seen.posts) (c.closing + 1) seen.day ∙ ap (λ ps. counted ps (c.closing + 1) seen.day) (before-is seen.day p.number seen.posts))
 
 case-is : (seen : Seen) (cycles : List Cycle) (c : Option Cycle) → purchase_case seen cycles c ≡ purchase_case (plain-seen seen) cycles c

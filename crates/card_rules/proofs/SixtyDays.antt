@@ -1,10 +1,10 @@
 -- A penalty begins only of an account that is sixty days late.
-use Rattle.std.proofs.Common.{◌≡◌, ℕ, zero, suc, ◌+◌, ◌-◌, ◌≤◌, ◌<◌, Bool, true, false, cond, not, ◌&&◌, List, [], ◌∷◌, ◌++◌, length, map, eqb, leb, ltb, refl, sym, ap, ◌∙◌, subst, arith, Option, Some, None}
+use Rattle.std.proofs.Common.{◌≡◌, ℕ, zero, suc, ◌+◌, ◌-◌, ◌≤◌, ◌<◌, Bool, true, false, cond, ◌&&◌, List, [], ◌∷◌, ◌++◌, map, eqb, leb, ltb, refl, sym, ap, ◌∙◌, subst, arith, Option, Some, None}
 use Rattle.std.proofs.lemmas.Bool.{eqb-true}
 use Rattle.std.proofs.lemmas.Bool.Decides.{nat_tests}
 use Rattle.std.proofs.lemmas.List.Elements.{All-nil, All-cons, All-head, All-tail, All-append, All-contains, All-contains_itself, All-filter, All-map, All-weaker, Contains-append_left}
 use Rattle.std.proofs.lemmas.List.Folds.{Any-from_list_any}
-use Rattle.std.specs.Prelude.{is_some, nat_lt}
+use Rattle.std.specs.Prelude.{nat_lt}
 use Rattle.std.specs.List.{All, Contains, list_all}
 use Rattle.card_events.specs.Civil.{day_of_month}
 use Rattle.card_events.specs.History.{CorrectedPost, anchor_of, corrected, is_folded}
@@ -39,10 +39,10 @@ and-parts : (s t : Bool) → (s && t) ≡ true → (s ≡ true) × (t ≡ true)
 and-parts true t e = (refl, e)
 and-parts false t e = cc
 
--- what is below what a due date asks for is below its minimum payment, and that is due
-below-asked : (h : Bool) (n m : ℕ) → ltb n (cond h m 0) ≡ true → (h ≡ true) × (ltb n m ≡ true)
-below-asked true n m e = (refl, e)
-below-asked false n m e = let low = less-is n 0 e in absurd (omega (arith, low))
+three-parts : (p h : Bool) (n minimum : ℕ) → (p && ltb n (cond h minimum 0)) ≡ true → (p ≡ true) × (h ≡ true) × (ltb n minimum ≡ true)
+three-parts true true n minimum e = (refl, refl, e)
+three-parts true false n minimum e = let l = less-is n 0 e in absurd (omega arith)
+three-parts false h n minimum e = absurd (cc)
 
 -- an end changes nothing of it
 ended : (issued : List IssuedRow) (posts : List CorrectedPost) (cs : List Cycle) (i : Interval) (last : Option ℕ) → IsOfSixtyDays issued posts cs i → IsOfSixtyDays issued posts cs (record { begins = i.begins; last = last })
@@ -99,9 +99,8 @@ module _ (history : List Kept) (issued : List IssuedRow) (shared : SharedRows) w
       let is : s.accepted ≡ d = omega (arith, own, on) in
       let some = Any-from_list_any (owes_sixty_days (sees d)) cs late in
       let c = some.1 in
-      let parts = and-parts (ltb (c.due + 60) d) (ltb (counted (sees d).posts (c.closing + 1) d) (asks (due_cycle_of (sees d).issued c))) some.4 in
-      let owed = below-asked (has_due_payment (sees d).issued c) (counted (sees d).posts (c.closing + 1) d) c.minimum parts.1 in
-      let row = Any-from_list_any (is_timely c) issued (any-kept (is_timely c) (λ (r : IssuedRow). nat_lt r.day d) issued owed.0) in
+      let parts = three-parts (ltb (c.due + 60) d) (has_due_payment (sees d).issued c) (counted (sees d).posts (c.closing + 1) d) c.minimum some.4 in
+      let row = Any-from_list_any (is_timely c) issued (any-kept (is_timely c) (λ (r : IssuedRow). nat_lt r.day d) issued parts.1) in
       let timely = and-parts (eqb row.1.cycle c.number) (leb (row.1.day + 21) c.due) row.4 in
       let same = counted-seen (sees d) posts (c.closing + 1) d refl (omega arith) in
       let past = less-is (c.due + 60) d parts.0 in

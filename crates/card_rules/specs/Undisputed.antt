@@ -30,7 +30,7 @@ pub record DisputedIsNotAsked : Type 0 where
       (history : List Kept) (issued : List IssuedRow) (shared : SharedRows) (day k : ℕ) (c : Cycle)
       → IsOpening (anchor_of history) → day ≤ last_request_day → cycle_at k (book history issued shared day).cycles ≡ Some c
       → AsksForTheRest history issued shared c
-  -- so a late fee never comes of the disputed amount alone: payments fell short of the undisputed balance
+  -- so the disputed amount alone brings no late fee: payments fell short of the undisputed balance
   pub late :
       (history : List Kept) (issued : List IssuedRow) (shared : SharedRows) (day : ℕ) (f : Fee)
       → IsOpening (anchor_of history) → day ≤ last_request_day → Contains (book history issued shared day).fees f

@@ -15,7 +15,7 @@ use Rattle.card_rates.specs.Laws.{seen_in}
 abbrev pub all_parts : List (ℕ × ℕ) → ℕ
 all_parts xs = sum_by (λ (x : ℕ × ℕ). x.1) xs
 
--- on every day, whatever the book before it: the parts come to the cents of the post
+-- on every day, whatever the book before it: the parts add up to the cents of the post
 pub record IsEnteredWhole (a : Account) (seen : Seen) (p : CorrectedPost) (b : Book) : Type 0 where
   pub payment : all_parts (payment_parts a seen p b) ≡ p.cents
   pub credit : (place : Place) → all_parts (credit_parts a seen p place b) ≡ p.cents
