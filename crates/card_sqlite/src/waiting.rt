@@ -48,6 +48,7 @@ impl<K: Keeper + Drop, W: Write + Drop> Waiting<K, W> {
     ghost use Rattle.card_sqlite.specs.Waiting.{LostFor, Settled, WentFor, all_bytes, all_rows, fault_in, starting};
 
     /// Nothing waits yet. An error says that memory was wanted and isn't there.
+    #[tactic(auto, using(crate::proofs::Flushed::none_goes_on))]
     pub fn new(alloc: Global, keeper: K, writer: W) -> io::Result<Waiting<K, W>>
         ensures { IfOk result (λ w. w ≡ starting (K.rows keeper) (W.contents writer)) }
     {
