@@ -49,6 +49,7 @@ def chosen(words: list[str], found: dict[str, ModuleType]) -> Iterator[tuple[str
     """The cases that are wanted, each with its measure's name."""
     for word in words or [name for name, module in found.items() if not is_long(module)]:
         name, _, case = word.partition(":")
+        name = name.replace("_", "-")
         if name not in found:
             sys.exit(f"bench: there is no measure {name}; there are {', '.join(found)}")
         cases = cases_of(found[name])
