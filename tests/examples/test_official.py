@@ -88,7 +88,8 @@ class OfficialExamples(Case):
                 self.hold(claim, outputs[claim.command], who)
         if ("work",) in outputs:
             wanted = [c for c in claims if c.command == ("work",) and c.text != "nothing"]
-            self.assertEqual(outputs["work",].count("\n"), len(wanted), f"{example.stem}: {who}")
+            with self.subTest(example=example.stem, claim="all tasks"):
+                self.assertEqual(outputs["work",].count("\n"), len(wanted), who)
 
     def test_claims_of_the_program(self) -> None:
         for example in filter(claims_of, OFFICIAL):
