@@ -1,6 +1,8 @@
 """The documents: plain English, links that lead somewhere, files and commands that are there."""
 
 import re
+import subprocess
+import sys
 import unittest
 
 from tests.documents.reading import TOP, code_blocks, documents, prose, sentences, text_of
@@ -110,12 +112,14 @@ class Named(unittest.TestCase):
                     self.assertTrue(found, f"{name} calls -m {module}, which isn't there")
 
     def test_words_of_the_companion_are_there(self) -> None:
-        words = (TOP / "ops" / "companion" / "words.py").read_text(encoding="utf-8")
-        for name in documents():
-            for block in code_blocks(text_of(name)):
-                for word in re.findall(r"ops/ledger ([a-z]+)", block):
-                    with self.subTest(page=name, word=word):
-                        self.assertIn(f'"{word}"', words, f"ops/ledger has no word {word}")
+        named = {word for name in documents() for block in code_blocks(text_of(name))
+                 for word in re.findall(r"ops/ledger ([a-z]+)", block)}
+        self.assertTrue(named)
+        for word in sorted(named):
+            with self.subTest(word=word):
+                call = [sys.executable, TOP / "ops" / "ledger", word, "--help"]
+                status = subprocess.run(call, capture_output=True, check=False).returncode
+                self.assertEqual(0, status, f"ops/ledger has no word {word}")
 
 
 # Modules as documents call them.
