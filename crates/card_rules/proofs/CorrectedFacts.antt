@@ -320,7 +320,7 @@ paid-any-is seen (Some c) = paid-is seen c
 
 past-is : (seen : Seen) (closing : ℕ) (c : Option Cycle) → past_due seen closing c ≡ past_due (plain-seen seen) closing c
 past-is seen closing None = refl
-past-is seen closing (Some c) = ap (λ n. asks (due_cycle_of seen.issued c) - n) (counted-is seen.posts (c.closing + 1) closing)
+past-is seen closing (Some c) = ap (λ n. asked seen.issued (Some c) - n) (counted-is seen.posts (c.closing + 1) closing)
 
 sixty-is : (seen : Seen) (cycles : List Cycle) → sixty_days_late seen cycles ≡ sixty_days_late (plain-seen seen) cycles
 unfolding sixty_days_late
@@ -337,9 +337,8 @@ left-is seen p (Some c) =
 case-is : (seen : Seen) (cycles : List Cycle) (c : Option Cycle) → purchase_case seen cycles c ≡ purchase_case (plain-seen seen) cycles c
 case-is seen cycles None = refl
 case-is seen cycles (Some c) =
-    ap (λ t. cond t (cond (is_paid seen.posts (due_cycle_of seen.issued c)) case.None (case.Lowered c.due)) case.Plain) (paid-any-is seen.issued seen.posts (cycle_before cycles c))
-    ∙ ap (λ u. cond (is_paid_if_any (map plainly seen.posts) (option_map (due_cycle_of seen.issued) (cycle_before cycles c))) (cond u case.None (case.Lowered c.due)) case.Plain)
-    (paid-is seen.issued seen.posts c)
+    ap (λ t. cond t (cond (paid seen c) case.None (case.Lowered c.due)) case.Plain) (paid-any-is seen (cycle_before cycles c))
+    ∙ ap (λ u. cond (paid_if_any (plain-seen seen) (cycle_before cycles c)) (cond u case.None (case.Lowered c.due)) case.Plain) (paid-is seen c)
 
 cured-is : (seen : Seen) (cycles : List Cycle) (due : ℕ) (i : Interval) → cured_by seen cycles due i ≡ cured_by (plain-seen seen) cycles due i
 cured-is seen cycles due i =

@@ -22,7 +22,7 @@ use Rattle.card_model.specs.Cycles.{Cycle, IssuedRow, Seen, last_cycle, posts_on
 use Rattle.card_model.specs.DueDates.{awaits_end, cured_by, due_after_day, on_due}
 use Rattle.card_model.specs.Effects.{after_posts, effect, meant_for, payment_at, returned, returned_fee}
 use Rattle.card_model.specs.Folds.{book, book_after, day_after}
-use Rattle.card_model.specs.Payments.{asks, counted, due_cycle_of, has_due_payment, is_timely, met, owes_sixty_days, sixty_days_late}
+use Rattle.card_model.specs.Payments.{counted, has_due_payment, is_timely, met, owes_sixty_days, sixty_days_late}
 use Rattle.card_model.specs.declared.fee.Fee.{Fee}
 use Rattle.card_model.specs.declared.segment.Interval.{Interval}
 use Rattle.card_rules.proofs.PenaltyFees.{any-kept}
@@ -104,7 +104,7 @@ module _ (history : List Kept) (issued : List IssuedRow) (shared : SharedRows) w
       let timely = and-parts (eqb row.1.cycle c.number) (leb (row.1.day + 21) c.due) row.4 in
       let same = counted-seen (sees d) posts (c.closing + 1) d refl (omega arith) in
       let past = less-is (c.due + 60) d parts.0 in
-      let short = less-is (counted (sees d).posts (c.closing + 1) d) c.minimum owed.1 in
+      let short = less-is (counted (sees d).posts (c.closing + 1) d) c.minimum parts.2 in
       let at : counted posts (c.closing + 1) s.accepted ≡ counted posts (c.closing + 1) d = ap (counted posts (c.closing + 1)) is in
       record {
         announced = s;
