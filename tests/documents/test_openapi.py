@@ -1,4 +1,4 @@
-"""docs/openapi.json: its operations have names, its days a form, its kinds the members of FORMATS."""
+"""docs/openapi.json: its operations have names, its days a form, its kinds the right members."""
 
 import json
 import re
