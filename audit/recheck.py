@@ -186,10 +186,10 @@ class Check:
         for number in self.doc["numbers"]:
             if "text" in number:
                 named[number["text"], number["line"], number["place"]] = number["node"]
-        for name, text in self.doc["texts"].items():
-            for line, words in enumerate(re.split(r"[ ,]+", t) for t in text.splitlines()):
+        for name in self.doc["explained"]:
+            for line, words in enumerate(re.split(r"[ ,]+", t) for t in self.doc["texts"][name].splitlines()):
                 for place, word in enumerate(words):
-                    if name.startswith("issued") or not NUMBER.fullmatch(word) or (line, place) == (0, 1):
+                    if not NUMBER.fullmatch(word) or (words[0], place) == ("STATEMENT", 1):
                         continue
                     n = self.nodes.get(named.pop((name, line, place), ""))
                     if n is None or shown(self.value(n), n["unit"]) != word:

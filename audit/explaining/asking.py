@@ -7,6 +7,7 @@ from pathlib import Path
 
 from ..ledger_file import write
 from ..program import Program
+from .changes import Changes
 from .document import Document
 from .facts import Rows
 
@@ -42,17 +43,29 @@ def held(what: str, ours: str, theirs: str) -> None:
 def hold(document: Document, path: str) -> None:
     """Every text of a document is the program's over the document's rows."""
     begun, ended = document.entries
-    account, cycle = document.rows.account, str(document.head["cycle"])
+    account, cycle = document.rows.account, str(document.head.get("cycle", ""))
     with over(document.rows, path) as program:
         for name, text in document.texts.items():
             word = name.split()[0]
             if word == "export":
                 found = export_part(_told(program, ["export", account]), begun, ended)
+            elif word == "trial":
+                told = _told(program, ["trial", "2011-01-01", document.head["day"]])
+                found = told.splitlines(keepends=True)[-1]
             elif word == "issued":
                 found = _told(program, ["statement", account, name.split()[1]])
             else:
                 found = _told(program, [word, account, cycle])
             held(f"account {account}, {name}", text, found)
+
+
+def hold_changes(changes: Changes, path: str) -> None:
+    """Both statements of the cycle are the program's."""
+    account, cycle = changes.rows.account, str(changes.k)
+    with over(changes.rows, path) as program:
+        for word, name in (("statement", "issued"), ("restate", "restated")):
+            held(f"account {account}, {word} {cycle}", changes.texts[name],
+                 _told(program, [word, account, cycle]))
 
 
 def _told(program: Program, words: list[str]) -> str:

@@ -15,17 +15,29 @@ import json
 import shutil
 import sys
 from pathlib import Path
+from typing import Any
 
 from ..commands import Damaged
+from ..days import day_of
 from ..ledger_file import Unreadable, copied, rows_of
+from ..lines import read_day
 from ..program import Failed
 from .account import NotThere, carried_out, rows_of_account
-from .asking import Parted, hold
+from .asking import Parted, hold, hold_changes
+from .changes import Changes
 from .cycle import Cycles
-from .document import Document
+from .owed import Owed
+from .page import page_of
 from .text import text_of
 
 BUILT = Path(__file__).resolve().parents[2] / "crates" / "billctl" / "out" / "billctl"
+
+
+def day_text_of(text: str) -> str:
+    """A day as it is written in request lines."""
+    if read_day(text.encode()) is None:
+        raise argparse.ArgumentTypeError(f"{text!r} is no day YYYY-MM-DD")
+    return text
 
 
 def parser() -> argparse.ArgumentParser:
@@ -36,6 +48,9 @@ def parser() -> argparse.ArgumentParser:
     found.add_argument("account", metavar="ACCOUNT")
     found.add_argument("cycle", metavar="CYCLE", nargs="?", type=int)
     found.add_argument("--issued", action="store_true", help="as its bill issued it")
+    found.add_argument("--changes", action="store_true", help="what later posts did to it")
+    found.add_argument("--balance", metavar="DAY", nargs="?", const=True, type=day_text_of,
+                       help="what is owed at the end of a day, today if none is given")
     found.add_argument("--form", choices=("text", "json", "html"), default="text")
     found.add_argument("--number", metavar="WORD", default="",
                        help="one number alone, as interest, minimum, \"fee 2024-03-02\", "
@@ -45,31 +60,53 @@ def parser() -> argparse.ArgumentParser:
     return found
 
 
-def explained(given: argparse.Namespace, program: str) -> Document:
-    """The document that was asked for, held against the program."""
+def explained(given: argparse.Namespace, program: str) -> str:
+    """The text of what was asked for, after it was held against the program."""
     with copied(given.file) as copy:
         rows = rows_of_account(rows_of(copy), given.account)
-    cycles = Cycles(carried_out(rows), rows)
+    machine = carried_out(rows)
+    if given.changes:
+        changes = Changes(machine, rows, given.cycle)
+        hold_changes(changes, program)
+        return changes.text() if given.form == "text" else json_of(changes.json())
+    if given.balance:
+        owed = Owed(machine, rows, None if given.balance is True else day_of(given.balance))
+        hold(owed.document, program)
+        return owed.text() if given.form == "text" else json_of(owed.document.json())
+    cycles = Cycles(machine, rows)
     document = (cycles.issued if given.issued else cycles.recomputed)(given.cycle)
     hold(document, program)
-    return document
+    if given.form == "html":
+        return page_of(document, cycles.picture(given.issued, given.cycle))
+    if given.form == "json":
+        return json_of(document.json(given.number))
+    return text_of(document, given.number)
 
 
-def json_of(document: Document) -> str:
-    return json.dumps(document.json(), sort_keys=True, indent=1) + "\n"
+def json_of(document: dict[str, Any]) -> str:
+    return json.dumps(document, sort_keys=True, indent=1) + "\n"
+
+
+def asked(words: list[str]) -> argparse.Namespace:
+    """The words, as far as they fit together."""
+    found = parser()
+    given = found.parse_args(words)
+    if (given.cycle is None) != bool(given.balance):
+        found.error("name a CYCLE, or --balance and perhaps a day")
+    if given.changes and (given.issued or given.number):
+        found.error("--changes is of the whole issued cycle")
+    if given.form == "html" and (given.changes or given.balance or given.number):
+        found.error("--form html is of a whole cycle")
+    return given
 
 
 def main(words: list[str]) -> int:
-    given = parser().parse_args(words)
-    if given.cycle is None:
-        parser().error("which CYCLE?")
+    given = asked(words)
     program = given.program or (str(BUILT) if BUILT.exists() else shutil.which("billctl"))
     try:
         if program is None:
             raise Failed("there is no program: build it, or name one with --program")
-        document = explained(given, program)
-        sys.stdout.write(json_of(document) if given.form == "json" else
-                         text_of(document, given.number))
+        sys.stdout.write(explained(given, program))
     except Parted as parted:
         print(f"different: {parted}")
         return 1

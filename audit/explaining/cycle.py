@@ -9,6 +9,7 @@ from .derivation import Derivation
 from .document import Document
 from .facts import Rows
 from .numbers import StatementNumbers, export_numbers
+from .repayment import Repayment
 
 
 class Cycles:
@@ -58,6 +59,8 @@ class Cycles:
         derivation = numbers.all
         document.add(numbers.printed(name))
         document.numbers += numbers.others()
+        if name == "statement":
+            document.add(Repayment(numbers).printed())
         document.entries = numbers.cycle.entries
         document.add(export_numbers(derivation, "export", *document.entries))
         document.close(derivation.facts.closing(numbers.k).value,

@@ -3,7 +3,6 @@
 from typing import Any
 
 from ..days import day_text
-from ..words import SHARED_WORDS
 from .facts import Rows
 from .nodes import Node, node_json, numbered
 from .numbers import Number, Printed
@@ -47,23 +46,40 @@ class Document:
             return f"counts from {day_text(effective[n])}, after {day_text(last_day)}"
         return "moves nothing that these numbers are made of"
 
-    def json(self) -> dict[str, Any]:
-        """The document as JSON has it."""
+    def json(self, word: str = "") -> dict[str, Any]:
+        """The document as JSON has it, or the trees of one number alone."""
+        if word:
+            return self._one(word)
         numbers = [{"word": n.word, "node": n.node.id} | (
             {"text": n.text, "line": n.line, "place": n.place} if n.text else {})
             for n in self.numbers]
         return self.head | {
             "format": FORMAT, "texts": self.texts, "numbers": numbers,
+            "explained": sorted({n.text for n in self.numbers if n.text}),
             "nodes": [with_parts(node) for node in self.nodes],
             "rows": [[seq, body.hex()] for seq, body, _ in self.rows.kept],
             "left_out": [[seq, why] for seq, why in self.left_out]}
+
+    def _one(self, word: str) -> dict[str, Any]:
+        """The trees of one number, with their nodes alone."""
+        wanted = [n for n in self.numbers if is_asked(word, n)]
+        below, left = set(), [n.node for n in wanted]
+        while left:
+            node = left.pop()
+            if node.id not in below:
+                below.add(node.id)
+                left += node.links()
+        return self.head | {
+            "format": FORMAT, "numbers": [{"word": n.word, "node": n.node.id} for n in wanted],
+            "nodes": [with_parts(node) for node in self.nodes if node.id in below]}
+
+
+def is_asked(word: str, number: Number) -> bool:
+    """A number's word, or its first part, is the word asked for."""
+    return word in (number.word, number.word.split()[0])
 
 
 def with_parts(node: Node) -> dict[str, Any]:
     """A node with RULES' sentence where the ledger's rule and the regulation part."""
     out = node_json(node)
     return out | {"parts": PARTS[node.rule]} if node.rule in PARTS else out
-
-
-def is_shared(word: str) -> bool:
-    return word in SHARED_WORDS

@@ -110,7 +110,7 @@ class Interest:
                                 f"days x balance x daily rate of {segment.name}", rule,
                                 start=first, end=last, why=why)
         rounded = self.nodes.make("round_half_up", [total], f"interest of {segment.name} in cycle "
-                                  f"{k}, rounded once", "rounding", "cents", by=BILLION)
+                                  f"{k}", "rounding", "cents", by=BILLION)
         return Borne(rounded, self._average(segment, k, runs, first, last), runs)
 
     def _average(self, segment: Segment, k: int, runs: list[Run], first: Node,
@@ -204,6 +204,5 @@ class Interest:
         runs = [self._run(a, b, balance, rate) for a, b, balance in spans]
         total = self.nodes.make("sum", [run.product for run in runs], f"accrued on {segment.name} "
                                 "from its first day on", "deferred", start=first, end=last)
-        rounded = self.nodes.make("round_half_up", [total], f"interest accrued on {segment.name}, "
-                                  "rounded once", "deferred", "cents", by=BILLION)
+        rounded = self.nodes.make("round_half_up", [total], f"interest accrued on {segment.name}", "deferred", "cents", by=BILLION)
         return rounded, runs

@@ -4,12 +4,13 @@ import textwrap
 from collections.abc import Iterator
 
 from ..days import day_text
-from .document import Document
+from .document import Document, is_asked
 from .nodes import Node, value_text
 from .rules import RULES
 
 WIDTH = 100
 VALUE = 14
+MANY = 6  # months that are all shown
 _HOW = {"sum": "the sum of", "difference": "the first less the others", "least": "the least of",
         "greatest": "the greatest of", "at_least_zero": "not below 0", "choose": "as it says",
         "last_of": "the last of", "count": "how many", "days_between": "the days between",
@@ -32,7 +33,7 @@ def how_text(node: Node) -> str:
     if node.how == "floor_divide":
         return f"divided by {node.by}, rounded down"
     if node.how == "round_half_up":
-        return "rounded half up, divided by" + (f" {node.by}" if node.by else "")
+        return "rounded once, half a cent up" if node.by else "divided, rounded half up"
     if node.how == "day_plus":
         return f"{node.by} {'day' if node.by == 1 else 'days'} after"
     if node.how in ("equal", "at_least", "before") and node.by is not None:
@@ -84,10 +85,20 @@ class Text:
         if self._is_runs(node):
             yield from self._table(node, depth + 1)
         else:
-            for child in node.of:
-                yield from self.tree(child, depth + 1)
+            yield from self._below(node, depth + 1)
         for why in node.why:
             yield from self.tree(why, depth + 1, True)
+
+    def _below(self, node: Node, depth: int) -> Iterator[str]:
+        """The children; of many months the first three and the last."""
+        many = len(node.of) > MANY and node.rule == "repayment"
+        for child in node.of[:3] if many else node.of:
+            yield from self.tree(child, depth)
+        if many:
+            yield from row_line("..", depth, f"{len(node.of) - 4} months more", "")
+            last = self._plain(node.of[-1])
+            self.seen.add(id(last))
+            yield from row_line(value_text(last.value, last.unit), depth, last.what, "")
 
     def _value(self, node: Node, because: bool) -> str:
         if node.unit == "truth":
@@ -155,7 +166,7 @@ class Text:
                 continue
             for place, line in enumerate(text.splitlines()):
                 here = [n for n in document.numbers if (n.text, n.line) == (name, place)]
-                wanted = [n for n in here if not word or word in (n.word, n.word.split()[0])]
+                wanted = [n for n in here if not word or is_asked(word, n)]
                 if word and not wanted:
                     continue
                 yield line
@@ -164,7 +175,7 @@ class Text:
                         yield from self.tree(number.node)
                 yield ""
         for number in document.numbers:
-            if not number.text and (not word or number.word == word):
+            if not number.text and (not word or is_asked(word, number)):
                 yield f"{number.word.upper()} (on no line)"
                 yield from self.tree(number.node)
                 yield ""

@@ -1,0 +1,2 @@
+def page_of(a, b):
+    return ""
