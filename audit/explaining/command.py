@@ -26,6 +26,7 @@ from .account import NotThere, carried_out, rows_of_account
 from .asking import Parted, hold, hold_changes
 from .changes import Changes
 from .cycle import Cycles
+from .document import is_asked
 from .owed import Owed
 from .page import page_of
 from .text import text_of
@@ -76,8 +77,11 @@ def explained(given: argparse.Namespace, program: str) -> str:
     cycles = Cycles(machine, rows)
     document = (cycles.issued if given.issued else cycles.recomputed)(given.cycle)
     hold(document, program)
+    if given.number and not any(is_asked(given.number, n) for n in document.numbers):
+        words = ", ".join(dict.fromkeys(n.word for n in document.numbers))
+        raise NotThere(f"no number of this cycle is named {given.number!r}; they are: {words}")
     if given.form == "html":
-        return page_of(document, cycles.picture(given.issued, given.cycle))
+        return page_of(document, cycles.days(given.cycle))
     if given.form == "json":
         return json_of(document.json(given.number))
     return text_of(document, given.number)

@@ -9,6 +9,7 @@ from .derivation import Derivation
 from .document import Document
 from .facts import Rows
 from .numbers import StatementNumbers, export_numbers
+from .picture import Day, days_of
 from .repayment import Repayment
 
 
@@ -21,6 +22,7 @@ class Cycles:
             raise NotThere(f"no account is named {rows.account}")
         self.account = machine.accounts[rows.account]
         self._today: Derivation | None = None
+        self.last: Derivation | None = None
 
     def _head(self, k: int, kind: str, rows: Rows, today: int) -> dict[str, Any]:
         return {"account": rows.account, "cycle": k, "as": kind, "today": day_text(today),
@@ -55,8 +57,13 @@ class Cycles:
         self._fill(document, numbers, "restate")
         return document
 
+    def days(self, k: int) -> list[Day]:
+        """The days of the cycle that was explained last."""
+        assert self.last is not None
+        return days_of(self.last, k)
+
     def _fill(self, document: Document, numbers: StatementNumbers, name: str) -> None:
-        derivation = numbers.all
+        derivation = self.last = numbers.all
         document.add(numbers.printed(name))
         document.numbers += numbers.others()
         if name == "statement":
