@@ -4,7 +4,7 @@ from ..book import Book
 from ..commands import Damaged
 from ..machine import Account, Machine
 from ..rows import decode
-from ..words import SHARED_WORDS, WORDS, Request
+from ..words import SHARED_WORDS, WORDS
 from .facts import Rows
 
 _SHARED_CODES = {WORDS[word][0] for word in SHARED_WORDS}
@@ -33,11 +33,11 @@ def concerns(body: bytes, name: bytes) -> bool:
     return body[1] in _SHARED_CODES or body[3:3 + body[2]] == name
 
 
-def rows_of_account(kept: list[tuple[int, bytes]], account: str) -> Rows:
-    """The rows that decide an account."""
+def rows_of_account(kept: list[tuple[int, bytes]], account: str, whole: bool = True) -> Rows:
+    """The rows that decide an account, of all rows of a file or of some of them."""
     name, found = account.encode(), []
     for place, (seq, body) in enumerate(kept, start=1):
-        if seq != place or len(body) < 3:
+        if whole and (seq != place or len(body) < 3):
             raise Damaged(place)
         if concerns(body, name):
             request = decode(body)
@@ -55,6 +55,3 @@ def carried_out(rows: Rows) -> Watching:
             raise Damaged(seq)
     return machine
 
-
-def shared_requests(rows: Rows) -> list[Request]:
-    return [r for _, _, r in rows.kept if r.is_shared]

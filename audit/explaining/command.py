@@ -3,6 +3,7 @@
     python3 -m audit explain FILE ACCOUNT CYCLE [--issued] [--form text|json|html] [--number WORD]
     python3 -m audit explain FILE ACCOUNT CYCLE --changes [--form text|json]
     python3 -m audit explain FILE ACCOUNT --balance [DAY] [--form text|json]
+    python3 -m audit explain FILE
 
 The cycle is explained as recomputed now, or with --issued as its bill issued it.  The file is
 copied and never written.  Before anything is printed the program is asked for the same texts over
@@ -21,12 +22,13 @@ from ..commands import Damaged
 from ..days import day_of
 from ..ledger_file import Unreadable, copied, rows_of
 from ..lines import read_day
-from ..program import Failed
+from ..program import Failed, Program, Server
 from .account import NotThere, carried_out, rows_of_account
 from .asking import Parted, hold, hold_changes
 from .changes import Changes
 from .cycle import Cycles
 from .document import is_asked
+from .everything import Everything
 from .owed import Owed
 from .page import page_of
 from .text import text_of
@@ -46,7 +48,9 @@ def parser() -> argparse.ArgumentParser:
     found = argparse.ArgumentParser(prog="python3 -m audit explain", description=__doc__,
                                     formatter_class=form)
     found.add_argument("file", metavar="FILE", help="the ledger's SQLite file")
-    found.add_argument("account", metavar="ACCOUNT")
+    found.add_argument("account", metavar="ACCOUNT", nargs="?",
+                       help="without one all closed cycles of all accounts are explained and held "
+                            "against the program, and counted")
     found.add_argument("cycle", metavar="CYCLE", nargs="?", type=int)
     found.add_argument("--issued", action="store_true", help="as its bill issued it")
     found.add_argument("--changes", action="store_true", help="what later posts did to it")
@@ -64,6 +68,9 @@ def parser() -> argparse.ArgumentParser:
 def explained(given: argparse.Namespace, program: str) -> str:
     """The text of what was asked for, after it was held against the program."""
     with copied(given.file) as copy:
+        if given.account is None:
+            with Server(Program(program, str(copy))) as server:
+                return f"explained: {Everything(rows_of(copy), server).all().text()}\n"
         rows = rows_of_account(rows_of(copy), given.account)
     machine = carried_out(rows)
     if given.changes:
@@ -95,6 +102,10 @@ def asked(words: list[str]) -> argparse.Namespace:
     """The words, as far as they fit together."""
     found = parser()
     given = found.parse_args(words)
+    if given.account is None:
+        if given.issued or given.changes or given.balance or given.number:
+            found.error("name an ACCOUNT")
+        return given
     if (given.cycle is None) != bool(given.balance):
         found.error("name a CYCLE, or --balance and perhaps a day")
     if given.changes and (given.issued or given.number):

@@ -28,7 +28,7 @@ class Cycles:
         return {"account": rows.account, "cycle": k, "as": kind, "today": day_text(today),
                 "rows_up_to": rows.kept[-1][0]}
 
-    def issued(self, k: int) -> Document:
+    def issued(self, k: int, whole: bool = True) -> Document:
         """Statement k as its bill issued it, from the rows up to that bill."""
         row = self.account.issued.get(k)
         if row is None:
@@ -39,10 +39,11 @@ class Cycles:
         statement = row.statement
         assert isinstance(statement, Statement)
         document = Document(rows, self._head(k, "issued", rows, row.day))
-        self._fill(document, StatementNumbers(derivation, k, statement, row.bill), "statement")
+        self._fill(document, StatementNumbers(derivation, k, statement, row.bill), "statement",
+                   whole)
         return document
 
-    def recomputed(self, k: int) -> Document:
+    def recomputed(self, k: int, whole: bool = True) -> Document:
         """Cycle k by all kept rows."""
         if not 1 <= k <= self.machine.closed_cycles(self.account):
             raise NotThere(f"cycle {k} of {self.rows.account} isn't closed before "
@@ -54,7 +55,7 @@ class Cycles:
         row = book.issued.get(k)
         document = Document(self.rows, self._head(k, "recomputed", self.rows, self.machine.today))
         numbers = StatementNumbers(derivation, k, restated(book, k), row.bill if row else None)
-        self._fill(document, numbers, "restate")
+        self._fill(document, numbers, "restate", whole)
         return document
 
     def days(self, k: int) -> list[Day]:
@@ -62,14 +63,19 @@ class Cycles:
         assert self.last is not None
         return days_of(self.last, k)
 
-    def _fill(self, document: Document, numbers: StatementNumbers, name: str) -> None:
+    def _fill(self, document: Document, numbers: StatementNumbers, name: str,
+              whole: bool) -> None:
+        """The texts and their numbers; repayment, ids and rows left out only where `whole`."""
         derivation = self.last = numbers.all
         document.add(numbers.printed(name))
         document.numbers += numbers.others()
-        if name == "statement":
+        if name == "statement" and whole:
             document.add(Repayment(numbers).printed())
         document.entries = numbers.cycle.entries
-        document.add(export_numbers(derivation, "export", *document.entries))
+        if name == "restate" or whole:
+            document.add(export_numbers(derivation, "export", *document.entries))
+        if not whole:
+            return
         document.close(derivation.facts.closing(numbers.k).value,
                        derivation.book.corrected.effective)
         named = {node.more["text"] for node in document.nodes if node.how == "shown"}

@@ -34,6 +34,7 @@ OPERATIONS: dict[str, Callable[[list[Any], Any], Any]] = {
     "count": lambda of, by: len(of),
 }
 TRUTHS = ("equal", "at_least", "before")
+_NOTHING: dict[str, Any] = {}
 LEAVES = ("row", "in_force", "calendar", "shown", "none")
 
 
@@ -43,23 +44,26 @@ class Node:
     __slots__ = ("value", "what", "unit", "how", "of", "by", "rule", "why", "on", "start", "end",
                  "cycle", "more", "id", "brief")
 
-    def __init__(self, how: str, value: Any, unit: str, what: str, of: tuple["Node", ...]) -> None:
+    def __init__(self, how: str, value: Any, unit: str, what: str, of: tuple["Node", ...],
+                 rule: str = "", by: int | None = None, why: tuple["Node", ...] = (),
+                 cycle: int = 0) -> None:
         self.how, self.value, self.unit, self.what, self.of = how, value, unit, what, of
-        self.by: int | None = None
-        self.rule = ""
-        self.why: tuple[Node, ...] = ()
+        self.rule, self.by, self.why = rule, by, why
+        self.cycle = cycle  # the cycle that it belongs to, 0 for none
         self.on: Node | None = None  # the day on which it counts
         self.start: Node | int | None = None  # of a sum over days; of a run the day itself
         self.end: Node | int | None = None
-        self.cycle = 0  # the cycle that it belongs to, 0 for none
-        self.more: dict[str, Any] = {}
+        self.more: dict[str, Any] = _NOTHING
         self.id = ""
         self.brief = False  # the text shows it in one line
 
     def links(self) -> list["Node"]:
         """All nodes that this one names."""
         found = [*self.of, *self.why]
-        found += [n for n in (self.on, self.start, self.end) if isinstance(n, Node)]
+        if self.on is not None:
+            found.append(self.on)
+        if isinstance(self.start, Node) and isinstance(self.end, Node):
+            found += [self.start, self.end]
         return found
 
 
@@ -83,16 +87,16 @@ class Nodes:
              start: Node | int | None = None, end: Node | int | None = None) -> Node:
         """A node whose value its children give."""
         value = OPERATIONS[how]([n.value for n in of], by)
-        node = Node(how, value, unit or unit_of(how, of), what, tuple(of))
-        node.by, node.rule, node.cycle = by, rule, self.cycle
-        node.why, node.on, node.start, node.end = tuple(why), on, start, end
+        node = Node(how, value, unit or unit_of(how, of), what, tuple(of), rule, by, tuple(why),
+                    self.cycle)
+        node.on, node.start, node.end = on, start, end
         return node
 
     def leaf(self, how: str, value: Any, unit: str, what: str, rule: str = "",
              of: Sequence[Node] = (), why: Iterable[Node] = (), **more: Any) -> Node:
         """A fact, or a sentence why there is nothing."""
-        node = Node(how, value, unit, what, tuple(of))
-        node.rule, node.cycle, node.why, node.more = rule, self.cycle, tuple(why), more
+        node = Node(how, value, unit, what, tuple(of), rule, None, tuple(why), self.cycle)
+        node.more = more
         return node
 
     def none(self, what: str, unit: str = "cents", rule: str = "",
