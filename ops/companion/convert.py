@@ -183,7 +183,7 @@ def converted(sheet: Sheet, table: Table, day: date) -> Result:
             place = keys.setdefault((made[0], made[1]), number)
             if place != number:
                 raise Unclear("key", made[1], f"record {place} has the same key of this account")
-            require_near_day(sheet, made[3], day)
+            require_near_day(sheet, made[3], cells.text("day"), day)
             signed = cells.signed()
             found.signed["plus" if signed >= 0 else "minus"] += signed
             found.records.append(made)
@@ -192,11 +192,11 @@ def converted(sheet: Sheet, table: Table, day: date) -> Result:
     return found
 
 
-def require_near_day(sheet: Sheet, text: str, day: date) -> None:
+def require_near_day(sheet: Sheet, made: str, text: str, day: date) -> None:
     """Refuses a day ahead, or too long ago, where the description says how old a day may be."""
     if not sheet.days:
         return
-    days = (day - date.fromisoformat(text)).days
+    days = (day - date.fromisoformat(made)).days
     if days < 0:
         raise Unclear("day", text, f"after {day}; are days and months swapped?")
     oldest = sheet.days.get("oldest_days")

@@ -5,6 +5,7 @@ import argparse
 from companion import backups, night, restores, seals
 from companion.program import find_program
 from companion.sending import add_meant, meant_of
+from companion.under_way import Asked
 from companion.words import Words, day, keep
 
 
@@ -47,7 +48,7 @@ def add_files(words: Words) -> None:
 
 
 def carry_night(asked: argparse.Namespace) -> int:
-    return night.night(night.Asked(
+    return night.night(Asked(
         find_program(asked.program), asked.home, asked.day, meant_of(asked), asked.wait,
         asked.calls, asked.reissue, asked.keep))
 

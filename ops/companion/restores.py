@@ -8,6 +8,7 @@ import time
 from dataclasses import dataclass, field
 
 from companion import locks
+from companion.backups import NAME as BACKUP
 from companion.backups import SEAL_END, join, require_same_rows, seal_beside
 from companion.check import require_sound
 from companion.days import day_of
@@ -72,6 +73,7 @@ class Undone:
     files: list[tuple[str, str]] = field(default_factory=list)
     statements: dict[str, int] = field(default_factory=dict)
     reports: list[str] = field(default_factory=list)
+    backups: list[str] = field(default_factory=list)
 
     def __bool__(self) -> bool:
         return bool(self.files or self.statements or self.reports)
@@ -123,6 +125,16 @@ def lines_behind(home: str, day: str, name: str, state: State) -> bool:
     return is_behind(given, replies, state)
 
 
+def backups_behind(home: str, seal: Seal) -> list[str]:
+    """The backups of the night with more rows, and their seals."""
+    found = []
+    for name in names_in(os.path.join(home, "backups")):
+        match = BACKUP.fullmatch(name.removesuffix(SEAL_END))
+        if match and match.group(1) == "rows" and int(match.group(3)) > seal.rows:
+            found.append(name)
+    return found
+
+
 def undone_of(home: str, seal: Seal, state: State) -> Undone:
     """What came of rows that a backup doesn't have."""
     found = Undone()
@@ -137,6 +149,7 @@ def undone_of(home: str, seal: Seal, state: State) -> Undone:
             account = state.accounts.get(match.group(1))
             if account is None or int(match.group(2)) not in account.bills:
                 found.statements[day] = found.statements.get(day, 0) + 1
+    found.backups = backups_behind(home, seal)
     found.reports = [one.name for one in sealed_reports(home) if one.seal.rows > seal.rows]
     return found
 
@@ -153,7 +166,7 @@ def tell_undone(home: str, undone: Undone) -> None:
 
 
 def put_back(home: str, undone: Undone, backup_path: str, stamp: str) -> None:
-    """Puts the files of the undone nights into the inbox, and sets their reports and books apart.
+    """Puts the files of the undone nights into the inbox, and sets what else they made apart.
 
     Each waits for the night of its day. Nothing is removed: a note says what was set apart.
     """
@@ -164,6 +177,7 @@ def put_back(home: str, undone: Undone, backup_path: str, stamp: str) -> None:
         shutil.move(path, os.path.join(home, INBOX, f"00-again-{day}-{name}"))
         os.rename(path + REPLIES, f"{path}{REPLIES}.undone-{stamp}")
     apart = [os.path.join("reports", name) for name in undone.reports]
+    apart += [os.path.join("backups", name) for name in undone.backups]
     for day in days:
         apart += [os.path.join("books", name) for name in names_in(os.path.join(home, "books"))
                   if name.startswith(day) and name.endswith(".csv")]

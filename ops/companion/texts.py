@@ -96,6 +96,7 @@ class Printed:
     numbers: dict[str, int] = field(default_factory=dict)
     posts: set[int] = field(default_factory=set)
     rates: list[Rate] = field(default_factory=list)
+    plans: list[tuple[int, date]] = field(default_factory=list)
 
     @property
     def minimum(self) -> int:
@@ -126,6 +127,8 @@ def printed_of(text: str) -> Printed:
             found.rates.append(rate_of(parts))
         elif day_of(parts[0]) is not None:
             found.posts.add(int(parts[2]))
-        elif parts[0] not in ("DEFERRED", "LATE"):
+        elif parts[0] == "DEFERRED":
+            found.plans.append((cents_of(parts[2]), known_day(parts[-1])))
+        elif parts[0] != "LATE":
             found.numbers[" ".join(parts[:-1])] = cents_of(parts[-1])
     return found

@@ -9,10 +9,11 @@ from datetime import date, timedelta
 
 from companion.files import names_in, read_text
 from companion.home import INBOX, LEDGER, require_home
-from companion.night import Asked, night
+from companion.night import night
 from companion.opening import copy_pair, held
 from companion.run import Meant
 from companion.state import read_state
+from companion.under_way import Asked
 from companion.waiting import inbox_of
 
 # What a night reads of a home beside the ledger and the inbox.
