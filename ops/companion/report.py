@@ -84,14 +84,12 @@ def closed_accounts(state: State, asker: Asker, close: books.Close) -> list[Late
 def tell_money(home: str, day: date, state: State, asker: Asker, returned: list[str],
                tell: Tell) -> None:
     """What posted since the last close, who is newly late, what came back, and the ten lines."""
-    since, before = books.last_close(home, day)
-    close = books.Close(day, since)
+    close = books.begun_close(home, day)
     newly = closed_accounts(state, asker, close)
     tell(books.posted_line(close))
-    for name, cents in close.late_fees.items():
-        tell(f"  late fee {name} {money(cents)}")
-    for name, cents in close.returned_fees.items():
-        tell(f"  returned-payment fee {name} {money(cents)}")
+    for what, word in enumerate(("late fee", "returned-payment fee")):
+        for name, cents in close.new(what).items():
+            tell(f"  {word} {name} {money(cents)}")
     tell(f"newly late: {len(newly)}")
     for one in newly:
         tell(f"  {one.account} statement {one.cycle}, due {one.due}: {money(one.missing)} of "
@@ -99,10 +97,9 @@ def tell_money(home: str, day: date, state: State, asker: Asker, returned: list[
     tell(f"payments returned: {len(returned)}")
     for text in returned:
         tell(f"  {text}")
-    path = books.put_close(home, close, before)
-    posted = books.put_posted(home, close)
-    tell(f"trial up to {day}, in {path}; by account in {posted}:")
-    for line in books.trial_lines(close, before):
+    path, accounts = books.put_close(home, close)
+    tell(f"trial up to {day}, in {path}; by account in {accounts}:")
+    for line in books.trial_lines(close):
         tell(f"  {line}")
 
 
