@@ -1,5 +1,7 @@
 """billctl itself: where it is, how it is called, and what each of its exit statuses asks."""
 
+import contextlib
+import ctypes
 import os
 import shutil
 import signal
@@ -14,6 +16,9 @@ HERE = os.path.dirname(os.path.dirname(os.path.realpath(__file__)))
 TOP = os.path.dirname(HERE)
 PLACES = (os.path.join(TOP, "bin", "billctl"),
           os.path.join(TOP, "crates", "billctl", "out", "billctl"))
+
+# Linux's option of prctl for a signal when the parent is gone.
+PR_SET_PDEATHSIG = 1
 
 ASKS = {
     0: "every accepted line has its row",
@@ -67,6 +72,12 @@ def start(words: list[str], **streams: Any) -> subprocess.Popen[bytes]:
         return subprocess.Popen(words, restore_signals=False, **streams)
     except OSError as error:
         raise Trouble(f"{words[0]} can't be run: {error.strerror}", OWN_FILES) from error
+
+
+def end_with_caller() -> None:
+    """Has the system end this process when the one that started it is gone, where it can."""
+    with contextlib.suppress(OSError, AttributeError):
+        ctypes.CDLL(None).prctl(PR_SET_PDEATHSIG, int(signal.SIGKILL))
 
 
 def call(program: str, path: str, *words: str) -> tuple[int, bytes]:
