@@ -5,6 +5,7 @@ import sys
 
 from companion import statements
 from companion.convert import convert
+from companion.move import move
 from companion.program import find_program
 from companion.run import Meant, run
 from companion.words import Words, day
@@ -67,6 +68,18 @@ def add_convert(words: Words) -> None:
     way.add_argument("--late", action="store_true", help="such records are meant")
 
 
+def add_move(words: Words) -> None:
+    way = words.add(
+        "move", "accounts of another system as request lines",
+        "Reads accounts.csv, and where they are there plans.csv and disputes.csv, of FOLDER, and\n"
+        "prints the lines that open these accounts on DAY with their balances, for `run`.\n"
+        "Standard error has the control sums, to be held against the other system's.\n"
+        "docs/MOVING.md of the repository says what is lost by it, and in whose favour.",
+        lambda asked: move(asked.folder, asked.day), wait=None, place=None)
+    way.add_argument("folder", metavar="FOLDER")
+    way.add_argument("day", metavar="DAY", type=day)
+
+
 def add_statements(words: Words) -> None:
     way = words.add(
         "statements", "the statements of a day, in files",
@@ -83,4 +96,5 @@ def add_statements(words: Words) -> None:
 def add(words: Words) -> None:
     add_run(words)
     add_convert(words)
+    add_move(words)
     add_statements(words)
