@@ -27,6 +27,7 @@ from .posts import killed_server
 from .requests import IMPORT, LINES, OPENING
 
 PAGE = 4096
+SERVED = 5  # seconds at most of a server, also where a busy machine takes longer for a whole run
 
 
 class Kill(NamedTuple):
@@ -149,7 +150,7 @@ class Kills:
 
     def serving(self, kill: Kill) -> Outcome:
         file = self.expected.begun(kill.room)
-        return killed_server(self.expected, file, kill.after * self.expected.seconds)
+        return killed_server(self.expected, file, kill.after * min(SERVED, self.expected.seconds))
 
     def ways(self) -> tuple[Callable[[Kill], Outcome], ...]:
         return (self.apply_by_call, self.importing, self.serving,
