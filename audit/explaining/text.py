@@ -6,7 +6,7 @@ from collections.abc import Iterator
 from ..days import day_text
 from .document import Document, is_asked
 from .nodes import Node, value_text
-from .rules import RULES
+from .rules import PARTS, RULES
 
 WIDTH = 100
 VALUE = 14
@@ -180,6 +180,15 @@ class Text:
                 yield from self.tree(number.node)
                 yield ""
 
+    def parts(self, document: Document) -> Iterator[str]:
+        """RULES' sentences on these rules, where the regulation reads otherwise."""
+        rules = dict.fromkeys(n.rule for n in document.nodes if n.rule in PARTS)
+        if rules:
+            yield "WHERE THESE RULES AND THE REGULATION PART (docs/RULES.md has both)"
+            for rule in rules:
+                yield from row_line("", 0, PARTS[rule], RULES[rule][1].removeprefix("12 CFR 1026"))
+            yield ""
+
     def rows_left_out(self, document: Document) -> Iterator[str]:
         if document.left_out:
             yield "ROWS OF THE ACCOUNT THAT NO NUMBER IS MADE OF"
@@ -196,5 +205,6 @@ def text_of(document: Document, word: str = "") -> str:
            "12 CFR 1026", ""]
     out += text.lines(document, word)
     if not word:
+        out += text.parts(document)
         out += text.rows_left_out(document)
     return "\n".join(line.rstrip() for line in out).rstrip("\n") + "\n"

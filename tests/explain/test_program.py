@@ -34,8 +34,9 @@ class Command(ExplainCase):
                 out, _, status = self.explain(file, "a", "2", "--issued", "--form", "json",
                                               program=self.lying(word, old, new))
                 self.assertEqual(status, 1)
-                self.assertIn(f"{old}\n  program: ", out)
-                self.assertIn(new, out.splitlines()[-1])
+                model, program = out.splitlines()[-2:]
+                self.assertTrue(model.startswith("  model: ") and old in model, out)
+                self.assertTrue(program.startswith("  program: ") and new in program, out)
                 self.assertNotIn("nodes", out)
 
     def test_changed_cent_elsewhere(self) -> None:
