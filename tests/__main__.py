@@ -7,9 +7,10 @@ modules run. `--fast` leaves out what takes long. A line a module is written as 
 order of their names, with what it printed below it; then each failure, each skipped case with its
 reason, and the sum. The status is 1 where a case failed, 2 where a name is none.
 
-A module that wants no other beside it says `ALONE = True`. The variable BILLCTL names a program to
-test in the place of crates/billctl/out/billctl. Files lie in memory (/dev/shm) where there is such
-a disk and TMPDIR says nothing else: no commit waits.
+A module that wants no other beside it says `ALONE = True`; one that takes long as a whole says
+`LONG = True`, and of others a class or a case is marked by tests.support.case.long. The variable
+BILLCTL names a program to test in the place of crates/billctl/out/billctl. Files lie in memory
+(/dev/shm) where there is such a disk and TMPDIR says nothing else: no commit waits.
 """
 
 import argparse
