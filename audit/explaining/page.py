@@ -18,8 +18,9 @@ pre,.v{font-family:ui-monospace,monospace}pre{overflow-x:auto;font-size:clamp(9p
 border:1px solid #bbb}a{color:#1b4f9c}details,.leaf{margin-left:.9rem;border-left:1px solid #ccc;
 padding-left:.5rem;overflow-wrap:anywhere}summary{cursor:pointer}.v{font-weight:600}
 .s{color:#555;font-size:.85em}.b{font-style:italic}.wide{overflow-x:auto}
-table{border-collapse:collapse;font-size:13px}td,th{white-space:nowrap;padding:.1rem .5rem;text-align:right;
-border-bottom:1px solid #ddd}td.said{text-align:left;white-space:normal}caption{text-align:left;padding:.3rem 0}
+table{border-collapse:collapse;font-size:13px}td,th{white-space:nowrap;padding:.1rem .5rem;
+text-align:right;border-bottom:1px solid #ddd}td.said{text-align:left;white-space:normal}
+caption{text-align:left;padding:.3rem 0}
 svg{width:100%;max-width:48rem;height:auto;font-size:9px}.grid{stroke:#ddd}
 .due{stroke:#b00020;stroke-dasharray:3 2}.closing{stroke:#333}.paid{fill:#2b7a3d;color:#2b7a3d}
 .fee{fill:#b00020;color:#b00020}.keys span{margin-right:1rem;white-space:nowrap}
