@@ -1,5 +1,5 @@
 // The top call over rows in a SQLite database in memory, and over a reader and a writer of std.
-ghost use Rattle.std.specs.Prelude.{◌≡◌, true};
+ghost use Rattle.std.specs.Prelude.{None, if◌then◌else◌};
 ghost use Rattle.std.specs.Io.Buffered.{writer_contents};
 ghost use Rattle.card_sqlite.specs.Told.{told_in_memory};
 ghost use Rattle.card_commands.specs.World.{Answered, world};
@@ -11,9 +11,9 @@ use sqlite::MemStore;
 use std::alloc::Global;
 use std::io::{Read, Write};
 
-/// `billctl` over a reader and a writer of std that tell their bytes, as `main` has them but for the operating system's: its clause, with
-/// what the reader has left and what the writer holds with the replies that wait before it. So nothing is lost, added or changed by the
-/// adapters between the bytes of std and the lines and replies of the ledger.
+/// `billctl` over a reader and a writer of std, as `main` has them except for the operating system's: its clause, with what the reader
+/// has left and what the writer holds with the replies that wait before it, where they are said to show it. So nothing is lost, added
+/// or changed by the adapters between the bytes of std and the lines and replies of the ledger.
 pub fn billctl_over_std<R: Read, W: Write + Drop, D: Door>(
     alloc: Global,
     words: &[String],
@@ -22,9 +22,7 @@ pub fn billctl_over_std<R: Read, W: Write + Drop, D: Door>(
     keeper: &mut StoreKeeper<MemStore>,
     door: &mut D,
 ) -> u8
-    requires read { input.old.told ≡ true }
-    requires written { output.old.told ≡ true }
-    ensures outcome { let at = world (λ s. R.remaining s.reader) (λ s. s.faults) (λ s. writer_contents W.contents s.writer.writer) (λ s. s.faults) (λ k. told_in_memory k.conn) (λ k. k.faults) D.visits D.faults in
+    ensures { let at = world (λ s. if s.told then R.remaining s.reader else None) (λ s. s.faults) (λ s. if s.told then writer_contents W.contents s.writer.writer else None) (λ s. s.faults) (λ k. told_in_memory k.conn) (λ k. k.faults) D.visits D.faults in
         Answered (at input.old output.old keeper.old door.old) (at input.new output.new keeper.new door.new) words.now result }
 {
     billctl(alloc, words, input, output, keeper, door)
