@@ -72,7 +72,9 @@ def dropped(**want: Any) -> Change:
 
 def cut_out(**want: Any) -> Change:
     """A node is cut out of the document."""
-    return lambda doc: doc["nodes"].remove(first(doc, **want))
+    def change(doc: Doc) -> None:
+        doc["nodes"].remove(first(doc, **want))
+    return change
 
 
 def longer(days: int, by: int, how: str = "product") -> Change:
@@ -206,7 +208,7 @@ OF_RETURNED: dict[str, Change] = {
     "a returned payment is counted": dropped(how="choose", what="payment"),
     "a node is cut out": cut_out(how="choose", what="payment"),
     "the missed due date is cut out": cut_out(how="before", what="the minimum payment of"),
-    "an operation is another": put("how", "greatest", how="least", what="late fee"),
+    "an operation is another": put("how", "greatest", how="least", what="amount of the late fee"),
     "an operation isn't known": put("how", "average", how="round_half_up"),
     "a constant is another": put("by", 364, how="floor_divide", by=365),
     "cents are shown as a rate": put("unit", "basis points", what="minimum payment of cycle 2"),
