@@ -27,6 +27,13 @@ WEIGHTS = dict(generate.WEIGHTS, roll=60, bill=8, amend=10, open=1, openvar=0, i
                feerow=1, plan=2, notice=2, bad=1, repeat=2, reuse=1)
 
 
+def there(day: int | None) -> int:
+    """A closing or a due date, which the calendar has for these years."""
+    if day is None:
+        stop("histories: a day is behind the calendar")
+    return day
+
+
 class Writer(generate.Writer):
     """One account, whose days pass from closing to closing for the most part."""
 
@@ -35,9 +42,9 @@ class Writer(generate.Writer):
         cycle = cycle_of(anchor, self.today)
         kind = self.draw.randrange(100)
         if kind < 55:
-            day = closing(anchor, cycle) + self.draw.choice((1, 1, 1, 2, 5))
+            day = there(closing(anchor, cycle)) + self.draw.choice((1, 1, 1, 2, 5))
         elif kind < 75:
-            day = due(anchor, max(1, cycle - 1)) + self.draw.choice((0, 1, 1, 2))
+            day = there(due(anchor, max(1, cycle - 1))) + self.draw.choice((0, 1, 1, 2))
             day = max(self.today + 1, day)
         elif kind < 95:
             day = self.today + self.draw.randint(1, 9)
