@@ -2,7 +2,7 @@
 
 _ledger() {
     local word=${COMP_WORDS[COMP_CWORD]} options=--help
-    local words='check today accounts due bills rows posts late tomorrow undo chain examine version run convert move statements seal backup restore night'
+    local words='check today accounts due bills rows posts explain late tomorrow undo chain examine version run convert move statements seal backup restore night'
     if [ "$COMP_CWORD" -eq 1 ]; then
         mapfile -t COMPREPLY < <(compgen -W "$words --help --version" -- "$word")
         return
@@ -19,6 +19,7 @@ _ledger() {
     restore) options='--help --again --wait --program' ;;
     check | late | examine) options='--help --wait --program' ;;
     version) options='--help --program' ;;
+    explain) options='--help --program --issued --form --number --changes --balance' ;;
     today | due | bills | posts | undo | chain) options='--help --wait' ;;
     esac
     case $word in

@@ -2,7 +2,7 @@
 
 import argparse
 
-from companion import check, late, looks, tomorrow, undo, version
+from companion import check, explain, late, looks, tomorrow, undo, version
 from companion.examine import examine
 from companion.home import chain
 from companion.program import find_program
@@ -46,6 +46,21 @@ def add_file(words: Words) -> None:
                       "day, and cents as corrections have them now, 0 where it is void.",
                       lambda asked: looks.posts(asked.file, asked.account, asked.wait))
     posts.add_argument("account", metavar="ACCOUNT", nargs="?", help="else all accounts")
+    add_explain(words)
+
+
+def add_explain(words: Words) -> None:
+    """Where the numbers of a cycle come from."""
+    word = words.add("explain", "where each number of a cycle comes from",
+                     "Has the independent model (audit/ of the repository) show how each number\n"
+                     "of a closed cycle follows from the kept rows, once the program says the same.\n"
+                     "--program stands in front of FILE. docs/EXPLAIN.md says how to check it.",
+                     lambda asked: explain.explain(find_program(asked.program),
+                                                   [asked.file, *asked.words]),
+                     wait=None, program=True)
+    word.add_argument("words", metavar="ACCOUNT", nargs=argparse.REMAINDER,
+                      help="ACCOUNT CYCLE [--issued] [--form text|json|html] [--number WORD], "
+                           "ACCOUNT CYCLE --changes, or ACCOUNT --balance [DAY]")
 
 
 def add_home(words: Words) -> None:
