@@ -50,9 +50,10 @@ class Command(ExplainCase):
 
     def test_checker(self) -> None:
         file = self.ledger(RETURNED)
-        before = {name: Path(self.at(name)).read_bytes() for name in os.listdir(self.room)}
         statement = self.write("statement.txt", subprocess.run(
             [PROGRAM, file, "statement", "a", "2"], capture_output=True, check=True).stdout)
+        before = {name: Path(self.at(name)).read_bytes() for name in os.listdir(self.room)
+                  if name.startswith(os.path.basename(file))}
         out, _, status = self.explain(file, "a", "2", "--issued", "--form", "json")
         self.assertEqual(status, 0)
         self.assertEqual(out, self.explain(file, "a", "2", "--issued", "--form", "json")[0])
