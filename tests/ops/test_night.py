@@ -78,11 +78,54 @@ class Nights(Case):
         return found
 
 
-class Month(Nights):
+class Killed(Nights):
+    def killed(self, day: date, name: str, *words: str) -> None:
+        """The companion and billctl are killed amid many records; the next call finishes the
+        night, and no record is lost or twice."""
+        late = day - timedelta(days=1)
+        self.put(f"{name}.csv", HEADER
+                 + "".join(f"card-{n % 50 + 1:02},{name}{n},charge,{late},purchase,{n},,\n"
+                           for n in range(1, BIG + 1)))
+        rows = self.kill_amid(day, name, *words)
+        self.assertIn(f"{name}.csv", os.listdir(os.path.join(self.home, "inbox")))
+        done = self.night(day)
+        self.assertEqual(done[0], 0, done)
+        self.assertIn("it is gone on with", done[2])
+        self.assertIn(f"inbox {name}.csv: {BIG} records, ", done[2])
+        self.assertEqual(self.kept(name), BIG)
+        self.assertGreater(rows, 0)
+
+    def kept(self, name: str) -> int:
+        """How many rows have a key of this name."""
+        return sum(f" {name}" in line for line in ledger("rows", self.file)[1].splitlines())
+
+    def kill_amid(self, day: date, name: str, *words: str) -> int:
+        """Has billctl killed when the log of its run is of some size, and the companion with it.
+        Gives how many rows were kept."""
+        limit = os.path.getsize(self.file) + LOG
+        killed = self.write("killed", KILLED.format(python=sys.executable, limit=limit,
+                                                    program=PROGRAM))
+        os.chmod(killed, 0o755)
+        running = start_ledger("night", self.home, "--day", str(day), *words, "--program", killed)
+        running.communicate()
+        self.assertEqual(running.returncode, -signal.SIGKILL)
+        kept = self.kept(name)
+        self.assertLess(kept, BIG)
+        return kept
+
+
+class Calls(Killed):
+    def test_killed_import(self) -> None:
+        """Killed amid an import of its own, as a night by calls makes it."""
+        self.begin("".join(line + "\n" for line in Issuer().opening()))
+        self.killed(FIRST + timedelta(days=1), "big", "--calls")
+
+
+class Month(Killed):
     def test_month(self) -> None:
         self.issuer = Issuer()
         self.begin("".join(line + "\n" for line in self.issuer.opening()))
-        troubles = {4: self.broken_files, 9: self.second_call, 14: self.killed_import,
+        troubles = {4: self.broken_files, 9: self.second_call, 14: self.killed_apply,
                     19: self.full_disk, 24: self.stale_lock}
         for number in range(1, DAYS + 1):
             day = FIRST + timedelta(days=number)
@@ -138,36 +181,9 @@ class Month(Nights):
                       f"{os.path.join(self.home, 'reports', f'{day}.txt')}", done[2])
         self.assertEqual(self.listing(), before)
 
-    def killed_import(self, day: date) -> None:
-        """The companion and billctl are killed amid a large import; the next call finishes the
-        night, and no record is lost or twice."""
-        late = day - timedelta(days=1)
-        self.put("big.csv", HEADER
-                 + "".join(f"card-{n % 50 + 1:02},big{n},charge,{late},purchase,{n},,\n"
-                           for n in range(1, BIG + 1)))
-        rows = self.kill_amid(day)
-        self.assertIn("big.csv", os.listdir(os.path.join(self.home, "inbox")))
-        done = self.night(day)
-        self.assertEqual(done[0], 0, done)
-        self.assertIn("it is gone on with", done[2])
-        self.assertIn(f"inbox big.csv: {BIG} records, ", done[2])
-        lines = ledger("rows", self.file)[1]
-        self.assertEqual(sum(" big" in line for line in lines.splitlines()), BIG)
-        self.assertGreater(rows, 0)
-
-    def kill_amid(self, day: date) -> int:
-        """Has billctl killed when the log of its import is of some size, and the companion with it.
-        Gives how many rows were kept."""
-        limit = os.path.getsize(self.file) + LOG
-        killed = self.write("killed", KILLED.format(python=sys.executable, limit=limit,
-                                                    program=PROGRAM))
-        os.chmod(killed, 0o755)
-        running = start_ledger("night", self.home, "--day", str(day), "--program", killed)
-        running.communicate()
-        self.assertEqual(running.returncode, -signal.SIGKILL)
-        kept = sum(" big" in line for line in ledger("rows", self.file)[1].splitlines())
-        self.assertLess(kept, BIG)
-        return kept
+    def killed_apply(self, day: date) -> None:
+        """Killed amid the one run that takes all records of a night."""
+        self.killed(day, "big")
 
     def full_disk(self, day: date) -> None:
         """The disk takes no more: the night ends with what stands told, and the next one, with
