@@ -53,7 +53,8 @@ def files_named(path: str) -> list[str]:
 
 @functools.cache
 def all_names() -> set[str]:
-    patterns = ("crates/*/src/**/*.rt", "crates/*/specs/*.antt", "audit/*.py")
+    patterns = ("crates/*/src/**/*.rt", "crates/*/specs/*.antt", "audit/**/*.py",
+                "ops/companion/*.py")
     return set(re.findall(r"\w+", "".join(text_of(f"{TOP}/{pattern}") for pattern in patterns)))
 
 

@@ -10,8 +10,8 @@ from tests.support.program import PROGRAM, TOP
 from .common import LINES, Case
 
 INSTALL = os.path.join(TOP, "ops", "install")
-WORDS = ("check today accounts due bills rows posts late tomorrow undo chain examine version run "
-         "convert move statements seal backup restore night").split()
+WORDS = ("check today accounts due bills rows posts explain late tomorrow undo chain examine "
+         "version run convert move statements seal backup restore night").split()
 UNITS = ("billctl.service", "billctl-night.service", "billctl-night.timer",
          "billctl-alarm@.service")
 
