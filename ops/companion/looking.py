@@ -53,7 +53,7 @@ def add_explain(words: Words) -> None:
     """Where the numbers of a cycle come from."""
     word = words.add("explain", "where each number of a cycle comes from",
                      "Has the independent model (audit/ of the repository) show how each number\n"
-                     "of a closed cycle follows from the kept rows, once the program says the same.\n"
+                     "of a closed cycle follows from the kept rows, once the program says so.\n"
                      "--program stands in front of FILE. docs/EXPLAIN.md says how to check it.",
                      lambda asked: explain.explain(find_program(asked.program),
                                                    [asked.file, *asked.words]),
