@@ -1,0 +1,72 @@
+"""What the program tells of the account, held against the texts that are explained."""
+
+import contextlib
+import tempfile
+from collections.abc import Iterator
+from pathlib import Path
+
+from ..ledger_file import write
+from ..program import Program
+from .changes import Changes
+from .document import Document
+from .facts import Rows
+
+
+class Parted(Exception):
+    """A text of the program isn't the one that is explained; both are in the words."""
+
+
+def export_part(text: str, begun: int, ended: int) -> str:
+    """The exported entries from a place to another, without the header."""
+    return "".join(text.splitlines(keepends=True)[begun + 1:ended + 1])
+
+
+@contextlib.contextmanager
+def over(rows: Rows, path: str) -> Iterator[Program]:
+    """The program over a file with these rows alone."""
+    with tempfile.TemporaryDirectory(prefix="explain-") as folder:
+        file = Path(folder) / "account.db"
+        write(file, [body for _, body, _ in rows.kept])
+        yield Program(path, str(file))
+
+
+def held(what: str, ours: str, theirs: str) -> None:
+    """The same text on both sides, else the first line that differs, with both."""
+    ours_lines, their_lines = ours.splitlines(), theirs.splitlines()
+    for place in range(max(len(ours_lines), len(their_lines))):
+        pair = [lines[place] if place < len(lines) else "(nothing)"
+                for lines in (ours_lines, their_lines)]
+        if pair[0] != pair[1]:
+            raise Parted(f"{what}, line {place + 1}\n  model:   {pair[0]}\n  program: {pair[1]}")
+
+
+def hold(document: Document, path: str) -> None:
+    """Every text of a document is the program's over the document's rows."""
+    begun, ended = document.entries
+    account, cycle = document.rows.account, str(document.head.get("cycle", ""))
+    with over(document.rows, path) as program:
+        for name, text in document.texts.items():
+            word = name.split()[0]
+            if word == "export":
+                found = export_part(_told(program, ["export", account]), begun, ended)
+            elif word == "trial":
+                told = _told(program, ["trial", "2011-01-01", document.head["day"]])
+                found = told.splitlines(keepends=True)[-1]
+            elif word == "issued":
+                found = _told(program, ["statement", account, name.split()[1]])
+            else:
+                found = _told(program, [word, account, cycle])
+            held(f"account {account}, {name}", text, found)
+
+
+def hold_changes(changes: Changes, path: str) -> None:
+    """Both statements of the cycle are the program's."""
+    account, cycle = changes.rows.account, str(changes.k)
+    with over(changes.rows, path) as program:
+        for word, name in (("statement", "issued"), ("restate", "restated")):
+            held(f"account {account}, {word} {cycle}", changes.texts[name],
+                 _told(program, [word, account, cycle]))
+
+
+def _told(program: Program, words: list[str]) -> str:
+    return program.run(words)[0].decode("utf-8", "replace")

@@ -1,0 +1,166 @@
+"""An explanation as one page: nothing is loaded from elsewhere, and it needs no scripts."""
+
+import re
+from collections.abc import Iterator
+from html import escape
+
+from ..days import day_text
+from .document import Document
+from .nodes import Node, value_text
+from .picture import Day, svg, table
+from .rules import RULES
+from .text import MANY, how_text
+
+STYLE = """
+body{font:15px/1.45 system-ui,sans-serif;margin:0 auto;max-width:62rem;padding:1rem;color:#1a1a1a}
+h1{font-size:1.3rem}h2{font-size:1.05rem;margin-top:1.6rem}
+pre,.v{font-family:ui-monospace,monospace}pre{overflow-x:auto;font-size:13px;padding:.6rem;
+border:1px solid #bbb}a{color:#1b4f9c}details,.leaf{margin-left:.9rem;border-left:1px solid #ccc;
+padding-left:.5rem;overflow-wrap:anywhere}summary{cursor:pointer}.v{font-weight:600}
+.s{color:#555;font-size:.85em}.b{font-style:italic}.wide{overflow-x:auto}
+table{border-collapse:collapse;font-size:13px}td,th{padding:.1rem .5rem;text-align:right;
+border-bottom:1px solid #ddd}td.said{text-align:left}caption{text-align:left;padding:.3rem 0}
+svg{width:100%;max-width:48rem;height:auto;font-size:9px}.grid{stroke:#ddd}
+.due{stroke:#b00020;stroke-dasharray:3 2}.closing{stroke:#333}.paid{fill:#2b7a3d;color:#2b7a3d}
+.fee{fill:#b00020;color:#b00020}.keys span{margin-right:1rem;white-space:nowrap}
+:target>summary,:target{background:#fff3c4}
+@media print{body{max-width:none;padding:0;font-size:10pt}pre,.wide{overflow:visible}
+pre{white-space:pre-wrap;font-size:8pt}}
+"""
+
+
+class Page:
+    """Writes the page; a node that was written before is a link to it."""
+
+    def __init__(self, document: Document, days: list[Day]) -> None:
+        self.document, self.days = document, days
+        self.cycle = document.head["cycle"]
+        self.written: set[str] = set()
+
+    # -- the texts --------------------------------------------------------------------------
+
+    def _text(self, name: str) -> str:
+        """A text as it was printed, each number a link to its tree."""
+        places = {(n.line, n.place): n.node for n in self.document.numbers if n.text == name}
+        out = []
+        for line, text in enumerate(self.document.texts[name].splitlines()):
+            parts, place = [], 0
+            for piece in re.split(r"([ ,]+)", text):
+                node = places.get((line, place)) if piece.strip(" ,") else None
+                parts.append(f'<a href="#{node.id}">{escape(piece)}</a>' if node else
+                             escape(piece))
+                place += piece.strip(" ,") == "" and piece != ""
+            out.append("".join(parts))
+        return f"<pre>{chr(10).join(out)}</pre>"
+
+    # -- the trees --------------------------------------------------------------------------
+
+    def _said(self, node: Node, because: bool) -> str:
+        section = RULES[node.rule][1] if node.rule else ""
+        value = "" if node.unit == "truth" and because else value_text(node.value, node.unit)
+        how = how_text(node)
+        return (f'<span class="v">{escape(value)}</span> '
+                + ('<span class="b">because</span> ' if because else "") + escape(node.what)
+                + (f" ({escape(how)})" if how else "")
+                + (f' <span class="s">{escape(section)}; {escape(RULES[node.rule][0])}</span>'
+                   if node.rule else ""))
+
+    def _tree(self, node: Node, top: bool, because: bool = False) -> Iterator[str]:
+        if node.id in self.written:
+            yield (f'<div class="leaf"><a href="#{node.id}">{self._link(node, because)}</a></div>')
+            return
+        self.written.add(node.id)
+        cut = not top and (node.brief or 0 < node.cycle < self.cycle)
+        if cut or not (node.of or node.why) or node.how in ("calendar", "in_force"):
+            yield f'<div class="leaf" id="{node.id}">{self._said(node, because)}</div>'
+            return
+        yield f'<details open id="{node.id}"><summary>{self._said(node, because)}</summary>'
+        if isinstance(node.of[0].start if node.of else None, int):
+            yield self._runs(node)
+            yield from self._tree_of_rates(node)
+        else:
+            yield from self._below(node)
+        for why in node.why:
+            yield from self._tree(why, False, True)
+        yield "</details>"
+
+    def _link(self, node: Node, because: bool) -> str:
+        value = "because" if because else value_text(node.value, node.unit)
+        return f"{escape(value)} {escape(node.what)}"
+
+    def _below(self, node: Node) -> Iterator[str]:
+        many = len(node.of) > MANY and node.rule == "repayment"
+        for child in node.of[:3] if many else node.of:
+            yield from self._tree(child, False)
+        if many:
+            last = node.of[-1]
+            yield (f'<div class="leaf">{len(node.of) - 4} months more, and then '
+                   f"{self._said(last, False)}</div>")
+
+    def _runs(self, node: Node) -> str:
+        """The days of a sum as a table."""
+        with_rate = node.of[0].unit == "cents x billionths"
+        rows = []
+        for run in node.of:
+            assert isinstance(run.start, int) and isinstance(run.end, int)
+            days = run.of[0] if with_rate else run
+            rate = value_text(run.of[1].of[0].of[0].value, "basis points") if with_rate else ""
+            cells = [day_text(run.start), day_text(run.end), str(run.end - run.start + 1),
+                     value_text(days.of[0].value, "cents"), *([rate] if with_rate else []),
+                     value_text(run.value, run.unit)]
+            rows.append("<tr>" + "".join(f"<td>{escape(c)}</td>" for c in cells) + "</tr>")
+        names = ["from", "to", "days", "balance", *(["rate"] if with_rate else []),
+                 "days x balance" + (" x daily rate" if with_rate else "")]
+        head = "".join(f"<th>{name}</th>" for name in names)
+        return (f'<div class="wide"><table><thead><tr>{head}</tr></thead><tbody>'
+                f"{''.join(rows)}</tbody></table></div>")
+
+    def _tree_of_rates(self, node: Node) -> Iterator[str]:
+        if node.of[0].unit != "cents x billionths":
+            return
+        seen: list[Node] = []
+        for run in node.of:
+            balance, daily = run.of[0].of[0], run.of[1]
+            for part in ([balance] if balance.how == "at_least_zero" else []) + [daily]:
+                if part not in seen:
+                    seen.append(part)
+                    yield from self._tree(part, False)
+
+    # -- the whole --------------------------------------------------------------------------
+
+    def _trees(self) -> Iterator[str]:
+        shown = [name for name in self.document.texts
+                 if not name.startswith("issued") and name != "export"]
+        for name in shown:
+            for place, line in enumerate(self.document.texts[name].splitlines()):
+                here = [n for n in self.document.numbers if (n.text, n.line) == (name, place)]
+                if here:
+                    yield f"<h2>{escape(' '.join(line.split()))}</h2>"
+                    for number in here:
+                        yield from self._tree(number.node, True)
+        for number in self.document.numbers:
+            if not number.text:
+                yield f"<h2>{escape(number.word)}, on no line</h2>"
+                yield from self._tree(number.node, True)
+
+    def html(self) -> str:
+        head, document = self.document.head, self.document
+        title = f"Cycle {head['cycle']} of {head['account']}, {head['as']}"
+        texts = [self._text(name) for name in document.texts
+                 if not name.startswith("issued") and name != "export"]
+        left = "".join(f"<li>row {seq}: {escape(why)}</li>" for seq, why in document.left_out)
+        return "".join([
+            '<!doctype html><html lang="en"><head><meta charset="utf-8">'
+            '<meta name="viewport" content="width=device-width,initial-scale=1">'
+            '<link rel="icon" href="data:,">'
+            f"<title>{escape(title)}</title><style>{STYLE}</style></head><body>"
+            f"<h1>{escape(title)}</h1><p>By the rows up to {head['rows_up_to']}, of "
+            f"{escape(head['today'])}. Each number leads to where it comes from.</p>",
+            *texts, svg(self.days), table(self.days), *self._trees(),
+            "<h2>Rows of the account that no number is made of</h2>" if left else "",
+            f"<ul>{left}</ul>" if left else "", "</body></html>\n"])
+
+
+def page_of(document: Document, days: list[Day]) -> str:
+    """The page of an explanation."""
+    return Page(document, days).html()
