@@ -1,4 +1,4 @@
-"""Civil days of a ledger: their text and number, closings, due dates, and the last day for a bill that asks for a payment."""
+"""Civil days of a ledger: text and number, closings, due dates, last days for bills."""
 
 from datetime import date, timedelta
 
@@ -10,11 +10,11 @@ LAST_DAY = date(2099, 12, 31)
 TIMELY = 21
 
 
-def day_of(text):
+def day_of(text: str) -> date | None:
     """The day of a text `YYYY-MM-DD` that a request may name, else None."""
-    if len(text) != 10 or text[4] != "-" or text[7] != "-" or not (text[:4] + text[5:7] + text[8:]).isdigit():
+    if len(text) != 10 or text[4] != "-" or text[7] != "-" or not text.isascii():
         return None
-    if not text.isascii():
+    if not (text[:4] + text[5:7] + text[8:]).isdigit():
         return None
     try:
         day = date(int(text[:4]), int(text[5:7]), int(text[8:]))
@@ -23,26 +23,29 @@ def day_of(text):
     return day if FIRST_DAY <= day <= LAST_DAY else None
 
 
-def day_at(number):
+def day_at(number: int) -> date | None:
     """The day of a number of days since 1970-01-01, where a request may name it, else None."""
     if not (FIRST_DAY - EPOCH).days <= number <= (LAST_DAY - EPOCH).days:
         return None
     return EPOCH + timedelta(days=number)
 
 
-def month_on(year, month, months, day):
+def month_on(year: int, month: int, months: int, day: int) -> date:
     """The day of the month that many months later."""
     place = year * 12 + month - 1 + months
     return date(place // 12, place % 12 + 1, day)
 
 
-def closing(opened, close, cycle):
-    """The last day of a cycle, counted from 1: the cycle-th closing day of the month on or after the opening day."""
+def closing(opened: date, close: int, cycle: int) -> date:
+    """The last day of a cycle, counted from 1.
+
+    It is the closing day of the month that comes so many times on or after the opening day.
+    """
     ahead = cycle - 1 if opened.day <= close else cycle
     return month_on(opened.year, opened.month, ahead, close)
 
 
-def closed_cycles(opened, close, today):
+def closed_cycles(opened: date, close: int, today: date) -> int:
     """How many cycles have closed before today."""
     months = (today.year - opened.year) * 12 + today.month - opened.month
     cycles = months + 1 if opened.day <= close else months
@@ -51,13 +54,13 @@ def closed_cycles(opened, close, today):
     return max(cycles, 0)
 
 
-def due(closed):
+def due(closed: date) -> date:
     """The day on which the payment of a statement is due, from its closing."""
     if closed.day <= 4:
         return month_on(closed.year, closed.month, 0, closed.day + 24)
     return month_on(closed.year, closed.month, 1, closed.day - 4)
 
 
-def last_bill_day(closed):
+def last_bill_day(closed: date) -> date:
     """The last day on which a bill of the cycle still asks for a payment."""
     return due(closed) - timedelta(days=TIMELY)

@@ -1,50 +1,32 @@
-"""What is refused before anything is sent: inputs that are empty, cut, or not what they seem, and rolls that go far."""
+"""What is refused before anything is sent: inputs that are empty, cut or not what they seem."""
 
 import csv
 import io
-from dataclasses import dataclass
-from typing import List
+from collections.abc import Sequence
 
 from companion.days import day_of
-from companion.requests import COLUMNS, OPENINGS, WORDS
-from companion.trouble import GUARDED, Trouble, counted
+from companion.inputs import HEADER, KEYED_HEADER, Input
+from companion.requests import COLUMNS, OF, OPENINGS, WORDS
+from companion.state import State
+from companion.trouble import GUARDED, Trouble
+
+__all__ = ["HEADER", "FAR_DAYS", "Input", "guard", "read_input", "require_near"]
 
 # A roll of more days wants --far.
 FAR_DAYS = 7
-HEADER = ",".join(COLUMNS)
-
-# So much of a line is shown.
-SHOWN = 120
 BYTE_ORDER_MARK = b"\xef\xbb\xbf"
+ZIP = b"PK\x03\x04"
 
 
-@dataclass
-class Input:
-    """What is to be sent: its bytes, the word of billctl that reads them, and its lines, or its records behind the header."""
-
-    data: bytes
-    word: str
-    items: List
-
-    def count(self):
-        return counted(len(self.items), "line" if self.word == "apply" else "record")
-
-    def shown(self, place):
-        """An item with its number as the program counts it; records count from the header on."""
-        if self.word == "apply":
-            return f"line {place + 1}: {self.items[place][:SHOWN]}"
-        return f"record {place + 2}: {','.join(self.items[place])[:SHOWN]}"
-
-
-def guard(message):
+def guard(message: str) -> Trouble:
     return Trouble(f"nothing was sent: {message}", GUARDED)
 
 
-def text_of(data):
+def text_of(data: bytes) -> str:
     return data.decode("utf-8", "backslashreplace")
 
 
-def records_of(data):
+def records_of(data: bytes) -> list[list[str]]:
     """The records of CSV, without empty lines."""
     text = text_of(data[len(BYTE_ORDER_MARK):] if data.startswith(BYTE_ORDER_MARK) else data)
     try:
@@ -53,27 +35,31 @@ def records_of(data):
         raise guard(f"the input is no CSV: {error}") from error
 
 
-def lines_of(data):
+def lines_of(data: bytes) -> list[str]:
     """Request lines, without their line feeds and a carriage return in front of one."""
     lines = data.split(b"\n")[:-1]
     return [text_of(line[:-1] if line.endswith(b"\r") else line) for line in lines]
 
 
-def require_header(record):
-    """Refuses a header that isn't exactly the one of records, and names the first column that differs."""
+def require_header(record: list[str]) -> None:
+    """Refuses a header that isn't that of records, and names the first column that differs."""
     for place, wanted in enumerate(COLUMNS):
         found = record[place] if place < len(record) else None
         if found != wanted:
             told = "is missing" if found is None else f"is {found!r}"
-            raise guard(f"column {place + 1} of the header {told}, wanted {wanted!r}; the header is {HEADER}")
-    if len(record) > len(COLUMNS):
-        raise guard(f"the header has {len(record)} columns, wanted {len(COLUMNS)}: {HEADER}")
+            raise guard(f"column {place + 1} of the header {told}, wanted {wanted!r}; "
+                        f"the header is {HEADER}")
+    if len(record) > len(COLUMNS) and record[len(COLUMNS):] != [OF]:
+        raise guard(f"the header has {len(record)} columns, wanted {len(COLUMNS)}: {HEADER}; "
+                    f"or, where posts are named by their keys, {KEYED_HEADER}")
 
 
-def require_whole(data):
+def require_whole(data: bytes) -> None:
     """Refuses an input that is empty, or whose last line was cut."""
     if not data:
         raise guard("the input is empty")
+    if data.startswith(ZIP):
+        raise guard("the input is a workbook (.xlsx) or another zip; save the sheet as CSV")
     if data[:2] in (b"\xff\xfe", b"\xfe\xff") or b"\0" in data[:64]:
         raise guard("the input isn't plain text (it may be UTF-16); save it as UTF-8")
     if not data.endswith(b"\n"):
@@ -81,8 +67,8 @@ def require_whole(data):
         raise guard(f"the last line doesn't end with a line feed, so it may be cut: {last[-60:]!r}")
 
 
-def read_input(data):
-    """What some bytes are, request lines or records of CSV. Refuses what isn't whole or has another header."""
+def read_input(data: bytes) -> Input:
+    """What some bytes are: request lines, or records of CSV. Refuses what isn't whole."""
     require_whole(data)
     front = text_of(data.split(b"\n", 1)[0].rstrip(b"\r"))
     if front.lstrip("\ufeff").split(" ")[0] in (*WORDS, "show"):
@@ -90,16 +76,21 @@ def read_input(data):
             raise guard("a byte order mark stands before the first line; save it without")
         return Input(data, "apply", lines_of(data))
     if not any(mark in front for mark in ",;\t\"|") and " " in front:
-        raise guard(f"the first line begins with no word of a request, and is no header of CSV: {front[:60]!r}")
+        raise guard("the first line begins with no word of a request, and is no header of CSV: "
+                    f"{front[:60]!r}")
     if data.count(b'"') % 2:
         raise guard("a quote isn't closed, so the end of the input may be missing")
     records = records_of(data)
     require_header(records[0] if records else [])
-    return Input(data, "import", records[1:])
+    keyed = len(records[0]) > len(COLUMNS)
+    return Input(data, "import", records=records[1:], keyed=keyed)
 
 
-def require_near(lines, state, far):
-    """Refuses a roll of more than seven days from today, where an account is there, unless `far` says that it is meant."""
+def require_near(lines: Sequence[str], state: State, far: bool) -> None:
+    """Refuses a roll of more than seven days from today, unless `far` says that it is meant.
+
+    Before the first account a roll goes as far as it likes.
+    """
     has_accounts = bool(state.accounts)
     today = state.today
     for place, line in enumerate(lines):
@@ -111,5 +102,5 @@ def require_near(lines, state, far):
         if not has_accounts:
             today = day
         elif (day - today).days > FAR_DAYS and not far:
-            raise guard(f"line {place + 1} rolls from {today} to {day}, {(day - today).days} days, and no roll can be taken back; "
-                        f"more than {FAR_DAYS} days want --far")
+            raise guard(f"line {place + 1} rolls from {today} to {day}, {(day - today).days} days, "
+                        f"and no roll can be taken back; more than {FAR_DAYS} days want --far")

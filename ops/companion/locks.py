@@ -1,40 +1,50 @@
-"""Who has a ledger's file: the locks that SQLite and billctl take on it, and the processes that hold it open."""
+"""Who has a ledger's file: its locks, and the processes that hold it open."""
 
 import fcntl
 import os
 import struct
 import time
+from typing import IO
 
 from companion.trouble import CANNOT_OPEN, Trouble, say
 
-# SQLite's pending, reserved and shared locks. billctl takes them all, exclusively, on the file and on its log.
+# SQLite's pending, reserved and shared locks. billctl takes them all, exclusively, on the file
+# and on its log.
 PLACE = 1 << 30
 LENGTH = 512
 FLOCK = "hhqqi4x"
 PAUSE = 0.1
 
 
-def is_locked(path):
-    """Whether another process has a lock that keeps billctl from the file. Where the system can't tell, no."""
+def is_locked(path: str) -> bool:
+    """Whether another process has a lock that keeps billctl from the file.
+
+    Where the system can't tell, no.
+    """
     if not hasattr(fcntl, "F_OFD_GETLK"):
         return False
     with open(path, "rb") as file:
         asked = struct.pack(FLOCK, fcntl.F_WRLCK, os.SEEK_SET, PLACE, LENGTH, 0)
-        return struct.unpack(FLOCK, fcntl.fcntl(file, fcntl.F_OFD_GETLK, asked))[0] != fcntl.F_UNLCK
+        kind: int = struct.unpack(FLOCK, fcntl.fcntl(file, fcntl.F_OFD_GETLK, asked))[0]
+        return kind != fcntl.F_UNLCK
 
 
-def take_shared(file):
-    """Keeps billctl from an open file until it is closed, where the system can. Says whether it was free."""
+def take_shared(file: IO[bytes]) -> bool:
+    """Keeps billctl from an open file until it is closed, where the system can.
+
+    Says whether it was free.
+    """
     if not hasattr(fcntl, "F_OFD_SETLK"):
         return True
     try:
-        fcntl.fcntl(file, fcntl.F_OFD_SETLK, struct.pack(FLOCK, fcntl.F_RDLCK, os.SEEK_SET, PLACE, LENGTH, 0))
+        asked = struct.pack(FLOCK, fcntl.F_RDLCK, os.SEEK_SET, PLACE, LENGTH, 0)
+        fcntl.fcntl(file, fcntl.F_OFD_SETLK, asked)
     except OSError:
         return False
     return True
 
 
-def has_open(pid, wanted):
+def has_open(pid: str, wanted: tuple[int, int]) -> bool:
     folder = f"/proc/{pid}/fd"
     for name in os.listdir(folder):
         try:
@@ -46,7 +56,7 @@ def has_open(pid, wanted):
     return False
 
 
-def name_of(pid):
+def name_of(pid: str) -> str:
     try:
         with open(f"/proc/{pid}/comm", encoding="utf-8", errors="replace") as file:
             return file.read().strip()
@@ -54,8 +64,8 @@ def name_of(pid):
         return "?"
 
 
-def holders(path):
-    """The processes that have a file open, as `process 12 (billctl)`, where this user may see them."""
+def holders(path: str) -> list[str]:
+    """The processes that have a file open, as `process 12 (billctl)`, if this user may see them."""
     try:
         found = os.stat(path)
         pids = [name for name in os.listdir("/proc") if name.isdigit() and int(name) != os.getpid()]
@@ -71,13 +81,16 @@ def holders(path):
     return names
 
 
-def who_has(path):
+def who_has(path: str) -> str:
     """In words, who has a file that is locked."""
     return " and ".join(holders(path)) or "another process, which this user can't see"
 
 
-def wait_for(paths, seconds):
-    """Waits until no process has a lock on any of the files. Raises Trouble where one still has after so many seconds."""
+def wait_for(paths: list[str], seconds: int) -> None:
+    """Waits until no process has a lock on any of the files.
+
+    Raises Trouble where one still has after so many seconds.
+    """
     end = time.monotonic() + seconds
     told = False
     for path in paths:

@@ -1,124 +1,34 @@
-"""`night`: a whole night of a ledger as one call, which may be stopped anywhere and called again.
+"""`night`: a whole night as one call, which may be stopped anywhere and called again."""
 
-A night's folder has the ledger `rows.db` and `inbox`; the rest is made: `done`, `refused`, `statements`, `backups`, `reports`.
-"""
-
-import contextlib
-import fcntl
 import os
 import shutil
-from dataclasses import dataclass
-from datetime import date, timedelta
+from datetime import date
 
 from companion import guards
-from companion.backups import backup, make_folder, put_text
-from companion.opening import require_openable, warn_of_room
-from companion.looks import bill_lines
-from companion.program import ask_of
-from companion.run import send
-from companion.seals import read_seal
+from companion.backups import backup, keep_of, stem_of, thin
+from companion.files import free_name, make_folder, put_text
+from companion.hand import Hand, is_bulk
+from companion.home import (
+    INBOX, LEDGER, last_sealed, require_home, require_sealed, seal_text, settings_of,
+)
+from companion.inputs import Input
+from companion.looks import bill_lines, late_bills
+from companion.opening import open_rows, require_openable
+from companion.reissue import held_back
+from companion.report import end_report, overdue_of, tell_money, tell_tasks
+from companion.run import AFTER_SECONDS, Meant
+from companion.seals import Seal, seals_at
 from companion.state import State, read_state
-from companion.statements import put_statements, put_tasks
-from companion.trouble import DONE, FOUND, GUARDED, LOCKED, OWN_FILES, Trouble, counted, say
+from companion.statements import file_name, keep_text, put_tasks
+from companion.trouble import DONE, FOUND, GUARDED, OWN_FILES, Progress, Trouble, counted, say
+from companion.under_way import Asked, Night, locked
+from companion.waiting import Waiting, waiting
 
-LEDGER = "rows.db"
-INBOX = "inbox"
-LOCK = "night.lock"
-
-# Tasks of so many days ahead stand in the report.
-AHEAD = 7
+# Connections of a server beside those that can be counted before.
+SPARE = 16
 
 
-@contextlib.contextmanager
-def locked(home):
-    """Keeps a second night from the folder. A lock that a night left which didn't end is no lock: the system gave it back."""
-    path = os.path.join(home, LOCK)
-    with open(path, "a+", encoding="ascii") as file:
-        file.seek(0)
-        before = file.read().strip()
-        try:
-            fcntl.flock(file, fcntl.LOCK_EX | fcntl.LOCK_NB)
-        except OSError:
-            raise Trouble(f"another night is under way in {home}: process {before or '?'}", LOCKED) from None
-        if before:
-            say(f"night: the night of process {before} didn't end; it is gone on with")
-        file.truncate(0)
-        file.write(f"{os.getpid()}\n")
-        file.flush()
-        yield
-        file.truncate(0)
-
-
-@dataclass
-class Night:
-    """One night: where, of which day, what the ledger comes to so far, and what has been told of it."""
-
-    program: str
-    home: str
-    day: date
-    state: State
-    calls: bool = False
-    found: bool = False
-
-    def path(self, *names):
-        return os.path.join(self.home, *names)
-
-    @property
-    def ledger(self):
-        return self.path(LEDGER)
-
-    @property
-    def part(self):
-        return self.path("reports", f"{self.day}.part")
-
-    def tell(self, text):
-        """A line of the report: on standard error at once, and kept in case the night is stopped."""
-        say(text)
-        with open(self.part, "a", encoding="utf-8") as file:
-            file.write(text + "\n")
-
-    def reports(self):
-        """The reports of this day's nights that ended, the last one behind."""
-        found = []
-        while os.path.exists(self.path("reports", self.report_name(len(found) + 1))):
-            found.append(self.path("reports", self.report_name(len(found) + 1)))
-        return found
-
-    def report_name(self, number):
-        return f"{self.day}.txt" if number == 1 else f"{self.day}-{number}.txt"
-
-    def send(self, data, name):
-        """Sends what passed the guards. Ends the night where billctl couldn't go on; what is sent stays where it is."""
-        given = guards.read_input(data)
-        if given.word == "apply" and any(line.startswith("roll ") for line in given.items) and name != "roll":
-            raise guards.guard("it rolls, and only the night does")
-        sent = send(self.program, self.ledger, given, self.state)
-        if sent.status not in (DONE, FOUND):
-            require_openable(self.ledger)
-            warn_of_room(self.ledger)
-            where = f"; {sent.unanswered}" if sent.unanswered else ""
-            raise Trouble(f"{name}: billctl ended with {sent.status}: {ask_of(sent.status)}{where}", sent.status if sent.status > 0 else OWN_FILES)
-        self.found = self.found or bool(sent.refused)
-        return given, sent
-
-
-def inbox_of(home):
-    """The files that wait, by name; those whose name begins with a dot are still being written."""
-    folder = os.path.join(home, INBOX)
-    names = sorted(name for name in os.listdir(folder) if not name.startswith(".")) if os.path.isdir(folder) else []
-    return [name for name in names if os.path.isfile(os.path.join(folder, name))]
-
-
-def free_name(folder, name):
-    """A name that isn't in the folder yet."""
-    found, count = name, 1
-    while os.path.exists(os.path.join(folder, found)):
-        count += 1
-        found = f"{name}.{count}"
-    return found
-
-
-def put_away(night, name, where, end, lines):
+def put_away(night: Night, name: str, where: str, end: str, lines: list[str]) -> str:
     """Moves a file out of the inbox, and writes beside it what came of it."""
     folder = night.path(where, str(night.day))
     make_folder(folder)
@@ -128,132 +38,198 @@ def put_away(night, name, where, end, lines):
     return os.path.join(where, str(night.day), to)
 
 
-def take_in(night, name):
+def take_in(night: Night, one: Waiting) -> None:
     """Sends a file of the inbox, or puts it aside where a guard refuses it."""
-    with open(night.path(INBOX, name), "rb") as file:
-        data = file.read()
-    try:
-        given, sent = night.send(data, name)
-    except Trouble as trouble:
-        if trouble.status != GUARDED:
-            raise
+    if one.given is None:
         night.found = True
-        to = put_away(night, name, "refused", ".why", [trouble.message])
-        night.tell(f"inbox {name}: {trouble.message}; it is in {to}")
+        to = put_away(night, one.name, "refused", ".why", [one.refusal])
+        night.tell(f"inbox {one.name}: {one.refusal}; it is in {to}")
         return
-    night.tell(f"inbox {name}: {given.count()}, {counted(sent.new, 'new row')}, {len(sent.refused)} refused")
-    for text in sent.refused:
-        night.tell(f"  {text}")
-    if os.path.getsize(night.path(INBOX, name)) != len(data):
+    replies = night.send(one.given, one.name)
+    if one.note:
+        night.tell(f"  {one.note}")
+    if os.path.getsize(night.path(INBOX, one.name)) != one.size:
         night.found = True
-        night.tell(f"inbox {name}: it was written to meanwhile, so it stays for the next call")
+        night.tell(f"inbox {one.name}: it was written to meanwhile, so it stays for the next call")
         return
-    put_away(night, name, "done", ".replies", sent.replies + sent.refused)
+    put_away(night, one.name, "done", ".replies", replies)
 
 
-def roll(night, far):
+def lines_given(lines: list[str]) -> Input:
+    return Input("".join(line + "\n" for line in lines).encode(), "apply", lines)
+
+
+def roll(night: Night) -> None:
     """Rolls to the night's day, past the guard."""
     if night.day == night.state.today:
         return
     before = night.state.today
-    line = f"roll {night.day}"
-    guards.require_near([line], night.state, far)
-    night.send(f"{line}\n".encode(), "roll")
+    night.send(lines_given([f"roll {night.day}"]), "roll")
     night.tell(f"roll: from {before} to {night.day}")
 
 
-def bill(night):
-    """Sends the bills that are due."""
-    late = sum(one.last_day < night.state.today for one in night.state.due())
-    lines = bill_lines(night.state)
+def bill(night: Night) -> None:
+    """Sends the bills that are due, but those printed before with other numbers."""
+    held, texts = held_back(night.asked.program, night.home, night.state, night.hand.close)
+    for text in texts:
+        night.tell(f"  {text}")
+    if held and not night.asked.reissue:
+        night.found = True
+        night.tell(f"reissue: {counted(len(held), 'bill')} held back, since statements with other "
+                   "numbers were printed; --reissue issues them")
+    lines = bill_lines(night.state, frozenset() if night.asked.reissue else held)
+    late = late_bills(night.state)
     if lines:
-        _, sent = night.send("".join(line + "\n" for line in lines).encode(), "bills")
-        for text in sent.refused:
-            night.tell(f"  {text}")
-    night.tell(f"bills: {len(lines)}" + (f", {late} of them too late to ask for a payment" if late else ""))
+        night.send(lines_given(lines), "bills")
+    night.tell(f"bills: {len(lines)}{late}")
 
 
-def print_all(night):
+def print_all(night: Night) -> None:
     """The statements of the day and the open tasks."""
     folder = night.path("statements", str(night.day))
+    make_folder(folder)
     wanted = night.state.issued_on(night.day)
-    put_statements(night.program, night.ledger, wanted, folder, night.calls)
-    tasks = put_tasks(night.program, night.ledger, folder)
+    asker = night.hand.asker()
+    progress = Progress("statements", len(wanted))
+    for place, (account, cycle) in enumerate(wanted):
+        text = asker.statement(account, cycle)
+        keep_text(folder, file_name(account, cycle), text, night.asked.reissue)
+        progress.at(place + 1)
+    tasks = put_tasks(folder, asker.tasks())
     night.tell(f"statements: {len(wanted)} in {os.path.relpath(folder, night.home)}")
-    until = (night.day + timedelta(days=AHEAD)).isoformat()
-    soon = [line for line in tasks if line.split(" ", 1)[0] <= until]
-    night.tell(f"tasks: {len(tasks)} open, {len(soon)} to be done by {until}")
-    for line in soon:
-        night.tell(f"  {line}")
+    night.found = bool(overdue_of(tasks, night.day)) or night.found
+    tell_tasks(tasks, night.day, night.tell)
+    tell_money(night.home, night.day, night.state, asker, night.returned, night.tell)
 
 
-def save(night):
-    to, is_new = backup(night.program, night.ledger, night.path("backups"), 0)
+def save(night: Night) -> None:
+    """A backup, whose rows billctl loads with those of the night itself."""
+    to, is_new = backup(night.asked.program, night.ledger, night.path("backups"), AFTER_SECONDS,
+                        night.hand.prove)
     if is_new:
         night.tell(f"backup: {os.path.relpath(to, night.home)}")
 
 
-def end_report(night):
-    """Ends the report with the seal, gives it its name, and prints that."""
-    night.tell(f"seal: {read_seal(night.ledger).text()}")
-    night.tell(f"rows: {night.state.rows}")
-    to = night.path("reports", night.report_name(len(night.reports()) + 1))
-    os.replace(night.part, to)
-    print(to)
+def save_end(night: Night) -> Seal:
+    """The backup at the end: rows that were loaded at the beginning, and those of tonight.
+
+    No load proves it again: its first rows are those that billctl loaded, by their seal, and
+    behind them are as many as it accepted. The next night loads them all.
+    """
+    whole = require_grown(night)
+    to, is_new = backup(night.asked.program, night.ledger, night.path("backups"), 0,
+                        None if night.hand.calls else lambda copy: None)
+    if is_new:
+        night.tell(f"backup: {os.path.relpath(to, night.home)}")
+    kept = night.asked.keep
+    for name in thin(night.path("backups"), stem_of(night.ledger), kept) if kept else []:
+        night.tell(f"backup: backups/{name} is removed, as keep says")
+    return whole
 
 
-def is_done(night):
+def require_grown(night: Night) -> Seal:
+    """Refuses rows that aren't those of the beginning with the accepted ones behind them."""
+    assert night.start is not None
+    with open_rows(night.ledger, AFTER_SECONDS) as rows:
+        whole, found = seals_at(rows, [night.start.rows])
+    if found.get(night.start.rows) != night.start:
+        raise Trouble("the rows that were there when the night began aren't there any more: the "
+                      "file was changed meanwhile. Keep it, and compare it with the backup",
+                      OWN_FILES)
+    if whole.rows != night.state.rows:
+        others = whole.rows - night.state.rows
+        night.tell(f"others: {counted(others, 'row')} came in by others meanwhile")
+        night.hand.state = read_state(night.ledger, AFTER_SECONDS)
+    return whole
+
+
+def is_done(night: Night) -> bool:
     """Whether this day's night has ended already, and nothing came since."""
     reports = night.reports()
-    if not reports or night.state.today != night.day or inbox_of(night.home) or night.state.due() or os.path.exists(night.part):
+    if not reports or night.state.today != night.day or night.waiting or night.state.due():
+        return False
+    if os.path.exists(night.part):
         return False
     with open(reports[-1], encoding="utf-8") as file:
         return file.read().splitlines()[-1] == f"rows: {night.state.rows}"
 
 
-def carry_out(night, far):
+def carry_out(night: Night) -> None:
     """The steps of a night, each of which may be done again."""
-    if night.day > night.state.today:
-        guards.require_near([f"roll {night.day}"], night.state, far)
     night.tell(f"night of {night.day}")
     save(night)
-    roll(night, far)
-    names = inbox_of(night.home)
-    for place, name in enumerate(names):
-        say(f"night: file {place + 1} of {len(names)} of the inbox: {name}")
-        take_in(night, name)
+    night.hand.begin()
+    roll(night)
+    for place, one in enumerate(night.waiting):
+        say(f"night: file {place + 1} of {len(night.waiting)} of the inbox: {one.name}")
+        take_in(night, one)
     bill(night)
     print_all(night)
-    save(night)
-    end_report(night)
+    night.hand.close()
+    whole = save_end(night)
+    last = night.before
+    named = f"{last.seal.text()} (reports/{last.name})" if last else seal_text(None)
+    end_report(night.part, night.path("reports", night.report_name(len(night.reports()) + 1)),
+               [f"seal before: {named}", f"seal: {whole.text()}", f"rows: {whole.rows}"],
+               night.path("statements", str(night.day)), night.day)
 
 
-def require_home(home):
-    if not os.path.isdir(home):
-        raise Trouble(f"{home} is no folder", GUARDED)
-    if not os.path.exists(os.path.join(home, LEDGER)):
-        raise Trouble(f"{os.path.join(home, LEDGER)} isn't there; begin the ledger by `run {os.path.join(home, LEDGER)} --new`", GUARDED)
+def count_of(state: State, day: date, files: list[Waiting]) -> tuple[int, int]:
+    """How many lines a night sends, and how many connections a server of it takes."""
+    lines = 1 + sum(len(one.given) for one in files if one.given)
+    bills = sum(account.closed(day) - len(account.bills) for account in state.accounts.values())
+    newly = sum(one.given.data.count(b"open") for one in files if one.given)
+    return lines, lines + 3 * bills + len(state.accounts) + 2 * newly + SPARE
 
 
-def night_of(program, home, day, far, wait, calls):
-    require_home(home)
-    with locked(home):
-        require_openable(os.path.join(home, LEDGER), wait)
-        night = Night(program, home, day, read_state(os.path.join(home, LEDGER), wait), calls)
-        if day < night.state.today:
-            raise Trouble(f"the ledger's today is {night.state.today} already, and {day} is before it", GUARDED)
-        for name in ("reports", INBOX):
-            make_folder(night.path(name))
+def begun(asked: Asked) -> Night:
+    """A night whose ledger is the one that the last report sealed."""
+    path = os.path.join(asked.home, LEDGER)
+    require_openable(path, asked.wait)
+    last = last_sealed(asked.home)
+    with open_rows(path, asked.wait) as rows:
+        whole, found = seals_at(rows, [last.seal.rows] if last else [])
+    if last is not None:
+        require_sealed(asked.home, whole, found.get(last.seal.rows), last)
+    state = read_state(path, asked.wait)
+    if asked.day < state.today:
+        raise Trouble(f"the ledger's today is {state.today} already, and {asked.day} is before it",
+                      GUARDED)
+    if asked.day > state.today:
+        guards.require_near([f"roll {asked.day}"], state, asked.meant.far)
+    for name in ("reports", INBOX):
+        make_folder(os.path.join(asked.home, name))
+    files, numbers = waiting(asked.home, path, state, asked.day, asked.meant)
+    lines, count = count_of(state, asked.day, files)
+    hand = Hand(asked.program, path, state, asked.calls, is_bulk(lines, state.rows), count)
+    hand.numbers = numbers
+    return Night(asked, hand, last, whole, files)
+
+
+def night_of(asked: Asked) -> int:
+    require_home(asked.home)
+    with locked(asked.home):
+        night = begun(asked)
         if is_done(night):
-            say(f"night: the night of {day} is done, and nothing came since: {night.reports()[-1]}")
+            say(f"night: the night of {asked.day} is done, and nothing came since: "
+                f"{night.reports()[-1]}")
             return DONE
-        carry_out(night, far)
+        try:
+            carry_out(night)
+        finally:
+            night.hand.server.end()
         return FOUND if night.found else DONE
 
 
-def night(program, home, day, far, wait, calls=False):
+def night(asked: Asked) -> int:
     """The word `night`."""
+    settings = settings_of(asked.home) if os.path.isdir(asked.home) else {}
+    late = asked.meant.late or settings.get("late") == "take"
+    kept = asked.keep or keep_of(settings.get("keep", ""))
+    meant = Meant(asked.meant.far, late, asked.meant.dated_back)
     try:
-        return night_of(program, home, day, far, wait, calls)
+        return night_of(Asked(asked.program, asked.home, asked.day, meant, asked.wait, asked.calls,
+                              asked.reissue, kept))
     except OSError as error:
-        raise Trouble(f"{error.filename or home}: {error.strerror}; the next call goes on from here", OWN_FILES) from error
+        raise Trouble(f"{error.filename or asked.home}: {error.strerror}; the next call goes on "
+                      "from here", OWN_FILES) from error

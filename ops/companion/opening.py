@@ -1,7 +1,8 @@
-"""A look at a ledger's file: the causes for which billctl couldn't open it, and its rows, read by stock sqlite3.
+"""A look at a ledger's file: why billctl couldn't open it, and its rows, read by stock sqlite3.
 
-A look leaves the file and its log as they are and makes nothing beside them. The file is read where it lies if its log has no
-commits, else a copy of both in a temporary folder. While it is read, billctl is kept from it as from a file in use.
+A look leaves the file and its log as they are and makes nothing beside them. The file is read where
+it lies if its log has no commits, else a copy of both in a temporary folder. While it is read,
+billctl is kept from it as from a file in use.
 """
 
 import contextlib
@@ -11,9 +12,13 @@ import sqlite3
 import stat
 import tempfile
 import urllib.parse
+from collections.abc import Generator, Iterator
 
 from companion import locks
 from companion.trouble import CANNOT_OPEN, DAMAGED, FOUND, OWN_FILES, Trouble, say
+
+# A row's number and its bytes.
+Row = tuple[int, bytes]
 
 MAGIC = b"SQLite format 3\0"
 
@@ -27,12 +32,12 @@ TABLE = "CREATE TABLE kept (seq INTEGER PRIMARY KEY, body BLOB NOT NULL) STRICT"
 COLUMNS = [("seq", "INTEGER", 0, None, 1), ("body", "BLOB", 1, None, 0)]
 
 
-def log_of(path):
+def log_of(path: str) -> str:
     """The log that belongs to a file, where a link leads."""
     return os.path.realpath(path) + "-wal"
 
 
-def cause_of_name(path):
+def cause_of_name(path: str) -> str | None:
     """Why a path can't be that of a ledger's file, else None."""
     if path == "-":
         return "- keeps rows in memory, so there is no file to look at"
@@ -46,7 +51,7 @@ def cause_of_name(path):
     return None
 
 
-def cause_of_kind(path, what):
+def cause_of_kind(path: str, what: str) -> str | None:
     """Why a path that is there is no plain file that this user may read and write, else None."""
     found = os.lstat(path)
     if stat.S_ISDIR(found.st_mode):
@@ -61,7 +66,7 @@ def cause_of_kind(path, what):
     return None
 
 
-def cause_of_journal(real, path):
+def cause_of_journal(real: str, path: str) -> str | None:
     """Why a rollback journal beside the file keeps billctl from it, else None."""
     journal = real + "-journal"
     if not os.path.lexists(journal):
@@ -70,10 +75,11 @@ def cause_of_journal(real, path):
         with open(journal, "rb") as file:
             if file.read(1) in (b"", b"\0"):
                 return None
-    return f"{path}: {journal} is there, a journal that sqlite3 left; open the file once with sqlite3, which plays it back"
+    return (f"{path}: {journal} is there, a journal that sqlite3 left; "
+            "open the file once with sqlite3, which plays it back")
 
 
-def cause_of_content(real, path):
+def cause_of_content(real: str, path: str) -> str | None:
     """Why the file's front is that of no SQLite database, else None."""
     with open(real, "rb") as file:
         front = file.read(len(MAGIC))
@@ -82,7 +88,7 @@ def cause_of_content(real, path):
     return f"{path} is no SQLite database: it doesn't begin as one"
 
 
-def cause_of_pair(real, path):
+def cause_of_pair(real: str, path: str) -> str | None:
     """Why the file or the log beside it can't be opened, but for locks, else None."""
     log = log_of(path)
     cause = cause_of_kind(real, path) or cause_of_journal(real, path)
@@ -91,61 +97,73 @@ def cause_of_pair(real, path):
     if os.path.lexists(log):
         return cause_of_kind(log, f"{path}: its log {log}") or cause_of_content(real, path)
     if not os.access(os.path.dirname(real), os.W_OK):
-        return f"{path}: its log can't be made, since the folder {os.path.dirname(real)} may not be written by this user"
+        return (f"{path}: its log can't be made, since the folder {os.path.dirname(real)} "
+                "may not be written by this user")
     return cause_of_content(real, path)
 
 
-def require_openable(path, wait=0):
-    """Raises Trouble with the cause where billctl couldn't open the file, or where it isn't there. Waits for a lock."""
+def require_openable(path: str, wait: int = 0) -> None:
+    """Raises Trouble with the cause where billctl couldn't open the file, or where it isn't there.
+
+    Waits for a lock.
+    """
     cause = cause_of_name(path)
     if cause:
         raise Trouble(cause, CANNOT_OPEN)
     if not os.path.lexists(path):
-        raise Trouble(f"{path} isn't there; billctl would begin a new, empty ledger under this name", FOUND)
+        raise Trouble(f"{path} isn't there; billctl would begin a new, empty ledger under "
+                      "this name", FOUND)
     real = os.path.realpath(path)
-    cause = cause_of_pair(real, path) if os.path.exists(real) else f"{path} is a link to {real}, which isn't there"
+    if os.path.exists(real):
+        cause = cause_of_pair(real, path)
+    else:
+        cause = f"{path} is a link to {real}, which isn't there"
     if cause:
         raise Trouble(cause, CANNOT_OPEN)
     locks.wait_for([real, real + "-wal"], wait)
 
 
-def warn_of_room(path):
+def warn_of_room(path: str) -> None:
     """Says where the disk of a file has too little room for a run."""
     free = shutil.disk_usage(os.path.dirname(os.path.realpath(path))).free
     if free < ROOM:
-        say(f"the disk of {path} has {free:,} bytes left; a run that keeps rows wants {ROOM:,}, and ends with 5 without them")
+        say(f"the disk of {path} has {free:,} bytes left; a run that keeps rows wants {ROOM:,}, "
+            "and ends with 5 without them")
 
 
-def has_commits(real):
+def has_commits(real: str) -> bool:
     """Whether the log may hold commits that the file doesn't have yet."""
     log = real + "-wal"
     return os.path.exists(log) and os.path.getsize(log) > FRAMES_BEGIN
 
 
-def copy_pair(real, to):
+def copy_pair(real: str, to: str) -> None:
     """Copies a file and its log, where it has commits, under another path."""
     try:
         shutil.copyfile(real, to)
         if has_commits(real):
             shutil.copyfile(real + "-wal", to + "-wal")
     except OSError as error:
-        raise Trouble(f"{to}: a copy of {real} can't be made: {error.strerror}; TMPDIR may name another folder", OWN_FILES) from error
+        raise Trouble(f"{to}: a copy of {real} can't be made: {error.strerror}; "
+                      "TMPDIR may name another folder", OWN_FILES) from error
 
 
 @contextlib.contextmanager
-def held(path, wait=0):
+def held(path: str, wait: int = 0) -> Iterator[str]:
     """The real path of a file that billctl could open, kept from billctl meanwhile."""
     require_openable(path, wait)
     real = os.path.realpath(path)
     with contextlib.ExitStack() as stack:
         for each in (real, real + "-wal"):
-            if os.path.exists(each) and not locks.take_shared(stack.enter_context(open(each, "rb"))):
+            if not os.path.exists(each):
+                continue
+            if not locks.take_shared(stack.enter_context(open(each, "rb"))):
                 raise Trouble(f"{each} is in use by {locks.who_has(each)}", CANNOT_OPEN)
         yield real
 
 
 @contextlib.contextmanager
-def copied(path, wait=0):
+def copied(path: str, wait: int = 0) -> Iterator[str]:
     """The path of a copy of a file and its log, in a temporary folder that goes at the end."""
     with tempfile.TemporaryDirectory(prefix="ledger-") as room:
         copy = os.path.join(room, "copy")
@@ -154,34 +172,41 @@ def copied(path, wait=0):
         yield copy
 
 
-def connection(real):
-    """A connection to a file whose log has no commits. It reads alone, locks nothing and makes nothing."""
-    return sqlite3.connect("file:" + urllib.parse.quote(real) + "?mode=ro&immutable=1", uri=True, isolation_level=None)
+def connection(real: str) -> sqlite3.Connection:
+    """A connection to a file whose log has no commits.
+
+    It reads alone, locks nothing and makes nothing.
+    """
+    name = "file:" + urllib.parse.quote(real) + "?mode=ro&immutable=1"
+    return sqlite3.connect(name, uri=True, isolation_level=None)
 
 
-def things_of(base):
+def things_of(base: sqlite3.Connection) -> list[tuple[str, str, str]]:
     return base.execute("SELECT type, name, sql FROM sqlite_master ORDER BY rowid").fetchall()
 
 
-def cause_of_form(base, path):
+def cause_of_form(base: sqlite3.Connection, path: str) -> str | None:
     """That the table isn't spelled as a ledger's, else None."""
     for _, _, sql in things_of(base):
         if " ".join(sql.split()) != TABLE:
-            return f"{path}: its table kept is of another form: {' '.join(sql.split())}; a ledger's is: {TABLE}"
+            return (f"{path}: its table kept is of another form: {' '.join(sql.split())}; "
+                    f"a ledger's is: {TABLE}")
     return None
 
 
-def cause_of_schema(base, path):
+def cause_of_schema(base: sqlite3.Connection, path: str) -> str | None:
     """What the database has that isn't the table of a ledger, else None."""
     for kind, name, sql in things_of(base):
         if (kind, name) != ("table", "kept"):
-            return f"{path} has the {kind} {name}, which is no ledger's; a ledger's file has the table kept alone"
-        if [row[1:6] for row in base.execute("PRAGMA table_info(kept)")] != COLUMNS or "STRICT" not in sql.upper():
+            return (f"{path} has the {kind} {name}, which is no ledger's; "
+                    "a ledger's file has the table kept alone")
+        columns = [row[1:6] for row in base.execute("PRAGMA table_info(kept)")]
+        if columns != COLUMNS or "STRICT" not in sql.upper():
             return cause_of_form(base, path)
     return None
 
 
-def rows_in(base, path, since=0):
+def rows_in(base: sqlite3.Connection, path: str, since: int = 0) -> Generator[Row, None, None]:
     """The rows of a database behind the first ones in order, as numbers and bytes."""
     cause = cause_of_schema(base, path)
     if cause:
@@ -195,13 +220,17 @@ def rows_in(base, path, since=0):
 
 
 @contextlib.contextmanager
-def open_rows(path, wait=0, since=0):
-    """The rows of a ledger's file behind the first ones in order. Raises Trouble with the cause where it can't be opened or is damaged."""
+def open_rows(path: str, wait: int = 0, since: int = 0) -> Iterator[Iterator[Row]]:
+    """The rows of a ledger's file behind the first ones in order.
+
+    Raises Trouble with the cause where it can't be opened or is damaged.
+    """
     with contextlib.ExitStack() as stack:
         real = stack.enter_context(held(path, wait))
         try:
             if has_commits(real):
-                copy = os.path.join(stack.enter_context(tempfile.TemporaryDirectory(prefix="ledger-")), "copy")
+                room = stack.enter_context(tempfile.TemporaryDirectory(prefix="ledger-"))
+                copy = os.path.join(room, "copy")
                 copy_pair(real, copy)
                 base = sqlite3.connect(copy, isolation_level=None)
             else:
@@ -211,8 +240,10 @@ def open_rows(path, wait=0, since=0):
             stack.callback(rows.close)
             yield rows
         except sqlite3.Error as error:
-            raise Trouble(f"{path} is damaged, as SQLite finds: {error}; restore a backup", CANNOT_OPEN) from error
+            raise Trouble(f"{path} is damaged, as SQLite finds: {error}; restore a backup",
+                          CANNOT_OPEN) from error
 
 
-def damaged(number, reason):
-    return Trouble(f"row {number} isn't sound: {reason}; restore a backup, or look with check", DAMAGED)
+def damaged(number: int, reason: str) -> Trouble:
+    return Trouble(f"row {number} isn't sound: {reason}; restore a backup, or look with check",
+                   DAMAGED)

@@ -1,4 +1,4 @@
-"""What replies say in words: each refusal with its reason, and which refusals are harmless repeats."""
+"""What replies say in words: each refusal with its reason, and which are harmless repeats."""
 
 REASONS = {
     1: "there is no account of this name",
@@ -11,7 +11,8 @@ REASONS = {
     10: "a plan has to end on a closing: {} is the first one from its end on",
     11: "a plan lasts six months at least",
     12: "the account has 64 segments, so no plan or notice is taken",
-    13: "number {} is no post of the kind that is wanted; or, of a bill, it is the bill that issued this cycle",
+    13: "number {} is no post of the kind that is wanted; or, of a bill, "
+        "it is the bill that issued this cycle",
     14: "the payment was returned before, by post {}",
     15: "a notice takes effect 45 days after its day at the earliest: {}",
     16: "no notice takes effect in the account's first year: {} at the earliest",
@@ -72,13 +73,13 @@ ROLL_BACK = 27
 PAST_ROW = 29
 
 
-def number_of(reply):
+def number_of(reply: str) -> int:
     """The number of a refusal, 0 where a reply is none."""
     parts = reply.split(" ")
     return int(parts[1]) if parts[0] == "no" and len(parts) > 1 and parts[1].isdigit() else 0
 
 
-def reason_of(reply, word):
+def reason_of(reply: str, word: str) -> str:
     """A refusal in words, of a request with this word."""
     parts = reply.split(" ")
     value = parts[3] if len(parts) > 3 else ""

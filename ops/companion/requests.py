@@ -2,7 +2,6 @@
 
 import re
 from dataclasses import dataclass
-from typing import Dict
 
 from companion.days import day_of
 
@@ -45,14 +44,20 @@ SHARED = ("roll", "holiday", "feerow", "index")
 OPENINGS = ("open", "openvar")
 COLUMNS = ("account", "key", "kind", "day", "place", "cents", "minute", "channel")
 KINDS = ("charge", "credit", "payment")
+
+# With a ninth column that names a post by its key, the companion takes these kinds too.
+OF = "of"
+KEYED_KINDS = (*KINDS, "return", "dispute", "ack", "resolve", "amend")
 NUMBER_LIMIT = 999_999_999_999
 
-FORMS = {"account": "name", "key": "name", "day": "day", "end": "day", "effective": "day", "place": "place"}
+FORMS = {"account": "name", "key": "name", "day": "day", "end": "day", "effective": "day",
+         "place": "place"}
 FORMS.update({name: name for name in CHOICES})
 
 MEANINGS = {
-    "first": "first fee", "repeat": "repeated fee", "close": "closing day of the month", "purchase": "purchase rate",
-    "cash": "cash rate", "transfer": "transfer rate", "penalty": "penalty rate", "pct": "part", "target": "number of the post",
+    "first": "first fee", "repeat": "repeated fee", "close": "closing day of the month",
+    "purchase": "purchase rate", "cash": "cash rate", "transfer": "transfer rate",
+    "penalty": "penalty rate", "pct": "part", "target": "number of the post",
     "effective": "effective day", "after": "rate after the end",
 }
 
@@ -63,7 +68,8 @@ WANTED = {
     "place": "purchase, cash, transfer, or plan: and a number",
     "kind": "charge, credit or payment",
 }
-WANTED.update({name: " or ".join(words) if len(words) == 2 else "purchase, cash or transfer" for name, words in CHOICES.items()})
+WANTED.update({name: " or ".join(words) if len(words) == 2 else "purchase, cash or transfer"
+               for name, words in CHOICES.items()})
 
 NAME = re.compile(r"[A-Za-z0-9][A-Za-z0-9._-]{0,31}")
 NUMBER = re.compile(r"0|[1-9][0-9]{0,11}")
@@ -71,24 +77,24 @@ NUMBER = re.compile(r"0|[1-9][0-9]{0,11}")
 
 @dataclass(frozen=True)
 class Request:
-    """A request: its word, and the text of each of its fields by the member's name, in the order of the line."""
+    """A request: its word, and the text of each field by its name, in the order of the line."""
 
     word: str
-    fields: Dict[str, str]
+    fields: dict[str, str]
 
-    def line(self):
+    def line(self) -> str:
         return " ".join([self.word, *self.fields.values()])
 
 
-def members_of(word):
+def members_of(word: str) -> list[str]:
     return WORDS[word].split()
 
 
-def form_of(member):
+def form_of(member: str) -> str:
     return FORMS.get(member, "number")
 
 
-def is_of_form(form, text):
+def is_of_form(form: str, text: str) -> bool:
     """Whether a field's text is of its form."""
     if form == "name":
         return NAME.fullmatch(text) is not None
@@ -97,22 +103,26 @@ def is_of_form(form, text):
     if form == "number":
         return NUMBER.fullmatch(text) is not None
     if form == "place":
-        return text in CATEGORIES or (text.startswith("plan:") and NUMBER.fullmatch(text[5:]) is not None)
+        if text.startswith("plan:"):
+            return NUMBER.fullmatch(text[5:]) is not None
+        return text in CATEGORIES
     return text in CHOICES[form]
 
 
-def meaning_of(member):
+def meaning_of(member: str) -> str:
     return MEANINGS.get(member, member)
 
 
-def bad_line(line, field):
+def bad_line(line: str, field: int) -> str:
     """In words, what `bad` says of a field of a request line; the word is field 1."""
     if field == 0:
         return "the line has more than 512 bytes"
     parts = line.split(" ")
     if field == 1:
         return f"{parts[0]!r} is no word of a request" if line else "the line is empty"
-    members = ["account"] if parts[0] == "show" else members_of(parts[0]) if parts[0] in WORDS else []
+    members = ["account"] if parts[0] == "show" else []
+    if parts[0] in WORDS:
+        members = members_of(parts[0])
     if field > len(members) + 1:
         return f"field {field} is surplus"
     if not members:
@@ -124,15 +134,30 @@ def bad_line(line, field):
     return f"{name} is {parts[field - 1]!r}, wanted {WANTED[form_of(member)]}"
 
 
-def bad_record(record, field):
+def bad_record(record: list[str], field: int, keyed: bool = False) -> str:
     """In words, what `bad` says of a column of a CSV record."""
-    if field > len(COLUMNS):
+    columns = (*COLUMNS, OF) if keyed else COLUMNS
+    if field > len(columns):
         return f"column {field} is surplus"
-    name = f"column {field} ({COLUMNS[field - 1]})"
+    name = f"column {field} ({columns[field - 1]})"
     if field > len(record):
         return f"{name} is missing"
-    column, text = COLUMNS[field - 1], record[field - 1]
+    column, text = columns[field - 1], record[field - 1]
     kind = record[2] if len(record) > 2 else ""
-    if kind in KINDS and column in (("place",) if kind == "payment" else ("minute", "channel")):
+    if column == "kind" and keyed:
+        return f"{name} is {text!r}, wanted {', '.join(KEYED_KINDS)}"
+    if column == OF and text and kind not in KINDS:
+        return f"{name} is {text!r}, and no post of the account has this key yet"
+    if text and column not in ("account", "key", "kind", "day") and is_left_empty(kind, column):
         return f"{name} is {text!r}, and has to be empty for a {kind}"
-    return f"{name} is {text!r}, wanted {WANTED['kind' if column == 'kind' else form_of(column)]}"
+    form = "kind" if column == "kind" else "name" if column == OF else form_of(column)
+    return f"{name} is {text!r}, wanted {WANTED[form]}"
+
+
+def is_left_empty(kind: str, column: str) -> bool:
+    """Whether a record of a kind has nothing in a column."""
+    if kind in KINDS:
+        return column in (("place", OF) if kind == "payment" else ("minute", "channel", OF))
+    if column == "cents":
+        return kind in ("return", "ack")
+    return kind in KEYED_KINDS and column in ("place", "minute", "channel")

@@ -1,9 +1,10 @@
-"""`seal`: the number of rows and a SHA-256 over all of them in order, and whether the first ones are those of an older seal."""
+"""`seal`: the number of rows and a SHA-256 over all of them, and whether an older seal holds."""
 
 import hashlib
+from collections.abc import Iterable
 from dataclasses import dataclass
 
-from companion.opening import open_rows
+from companion.opening import Row, open_rows
 from companion.trouble import DONE, FOUND, say
 
 
@@ -14,34 +15,41 @@ class Seal:
     rows: int
     hash: str
 
-    def text(self):
+    def text(self) -> str:
         return f"{self.rows} {self.hash}"
 
 
-def add_row(sum_of, seq, body):
-    """Each row goes in as its number in eight bytes, the length of its bytes in four, and its bytes."""
+def add_row(sum_of: "hashlib._Hash", seq: int, body: bytes) -> None:
+    """A row goes in as its number in eight bytes, its length in four, and its bytes."""
     sum_of.update(seq.to_bytes(8, "big", signed=True) + len(body).to_bytes(4, "big") + body)
 
 
-def seal_of(rows, at=None):
+def seal_of(rows: Iterable[Row], at: int | None = None) -> tuple[Seal, Seal | None]:
     """The seal of all rows, and of the first `at` of them, None where there are fewer."""
+    whole, found = seals_at(rows, [] if at is None else [at])
+    return whole, None if at is None else found.get(at)
+
+
+def seals_at(rows: Iterable[Row], wanted: Iterable[int]) -> tuple[Seal, dict[int, Seal]]:
+    """The seal of all rows, and of as many first ones as are wanted where there are so many."""
+    places = set(wanted)
     sum_of = hashlib.sha256()
+    found = {0: Seal(0, sum_of.hexdigest())} if 0 in places else {}
     count = 0
-    early = Seal(0, sum_of.hexdigest()) if at == 0 else None
     for seq, body in rows:
         add_row(sum_of, seq, body)
         count += 1
-        if count == at:
-            early = Seal(count, sum_of.hexdigest())
-    return Seal(count, sum_of.hexdigest()), early
+        if count in places:
+            found[count] = Seal(count, sum_of.hexdigest())
+    return Seal(count, sum_of.hexdigest()), found
 
 
-def read_seal(path, wait=0):
+def read_seal(path: str, wait: int = 0) -> Seal:
     with open_rows(path, wait) as rows:
         return seal_of(rows)[0]
 
 
-def seal(path, since, wait):
+def seal(path: str, since: Seal | None, wait: int) -> int:
     """Prints a file's seal. With an older one it says whether the first rows are still those."""
     with open_rows(path, wait) as rows:
         whole, early = seal_of(rows, since.rows if since else None)
@@ -49,10 +57,13 @@ def seal(path, since, wait):
     if since is None:
         return DONE
     if early is None:
-        say(f"seal: {path} has {whole.rows} rows, and the seal is of {since.rows}: {since.rows - whole.rows} are lost")
+        say(f"seal: {path} has {whole.rows} rows, and the seal is of {since.rows}: "
+            f"{since.rows - whole.rows} are lost")
         return FOUND
     if early.hash != since.hash.lower():
-        say(f"seal: the first {since.rows} rows of {path} aren't those of the seal: a row was changed, lost or put in")
+        say(f"seal: the first {since.rows} rows of {path} aren't those of the seal: "
+            "a row was changed, lost or put in")
         return FOUND
-    say(f"seal: the first {since.rows} rows of {path} are those of the seal; {whole.rows - since.rows} came since")
+    say(f"seal: the first {since.rows} rows of {path} are those of the seal; "
+        f"{whole.rows - since.rows} came since")
     return DONE

@@ -20,18 +20,18 @@ BETWEEN = 2.0
 class Trouble(Exception):
     """A word can't go on. Nothing more is done; `status` is its exit status."""
 
-    def __init__(self, message, status):
+    def __init__(self, message: str, status: int) -> None:
         super().__init__(message)
         self.message = message
         self.status = status
 
 
-def say(text):
+def say(text: str) -> None:
     """A line on standard error."""
     print(text, file=sys.stderr, flush=True)
 
 
-def counted(number, what):
+def counted(number: int, what: str) -> str:
     """A number with what it counts, as `1 line` and `2 lines`."""
     return f"{number} {what}" if number == 1 else f"{number} {what}s"
 
@@ -39,12 +39,12 @@ def counted(number, what):
 class Progress:
     """Says how far long work is, at most once in two seconds."""
 
-    def __init__(self, what, whole):
+    def __init__(self, what: str, whole: int) -> None:
         self.what = what
         self.whole = whole
         self.said = time.monotonic()
 
-    def at(self, done):
+    def at(self, done: int) -> None:
         now = time.monotonic()
         if now - self.said >= BETWEEN:
             self.said = now

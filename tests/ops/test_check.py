@@ -214,10 +214,11 @@ class Content(Case):
             ([(1, ROLL), (2, OPEN), (3, CHARGE[:-1])], 3,
              "its bytes are no spelling of a request: its bytes end inside a field"),
             ([(1, ROLL), (2, OPEN), (3, OPEN)], 3,
-             "it is `open a o 2024-03-01 5 1999 2499 2199 2999 2500 100`, which would be refused, "
-             "or is a repeat"),
+             "it is `open a o 2024-03-01 5 1999 2499 2199 2999 2500 100`, which is a repeat of "
+             "post 1"),
             ([(1, ROLL), (2, CHARGE), (3, OPEN)], 2,
-             "it is `charge a c1 2024-03-01 purchase 1250`, which would be refused"),
+             "it is `charge a c1 2024-03-01 purchase 1250`, which would be refused: "
+             "no 1 UnknownAccount: there is no account of this name"),
             ([(1, b""), (2, OPEN), (3, CHARGE)], 1,
              "its bytes are no spelling of a request: it has fewer than two bytes"),
             ([(-1, ROLL), (2, OPEN), (3, CHARGE)], 1, "its number is -1"),

@@ -97,7 +97,7 @@ class Backups(Case):
         self.expect(ledger("restore", to, self.file), 10,
                     f"{to} isn't what was backed up: its seal is 4 ")
         self.expect(ledger("backup", self.file, self.at("saved")), 10,
-                    f"{to} is there already with other rows; move it away")
+                    f"{to} is there already with other rows: a row was changed")
         self.expect(ledger("restore", self.file, self.file), 10,
                     f"{self.file} is the backup itself")
         self.expect(ledger("restore", self.at("none"), self.file), 1,
@@ -151,8 +151,8 @@ class Statements(Case):
                          (0, ""))
         self.write(os.path.join("served", "ben-1.txt"), "another text")
         self.expect(ledger("statements", self.file, "2026-03-29", self.at("served")), 12,
-                    f"{self.at('served', 'ben-1.txt')} is there already with another text; move it "
-                    "away")
+                    f"{self.at('served', 'ben-1.txt')} is there already with another text: it "
+                    "was printed from rows that are gone, or changed since. Keep it")
 
     def test_no_server(self) -> None:
         """Where a server can't be had, each statement is asked by a call."""

@@ -39,7 +39,7 @@ ROOM = 400_000
 # with it.
 KILLED = """#!{python}
 import os, resource, signal, sys
-if sys.argv[2] == "import":
+if sys.argv[2] in ("import", "apply"):
     child = os.fork()
     if child == 0:
         signal.signal(signal.SIGXFSZ, signal.SIG_DFL)

@@ -10,8 +10,8 @@ from tests.support.program import TOP, Session
 from .common import HEADER, LINES, Case, Told, ledger
 
 from companion.days import closed_cycles, closing, due, last_bill_day
+from companion.home import read_toml
 from companion.rows import NoSpelling, decode
-from companion.toml import read_toml
 
 WORKED = (
     ("010100004d47", "roll 2024-03-01"),
@@ -186,7 +186,8 @@ ben,r4,credit,2026-03-02,purchase,987,,
 
     def test_sheet(self) -> None:
         done = self.convert(self.COLUMNS, self.SHEET)
-        self.assertEqual(done, (0, self.RECORDS, "convert: 4 records\n"))
+        self.assertEqual(done, (0, self.RECORDS, "convert: 4 records: 2 charges 1,254.56, "
+                                "1 payment 1,000.00, 1 credit 9.87\n"))
 
     def test_unclear(self) -> None:
         """One table of all that isn't understood, and nothing on standard output."""
@@ -235,7 +236,7 @@ convert: 8 of 12 records not understood; nothing was written
              "the input has 0 columns 'Booked', for day"),
             (self.COLUMNS.replace("latin-1", "utf-8"), self.SHEET, "can't be read as utf-8"),
             (self.COLUMNS.replace("skip = 1", "skip = x"), self.SHEET,
-             "line 4 of the description of columns isn't understood: 'skip = x'"),
+             "columns.toml isn't understood: Invalid value (at line 4, column 8)"),
             (self.COLUMNS.replace("skip", "skp"), self.SHEET, "'skp' is none of separator"),
             (self.COLUMNS.replace("DD.MM.YYYY", "DD.MM."), self.SHEET,
              "has to name YYYY or YY, MM and DD"),
@@ -253,6 +254,7 @@ convert: 8 of 12 records not understood; nothing was written
                                     given=sheet.read())[:2], (0, records.read()))
 
     def test_toml(self) -> None:
-        self.assertEqual(read_toml('a = "x \\"y\\" \\\\" # c\nb = -3\nc = true\n[s]\n"k 1" = '
-                                   '\'\\n\'\n\n[t] # d\n'),
+        path = self.write("some.toml", 'a = "x \\"y\\" \\\\" # c\nb = -3\nc = true\n[s]\n"k 1" = '
+                                       '\'\\n\'\n\n[t] # d\n')
+        self.assertEqual(read_toml(path),
                          {"a": 'x "y" \\', "b": -3, "c": True, "s": {"k 1": "\\n"}, "t": {}})

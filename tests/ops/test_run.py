@@ -55,7 +55,8 @@ class Guards(Case):
     def test_log_alone(self) -> None:
         self.write("rows.db-wal", b"")
         self.refuse(LINES, f"{self.file}-wal is there without its file; a log and a file of "
-                           "another time mustn't meet: move it away", "--new", "--far")
+                           "another time mustn't meet: bring its file back beside it, or begin "
+                           "the ledger under another name", "--new", "--far")
 
     def test_empty(self) -> None:
         self.begin()

@@ -1,22 +1,20 @@
-"""The test of the shards: tests/shards.sh says what it shows."""
+"""A month of 200 accounts over four ledgers behind a door, and the same over one ledger."""
 import os
-import random
-import shutil
-import sqlite3
-import sys
-import tempfile
 import time
+from collections.abc import Iterator
 
-import tables
-from accounts import Client
-from hostile import Hostile
-from parts import PATIENCE, SHARDS, Door, Ledger, Scripts, Way, ask, fail, free_ports, shard_of
+from tests.support import program
+from tests.support.program import PROGRAM
+from tests.support.rows import bodies_of
 
-TOP = sys.argv[1]
-SEED = int(sys.argv[2]) if len(sys.argv) > 2 else random.randrange(10**6)
-PROGRAM = os.path.join(TOP, "crates", "billctl", "out", "billctl")
-EXAMPLES = os.path.join(TOP, "examples", "shards")
+from .accounts import Client, Told
+from .hostile import Hostile
+from .parts import PATIENCE, SHARDS, Door, Ledger, Scripts, Way, ask, fail, free_ports, shard_of
+
+EXAMPLES = str(program.EXAMPLES / "shards")
 CLIENTS, ACCOUNTS = 8, 200
+NAMES = [f"{kind}{number}" for kind in ("a", "Card-", "x.", "9_")
+         for number in range(ACCOUNTS // 4)]
 DAYS = [f"2024-01-{day:02}" for day in range(4, 32, 3)] + ["2024-02-03"]
 KILLED_ON, HELD_ON, REFUSED_ON, MOVED_ON = "2024-01-10", "2024-01-13", "2024-01-16", "2024-01-22"
 ANSWERS_A_DAY = 300
@@ -33,20 +31,21 @@ BODIES = {
 class Month:
     """A month of eight clients, with what was answered to them and to shared.sh."""
 
-    def __init__(self, room, names):
+    def __init__(self, room: str, names: list[str], seed: int) -> None:
         ports = free_ports(SHARDS)
         self.room, self.names = room, names
-        self.ledgers = [Ledger(PROGRAM, os.path.join(room, f"shard{shard}"), port) for shard, port in enumerate(ports)]
+        self.ledgers = [Ledger(PROGRAM, os.path.join(room, f"shard{shard}"), port)
+                        for shard, port in enumerate(ports)]
         self.way = Way(room, EXAMPLES, ports[3])
         ports = ports[:3] + [self.way.port]
         self.door = Door(room, EXAMPLES, ports)
         self.scripts = Scripts(room, EXAMPLES, self.door, ports)
         self.day = "2024-01-01"
         self.over = False
-        self.shared_answers = []
-        self.clients = [Client(self, names[number::CLIENTS], SEED) for number in range(CLIENTS)]
+        self.shared_answers: list[Told] = []
+        self.clients = [Client(self, names[number::CLIENTS], seed) for number in range(CLIENTS)]
 
-    def start(self):
+    def start(self) -> None:
         for ledger in self.ledgers:
             ledger.start()
         for ledger in self.ledgers:
@@ -54,7 +53,7 @@ class Month:
         self.way.open()
         self.door.open()
 
-    def stop(self):
+    def stop(self) -> None:
         self.over = True
         self.door.stop()
         self.way.stop()
@@ -62,27 +61,29 @@ class Month:
             if ledger.run:
                 ledger.kill()
 
-    def share(self, *words, wanted=0, tries=20, is_new=True):
-        """Sends a shared request to all shards; where it is new, its place among the answers is that of its first sending."""
+    def share(self, *words: str, wanted: int = 0, tries: int = 20, is_new: bool = True) -> str:
+        """Sends a shared request to all shards; where it is new, its place among the answers is
+        that of its first sending."""
         told, moment = self.scripts.shared(*words, wanted=wanted, tries=tries)
         if is_new:
-            self.shared_answers.append((moment, "POST", "/posts", BODIES[words[0]].format(*words[1:]), 200, '{"ok":0}'))
+            self.shared_answers.append((moment, "POST", "/posts",
+                                        BODIES[words[0]].format(*words[1:]), 200, '{"ok":0}'))
         return told
 
-    def answered(self):
+    def answered(self) -> int:
         for client in self.clients:
             if client.trouble:
-                fail(f"seed {SEED}: a client ends with {client.trouble}")
+                fail(f"a client ends with {client.trouble}")
         return sum(len(client.answers) for client in self.clients)
 
-    def wait_for(self, answers):
+    def wait_for(self, answers: int) -> None:
         deadline = time.monotonic() + PATIENCE
         while self.answered() < answers:
             time.sleep(0.01)
             if time.monotonic() > deadline:
-                fail(f"seed {SEED}: the clients don't go on")
+                fail("the clients don't go on")
 
-    def wait_for_each(self):
+    def wait_for_each(self) -> None:
         """Until no client waits for what it waits for now."""
         before = [len(client.answers) for client in self.clients]
         deadline = time.monotonic() + PATIENCE
@@ -90,10 +91,11 @@ class Month:
             self.answered()
             time.sleep(0.01)
             if time.monotonic() > deadline:
-                fail(f"seed {SEED}: a client waits on")
+                fail("a client waits on")
 
-    def kill_one(self):
-        """A ledger is killed as it answers, and started again. What wasn't answered is sent again before the next roll."""
+    def kill_one(self) -> None:
+        """A ledger is killed as it answers, and started again. What wasn't answered is sent again
+        before the next roll."""
         victim = self.ledgers[1]
         before = victim.connections()
         while victim.connections() < before + 20:
@@ -103,8 +105,9 @@ class Month:
         victim.start()
         self.wait_for_each()
 
-    def move_one(self, day):
-        """A ledger is shut at the door and killed; the day is rolled without it; it goes on over a copy, and gets the day."""
+    def move_one(self, day: str) -> None:
+        """A ledger is shut at the door and killed; the day is rolled without it; it goes on over a
+        copy, and gets the day."""
         mover = self.ledgers[2]
         self.scripts.shut(2)
         mover.kill()
@@ -115,7 +118,7 @@ class Month:
         mover.start()
         self.share(is_new=False)
 
-    def days(self):
+    def days(self) -> None:
         """The rolls of the month, while the clients go on."""
         for day in DAYS:
             self.wait_for(self.answered() + ANSWERS_A_DAY)
@@ -137,7 +140,7 @@ class Month:
                 self.share("feerow", "2024-01-21", "5000", "4000", wanted=1, is_new=False)
                 self.share("roll", "2025-02-15", wanted=2, is_new=False)
 
-    def run(self):
+    def run(self) -> None:
         self.share("feerow", "2011-01-02", "3000", "4100")
         self.share("roll", self.day)
         for client in self.clients:
@@ -149,24 +152,26 @@ class Month:
             client.join(PATIENCE)
         self.answered()
 
-    def answers(self):
+    def answers(self) -> list[Told]:
         """All answers in the order in which they were given."""
-        return sorted(self.shared_answers + [answer for client in self.clients for answer in client.answers], key=lambda answer: answer[0])
+        found = [answer for client in self.clients for answer in client.answers]
+        return sorted(self.shared_answers + found, key=lambda answer: answer[0])
 
 
-def compare(what, got, wanted):
+def compare(what: str, got: object, wanted: object) -> None:
     if got != wanted:
-        fail(f"seed {SEED}: {what}: {got!r}, by one ledger {wanted!r}")
+        fail(f"{what}: {got!r}, by one ledger {wanted!r}")
 
 
-def questions(names):
+def questions(names: list[str]) -> Iterator[str]:
     for name in names:
         for end in ("", "/entries", "/statements/1", "/cycles/1"):
             yield f"/accounts/{name}{end}"
 
 
-def replay(month, alone):
-    """One ledger gets the same requests in the same order, and answers the same; and so it does at the end."""
+def replay(month: Month, alone: Ledger) -> int:
+    """One ledger gets the same requests in the same order, and answers the same; and so it does at
+    the end."""
     for _, method, path, body, status, text in month.answers():
         compare(f"{method} {path} {body}", (status, text), ask(alone.port, method, path, body)[:2])
     for path in questions(month.names):
@@ -176,65 +181,54 @@ def replay(month, alone):
     return len(tasks.splitlines())
 
 
-def rows_of(file):
-    base = sqlite3.connect(file)
-    rows = [body for body, in base.execute("SELECT body FROM kept ORDER BY seq")]
-    base.close()
-    return rows
-
-
-def account_of(row):
+def account_of(row: bytes) -> str:
     """The account of a kept row: its length is the third byte."""
     return row[3:3 + row[2]].decode()
 
 
-def compare_rows(month, alone):
-    """The shared rows of each shard are those of one ledger, and so are the rows of each account, which lie in one shard."""
-    whole = rows_of(alone.file())
+def compare_rows(month: Month, alone: Ledger) -> int:
+    """The shared rows of each shard are those of one ledger, and so are the rows of each account,
+    which lie in one shard."""
+    whole = bodies_of(alone.file())
     for shard, ledger in enumerate(month.ledgers):
-        rows = rows_of(ledger.file())
-        compare(f"shared rows of shard {shard}", [row for row in rows if row[:2] in SHARED_ROWS], [row for row in whole if row[:2] in SHARED_ROWS])
+        rows = bodies_of(ledger.file())
+        compare(f"shared rows of shard {shard}", [row for row in rows if row[:2] in SHARED_ROWS],
+                [row for row in whole if row[:2] in SHARED_ROWS])
         own = [row for row in rows if row[:2] not in SHARED_ROWS]
-        wanted = [row for row in whole if row[:2] not in SHARED_ROWS and shard_of(account_of(row)) == shard]
-        compare(f"rows of shard {shard}", sorted(own, key=account_of), sorted(wanted, key=account_of))
+        wanted = [row for row in whole if row[:2] not in SHARED_ROWS
+                  and shard_of(account_of(row)) == shard]
+        compare(f"rows of shard {shard}", sorted(own, key=account_of),
+                sorted(wanted, key=account_of))
     return len(whole)
 
 
-def main():
-    # no power is cut, so the files may lie in memory
-    room = tempfile.mkdtemp(dir="/dev/shm" if os.path.isdir("/dev/shm") else None)
-    tables.worked(room, EXAMPLES)
-    tables.month(room, EXAMPLES, PROGRAM, os.path.join(TOP, "examples", "month"))
-    missing = [name for name in ("haproxy", "socat", "curl", "flock") if not shutil.which(name)]
-    if missing:
-        print(f"shards: no {', '.join(missing)} here, so no ledger is run behind a door; records split to four ledgers come to one ledger's entries")
-        shutil.rmtree(room)
-        return
-    start = time.monotonic()
-    month = Month(room, [f"{kind}{number}" for kind in ("a", "Card-", "x.", "9_") for number in range(ACCOUNTS // 4)])
+def told_of(month: Month, alone: Ledger) -> str:
+    """The month behind the door, and all that it is held against: what it came to."""
+    month.start()
+    month.run()
+    alone.start()
+    alone.wait()
+    tasks = replay(month, alone)
+    hostile = Hostile(month.door, month.ledgers, month.names, shard_of)
+    count = hostile.run()
+    hostile.statistics()
+    month.stop()
+    alone.kill()
+    rows = compare_rows(month, alone)
+    again = sum(client.sent_again for client in month.clients)
+    return (f"{len(month.answers())} answers to {CLIENTS} clients over {SHARDS} shards, {again} "
+            f"sent again, {rows} rows, {tasks} tasks, as of one ledger; {count} hostile requests, "
+            "none at a wrong shard")
+
+
+def run(room: str, seed: int) -> str:
+    """A month with a folder of its own: what it came to."""
+    month = Month(room, NAMES, seed)
     alone = Ledger(PROGRAM, os.path.join(room, "alone"), free_ports(1)[0])
     try:
-        month.start()
-        month.run()
-        alone.start()
-        alone.wait()
-        tasks = replay(month, alone)
-        hostile = Hostile(month.door, month.ledgers, month.names, shard_of)
-        count = hostile.run()
-        hostile.statistics()
-        month.stop()
-        alone.kill()
-        rows = compare_rows(month, alone)
-        again = sum(client.sent_again for client in month.clients)
-        print(
-            f"shards: seed {SEED}: {len(month.answers())} answers to {CLIENTS} clients over {SHARDS} shards, {again} sent again, {rows} rows, {tasks} tasks, as of one ledger;"
-            f" {count} hostile requests, none at a wrong shard; {time.monotonic() - start:.0f} s"
-        )
+        return f"seed {seed}: {told_of(month, alone)}"
+    except AssertionError as error:
+        raise AssertionError(f"seed {seed}: {error}") from error
     finally:
         month.stop()
-        if alone.run:
-            alone.kill()
-        shutil.rmtree(room)
-
-
-main()
+        alone.kill()
