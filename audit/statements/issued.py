@@ -7,11 +7,12 @@ from typing import Any
 from ..book import Book
 from ..commands import Damaged
 from ..days import FIRST_DAY
-from ..explaining.account import carried_out, rows_of_account
+from ..explaining.account import rows_of_account
 from ..lines import read_name
 from ..rows import decode
 from ..statement import Statement
 from ..words import SHARED_WORDS, WORDS
+from .quick import Quick
 
 Kept = list[tuple[int, bytes]]
 Data = dict[str, Any]
@@ -68,15 +69,15 @@ class Reading:
         if is_shared(body):
             self.shared.append((seq, body))
             if body[1] == _ROLL:
-                self.today = self._request(place, body).day or 0
+                self.today = self.request(place, body).day or 0
             return
         name = account_of(place, body)
         self.accounts.setdefault(name, []).append((seq, body))
         if body[1] == _BILL and self.today == self.day:
-            self.cycles.setdefault(name, []).append(self._request(place, body).cycle or 0)
+            self.cycles.setdefault(name, []).append(self.request(place, body).cycle or 0)
             self.ends[name] = seq
 
-    def _request(self, place: int, body: bytes) -> Any:
+    def request(self, place: int, body: bytes) -> Any:
         found = decode(body)
         if found is None:
             raise Damaged(place)
@@ -100,7 +101,10 @@ def wanted_on(kept: Kept, day: int) -> Iterator[Wanted]:
 
 def bills_of(wanted: Wanted) -> list[Bill]:
     """The statements that are wanted, by the independent model."""
-    machine = carried_out(rows_of_account(wanted.rows, wanted.account, whole=False))
+    machine = Quick()
+    for seq, _, request in rows_of_account(wanted.rows, wanted.account, whole=False).kept:
+        if not machine.apply(request).new:
+            raise Damaged(seq)
     account = machine.accounts[wanted.account]
     found = []
     for k in wanted.cycles:

@@ -26,6 +26,11 @@ def money(cents: int) -> str:
     return f"{'-' if cents < 0 else ''}${abs(cents) // 100:,}.{abs(cents) % 100:02d}"
 
 
+def dollars(cents: int) -> str:
+    """Whole dollars."""
+    return f"${cents // 100:,}"
+
+
 def percent(rate: int) -> str:
     return f"{rate // 100}.{rate % 100:02d}%"
 
@@ -81,6 +86,7 @@ td.n{overflow-wrap:normal}
 .sum th,.sum td{font-weight:700;border-top:2px solid #555}
 .due{font-size:1.05em}.due th,.due td{font-weight:700}
 .warn{border:1px solid #777;padding:.4rem .6rem;margin-top:.5rem}
+.key{width:20%}.day{width:14%}.amount{width:15%}
 .small{font-size:.88em}
 .of{color:#444;font-size:.88em}
 time{white-space:nowrap}

@@ -2,7 +2,7 @@
 
 from .issued import Data
 from .issuer import Issuer
-from .markup import STYLE, day, money, pairs, percent, plain, section, words
+from .markup import STYLE, day, dollars, money, pairs, percent, plain, section, words
 from .tables import (CATEGORIES, calculation_of, fees_of, interest_of, transactions_of, year_of)
 
 _POLICY = "default-src 'none'; style-src 'unsafe-inline'; img-src data:"
@@ -11,6 +11,7 @@ _SUMMARY = (("payments", "Payments"), ("other_credits", "Other credits"),
             ("transfers", "Balance transfers"), ("returned_payments", "Returned payments"),
             ("refunds", "Credit balance paid out"), ("fees", "Fees charged"),
             ("interest", "Interest charged"))
+_RARE = ("returned_payments", "refunds")
 
 
 def lines_of(lines: list[str]) -> str:
@@ -44,6 +45,8 @@ def summary_of(data: Data) -> str:
     if sums["earlier_corrections"] or data["corrections"]:
         rows.append(("Corrections of earlier statements", money(sums["earlier_corrections"])))
     for group, name in _SUMMARY:
+        if group in _RARE and not sums[group]:
+            continue
         rows.append((name, money(sums[group])))
         if group == "purchases" and sums["plan_purchases"]:
             rows.append(('<span class="of">of these on promotional plans</span>',
@@ -96,12 +99,12 @@ def repayment_of(disclosed: Data, issuer: Issuer) -> str:
         time = disclosed["time"]
         unit = time["unit"][:-1] if time["count"] == 1 else time["unit"]
         rows.append(("Only the minimum payment", f"{time['count']} {unit}",
-                     money(disclosed["minimum_total"])))
+                     dollars(disclosed["minimum_total"])))
     if disclosed["payment"] is not None:
-        saved = (f" (Savings={money(disclosed['savings'])})" if disclosed["savings"] is not None
+        saved = (f" (Savings={dollars(disclosed['savings'])})" if disclosed["savings"] is not None
                  else "")
-        rows.append((money(disclosed["payment"]), "3 years",
-                     money(disclosed["payment_total"]) + saved))
+        rows.append((dollars(disclosed["payment"]), "3 years",
+                     dollars(disclosed["payment_total"]) + saved))
     body = "".join(f'<tr><th scope="row">{pay}</th><td>{time}</td><td class="n">{total}</td></tr>'
                    for pay, time, total in rows)
     return (f'<div class="warn"><p><strong>Minimum payment warning:</strong> {said} For example:'

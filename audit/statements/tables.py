@@ -24,7 +24,7 @@ _CHARGED = {"cash": "Cash advance", "transfer": "Balance transfer"}
 def cell(label: str, value: str, kind: str = "n") -> str:
     """A cell that has its label beside it where the table is stacked."""
     style = f' class="{kind}"' if kind else ""
-    return f'<td role="cell" data-as="{label}"{style}>{value}</td>'
+    return f'<td role="cell" data-as="{label}"{style}><span>{value}</span></td>'
 
 
 def table(caption: str, heads: Iterable[tuple[str, str]], rows: list[str]) -> str:
@@ -59,8 +59,8 @@ def said_of(one: Data) -> str:
 
 def transactions_of(data: Data) -> str:
     """The transactions by group, each with its sum."""
-    heads = (("Reference", ""), ("Made on", ""), ("Posted on", ""), ("Description", ""),
-             ("Amount", "n"))
+    heads = (("Reference", "key"), ("Made on", "day"), ("Posted on", "day"), ("Description", ""),
+             ("Amount", "n amount"))
     out = []
     for group, title in TITLES:
         found = [one for one in data["transactions"] if one["group"] == group]
@@ -78,7 +78,7 @@ def transactions_of(data: Data) -> str:
 
 def fees_of(data: Data) -> str:
     """Each fee, and their sum."""
-    heads = (("Posted on", ""), ("Description", ""), ("Amount", "n"))
+    heads = (("Posted on", "day"), ("Description", ""), ("Amount", "n amount"))
     names = {"late": "Late fee", "returned": "Returned payment fee"}
     rows = [row(cell("Posted on", day(fee["day"]), "")
                 + cell("Description", f"{names[fee['kind']]}, for the payment due "
