@@ -20,9 +20,13 @@ def from_ymd(year: int, month: int, day: int) -> int | None:
         return None
 
 
-FIRST_DAY = from_ymd(2011, 1, 1)
-LAST_REQUEST_DAY = from_ymd(2099, 12, 31)
-LAST_DAY = from_ymd(2102, 12, 31)
+def _day(year: int, month: int, day: int) -> int:
+    return datetime.date(year, month, day).toordinal() - _EPOCH
+
+
+FIRST_DAY = _day(2011, 1, 1)
+LAST_REQUEST_DAY = _day(2099, 12, 31)
+LAST_DAY = _day(2102, 12, 31)
 
 
 @lru_cache(maxsize=None)

@@ -54,4 +54,3 @@ def carried_out(rows: Rows) -> Watching:
         if not machine.apply(request).new:
             raise Damaged(seq)
     return machine
-

@@ -2,12 +2,14 @@
 
 from typing import TYPE_CHECKING
 
-from ..book import Entry
+from ..book import Book, Entry
 from ..days import day_text
 from ..fees import Fee
-from ..segments import CREDIT, HELD, newest, segments_at
+from ..segments import CREDIT, HELD, Segment, newest, segments_at
+from ..words import Place
 from .allocation import Allocation
-from .nodes import Node
+from .facts import Facts
+from .nodes import Node, Nodes
 
 if TYPE_CHECKING:
     from .derivation import Derivation
@@ -22,9 +24,11 @@ class Balances:
     """
 
     def __init__(self, derivation: "Derivation") -> None:
-        self.all, self.book = derivation, derivation.book
-        self.nodes, self.facts = derivation.nodes, derivation.facts
-        self.segments = self.book.segments
+        self.all: Derivation = derivation
+        self.book: Book = derivation.book
+        self.nodes: Nodes = derivation.nodes
+        self.facts: Facts = derivation.facts
+        self.segments: list[Segment] = self.book.segments
         self.entries: list[Node] = []
         self.running: list[Node] = []
         self.changes: list[list[tuple[int, Node]]] = []
@@ -114,8 +118,10 @@ class Balances:
             self.debit(segment, self.facts.cents(entry.post), self.facts.post_name(entry.post),
                        "credit", on)
 
-    def _place(self, n: int):  # type: ignore[no-untyped-def]
-        return self.book.posts[n - 1].post.place
+    def _place(self, n: int) -> Place:
+        place = self.book.posts[n - 1].post.place
+        assert place is not None
+        return place
 
     def _fee(self, fee: Fee) -> None:
         node = self.all.fees.fee(fee)

@@ -80,4 +80,3 @@ class Cycles:
                        derivation.book.corrected.effective)
         named = {node.more["text"] for node in document.nodes if node.how == "shown"}
         document.texts |= {text: derivation.issued.texts[text] for text in sorted(named)}
-

@@ -40,10 +40,7 @@ class Fees:
             of.append(self._last_asked(fee.day))
         why.append(self._only(fee))
         what = f"{name} for due date {day_text(self.all.payments.due_day(k))}"
-        node = self.nodes.make("least", of, f"{what}: the least of the table's amount and the "
-                               "minimum payment" + ("" if fee.kind == "late" else
-                                                    " and what the last due date asks for"),
-                               "fee amount")
+        node = self.nodes.make("least", of, f"amount of the {what}", "fee amount")
         cap = self.book.issued_cycle(fee.cycle)
         if cap is not None:
             of = [node] + [self.all.issued.fee(fee.cycle, f) for f in cap.fees if f.due_cycle == k]

@@ -204,5 +204,6 @@ class Interest:
         runs = [self._run(a, b, balance, rate) for a, b, balance in spans]
         total = self.nodes.make("sum", [run.product for run in runs], f"accrued on {segment.name} "
                                 "from its first day on", "deferred", start=first, end=last)
-        rounded = self.nodes.make("round_half_up", [total], f"interest accrued on {segment.name}", "deferred", "cents", by=BILLION)
+        rounded = self.nodes.make("round_half_up", [total], f"interest accrued on "
+                                  f"{segment.name}", "deferred", "cents", by=BILLION)
         return rounded, runs

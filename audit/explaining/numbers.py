@@ -183,13 +183,13 @@ class StatementNumbers:
         node = self.nodes.make("sum", [previous, corrections, *moves, self.cycle.interest],
                                "previous balance, corrections, transactions and interest",
                                "balance")
-        node.why = (self.nodes.make("equal", [node_copy(node, self.nodes), self.cycle.owed],
+        node.why = (self.nodes.make("equal", [node_copy(node), self.cycle.owed],
                                     "the same is owed over all balances", "entries"),)
         return node
 
     def _year(self, name: str) -> Node:
         year = ymd(self.facts.closing(self.k).value)[0]
-        of = []
+        of: list[Node] = []
         for j in range(self.k, 0, -1):
             if ymd(self.facts.closing(j).value)[0] != year:
                 break
@@ -220,7 +220,7 @@ class StatementNumbers:
                     (word, self.cycle.balances[d.segment]), (word, accrued), (word, end))
 
 
-def node_copy(node: Node, nodes: object) -> Node:
+def node_copy(node: Node) -> Node:
     """The same sum as a node of its own, for a truth about it."""
     copy = Node(node.how, node.value, node.unit, node.what, node.of)
     copy.rule, copy.cycle = node.rule, node.cycle

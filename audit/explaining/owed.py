@@ -21,8 +21,8 @@ class Owed:
         book = machine.book(account)
         self.day = machine.today if day is None else day
         if not account.anchor.opened <= self.day <= machine.today:
-            raise NotThere(f"{day_text(self.day)} isn't a day from {day_text(account.anchor.opened)}"
-                           f" to {day_text(machine.today)}")
+            raise NotThere(f"{day_text(self.day)} isn't a day from "
+                           f"{day_text(account.anchor.opened)} to {day_text(machine.today)}")
         self.derivation = Derivation(rows.account, rows, book).upto(len(book.cycles))
         self.derivation.rest()
         self.count = sum(e.day <= self.day for e in book.entries)

@@ -8,18 +8,19 @@ from ..days import day_text
 from .document import Document
 from .nodes import Node, value_text
 from .picture import Day, svg, table
-from .rules import RULES
+from .rules import PARTS, RULES
 from .text import MANY, how_text
 
 STYLE = """
 body{font:15px/1.45 system-ui,sans-serif;margin:0 auto;max-width:62rem;padding:1rem;color:#1a1a1a}
 h1{font-size:1.3rem}h2{font-size:1.05rem;margin-top:1.6rem}
-pre,.v{font-family:ui-monospace,monospace}pre{overflow-x:auto;font-size:13px;padding:.6rem;
+pre,.v{font-family:ui-monospace,monospace}pre{overflow-x:auto;font-size:clamp(9px,2.4vw,13px);padding:.6rem;
 border:1px solid #bbb}a{color:#1b4f9c}details,.leaf{margin-left:.9rem;border-left:1px solid #ccc;
 padding-left:.5rem;overflow-wrap:anywhere}summary{cursor:pointer}.v{font-weight:600}
 .s{color:#555;font-size:.85em}.b{font-style:italic}.wide{overflow-x:auto}
-table{border-collapse:collapse;font-size:13px}td,th{padding:.1rem .5rem;text-align:right;
-border-bottom:1px solid #ddd}td.said{text-align:left}caption{text-align:left;padding:.3rem 0}
+table{border-collapse:collapse;font-size:13px}td,th{white-space:nowrap;padding:.1rem .5rem;
+text-align:right;border-bottom:1px solid #ddd}td.said{text-align:left;white-space:normal}
+caption{text-align:left;padding:.3rem 0}
 svg{width:100%;max-width:48rem;height:auto;font-size:9px}.grid{stroke:#ddd}
 .due{stroke:#b00020;stroke-dasharray:3 2}.closing{stroke:#333}.paid{fill:#2b7a3d;color:#2b7a3d}
 .fee{fill:#b00020;color:#b00020}.keys span{margin-right:1rem;white-space:nowrap}
@@ -148,6 +149,9 @@ class Page:
         title = f"Cycle {head['cycle']} of {head['account']}, {head['as']}"
         texts = [self._text(name) for name in document.texts
                  if not name.startswith("issued") and name != "export"]
+        rules = dict.fromkeys(n.rule for n in document.nodes if n.rule in PARTS)
+        parts = "".join(f"<li>{escape(RULES[rule][0])}: {escape(PARTS[rule])}</li>"
+                        for rule in rules)
         left = "".join(f"<li>row {seq}: {escape(why)}</li>" for seq, why in document.left_out)
         return "".join([
             '<!doctype html><html lang="en"><head><meta charset="utf-8">'
@@ -157,6 +161,8 @@ class Page:
             f"<h1>{escape(title)}</h1><p>By the rows up to {head['rows_up_to']}, of "
             f"{escape(head['today'])}. Each number leads to where it comes from.</p>",
             *texts, svg(self.days), table(self.days), *self._trees(),
+            "<h2>Where these rules and the regulation part</h2>" if parts else "",
+            f"<ul>{parts}</ul>" if parts else "",
             "<h2>Rows of the account that no number is made of</h2>" if left else "",
             f"<ul>{left}</ul>" if left else "", "</body></html>\n"])
 

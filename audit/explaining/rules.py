@@ -1,4 +1,4 @@
-"""The rules that nodes name: each by its place in docs/RULES.md, with its section of 12 CFR 1026."""
+"""The rules that nodes name, each by its place in docs/RULES.md and its section of 12 CFR 1026."""
 
 _PART = "12 CFR 1026"
 
@@ -32,7 +32,7 @@ RULES: dict[str, tuple[str, str]] = {
     "deferred line": ("What a statement shows", f"{_PART}.7(b)(14)"),
     "minimum": ("What a statement shows / Minimum payment", f"{_PART}.7(b)(13)"),
     "past due": ("What a statement shows / Past due", f"{_PART}.7(b)(13)"),
-    "repayment": ("Repayment / What a statement's balances come to", f"{_PART}.7(b)(12)"),
+    "repayment": ("Repayment", f"{_PART}.7(b)(12)"),
     "notice": ("Rates / Notices", f"{_PART}.55(b)(3)"),
     "penalty notice": ("Penalty rates: notice", f"{_PART}.9(g)"),
     "credit": ("Credit balances / Credit", f"{_PART}.11(a)(1)"),
@@ -66,4 +66,21 @@ RULES: dict[str, tuple[str, str]] = {
 }
 
 # rule -> RULES' own sentence, where the ledger's rule and the regulation part
-PARTS: dict[str, str] = {}
+PARTS: dict[str, str] = {
+    "held": "What is held is the least of the claim, the charge and the balance of its segment.",
+    "put back": "The part of a returned payment that had gone to a credit balance is put back on "
+                "the newest vintage of purchases, whatever used the credit up since.",
+    "tier": "A fee at the repeat amount doesn't begin the six cycles anew.",
+    "one fee": "One penalty fee for a due date, whatever happened.",
+    "penalty end": "A penalty rate ends with the sixth due date that was met, on every balance.",
+    "caps": "No correction raises what an issued statement charged or asked for.",
+    "business": "Mail that makes up for a closed due date is that of the next Monday to Friday "
+                "that is no loaded holiday, by 17:00; after 17:00 it counts on the next day.",
+    "notice": "The vintage of a notice begins on the 15th day after the notice, also where that "
+              "day lies in the account's first year.",
+    "plan": "A plan's six months count from the day that its line gives.",
+    "timely": "A statement counts as issued, and a penalty rate as announced, on the day on which "
+              "its line is accepted",
+    "sixty": "A payment that is credited up to the day of the `penalty`, though more than 60 days "
+             "after the due date, bars the penalty rate.",
+}

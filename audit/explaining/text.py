@@ -6,13 +6,14 @@ from collections.abc import Iterator
 from ..days import day_text
 from .document import Document, is_asked
 from .nodes import Node, value_text
-from .rules import RULES
+from .rules import PARTS, RULES
 
 WIDTH = 100
 VALUE = 14
 MANY = 6  # months that are all shown
 _HOW = {"sum": "the sum of", "difference": "the first less the others", "least": "the least of",
-        "greatest": "the greatest of", "at_least_zero": "not below 0", "choose": "as it says",
+        "greatest": "the greatest of", "at_least_zero": "not below 0",
+        "choose": "as the next line says",
         "last_of": "the last of", "count": "how many", "days_between": "the days between",
         "equal": "equal", "at_least": "at least", "before": "less than"}
 _QUIET = ("cycle", "entries")
@@ -54,6 +55,22 @@ def row_line(value: str, depth: int, what: str, section: str) -> list[str]:
     return [first.rstrip()] + [indent + line for line in lines[1:]]
 
 
+def is_runs(node: Node) -> bool:
+    """A sum over runs of days."""
+    return bool(node.of) and isinstance(node.of[0].start, int)
+
+
+def is_same(node: Node) -> bool:
+    """A step that only names the value of its one child again."""
+    return (node.how in ("first_of", "sum") and len(node.of) == 1 and not node.why
+            and node.by is None and not is_runs(node))
+
+
+def is_named(node: Node) -> bool:
+    """A field of a row under a better name: what it is for."""
+    return is_same(node) and node.of[0].how == "row"
+
+
 class Text:
     """Writes the trees of a document.  What was shown in full is named again in one line."""
 
@@ -70,7 +87,7 @@ class Text:
         said = ("because " if because else "") + node.what
         again = id(node) in self.seen and bool(node.of or node.why)
         self.seen.add(id(node))
-        how = how_text(node)
+        how = how_text(node.of[0] if is_named(node) else node)
         if how and not (again or node.brief):
             said += f" ({how})" if not node.of or not children else f": {how}"
         if again and not node.brief:
@@ -82,7 +99,7 @@ class Text:
                             section.removeprefix("12 CFR 1026"))
         if again or not children:
             return
-        if self._is_runs(node):
+        if is_runs(node):
             yield from self._table(node, depth + 1)
         else:
             yield from self._below(node, depth + 1)
@@ -108,8 +125,7 @@ class Text:
 
     def _plain(self, node: Node) -> Node:
         """Without steps that only name the same value again."""
-        while (node.how in ("first_of", "sum") and len(node.of) == 1 and not node.why
-               and node.by is None and node.of[0].value == node.value and not self._is_runs(node)):
+        while is_same(node) and not is_named(node):
             node = node.of[0]
         return node
 
@@ -117,14 +133,11 @@ class Text:
         """Whether what is below is shown."""
         if not node.of and not node.why:
             return False
-        if node.how in ("calendar", "in_force"):
+        if node.how in ("calendar", "in_force") or is_named(node):
             return False
         return depth == 0 or not (node.brief or 0 < node.cycle < self.cycle)
 
     # -- days -------------------------------------------------------------------------------
-
-    def _is_runs(self, node: Node) -> bool:
-        return bool(node.of) and isinstance(node.of[0].start, int)
 
     def _table(self, node: Node, depth: int) -> Iterator[str]:
         """The runs of days of a sum."""
@@ -180,6 +193,15 @@ class Text:
                 yield from self.tree(number.node)
                 yield ""
 
+    def parts(self, document: Document) -> Iterator[str]:
+        """RULES' sentences on these rules, where the regulation reads otherwise."""
+        rules = dict.fromkeys(n.rule for n in document.nodes if n.rule in PARTS)
+        if rules:
+            yield "WHERE THESE RULES AND THE REGULATION PART (docs/RULES.md has both)"
+            for rule in rules:
+                yield from row_line("", 0, PARTS[rule], RULES[rule][1].removeprefix("12 CFR 1026"))
+            yield ""
+
     def rows_left_out(self, document: Document) -> Iterator[str]:
         if document.left_out:
             yield "ROWS OF THE ACCOUNT THAT NO NUMBER IS MADE OF"
@@ -196,5 +218,6 @@ def text_of(document: Document, word: str = "") -> str:
            "12 CFR 1026", ""]
     out += text.lines(document, word)
     if not word:
+        out += text.parts(document)
         out += text.rows_left_out(document)
     return "\n".join(line.rstrip() for line in out).rstrip("\n") + "\n"

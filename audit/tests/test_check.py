@@ -58,14 +58,14 @@ def audited(kept, others) -> str:
 
 
 class Compared(unittest.TestCase):
-    def test_same(self):
+    def test_same(self) -> None:
         """1,000.00 and 30.00 charged, 500.00 paid, 10.00 set aside on two segments, 7.86 and 0.31
         of interest."""
         self.assertEqual(audited(rows(), rows()),
                          "accounts 2, statements issued 2, recomputed 2, entries 7, cents 155817, "
                          "open tasks 2")
 
-    def test_changed_amount(self):
+    def test_changed_amount(self) -> None:
         kept = rows()
         place = next(i for i, (_, body) in enumerate(kept) if decode(body).word == "payment")
         with self.assertRaises(Different) as found:
@@ -74,7 +74,7 @@ class Compared(unittest.TestCase):
         self.assertTrue(text.startswith("account a, show, line 1 of the output\n  model:   show a"))
         self.assertIn("\n  program: show a", text)
 
-    def test_each_view(self):
+    def test_each_view(self) -> None:
         """Whatever the program tells otherwise is found, and named."""
         for path, name in (("/accounts/a", "account a, show"),
                            ("/accounts/a/entries", "account a, entries"),
@@ -89,7 +89,7 @@ class Compared(unittest.TestCase):
                 Audit(load(rows()), stub).whole(Progress(quiet=True))
             self.assertTrue(str(found.exception).startswith(name + ","), found.exception)
 
-    def test_task_of_no_account(self):
+    def test_task_of_no_account(self) -> None:
         stub = Stub(rows())
         true = stub.get
         stub.get = lambda p: true(p) if p != "/work" else true(p) + b"2099-12-31 z CREDIT 0\n"
@@ -97,7 +97,7 @@ class Compared(unittest.TestCase):
             Audit(load(rows()), stub).whole(Progress(quiet=True))
         self.assertTrue(str(found.exception).startswith("open tasks of all accounts,"))
 
-    def test_damaged(self):
+    def test_damaged(self) -> None:
         stub = Stub([])
         kept = rows()[:3] + [(9, b"")]
         stub.run = lambda words, data=b"": (b"damaged 4\n", 8)
@@ -110,7 +110,7 @@ class Compared(unittest.TestCase):
 
 
 class Files(unittest.TestCase):
-    def setUp(self):
+    def setUp(self) -> None:
         self.folder = tempfile.TemporaryDirectory()
         self.addCleanup(self.folder.cleanup)
         self.file = Path(self.folder.name) / "ledger.db"
@@ -133,7 +133,7 @@ class Files(unittest.TestCase):
         return {p.name: hashlib.sha256(p.read_bytes()).hexdigest()
                 for p in Path(self.folder.name).iterdir()}
 
-    def test_rows_with_and_without_a_log(self):
+    def test_rows_with_and_without_a_log(self) -> None:
         for log in (False, True):
             self.written(rows(), log)
             before = self.sums()
@@ -143,12 +143,12 @@ class Files(unittest.TestCase):
             self.assertEqual(self.sums(), before)
             self.file.unlink()
 
-    def test_no_rows(self):
+    def test_no_rows(self) -> None:
         self.written([])
         with copied(str(self.file)) as copy:
             self.assertEqual(rows_of(copy), [])
 
-    def test_statements_as_sent(self):
+    def test_statements_as_sent(self) -> None:
         """A row that was changed to another one that is accepted differs from what was sent."""
         kept = rows()
         machine = load(kept)
@@ -169,7 +169,7 @@ class Files(unittest.TestCase):
             with self.assertRaises(Unreadable):
                 statements_below([str(path)])
 
-    def test_unreadable(self):
+    def test_unreadable(self) -> None:
         def why() -> str:
             with self.assertRaises(Unreadable) as found:
                 with copied(str(self.file)) as copy:
@@ -185,7 +185,7 @@ class Files(unittest.TestCase):
         base.close()
         self.assertIn("other tables than a ledger's: other", why())
 
-    def test_in_use(self):
+    def test_in_use(self) -> None:
         self.written(rows())
         base = sqlite3.connect(self.file)
         base.execute("PRAGMA locking_mode = EXCLUSIVE")

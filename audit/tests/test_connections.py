@@ -24,7 +24,7 @@ def kind_of(data: bytes):
 
 
 class Heads(unittest.TestCase):
-    def test_good(self):
+    def test_good(self) -> None:
         for data in (b"GET / HTTP/1.0\n\n", b"\r\n\nGET / HTTP/1.1\r\n\r\n",
                      b"x!#$%&'*+-.^_`|~9 \xc3\xa9 HTTP/1.1\r\na:\r\nB:\t x \xff\t y \t\r\n\n"):
             self.assertIsInstance(kind_of(data), Head, data)
@@ -33,7 +33,7 @@ class Heads(unittest.TestCase):
                          ("GET", "/a?b", [(b"Content-Length", b"12")]))
         self.assertEqual(head.length, 45)
 
-    def test_bad(self):
+    def test_bad(self) -> None:
         for data in (b" GET", b"GET  ", b"GET \x7f", b"G@T", b"GET / HTTP/2", b"GET / HTTP/1.2",
                      b"GET / http", b"GET / HTTP/1.1 ", b"GET / HTTP/1.1\rx", b"\rG",
                      b"GET /\xff HTTP", b"GET / HTTP/1.1\r\n:", b"GET / HTTP/1.1\r\na :",
@@ -41,7 +41,7 @@ class Heads(unittest.TestCase):
                      b"GET / HTTP/1.1\r\na: b\rc", b"GET / HTTP/1.1\r\n\rx"):
             self.assertEqual(kind_of(data), "none", data)
 
-    def test_more_bytes_keep_the_verdict(self):
+    def test_more_bytes_keep_the_verdict(self) -> None:
         draw = random.Random(3)
         pieces = [b"GET", b"POST", b" ", b"/posts", b"/work", b" HTTP/1.1", b"\r\n", b"\n", b"\r",
                   b"a:", b" b", b"\t", b"\xff", b"\x00", b"Content-Length: 3", b"?x"]
@@ -54,7 +54,7 @@ class Heads(unittest.TestCase):
                 if before != "partial":
                     self.assertEqual(before, after)
 
-    def test_header_lines(self):
+    def test_header_lines(self) -> None:
         base = b"GET /work HTTP/1.1\r\n"
         full = base + b"a: b\r\n" * 64
         self.assertIsInstance(kind_of(full + b"\r\n"), Head)
@@ -63,7 +63,7 @@ class Heads(unittest.TestCase):
         for end in (b"c: d\r\n", b"c: d\n\n", b"c :", b"(", b" "):
             self.assertEqual(kind_of(full + end), "none", end)
 
-    def test_limits(self):
+    def test_limits(self) -> None:
         p = Session()
         base = b"GET /work HTTP/1.1\r\nh: "
         whole = base + b"x" * (8_192 - len(base) - 4) + b"\r\n\r\n"
@@ -79,7 +79,7 @@ class Order(unittest.TestCase):
         answer = started().answer(data)
         return answer[9:12] if answer else None
 
-    def test_first_that_applies(self):
+    def test_first_that_applies(self) -> None:
         for data, status in (
                 (b"DELETE /nowhere HTTP/1.1\r\nContent-Length: x\r\n\r\n", b"400"),
                 (b"DELETE /nowhere HTTP/1.1\r\nContent-Length: 99999\r\n\r\n", b"404"),
@@ -103,7 +103,7 @@ class Order(unittest.TestCase):
                 (b"GET /accounts//entries HTTP/1.1\r\n\r\n", b"404")):
             self.assertEqual(self.status(data), status, data)
 
-    def test_refusals_with_values(self):
+    def test_refusals_with_values(self) -> None:
         p = started()
 
         def post(body: bytes) -> bytes:
@@ -122,7 +122,7 @@ class Order(unittest.TestCase):
 
 
 class Connections(unittest.TestCase):
-    def test_generated_connections(self):
+    def test_generated_connections(self) -> None:
         """Every status comes but those of faults and the rare 431, and only a 200 to a POST keeps a
         row."""
         seen = set()
@@ -145,7 +145,7 @@ class Connections(unittest.TestCase):
 
 
 class Json(unittest.TestCase):
-    def test_refused(self):
+    def test_refused(self) -> None:
         for body in (b"", b" ", b"{", b"{}x", b'{"a":1,}', b"[1,]", b"01", b"1.", b".5", b"+1", b"1e",
                      b"NaN", b"tru", b"'a'", b'"\n"', b'"\\x"', b'"\\ud800"', b'"\\ud800\\u0041"',
                      b'"\\udc00"', b'"\xff"', b"\xef\xbb\xbf{}", b"1e999", b"[" * 128 + b"]" * 128,
@@ -153,16 +153,16 @@ class Json(unittest.TestCase):
             with self.assertRaises(JsonError, msg=body):
                 read_json(body)
 
-    def test_read(self):
+    def test_read(self) -> None:
         self.assertEqual(read_json(b' {"a":[1,-0,1.5e3,true,null,"\\u00e9\\ud83d\\ude00\\/"],"a":2}\n'),
                          {"a": Number("2")})
         self.assertEqual(read_json(b'["\\u00e9\\ud83d\\ude00\\/",-0]'), ["\u00e9\U0001f600/", Number("-0")])
         read_json(b"[" * 127 + b"]" * 127)
 
-    def test_string_text(self):
+    def test_string_text(self) -> None:
         self.assertEqual(string_text('a"\\\n\x01\x7f\u00e9'), '"a\\"\\\\\\n\\u0001\x7f\u00e9"')
 
-    def test_fields(self):
+    def test_fields(self) -> None:
         def field(body: bytes):
             found = json_request(read_json(body))
             return found.field if isinstance(found, NotARequest) else found

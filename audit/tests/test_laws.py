@@ -43,7 +43,7 @@ def slots(anchor, posts, shared):
 
 
 class Laws(unittest.TestCase):
-    def test_past_is_enough(self):
+    def test_past_is_enough(self) -> None:
         """One more post changes no day before the first day on which the lists differ, and rows
         for later days change no day before."""
         compared = 0
@@ -68,7 +68,7 @@ class Laws(unittest.TestCase):
                     compared += 1
         self.assertGreater(compared, 60)
 
-    def test_issuing_changes_no_past_day(self):
+    def test_issuing_changes_no_past_day(self) -> None:
         """A bill changes no day up to its own."""
         for seed, machine in machines():
             for account in machine.accounts.values():
@@ -83,7 +83,7 @@ class Laws(unittest.TestCase):
                     self.assertEqual(value(advance(first, bill.accepted)),
                                      value(advance(second, bill.accepted)))
 
-    def test_correction_back(self):
+    def test_correction_back(self) -> None:
         """An amendment and one back give every day as before, for the same issued rows."""
         for seed, machine in machines():
             draw = random.Random(seed)
@@ -106,7 +106,7 @@ class Laws(unittest.TestCase):
                                      machine.today) for p in (posts, longer)]
                     self.assertEqual(value(books[0]), value(books[1]))
 
-    def test_issued_caps(self):
+    def test_issued_caps(self) -> None:
         """Interest of a segment, fee of a due date, minimum and grace amount never rise above the
         issued ones."""
         for seed, machine in machines():
@@ -122,7 +122,7 @@ class Laws(unittest.TestCase):
                     for fee in now.fees:
                         self.assertLessEqual(fee.cents, issued_fees.get(fee.due_cycle, 0))
 
-    def test_statements_add_up(self):
+    def test_statements_add_up(self) -> None:
         """Previous balance, corrections, transactions and interest are the new balance."""
         for seed, machine in machines():
             for name, account in machine.accounts.items():
@@ -138,7 +138,7 @@ class Laws(unittest.TestCase):
                     self.assertTrue(set(s.closing) <= {line.segment for line in s.rates})
                     self.assertEqual(interest, sum(line.interest for line in s.rates))
 
-    def test_trial_balance(self):
+    def test_trial_balance(self) -> None:
         """Debits less credits up to a day are what was owed at its end; holds even out daily."""
         for seed, machine in machines():
             first = min(a.anchor.opened for a in machine.accounts.values())
@@ -149,7 +149,7 @@ class Laws(unittest.TestCase):
                 debits, credits = totals(machine, day, day)["hold"]
                 self.assertEqual(debits, credits)
 
-    def test_break_days(self):
+    def test_break_days(self) -> None:
         """Entries come on break days alone, and a rate changes on a break day or the day after."""
         for seed, machine in machines():
             for account in machine.accounts.values():
@@ -163,7 +163,7 @@ class Laws(unittest.TestCase):
                             self.assertEqual(book.rates.rate_on(s.number, x),
                                              book.rates.rate_on(s.number, x - 1))
 
-    def test_loading_gives_the_state_again(self):
+    def test_loading_gives_the_state_again(self) -> None:
         """Replies are the same from a loaded machine, and a kept row is one new request."""
         lines = generate(77, 300, accounts=2)
         whole, kept = Session(), []
@@ -177,7 +177,7 @@ class Laws(unittest.TestCase):
                          ["bad" if r.startswith("bad") else r for r in second])
         self.assertEqual(whole.keeper.rows, kept)
 
-    def test_entries_stay_within_the_limit(self):
+    def test_entries_stay_within_the_limit(self) -> None:
         """At most 65 entries per post and per closing, a late fee counted with its closing."""
         for seed, machine in machines():
             for account in machine.accounts.values():

@@ -20,7 +20,7 @@ from .session import EVERY_WORD, Session, machine_of, request_of
 
 
 class Allocation(unittest.TestCase):
-    def test_whole_parts_are_the_next_cent_rule(self):
+    def test_whole_parts_are_the_next_cent_rule(self) -> None:
         draw = random.Random(1)
         for _ in range(2_000):
             n = draw.randint(3, 8)
@@ -38,7 +38,7 @@ class Allocation(unittest.TestCase):
 
 
 class Calendar(unittest.TestCase):
-    def test_cycles_are_counted_day_by_day(self):
+    def test_cycles_are_counted_day_by_day(self) -> None:
         for close in (1, 2, 4, 5, 15, 27, 28):
             for opened in ("2023-12-01", "2024-01-28", "2024-02-29", "2024-03-05"):
                 a = Anchor(day_of(opened), close)
@@ -56,14 +56,14 @@ class Calendar(unittest.TestCase):
                         self.assertIn(days.due(a, k) - day, range(24, 28))
                         self.assertEqual(days.ymd(days.due(a, k))[2], days.ymd(days.due(a, 1))[2])
 
-    def test_six_months_and_year(self):
+    def test_six_months_and_year(self) -> None:
         for day, half, year in (("2024-08-31", "2025-02-28", "2025-08-31"),
                                 ("2024-02-29", "2024-08-29", "2025-03-01"),
                                 ("2023-08-30", "2024-02-29", "2024-08-30")):
             self.assertEqual(days.six_months_after(day_of(day)), day_of(half))
             self.assertEqual(days.year_after(day_of(day)), day_of(year))
 
-    def test_last_day(self):
+    def test_last_day(self) -> None:
         a = Anchor(day_of("2099-12-01"), 28)
         self.assertEqual(days.closing(a, 37), day_of("2102-12-28"))
         self.assertIsNone(days.due(a, 37))
@@ -72,7 +72,7 @@ class Calendar(unittest.TestCase):
 
 
 class Repayment(unittest.TestCase):
-    def test_whole_parts_are_the_next_cent_rule(self):
+    def test_whole_parts_are_the_next_cent_rule(self) -> None:
         draw = random.Random(2)
         for _ in range(40):
             owing = [Owing(draw.randint(1, 400), draw.choice((0, 1999, 9999)))
@@ -89,12 +89,12 @@ class Repayment(unittest.TestCase):
 
 
 class Texts(unittest.TestCase):
-    def test_money(self):
+    def test_money(self) -> None:
         self.assertEqual([money_text(c) for c in (0, -5, 100, -12345)],
                          ["0.00", "-0.05", "1.00", "-123.45"])
         self.assertEqual([half_up(t, 2) for t in (0, 1, 2, 3)], [0, 1, 1, 2])
 
-    def test_bad_fields(self):
+    def test_bad_fields(self) -> None:
         for line, field in ((b"", 1), (b"rolls 2024-01-01", 1), (b"roll", 2), (b"roll ", 2),
                             (b"roll 2024-1-01", 2), (b"roll 2023-02-29", 2),
                             (b"roll 2100-01-01", 2), (b"roll 2010-12-31", 2),
@@ -106,14 +106,14 @@ class Texts(unittest.TestCase):
                             (b"x" * 512, 1)):
             self.assertEqual(read_line(line), Bad(field), line)
 
-    def test_lines_end(self):
+    def test_lines_end(self) -> None:
         long = b"show " + b"a" * 508
         p = Session()
         out = p.text("apply", data=b"show a\r\n\r\nshow a\r\r\n" + long + b"\nshow a\r")
         self.assertEqual(out.splitlines(), ["no 1 UnknownAccount", "bad 2 1", "bad 3 2", "bad 4 0",
                                             "bad 5 2"])
 
-    def test_csv_reader(self):
+    def test_csv_reader(self) -> None:
         self.assertEqual(read_records(b'a,"b,""c"\r\n\r\n\n"x"y,z"\rq,'),
                          [[b"a", b'b,"c'], [b"xy", b'z"'], [b"q", b""]])
         self.assertEqual(read_records(b""), [])
@@ -121,7 +121,7 @@ class Texts(unittest.TestCase):
 
 
 class Spellings(unittest.TestCase):
-    def test_rows_and_lines_come_back(self):
+    def test_rows_and_lines_come_back(self) -> None:
         seen = set()
         for line in generate(5, 250, unknown=EVERY_WORD):
             request = request_of(line)
@@ -142,7 +142,7 @@ class Spellings(unittest.TestCase):
 class Fold(unittest.TestCase):
     """Random histories: the fold against the literal sums of the definitions."""
 
-    def test_sums(self):
+    def test_sums(self) -> None:
         for seed in range(4):
             machine = machine_of(seed, 120)
             for account in machine.accounts.values():
@@ -311,13 +311,13 @@ class Fold(unittest.TestCase):
                 for segment, cents in c.interest.items():
                     self.assertLessEqual(cents, issued.interest.get(segment, 0))
 
-    def test_daily_and_interest(self):
+    def test_daily_and_interest(self) -> None:
         self.assertEqual([daily(r) for r in (1999, 2499, 2524)], [547671, 684657, 691506])
         self.assertEqual(interest(1_643_013_000_000), 1643)
         self.assertEqual(interest(499_999_999), 0)
         self.assertEqual(interest(500_000_000), 1)
 
-    def test_counted_leaves_out_returned_payments(self):
+    def test_counted_leaves_out_returned_payments(self) -> None:
         p = Session()
         p.apply("roll 2024-01-10", "open a o 2024-01-06 5 1999 2499 2199 2999 2500 100",
                 "payment a p 2024-01-10 600 online 70", "roll 2024-01-12", "return a r 2024-01-12 2")

@@ -17,17 +17,17 @@ class MailPayments(unittest.TestCase):
                 "charge m c1 2024-10-05 purchase 50000", "roll 2024-10-29", "bill m b1 1", *more)
         return p
 
-    def test_fee_and_mail(self):
+    def test_fee_and_mail(self) -> None:
         p = self.begun("roll 2024-11-25")
         self.assertEqual(p.owed("m"), 52500)
         self.assertEqual(p.last("payment m p1 2024-11-25 600 mail 2500"), "ok 4")
         self.assertEqual(p.owed("m"), 47500)
 
-    def test_online(self):
+    def test_online(self) -> None:
         p = self.begun("roll 2024-11-25", "payment m p1 2024-11-25 600 online 2500")
         self.assertEqual(p.owed("m"), 50000)
 
-    def test_holiday(self):
+    def test_holiday(self) -> None:
         p = self.begun("holiday 2024-11-25", "roll 2024-11-25", "roll 2024-11-26",
                        "payment m p1 2024-11-26 600 mail 2500")
         self.assertEqual(p.owed("m"), 47500)
@@ -43,16 +43,16 @@ class Parts(unittest.TestCase):
         self.assertEqual(whole, allocation.allocate_by_cents(balances, ranks, 3500, 40000))
         return whole
 
-    def test_least_and_greatest_rate(self):
+    def test_least_and_greatest_rate(self) -> None:
         self.assertEqual(self.parts([0, 0, 50000, 30000, 0, 20000], None),
                          [(2, 6500), (3, 30000), (5, 3500)])
 
-    def test_deferred_in_its_last_two_cycles(self):
+    def test_deferred_in_its_last_two_cycles(self) -> None:
         balances = [0, 0, 50000, 30000, 0, 20000, 40000]
         self.assertEqual(self.parts(balances, 1), [(5, 3500), (6, 36500)])
         self.assertEqual(self.parts(balances, None), [(2, 6500), (3, 30000), (5, 3500)])
 
-    def test_minimum_part_begins_after_the_issue(self):
+    def test_minimum_part_begins_after_the_issue(self) -> None:
         for day, parts in (("2024-02-07", [(2, -2500), (3, -7500)]),
                            ("2024-02-06", [(3, -10000)])):
             p = started()
@@ -68,7 +68,7 @@ class Parts(unittest.TestCase):
 
 
 class CreditBalance(unittest.TestCase):
-    def test_over_paid(self):
+    def test_over_paid(self) -> None:
         p = started()
         self.assertEqual(
             p.last("charge a c1 2024-01-10 purchase 5000",
@@ -82,26 +82,26 @@ class CreditBalance(unittest.TestCase):
 
 
 class Grace(unittest.TestCase):
-    def test_part_paid(self):
+    def test_part_paid(self) -> None:
         for payment, owed, interest in ((99999, 1, 0), (50000, 50794, 794)):
             p = billed(payment)
             self.assertEqual(p.last("roll 2024-03-06", "show a"),
                              f"show a 2024-03-06 owed {owed} credit 0 held 0")
             self.assertEqual(sum(p.cycles("a")[1].interest.values()), interest)
 
-    def test_paid_in_full(self):
+    def test_paid_in_full(self) -> None:
         p = billed(100000)
         self.assertEqual(p.last("roll 2024-03-06", "show a"),
                          "show a 2024-03-06 owed 0 credit 0 held 0")
 
 
 class Fees(unittest.TestCase):
-    def test_fee_is_at_most_the_minimum(self):
+    def test_fee_is_at_most_the_minimum(self) -> None:
         p = billed(None)
         self.assertEqual(p.last("roll 2024-03-02", "show a"),
                          "show a 2024-03-02 owed 102500 credit 0 held 0")
 
-    def test_first_amount(self):
+    def test_first_amount(self) -> None:
         p = billed(None, "1999 2499 2199 2999 5000 100")
         p.apply("roll 2024-03-06")
         fees = p.cycles("a")[1].fees
@@ -121,15 +121,15 @@ class Fees(unittest.TestCase):
                         f"payment a p{k} {day_text(day)} 600 online {minimum}")
         return p
 
-    def test_repeat_amount(self):
+    def test_repeat_amount(self) -> None:
         fees = {c.number: [f.cents for f in c.fees] for c in self.issued((7,)).cycles("a")}
         self.assertEqual(fees[8], [4100])
 
-    def test_first_amount_again(self):
+    def test_first_amount_again(self) -> None:
         fees = {c.number: [f.cents for f in c.fees] for c in self.issued((8,)).cycles("a")}
         self.assertEqual((fees[8], fees[9]), ([], [3000]))
 
-    def test_returned_payment(self):
+    def test_returned_payment(self) -> None:
         p = billed(1000)
         self.assertEqual(p.last("roll 2024-03-04", "return a r1 2024-03-04 4"), "ok 5")
         self.assertEqual(p.last("return a r2 2024-03-04 4"), "no 14 AlreadyReturned 5")
@@ -142,7 +142,7 @@ class Fees(unittest.TestCase):
 
 
 class Corrections(unittest.TestCase):
-    def test_issued_interest_stays(self):
+    def test_issued_interest_stays(self) -> None:
         p = started()
         p.apply("charge a c1 2024-01-10 cash 100000", "roll 2024-02-06", "bill a b1 1")
         self.assertEqual(p.owed("a"), 101849)

@@ -19,7 +19,7 @@ class Notices(unittest.TestCase):
         self.assertEqual(p.last("notice a n1 2025-03-01 purchase 2499 2025-04-15"), "ok 2")
         return p
 
-    def test_15_days(self):
+    def test_15_days(self) -> None:
         p = self.begun()
         self.assertEqual(p.last("notice a n2 2025-03-10 purchase 2599 2025-05-01"),
                          "no 17 NoticePending 2025-04-15")
@@ -32,11 +32,11 @@ class Notices(unittest.TestCase):
         self.assertEqual(p.rate("a", 5, "2025-04-14"), 1999)
         self.assertEqual(p.rate("a", 5, "2025-04-15"), 2499)
 
-    def test_first_year(self):
+    def test_first_year(self) -> None:
         self.assertEqual(started().last("notice a f1 2024-01-10 purchase 2499 2024-03-01"),
                          "no 16 FirstYear 2025-01-06")
 
-    def test_lowered(self):
+    def test_lowered(self) -> None:
         p = self.begun()
         self.assertEqual(p.last("charge a c1 2025-03-15 purchase 100",
                                 "charge a c2 2025-03-16 purchase 200",
@@ -54,7 +54,7 @@ class Penalties(unittest.TestCase):
         self.assertEqual(p.last("roll 2024-05-01", "penalty a q1"), "ok 4")
         return p
 
-    def test_begins_and_is_undone(self):
+    def test_begins_and_is_undone(self) -> None:
         p = self.begun()
         p.apply("roll 2024-07-01")
         self.assertEqual(p.rate("a", 2, "2024-06-14"), 1999)
@@ -76,11 +76,11 @@ class Penalties(unittest.TestCase):
         p.apply("roll 2025-01-10")
         return p
 
-    def test_ends(self):
+    def test_ends(self) -> None:
         p = self.cured(None)
         self.assertEqual([p.rate("a", 2, d) for d in ("2024-12-01", "2024-12-02")], [2999, 1999])
 
-    def test_stays(self):
+    def test_stays(self) -> None:
         p = self.cured(day_of("2024-11-01"))
         self.assertEqual([p.rate("a", 2, d) for d in ("2024-12-02", "2025-01-10")], [2999, 2999])
 
@@ -88,7 +88,7 @@ class Penalties(unittest.TestCase):
 class Plans(unittest.TestCase):
     PLAN = "plan a pl 2024-01-10 deferred 2499 2024-08-05 2499"
 
-    def test_deferred_interest(self):
+    def test_deferred_interest(self) -> None:
         p = started()
         self.assertEqual(p.last("plan a p0 2024-01-10 deferred 2499 2024-08-04 2499"),
                          "no 10 PlanEndNotClosing 2024-08-05")
@@ -103,19 +103,19 @@ class Plans(unittest.TestCase):
         self.assertEqual(p.apply("amend a m1 4 2024-07-20 100000", "show a"),
                          ["ok 5", "show a 2024-08-06 owed 0 credit 0 held 0"])
 
-    def test_outside_plan(self):
+    def test_outside_plan(self) -> None:
         p = started()
         p.apply(self.PLAN)
         self.assertEqual(p.last("charge a c2 2024-01-09 plan:2 100"), "no 9 OutsidePlan")
         self.assertEqual(p.last("charge a c3 2024-01-10 plan:9 100"), "no 8 UnknownPlan")
 
-    def test_segments_full(self):
+    def test_segments_full(self) -> None:
         p = started()
         replies = p.apply(*(f"plan a pl{i} 2024-01-10 deferred 2499 2024-08-05 2499"
                             for i in range(60)))
         self.assertEqual(replies, [f"ok {n}" for n in range(2, 61)] + ["no 12 SegmentsFull"])
 
-    def test_excess_in_the_last_two_cycles(self):
+    def test_excess_in_the_last_two_cycles(self) -> None:
         for day, parts in (("2024-06-05", [("cash:3", -20000)]),
                            ("2024-06-06", [("deferred:5", -20000)])):
             p = started()
@@ -133,7 +133,7 @@ class VariableRates(unittest.TestCase):
         machine = Machine()
         return machine, [machine.apply(request_of(line)) for line in lines]
 
-    def test_margins_over_the_index(self):
+    def test_margins_over_the_index(self) -> None:
         machine, replies = self.carried_out(
             "index 2024-01-01 550", "roll 2024-01-10",
             "openvar v o 2024-01-06 5 1449 1949 1649 2999 2500 100",
@@ -145,7 +145,7 @@ class VariableRates(unittest.TestCase):
                           (None, None), (None, None)])
         self.assertEqual(machine.show("v"), (day_of("2024-02-06"), 101860, 0, 0))
 
-    def test_greatest_rate(self):
+    def test_greatest_rate(self) -> None:
         machine, _ = self.carried_out("index 2024-01-01 9000", "roll 2024-01-10",
                                       "openvar v o 2024-01-06 5 1449 1949 1649 2999 2500 100")
         book = machine.book(machine.accounts["v"])

@@ -17,7 +17,7 @@ FIRST_REPLIES = ["ok", "ok 1", "ok 2", "show a 2024-03-01 owed 1250 credit 0 hel
 
 
 class Replies(unittest.TestCase):
-    def test_first_day(self):
+    def test_first_day(self) -> None:
         p = Session()
         self.assertEqual(p.apply(*FIRST_DAY), FIRST_REPLIES)
         self.assertEqual(len(p.keeper.rows), 3)
@@ -25,7 +25,7 @@ class Replies(unittest.TestCase):
         out, status = Session().run("apply", data="\n".join(FIRST_DAY).encode())
         self.assertEqual((out.decode().splitlines(), status), (FIRST_REPLIES, 0))
 
-    def test_sent_again(self):
+    def test_sent_again(self) -> None:
         p = Session()
         p.apply(*FIRST_DAY)
         self.assertEqual(p.apply(*FIRST_DAY), ["no 27 RollBack 2024-03-01", "ok 1", "ok 2",
@@ -36,12 +36,12 @@ class Replies(unittest.TestCase):
         self.assertEqual(p.last("open z o 2024-03-01 29 1999 2499 2199 2999 2500 100"),
                          "no 4 BadTerms 1")
 
-    def test_nothing_sent(self):
+    def test_nothing_sent(self) -> None:
         p = Session()
         self.assertEqual(p.run("apply"), (b"", 0))
         self.assertEqual(p.keeper.rows, [])
 
-    def test_amounts_and_days(self):
+    def test_amounts_and_days(self) -> None:
         p = started()
         self.assertEqual(p.apply("charge a c1 2024-01-10 purchase 1000000001",
                                  "charge a c1 2024-01-10 purchase 1000000000000",
@@ -52,7 +52,7 @@ class Replies(unittest.TestCase):
                          ["no 5 AmountRange", "bad 2 6", "ok 2", "no 1 UnknownAccount", "ok 1",
                           "no 7 DayBeforeOpen", "no 6 DayAhead"])
 
-    def test_bills(self):
+    def test_bills(self) -> None:
         p = Session()
         p.apply("roll 2024-04-06", "open b o 2024-04-06 5 1999 1999 2199 2999 2500 100",
                 "charge b c1 2024-04-06 cash 100000", "roll 2024-05-06")
@@ -60,7 +60,7 @@ class Replies(unittest.TestCase):
         self.assertEqual(p.apply("bill b b1 1", "bill b b1 1", "bill b b2 1", "bill b b3 2"),
                          ["ok 3", "ok 3", "no 13 WrongEntry 3", "no 22 NotClosed 2024-06-05"])
 
-    def test_full_account(self):
+    def test_full_account(self) -> None:
         p = Session()
         lines = list(START) + [f"askrefund a k{i} 2024-01-10" for i in range(9)]
         for n in range(1, 1000):
@@ -75,7 +75,7 @@ class Replies(unittest.TestCase):
         replies = [few.apply(request_of(line)).refused for line in lines[:7]]
         self.assertEqual([r.number if r else None for r in replies], [None] * 5 + [25, 25])
 
-    def test_words_of_commands(self):
+    def test_words_of_commands(self) -> None:
         out, status = Session().run("now")
         self.assertEqual((out[:16], status), (b"usage: apply | i", 2))
         self.assertEqual(Session().run("apply", "now")[1], 2)
@@ -83,7 +83,7 @@ class Replies(unittest.TestCase):
 
 
 class Lines(unittest.TestCase):
-    def test_index_rows(self):
+    def test_index_rows(self) -> None:
         self.assertEqual(Session().last("index 2024-04-01 550"), "ok")
         machine = Machine()
         for line, refused in (("index 2011-01-01 550", 29), ("index 2024-01-01 10000", 5),
@@ -91,7 +91,7 @@ class Lines(unittest.TestCase):
             reply = machine.apply(request_of(line)).refused
             self.assertEqual(reply.number if reply else None, refused)
 
-    def test_days_of_a_trial_balance(self):
+    def test_days_of_a_trial_balance(self) -> None:
         for words, status in (("2024-01-01 2024-01-02", 0), ("2024-01-01 2024-01-01", 0),
                               ("2024-01-02 2024-01-01", 2), ("2024-01-01", 2),
                               ("2010-12-31 2024-01-01", 2), ("2024-01-01 2100-01-01", 2),
@@ -111,7 +111,7 @@ class KeptRows(unittest.TestCase):
         self.assertEqual(status, 8 if out else 0)
         return out.decode().strip()
 
-    def test_damaged(self):
+    def test_damaged(self) -> None:
         rows = self.rows()
         self.assertEqual(self.damaged(list(rows)), "")
         self.assertEqual(self.damaged([(2, rows[0][1])]), "damaged 1")
@@ -124,7 +124,7 @@ class KeptRows(unittest.TestCase):
                 bad[n - 1] = (n, body)
                 self.assertEqual(self.damaged(bad), f"damaged {n}")
 
-    def test_both_formats(self):
+    def test_both_formats(self) -> None:
         for line, one, two in (
                 ("roll 2024-01-28", "010100004d26", "020112a7"),
                 ("charge h-1 c1 2023-12-29 purchase 1100",
@@ -147,7 +147,7 @@ class KeptRows(unittest.TestCase):
                      "021500000100", "011500004d660000000000000226"):
             self.assertIsNone(decode(bytes.fromhex(none)), none)
 
-    def test_rows_of_both_formats_load(self):
+    def test_rows_of_both_formats_load(self) -> None:
         old = self.rows()
         new = [request_of("index 2024-04-01 550"), request_of("charge a c2 2024-03-01 purchase 5")]
         rows = old + [(n, encode(r, 2)) for n, r in enumerate(new, start=4)]
@@ -161,7 +161,7 @@ class Import(unittest.TestCase):
     FILE = (HEADER + b"a,c1,charge,2024-01-08,purchase,1100,,\n"
             b"a,p1,payment,2024-01-09,,500,600,online\n")
 
-    def test_sent_again(self):
+    def test_sent_again(self) -> None:
         p = started()
         self.assertEqual(p.run("import", data=self.FILE), (b"ok 2\nok 3\n", 0))
         kept, entries = list(p.keeper.rows), p.text("export", "a")
@@ -170,7 +170,7 @@ class Import(unittest.TestCase):
                          (b"no 3 KeyReused 2\nok 3\n", 1))
         self.assertEqual((p.keeper.rows, p.text("export", "a")), (kept, entries))
 
-    def test_bad_records(self):
+    def test_bad_records(self) -> None:
         p = started()
 
         def replies(data):
@@ -184,24 +184,24 @@ class Import(unittest.TestCase):
 
 
 class Demonstration(unittest.TestCase):
-    def test_no_account(self):
+    def test_no_account(self) -> None:
         self.assertEqual(Session().run("demo", "1", "0", "1"),
                          (b"requests 3\naccepted 3\nrefused 0\nowed 0.00\ninterest 0.00\n"
                           b"fees 0.00\n", 0))
 
-    def test_twenty_accounts(self):
+    def test_twenty_accounts(self) -> None:
         self.assertEqual(Session().text("demo", "1", "20", "6").splitlines()[:3],
                          ["requests 868", "accepted 868", "refused 0"])
 
 
 class Days(unittest.TestCase):
-    def test_time_passes(self):
+    def test_time_passes(self) -> None:
         p = started()
         p.apply("roll 2024-01-11")
         for _ in range(2):
             self.assertEqual(p.last("show a"), "show a 2024-01-11 owed 0 credit 0 held 0")
 
-    def test_dates_of_cycles(self):
+    def test_dates_of_cycles(self) -> None:
         a = days.Anchor(day_of("2023-02-01"), 28)
         self.assertEqual(days.closing(a, 1), day_of("2023-02-28"))
         self.assertEqual(days.due(a, 1), day_of("2023-03-24"))
@@ -211,7 +211,7 @@ class Days(unittest.TestCase):
                          (day_of("2024-02-05"), day_of("2024-03-01")))
         self.assertEqual(days.closing(b, 2), day_of("2024-03-05"))
 
-    def test_cut_off(self):
+    def test_cut_off(self) -> None:
         a = days.Anchor(day_of("2024-10-01"), 28)
         r = day_of("2024-11-24")
         self.assertEqual(days.credit_day(a, r, 1020, "online", frozenset()), r)

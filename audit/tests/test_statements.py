@@ -21,25 +21,25 @@ def disputable() -> Session:
 
 
 class Disputes(unittest.TestCase):
-    def test_sixty_days(self):
+    def test_sixty_days(self) -> None:
         p = disputable()
         self.assertEqual(p.last("dispute d x1 2024-04-17 2 5000"), "no 19 DisputeLate 2024-04-16")
         replies = p.apply("dispute d x1 2024-04-16 2 5000", "show d")
         self.assertEqual(replies[0], "ok 4")
         self.assertTrue(replies[1].endswith(" held 5000"))
 
-    def test_resolve_day(self):
+    def test_resolve_day(self) -> None:
         a = Anchor(day_of("2024-01-16"), 15)
         self.assertEqual(resolve_by(a, day_of("2024-03-20")), day_of("2024-06-15"))
         self.assertEqual(resolve_by(a, day_of("2024-03-16")), day_of("2024-06-14"))
 
-    def test_tasks(self):
+    def test_tasks(self) -> None:
         p = disputable()
         p.apply("dispute d x1 2024-04-16 2 5000")
         self.assertEqual(p.run("work"),
                          (b"2024-05-16 d ACK 4\n2024-07-15 d RESOLVE 4\n", 0))
 
-    def test_resolved(self):
+    def test_resolved(self) -> None:
         for confirmed in (5000, 2000):
             p = disputable()
             p.apply("dispute d x1 2024-04-16 2 5000")
@@ -64,7 +64,7 @@ class Disputes(unittest.TestCase):
 
 
 class TwoYears(unittest.TestCase):
-    def test_correction_and_back(self):
+    def test_correction_and_back(self) -> None:
         p = started()
         a = Anchor(day_of("2024-01-06"), 5)
         lines = []
@@ -96,7 +96,7 @@ class TwoYears(unittest.TestCase):
 
 
 class BreakDays(unittest.TestCase):
-    def test_two_cycles(self):
+    def test_two_cycles(self) -> None:
         p = started()
         p.apply("roll 2024-03-10")
         found = break_days(p.book("a"), day_of("2024-01-06"), day_of("2024-03-10"))
@@ -154,7 +154,7 @@ class StatementText(unittest.TestCase):
         body = self.body(line)
         return p.answer(b"POST /posts HTTP/1.1\r\nContent-Length: %d\r\n\r\n" % len(body) + body)
 
-    def test_over_http(self):
+    def test_over_http(self) -> None:
         p = Session()
         answers = [self.post(p, line) for line in self.LINES]
         self.assertEqual(self.body(self.LINES[3]),
@@ -171,14 +171,14 @@ class StatementText(unittest.TestCase):
         self.assertIn(b"Content-Type: text/plain; charset=utf-8\r\n", head + b"\r\n")
         self.assertEqual(body.decode(), self.expected())
 
-    def test_by_apply(self):
+    def test_by_apply(self) -> None:
         p = Session()
         p.apply(*self.LINES)
         self.assertEqual(p.text("statement", "h-1", "1"), self.expected())
 
 
 class Repayment(unittest.TestCase):
-    def test_two_lines(self):
+    def test_two_lines(self) -> None:
         p = started()
         p.apply("plan a pl 2024-01-10 promo 0 2024-08-05 1999", "charge a c1 2024-01-10 plan:2 10000",
                 "roll 2024-02-06", "bill a b1 1")
@@ -187,7 +187,7 @@ class Repayment(unittest.TestCase):
                           b"THIRTY-SIX MONTHS PAYMENT 2.78 TOTAL 100.00\n", 0))
         self.assertEqual(p.run("repay", "a", "2"), (b"none\n", 1))
 
-    def test_ends(self):
+    def test_ends(self) -> None:
         self.assertIsNone(repay.at_minimum([Owing(10000, 1999)], 0, 0))
         self.assertEqual(repay._month_interest([10000], [1999]), [164])
         self.assertEqual(repay.in_36([Owing(1, 1999)]), (1, 1))
@@ -198,14 +198,14 @@ class TrialBalance(unittest.TestCase):
     ZEROS = [f"{kind} 0.00 0.00" for kind in
              ("charge", "credit", "payment", "return", "refund", "fee", "interest", "hold")]
 
-    def test_first_day(self):
+    def test_first_day(self) -> None:
         p = Session()
         p.apply(*START, "charge a c1 2024-01-10 purchase 1250")
         self.assertEqual(p.text("trial", "2024-01-10", "2024-01-10").splitlines(),
                          ["charge 12.50 0.00", *self.ZEROS[1:], "total 12.50 0.00",
                           "change 12.50"])
 
-    def test_holds(self):
+    def test_holds(self) -> None:
         p = disputable()
         p.apply("dispute d x1 2024-04-16 2 5000")
         words = ("trial", "2024-04-16", "2024-04-16")
