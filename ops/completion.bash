@@ -2,18 +2,24 @@
 
 _ledger() {
     local word=${COMP_WORDS[COMP_CWORD]} options=--help
-    local words='check today accounts due bills rows run convert statements seal backup restore night'
+    local words='check today accounts due bills rows posts late tomorrow undo chain examine version run convert move statements seal backup restore night'
     if [ "$COMP_CWORD" -eq 1 ]; then
-        mapfile -t COMPREPLY < <(compgen -W "$words --help" -- "$word")
+        mapfile -t COMPREPLY < <(compgen -W "$words --help --version" -- "$word")
         return
     fi
     case ${COMP_WORDS[1]} in
-    run) options='--help --new --far --wait --program' ;;
-    night) options='--help --day --far --calls --wait --program' ;;
+    run) options='--help --new --far --late --dated-back --wait --program' ;;
+    night) options='--help --day --far --late --dated-back --reissue --keep --calls --wait --program' ;;
+    tomorrow) options='--help --day --inbox --wait --program' ;;
+    convert) options='--help --day --ledger --late --wait' ;;
     rows | seal) options='--help --since --wait' ;;
     statements) options='--help --calls --wait --program' ;;
-    check | backup | restore) options='--help --wait --program' ;;
-    today | accounts | due | bills) options='--help --wait' ;;
+    accounts) options='--help --owed --wait --program' ;;
+    backup) options='--help --keep --wait --program' ;;
+    restore) options='--help --again --wait --program' ;;
+    check | late | examine) options='--help --wait --program' ;;
+    version) options='--help --program' ;;
+    today | due | bills | posts | undo | chain) options='--help --wait' ;;
     esac
     case $word in
     -*) mapfile -t COMPREPLY < <(compgen -W "$options" -- "$word") ;;

@@ -13,6 +13,9 @@ from companion.trouble import DONE, OWN_FILES, Trouble
 PLACE = os.path.join(TOP, "VERSION")
 UNKNOWN = "unknown"
 
+# A kit that is at work may answer late.
+SECONDS = 2
+
 
 def hash_of(path: str) -> str:
     """The SHA-256 of a file."""
@@ -24,10 +27,13 @@ def hash_of(path: str) -> str:
 
 
 def told_by(*words: str) -> str:
-    """The first line of a command, where it is there and succeeds."""
+    """The first line of a command, where it is there and succeeds in time."""
     if shutil.which(words[0]) is None:
         return UNKNOWN
-    done = subprocess.run(words, capture_output=True, text=True, check=False)
+    try:
+        done = subprocess.run(words, capture_output=True, text=True, check=False, timeout=SECONDS)
+    except subprocess.TimeoutExpired:
+        return UNKNOWN
     return done.stdout.split("\n", 1)[0].strip() if done.returncode == 0 else UNKNOWN
 
 

@@ -237,8 +237,9 @@ class Sheets(Home):
 
     COLUMNS = 'date = "DD.MM.YYYY hh:mm"\nseparator = ";"\npoint = ","\nleast_digits = 1\n' \
         'stop = "End"\ntotal = "Total"\n[columns]\naccount = "Card"\nkey = "Ref"\n' \
-        'day = "Booked"\nminute = "Booked"\ndebit = "Debit"\ncredit = "Credit"\n[always]\nplace = "purchase"\n' \
-        'channel = "online"\n[accounts]\n"4711 0001" = "anna"\n[signs]\nplus = "charge"\n' \
+        'day = "Booked"\nminute = "Booked"\ndebit = "Debit"\ncredit = "Credit"\n[always]\n' \
+        'place = "purchase"\nchannel = "online"\n[accounts]\n"4711 0001" = "anna"\n' \
+        '[signs]\nplus = "charge"\n' \
         'minus = "payment"\n'
     SHEET = "Card;Ref;Booked;Debit;Credit\n4711 0001;r1;05.02.2024 09:15;12,5;\n" \
         "4711 0001;r2;05.02.2024 17:00;;7\nTotal;;;12,50;7,00\nEnd of sheet\n"
