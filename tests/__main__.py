@@ -7,13 +7,15 @@ modules run. `--fast` leaves out what takes long. A line a module is written as 
 order of their names, with what it printed below it; then each failure, each skipped case with its
 reason, and the sum. The status is 1 where a case failed, 2 where a name is none.
 
-A module that wants no other beside it says `ALONE = True`. The variable BILLCTL names a program to
-test in the place of crates/billctl/out/billctl. Files lie in memory (/dev/shm) where there is such
-a disk and TMPDIR says nothing else: no commit waits.
+A module that wants no other beside it says `ALONE = True`; one that takes long as a whole says
+`LONG = True`, and of others a class or a case is marked by tests.support.case.long. The variable
+BILLCTL names a program to test in the place of crates/billctl/out/billctl. Files lie in memory
+(/dev/shm) where there is such a disk and TMPDIR says nothing else: no commit waits.
 """
 
 import argparse
 import concurrent.futures
+import contextlib
 import json
 import os
 import re
@@ -30,6 +32,7 @@ from .support.program import TOP, not_built
 TESTS = TOP / "tests"
 MEMORY = "/dev/shm"
 SECONDS = 3600
+UNDER_WAY: "set[subprocess.Popen[bytes]]" = set()
 
 
 class Outcome(NamedTuple):
@@ -83,6 +86,7 @@ def run_module(name: str, is_fast: bool) -> Outcome:
             running = subprocess.Popen([*words, *["--fast"] * is_fast], cwd=TOP, stdout=out,
                                        stderr=out, stdin=subprocess.DEVNULL, env=environment(),
                                        start_new_session=True)
+            UNDER_WAY.add(running)
             why = end_of(running)
         text = printed.read_text(encoding="utf-8", errors="backslashreplace")
         if why or not result.exists():
@@ -102,11 +106,15 @@ def end_of(running: "subprocess.Popen[bytes]") -> str:
     except subprocess.TimeoutExpired:
         return f"it didn't end in {SECONDS} seconds"
     finally:
-        try:
-            os.killpg(running.pid, signal.SIGKILL)
-        except ProcessLookupError:
-            pass
-        running.wait()
+        end(running)
+        UNDER_WAY.discard(running)
+
+
+def end(running: "subprocess.Popen[bytes]") -> None:
+    """Ends a module, and what it started."""
+    with contextlib.suppress(ProcessLookupError):
+        os.killpg(running.pid, signal.SIGKILL)
+    running.wait()
 
 
 def tell(outcome: Outcome) -> None:
@@ -130,9 +138,15 @@ def run_all(paths: dict[str, Path], is_fast: bool, jobs: int) -> list[Outcome]:
     outcomes = []
     for names, lanes in ((together, jobs), (alone, 1)):
         with concurrent.futures.ThreadPoolExecutor(lanes) as pool:
-            for outcome in pool.map(run_module, names, [is_fast] * len(names)):
-                tell(outcome)
-                outcomes.append(outcome)
+            try:
+                for outcome in pool.map(run_module, names, [is_fast] * len(names)):
+                    tell(outcome)
+                    outcomes.append(outcome)
+            except BaseException:
+                pool.shutdown(wait=False, cancel_futures=True)
+                for running in list(UNDER_WAY):
+                    end(running)
+                raise
     return outcomes
 
 
@@ -163,6 +177,8 @@ def main() -> None:
                         help="modules at once, as many as processors where it isn't given")
     words = parser.parse_args()
     paths = chosen(words.names)
+    # what is ended from outside ends what it started
+    signal.signal(signal.SIGTERM, lambda *_: sys.exit(1))
     if not_built():
         print(f"tests: {not_built()}", file=sys.stderr)
     sys.exit(0 if summary(run_all(paths, words.fast, max(1, words.jobs))) else 1)

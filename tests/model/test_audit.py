@@ -20,6 +20,7 @@ from audit.check import Different, check
 from audit.demo import demo_requests
 from audit.generate import generate
 from audit.lines import line_text
+from audit.program import Failed
 from audit.rows import decode, encode
 from tests.support.case import Case, long, read
 from tests.support.program import EXAMPLES, PROGRAM, TOP, as_input, run
@@ -39,7 +40,7 @@ def counts_of(lines: bytes) -> Counter[str] | str:
         before = {path.name: path.read_bytes() for path in Path(room).iterdir()}
         try:
             counts = check(file, PROGRAM, quiet=True)
-        except (Different, SystemExit) as found:
+        except (Different, Failed, SystemExit) as found:
             return str(found)
         if {path.name: path.read_bytes() for path in Path(room).iterdir()} != before:
             return "the file was changed, or another made beside it"

@@ -77,7 +77,8 @@ def cases_of(suite: unittest.TestSuite) -> Iterator[unittest.TestCase]:
 
 def takes_long(case: unittest.TestCase, module: ModuleType) -> bool:
     method = getattr(case, case.id().rpartition(".")[2], None)
-    return any(getattr(part, "long", False) for part in (method, type(case), module))
+    return (getattr(module, "LONG", False) is True
+            or any(getattr(part, "long", False) is True for part in (method, type(case))))
 
 
 def run(name: str, is_fast: bool) -> dict[str, Any]:
