@@ -18,7 +18,7 @@ class Rate(NamedTuple):
 
     rate: int
     source: str
-    index: int | None
+    index_rate: int | None
     margin: int | None
 
 
@@ -59,7 +59,7 @@ def rate_of(book: Book, segment: Segment, day: int) -> Rate:
 def _is_penalty(book: Book, segment: Segment, day: int, found: int) -> bool:
     """A penalty rate holds the rate above the lowered one."""
     own, began = book.rates.own(segment, day)
-    return bool(found != book.rates.capped(own, segment.category, began, day))
+    return bool(found != book.rates.capped(own, segment.category or "purchase", began, day))
 
 
 def runs_of(days: list[Day]) -> list[Data]:
@@ -73,7 +73,7 @@ def runs_of(days: list[Day]) -> list[Data]:
         runs.append({
             "first": day_text(run[0].day), "last": day_text(run[-1].day), "days": len(run),
             "rate": rate.rate, "daily_rate_billionths": daily(rate.rate), "source": rate.source,
-            "index": rate.index, "margin": rate.margin, "balance_days": balance_days,
+            "index": rate.index_rate, "margin": rate.margin, "balance_days": balance_days,
             "interest_billionths": balance_days * daily(rate.rate),
             "interest": interest(exact) - before})
         before = interest(exact)
@@ -120,7 +120,7 @@ def balance_of(bill: Bill, segment: Segment, is_printed: bool) -> Data:
     return {"segment": segment.name, "category": segment.category or "purchase",
             "kind": segment.sort if segment.is_plan else "vintage", "on_text": is_printed,
             "balance": book.balance_at(s, end), "rate": now.rate, "source": now.source,
-            "index": now.index, "margin": now.margin,
+            "index": now.index_rate, "margin": now.margin,
             "daily_rate_billionths": daily(now.rate),
             "bears_interest": case_of(book, s, bill.cycle)[0],
             "average_daily_balance": cycle.average.get(s, 0), "interest": posted,

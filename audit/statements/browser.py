@@ -22,11 +22,11 @@ PRINTED = {"preferCSSPageSize": True, "printBackground": False, "generateTaggedP
 
 def chromium() -> str:
     """The path of Chromium; Failed where none is there."""
-    found = next((path for path in map(shutil.which, NAMES) if path), None)
-    if found is None:
+    found = [path for path in (shutil.which(name) for name in NAMES) if path]
+    if not found:
         raise Failed("PDF wants Chromium, and none is on the PATH: install it (Debian's package "
                      "chromium), or ask for --form html")
-    return found
+    return str(found[0])
 
 
 def dated(pdf: bytes, day: str) -> bytes:

@@ -35,7 +35,7 @@ class Bill:
 
 @dataclass
 class Wanted:
-    """The rows of an account up to its last statement of the day, and the cycles that are billed."""
+    """The rows of an account up to its last bill of the day, and the cycles that are billed."""
 
     account: str
     rows: Kept

@@ -79,8 +79,8 @@ def payment_of(data: Data, issuer: Issuer) -> str:
                 f"to {money(payment['late']['fee_up_to'])}, and your APRs may be increased up to "
                 f"the penalty APR of {percent(payment['late']['rate_up_to'])}.</p>")
     out += repayment_of(data["repayment"]["disclosed"], issuer)
-    out += (f"<p>Send payments to {', '.join(words(one) for one in issuer.block('payment_address'))}"
-            f". {issuer.text('payments_text')}</p>")
+    where = ", ".join(words(one) for one in issuer.block("payment_address"))
+    out += f"<p>Send payments to {where}. {issuer.text('payments_text')}</p>"
     return section("payment", "Payment information", out)
 
 

@@ -16,8 +16,8 @@ CATEGORIES = (("purchase", "purchases"), ("cash", "cash advances"),
 SOURCES = {"index": "variable rate", "penalty": "penalty rate", "promotion": "promotional rate",
            "deferred": "deferred interest plan", "after_plan": "rate after a plan",
            "notice": "rate of a notice", "lowered": "lowered rate", "terms": ""}
-_SAID = {"PAYMENT": "Payment, thank you", "CREDIT": "Credit", "REFUND": "Refund of a credit balance",
-         "RETURN": "Payment returned unpaid"}
+_SAID = {"PAYMENT": "Payment, thank you", "CREDIT": "Credit",
+         "REFUND": "Refund of a credit balance", "RETURN": "Payment returned unpaid"}
 _CHARGED = {"cash": "Cash advance", "transfer": "Balance transfer"}
 
 
@@ -137,16 +137,17 @@ def run_row(name: str, run: Data, average: str) -> str:
 def rows_of(one: Data) -> list[str]:
     """The rates of a balance; where there are several, and their sum."""
     name, average = name_of(one), money(one["average_daily_balance"])
+    at_end = f'{name} <span class="of">{money(one["balance"])} at closing</span>'
     deferred = one["deferred_interest"] or []
     if len(one["rates"]) == 1 and not deferred and not one["interest_not_charged"]:
-        return [run_row(name, one["rates"][0], average)]
+        return [run_row(at_end, one["rates"][0], average)]
     rows = [run_row(name, run, "") for run in one["rates"]]
     rows += [run_row(f"{name}, deferred interest now charged", run, "") for run in deferred]
     if one["interest_not_charged"]:
         rows.append(row(cell("Type of balance", f"{name}, not charged", "")
                         + '<td class="gone" role="cell" colspan="5"></td>'
                         + cell("Interest charge", money(-one["interest_not_charged"]))))
-    rows.append(row(cell("Type of balance", f"{name}, all", "")
+    rows.append(row(cell("Type of balance", f"{at_end}, all", "")
                     + '<td class="gone" role="cell" colspan="4"></td>'
                     + cell("Average daily balance", average)
                     + cell("Interest charge", money(one["interest"])), "sum"))

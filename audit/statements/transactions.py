@@ -100,7 +100,7 @@ def notices_of(bill: Bill) -> list[Data]:
         post = kept.post
         if post.word == "notice" and post.effective is not None and post.effective > end:
             found.append({"post": kept.number, "key": post.key, "category": post.category,
-                          "rate": post.rate, "given": day_text(post.day),
+                          "rate": post.rate, "given": day_text(post.day or 0),
                           "effective": day_text(post.effective),
                           "charges_from": day_text((post.day or 0) + VINTAGE_DAYS)})
     return found

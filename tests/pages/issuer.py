@@ -19,7 +19,8 @@ def quoted(text: str) -> str:
 
 def toml(**changed: str | None) -> str:
     """ISSUER.toml; a text may be another one, or left out by None."""
-    found = {**TEXTS, **changed}
+    found: dict[str, str | None] = dict(TEXTS)
+    found.update(changed)
     lines = [f"{key} = {quoted(text)}" for key, text in found.items() if text is not None]
     lines += [f"{key} = [{', '.join(map(quoted, block))}]" for key, block in LINES.items()]
     return "".join(f"{line}\n" for line in lines)

@@ -20,7 +20,8 @@ from .statements import shown_text
 
 DAY = "2024-03-06"
 HOSTILE = ("<script>alert(1)</script>", "\"><img src=x onerror=alert(1)>", "'; --", "=1+1",
-           "a\u202eb\u2066c", "x" * 10_000, "nul\x00here", "&amp;<b>", "]]></style>", "\u05d0\u200f")
+           "a\u202eb\u2066c", "x" * 10_000, "nul\x00here", "&amp;<b>", "]]></style>",
+           "\u05d0\u200f")
 
 
 class Called(Case):
@@ -152,7 +153,7 @@ class Refused(Called):
     def test_texts(self) -> None:
         wanted = {
             "telephone": ("telephone", None, "ends without the key telephone"),
-            "place": ("errors_text", "call {phone}", "line 7: errors_text has the place {phone}"),
+            "place": ("errors_text", "call {phone}", "line 6: errors_text has the place {phone}"),
             "empty": ("name", " ", "line 1: name has to be a text")}
         for name, (key, text, said) in wanted.items():
             path = self.write(f"{name}.toml", toml(**{key: text}))
@@ -174,7 +175,8 @@ class Refused(Called):
                  "": "line 1: the columns have to be"}
         for text, said in names.items():
             self.expect(2, said, "--names", self.write("names.csv", text))
-        for data in ((NAMES + "anna,A,,,,\n").encode("utf-16"), NAMES.encode() + b"anna,\xff,,,,\n"):
+        for data in ((NAMES + "anna,A,,,,\n").encode("utf-16"),
+                     NAMES.encode() + b"anna,\xff,,,,\n"):
             self.expect(2, "isn't UTF-8", "--names", self.write("names.csv", data))
         notes = {NOTES + "anna,c,a\nanna,c,b\n": "line 3: anna c has a note on line 2",
                  NOTES + "anna,c!,a\n": "line 2: 'c!' is no key of a post"}
