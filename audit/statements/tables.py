@@ -161,7 +161,8 @@ def calculation_of(data: Data, issuer: Issuer) -> str:
              ("Interest charge", "n"))
     rows = [line for one in data["balances"] for line in rows_of(one)]
     ends = [f"<p>The promotional rate of {name_of(one)} is {percent(one['promotion']['rate'])} "
-            f"until {day(one['promotion']['last'])}; after that it is "
+            f"from {day(one['promotion']['first'])} until "
+            f"{day(one['promotion']['last'])}; after that it is "
             f"{percent(one['promotion']['rate_after'])}.</p>"
             for one in data["balances"] if one["promotion"]]
     return section("calculation", "Interest charge calculation",

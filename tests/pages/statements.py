@@ -16,7 +16,7 @@ _BILL = WORDS["bill"][0]
 
 # What stands in the data and not on the page: how a number was rounded or split, and for machines.
 DATA_ONLY = ("format", "bill", "parts", "post", "target", "charge", "due_cycle", "exact",
-             "interest_billionths", "cycle")
+             "interest_billionths", "cycle", "accepted")
 
 
 def all_wanted(file: str) -> list[Wanted]:
