@@ -10,7 +10,8 @@ Standard error has the progress, standard output what was compared, or the
 first difference with both sides.  Status 0: all is the same.  1: something
 differs.  2: nothing can be compared, and why.
 
-`python3 -m audit explain --help` says how each number of a cycle is explained.
+`python3 -m audit explain --help` says how each number of a cycle is explained, and
+`python3 -m audit statements --help` how the statements of a day become files.
 """
 
 import argparse
@@ -22,6 +23,7 @@ from .check import Different, check
 from .explaining.command import main as explain
 from .ledger_file import Unreadable
 from .program import Failed
+from .statements.command import main as statements
 
 BUILT = Path(__file__).resolve().parent.parent / "crates" / "billctl" / "out" / "billctl"
 
@@ -29,6 +31,8 @@ BUILT = Path(__file__).resolve().parent.parent / "crates" / "billctl" / "out" / 
 def main() -> int:
     if sys.argv[1:2] == ["explain"]:
         return explain(sys.argv[2:])
+    if sys.argv[1:2] == ["statements"]:
+        return statements(sys.argv[2:])
     parser = argparse.ArgumentParser(prog="python3 -m audit", description=__doc__,
                                      formatter_class=argparse.RawDescriptionHelpFormatter)
     parser.add_argument("file", metavar="FILE", help="the ledger's SQLite file")

@@ -1,0 +1,1 @@
+"""Statements as data and as pages (audit/statements)."""
