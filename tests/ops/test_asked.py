@@ -5,7 +5,7 @@ import io
 import os
 
 from audit.commands import load
-from audit.days import day_text, due
+from audit.days import Anchor, day_text, due
 from audit.ledger_file import copied, rows_of
 from audit.machine import Machine
 from audit.money import money_text
@@ -21,6 +21,14 @@ def model_of(path: str) -> Machine:
     """The independent model over the rows of a file."""
     with copied(path) as copy:
         return load(rows_of(copy))
+
+
+def due_day(anchor: Anchor, number: int) -> int:
+    """The due date of a cycle that has one."""
+    day = due(anchor, number)
+    if day is None:
+        raise AssertionError(f"cycle {number} has no due date")
+    return day
 
 
 class Money(Home):
@@ -52,13 +60,13 @@ class Money(Home):
         for name, account in machine.accounts.items():
             book = machine.book(account)
             short = [cycle for cycle in book.cycles
-                     if due(book.anchor, cycle.number) < machine.today
+                     if due_day(book.anchor, cycle.number) < machine.today
                      and has_due_payment(book, cycle.number)
                      and counted_since(book, cycle.number, machine.today) < cycle.minimum]
             if short:
                 cycle = short[-1]
                 got = counted_since(book, cycle.number, machine.today)
-                wanted[name] = (str(cycle.number), day_text(due(book.anchor, cycle.number)),
+                wanted[name] = (str(cycle.number), day_text(due_day(book.anchor, cycle.number)),
                                 money_text(cycle.minimum), money_text(got),
                                 money_text(cycle.minimum - got), money_text(book.owed()),
                                 "allowed" if sixty_days_late(book, machine.today) else "")

@@ -67,8 +67,10 @@ class Nginx(Case):
     def test_guards(self) -> None:
         """What passes, and what is kept out before it costs the ledger a connection."""
         self.assertEqual(self.ask("POST", "/posts", CHARGE, Content_Type=JSON), (200, '{"ok":3}'))
-        for headers, status in (({"Content_Type": "text/plain"}, 415), ({}, 415),
-                                ({"Content_Type": JSON, "Origin": "https://a.example"}, 403)):
+        kept_out: list[tuple[dict[str, str], int]] = [
+            ({"Content_Type": "text/plain"}, 415), ({}, 415),
+            ({"Content_Type": JSON, "Origin": "https://a.example"}, 403)]
+        for headers, status in kept_out:
             self.assertEqual(self.ask("POST", "/posts", CHARGE, **headers)[0], status)
         self.assertEqual(self.ask("GET", "/accounts/anna", Origin="null")[0], 403)
         self.assertEqual(self.ask("POST", "/posts", "x" * 17000, Content_Type=JSON)[0], 413)

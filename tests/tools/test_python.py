@@ -13,8 +13,7 @@ from tests.support.program import TOP
 
 FOLDERS = ("ops", "audit", "tests", "bench", "dev")
 # what is annotated throughout, and keeps to the style
-CLEAN = ("tests/__main__.py", "tests/support", "tests/examples", "tests/program", "tests/model",
-         "tests/ops", "tests/shards", "tests/tools")
+CLEAN = ("ops", "bench", "dev", "tests")
 STYLE = {
     "ruff": ["ruff", "check", "--no-cache"],
     "flake8": ["flake8", "--max-line-length", "100"],
