@@ -7,6 +7,7 @@ import shutil
 import signal
 import subprocess
 import tempfile
+from collections.abc import Callable
 from typing import Any, TextIO
 
 from companion.trouble import OWN_FILES, Progress, Trouble
@@ -74,10 +75,17 @@ def start(words: list[str], **streams: Any) -> subprocess.Popen[bytes]:
         raise Trouble(f"{words[0]} can't be run: {error.strerror}", OWN_FILES) from error
 
 
-def end_with_caller() -> None:
-    """Has the system end this process when the one that started it is gone, where it can."""
-    with contextlib.suppress(OSError, AttributeError):
-        ctypes.CDLL(None).prctl(PR_SET_PDEATHSIG, int(signal.SIGKILL))
+def ends_with_caller() -> Callable[[], None]:
+    """What a new process calls first, so that the system ends it when this one is gone."""
+    caller = os.getpid()
+
+    def end_with_caller() -> None:
+        with contextlib.suppress(OSError, AttributeError):
+            ctypes.CDLL(None).prctl(PR_SET_PDEATHSIG, int(signal.SIGKILL))
+        if os.getppid() != caller:  # it went before the system was asked
+            os.kill(os.getpid(), signal.SIGKILL)
+
+    return end_with_caller
 
 
 def call(program: str, path: str, *words: str) -> tuple[int, bytes]:

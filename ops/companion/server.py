@@ -9,7 +9,7 @@ from types import TracebackType
 from typing import Any
 
 from companion.opening import require_openable
-from companion.program import ask_of, end_with_caller, start
+from companion.program import ask_of, ends_with_caller, start
 from companion.requests import SHARED, WORDS, form_of, members_of
 from companion.trouble import DONE, OWN_FILES, Trouble
 
@@ -123,7 +123,7 @@ class Server:
             self.port = free_port()
             words = [self.program, self.path, "serve", str(self.port), str(self.count)]
             self.running = start(words, stdin=subprocess.DEVNULL, stdout=subprocess.DEVNULL,
-                                 preexec_fn=end_with_caller)
+                                 preexec_fn=ends_with_caller())
             self.left = self.count
             try:
                 self.ask("GET", "/work")

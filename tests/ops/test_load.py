@@ -197,7 +197,7 @@ class Stopped(Home):
             self.put("a.csv", self.RECORDS)
             self.put("b.txt", "lower a1 l 2024-02-05 cash 2000\n")
             self.killed_at(place + 1)
-            done = self.night(DAY)
+            done = self.night(DAY, "--wait", "60")
             self.assertEqual(done[0], 0, done)
             self.finished()
             after = self.listing()
