@@ -1,6 +1,6 @@
 -- The dates from 2011-01-01 to 2102-12-31 and their days.
 use borrow.Author.Differences.{up, down}
-use Rattle.std.proofs.Common.{◌≡◌, ℕ, ◌<◌, ◌≤◌, true, refl, sym, ap, subst, arith, ℤ, pos, negsuc, ◌⊎◌, inl, inr}
+use Rattle.std.proofs.Common.{◌≡◌, ℕ, ◌<◌, ◌≤◌, true, refl, sym, ap, arith, ℤ, pos, negsuc, ◌⊎◌, inl, inr}
 use Rattle.std.proofs.lemmas.Bool.{and_parts, leb-true, cases_lt}
 use Rattle.std.proofs.lemmas.Bool.Decides.{nat_tests}
 use Rattle.jiff_core.specs.Calendar.{days_from_civil, IsCivilDate}
@@ -134,13 +134,3 @@ library_date (pos y) m d n l a e =
     record { year = ap (λ c. pos c.year) (sym is); month = ap (λ c. c.month) (sym is); day = ap (λ c. c.day) (sym is) }
 library_date (negsuc y) m d n l a e =
     absurd (omega (arith, signed_arith, day_count-lt_year (negsuc y) m d (pos 1970) 1 1 a (omega arith) (omega (arith, signed_arith)), days_from_civil-day_count (negsuc y) m d, count_is 1970 1 1 (omega arith) (omega arith), day_1970, ap up e, ap down e))
-
--- a date that the library makes of the parts in range is one of the calendar, and has the number of these parts
-pub made_date : (year : ℤ) (month day y m d : ℕ) → IsCivilDate year month day → year ≡ pos y → pos month ≡ pos m → pos day ≡ pos d → 2011 ≤ y → y ≤ 2102 → (is_date y m d ≡ true) × (days_from_civil year month day ≡ pos (day_at y m d))
-made_date year month day y m d a ey em ed low high =
-    let em' : month ≡ m = cc in
-    let ed' : day ≡ d = cc in
-    let a' : IsCivilDate (pos y) m d = subst (λ v. IsCivilDate (pos y) m v) ed' (subst (λ v. IsCivilDate (pos y) v day) em' (subst (λ v. IsCivilDate v month day) ey a)) in (
-      from_calendar y m d (record { low_year = low; high_year = high; low_month = a'.1.0; high_month = a'.1.1; low_day = a'.2.0; high_day = a'.2.1 }),
-      rw (ey, em', ed') (number_is y m d (omega arith) a'.2.0),
-    )

@@ -6,6 +6,7 @@ mod Examples
 pub mod Months
 pub mod Cycles
 pub mod Answered
+mod Starts
 pub mod Holidays
 pub mod Business
 pub mod DueDays

@@ -1,5 +1,5 @@
 -- Mail is credited as of the greatest due date that it still meets.
-use Rattle.std.proofs.Common.{◌≡◌, ℕ, suc, ◌+◌, ◌-◌, ◌<◌, ◌≤◌, Bool, true, false, cond, not, ◌&&◌, nat_lt, nat_eq, List, Some, refl, sym, ◌∙◌, subst, arith, inl, inr, ◌⊎◌, eq-eqb}
+use Rattle.std.proofs.Common.{◌≡◌, ℕ, suc, ◌+◌, ◌-◌, ◌<◌, ◌≤◌, true, false, cond, not, ◌&&◌, nat_lt, nat_eq, List, Some, refl, sym, ◌∙◌, subst, arith, inl, inr, ◌⊎◌, eq-eqb}
 use Rattle.std.proofs.lemmas.Bool.{cases_lt, false≢true}
 use Rattle.std.proofs.lemmas.Bool.Decides.{nat_tests}
 use Rattle.card_events.specs.Range.{last_request_day}

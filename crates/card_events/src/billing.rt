@@ -93,8 +93,8 @@ pub(crate) fn month_from(c: u8, day: Day) -> u64
     ensures first { first_calendar_day ≤ day }
     ensures last { day ≤ last_calendar_day }
 {
-    let (year, month, d) = day.ymd();
-    let number = 12 * year as u64 + (month as u64 - 1);
+    let (month, d) = day.month_and_day();
+    let number = 24_132 + month as u64;
     if c < d { number + 1 } else { number }
 }
 
@@ -105,5 +105,5 @@ pub(crate) fn day_in_month(month: u64, d: u8) -> Option<Day>
     if month < 24_132 || month > 25_235 {
         return None;
     }
-    Day::from_ymd((month / 12) as u16, (month % 12 + 1) as u8, d)
+    Day::in_month((month - 24_132) as usize, d)
 }

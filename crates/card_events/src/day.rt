@@ -1,8 +1,10 @@
-ghost use Rattle.std.specs.Prelude.{nat_le, ◌≡◌, ◌↔◌, ◌+◌, ◌<◌, ◌≤◌, ℕ, pos, true, IsSome, IfSome, SomeIff, Some, OnSome};
+ghost use Rattle.std.specs.Prelude.{nat_le, ◌≡◌, ◌↔◌, ◌+◌, ◌/◌, ◌%◌, ◌<◌, ◌≤◌, ℕ, pos, true, IsSome, IfSome, SomeIff, Some, OnSome};
 ghost use Rattle.card_events.specs.Range.{IsDayNumber, first_calendar_day, last_calendar_day, last_request_day};
 ghost use Rattle.card_events.specs.Later.{clipped_day_at};
-ghost use Rattle.card_events.specs.Civil.{IsInCalendar, date_of, is_date, day_at, day_text};
+ghost use Rattle.card_events.specs.Civil.{IsInCalendar, date_of, is_date, day_at, day_text, month_length};
+ghost use Rattle.card_events.specs.Months.{day_in_month, month_number};
 
+use crate::month_table::{length_of, month_at, start_of};
 use jiff::civil::Date;
 use jiff_core::civil;
 use std::fmt;
@@ -22,6 +24,9 @@ pub struct Day {
 }
 
 impl Model for Day {
+    ghost use Rattle.std.specs.Prelude.{ℕ, ◌≤◌};
+    ghost use Rattle.card_events.specs.Range.{first_calendar_day, last_calendar_day};
+
     ghost Value = { ℕ };
 
     ghost view = { λ d. d.number };
@@ -37,15 +42,24 @@ impl Day {
     pub fn from_ymd(y: u16, m: u8, d: u8) -> Option<Day>
         ensures { SomeIff result (is_date y m d ≡ true) (day_at y m d) }
     {
-        if y < 2011 || y > 2102 || m > 12 || d > 31 {
+        if y < 2011 || y > 2102 || m == 0 || m > 12 || d == 0 {
             return None;
         }
-        match Date::new(y as i16, m as i8, d as i8) {
-            Ok(date) => Some(Day {
-                number: date.to_plain().to_unix_epoch_day() as u32,
-            }),
-            Err(_) => None,
+        Day::in_month((y as usize - 2011) * 12 + (m as usize - 1), d)
+    }
+
+    // the day of a month, which is counted from January 2011 on as 0; None comes exactly where the month is shorter
+    pub(crate) fn in_month(month: usize, d: u8) -> Option<Day>
+        requires month { month < 1104 }
+        requires day { 1 ≤ d }
+        ensures { SomeIff result (d ≤ month_length (2011 + month / 12) (month % 12 + 1)) (day_in_month (24_132 + month) d) }
+    {
+        if d as u32 > length_of(month) {
+            return None;
         }
+        Some(Day {
+            number: FIRST_NUMBER + start_of(month) + (d as u32 - 1),
+        })
     }
 
     /// The day with this number of days since 1970-01-01. None comes exactly where the number lies outside 14975
@@ -103,8 +117,21 @@ impl Day {
         ensures first { first_calendar_day ≤ self }
         ensures last { self ≤ last_calendar_day }
     {
-        let date = self.date();
-        (date.year() as u16, date.month() as u8, date.day() as u8)
+        let (month, d) = self.month_and_day();
+        ((2011 + month / 12) as u16, (month % 12 + 1) as u8, d)
+    }
+
+    // its month, counted from January 2011 on as 0, and its day of the month
+    pub(crate) fn month_and_day(self) -> (usize, u8)
+        ensures month { 24_132 + result.0 ≡ month_number (date_of self) }
+        ensures day { result.1 ≡ (date_of self).day }
+        ensures in_calendar { IsInCalendar (date_of self).year (date_of self).month (date_of self).day }
+        ensures first { first_calendar_day ≤ self }
+        ensures last { self ≤ last_calendar_day }
+    {
+        let days = self.number - FIRST_NUMBER;
+        let month = month_at(days);
+        (month, (days - start_of(month) + 1) as u8)
     }
 
     // the day with this date, or the last one of its month where that has no such day

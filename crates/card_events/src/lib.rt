@@ -14,6 +14,7 @@ pub mod laws;
 mod limits;
 mod memory;
 mod money;
+mod month_table;
 mod name;
 mod number;
 mod post;
