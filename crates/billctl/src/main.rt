@@ -112,11 +112,8 @@ fn over_keeper<K: Keeper>(
 
 // Rows in memory, for this run alone. They go with the process: to give each back first takes a part of a run's time.
 fn over_memory(rt: &HostRuntime, words: &Vec<String>) -> u8 {
-    let Ok(keeping) = keeping_of(rt.alloc(), words) else {
-        return memory_status();
-    };
     let mut keeper = MemoryKeeper::new(rt.alloc());
-    let status = over_keeper(rt, words, reply_room(keeping), &mut keeper);
+    let status = over_keeper(rt, words, reply_room(keeping_of(words)), &mut keeper);
     forget(keeper);
     status
 }
@@ -150,11 +147,10 @@ fn over_rows(rt: &HostRuntime, words: &Vec<String>, keeper: SqliteKeeper) -> u8 
 // Rows in a file: each is kept before its reply is written. What was answered stands in the file and its log, also where the close
 // that joins them fails.
 fn over_file(rt: &HostRuntime, path: String, words: &Vec<String>) -> u8 {
-    match keeping_of(rt.alloc(), words) {
-        Ok(Keeping::Waiting) => over_waiting(rt, words, SqliteKeeper::new(rt, path)),
-        Ok(Keeping::AtOnce) => over_rows(rt, words, SqliteKeeper::new(rt, path)),
-        Ok(Keeping::Reading) => over_rows(rt, words, SqliteKeeper::of_file(rt, path)),
-        Err(NoMemory) => memory_status(),
+    match keeping_of(words) {
+        Keeping::Waiting => over_waiting(rt, words, SqliteKeeper::new(rt, path)),
+        Keeping::AtOnce => over_rows(rt, words, SqliteKeeper::new(rt, path)),
+        Keeping::Reading => over_rows(rt, words, SqliteKeeper::of_file(rt, path)),
     }
 }
 

@@ -67,14 +67,14 @@ fn roll<L: Ledger>(
 }
 
 // A post on the account, under a key.
-fn post_of(rt: &impl Abort, alloc: Global, key: &str, post: Post) -> Result<Request, Fail>
-    ensures { IfOk result (λ r. r ≡ Request.Post account key.now post) }
+fn post_of(rt: &impl Abort, key: &str, post: Post) -> Request
+    ensures { result ≡ Request.Post account key.now post }
 {
-    Ok(Request::Post {
-        account: name(rt, alloc, "a")?,
-        key: name(rt, alloc, key)?,
+    Request::Post {
+        account: name(rt, "a"),
+        key: name(rt, key),
         post,
-    })
+    }
 }
 
 // It is opened on 2024-01-06, and has reached the day before.
@@ -92,7 +92,7 @@ fn open_account<L: Ledger>(
     ensures fits { OnOk result (Fits (Some keeper.new) desk.new.state) }
     ensures reached { OnOk result (desk.new.reached ≡ 19_727 ∷ []) }
 {
-    let request = post_of(rt, alloc, "o", opening(rt))?;
+    let request = post_of(rt, "o", opening(rt));
     carry(alloc, desk, keeper, &request, steps)
 }
 
@@ -128,7 +128,7 @@ fn ask<L: Ledger>(
     ensures state { desk.new.state ≡ desk.old.state }
     ensures reached { OnOk result (desk.new.reached ≡ 21_186 ∷ []) }
 {
-    let account = name(rt, alloc, "a")?;
+    let account = name(rt, "a");
     Ok(desk.show(alloc, &account, steps)?)
 }
 
@@ -155,7 +155,7 @@ fn charge<L: Ledger>(
         place: Place::Purchase,
         cents: num(rt, 5_000),
     };
-    let request = post_of(rt, alloc, "c", charge)?;
+    let request = post_of(rt, "c", charge);
     carry(alloc, desk, keeper, &request, steps)
 }
 
@@ -171,7 +171,7 @@ fn owed<L: Ledger>(
     ensures reached { OnOk result (desk.new.reached ≡ 21_187 ∷ []) }
     ensures four { steps.new ≤ steps.old + 4 }
 {
-    let account = name(rt, alloc, "a")?;
+    let account = name(rt, "a");
     Ok(desk.show(alloc, &account, steps)?)
 }
 

@@ -39,8 +39,8 @@ static ORDER: [(u32, i32, i64); 9] = [
 ];
 
 // The key and the post of a line.
-fn post_of(alloc: Global, line: &str) -> Result<(Name, Post), Fail> {
-    match read_line(alloc, line.as_bytes())? {
+fn post_of(line: &str) -> Result<(Name, Post), Fail> {
+    match read_line(line.as_bytes()) {
         Line::Request(Request::Post { key, post, .. }) => Ok((key, post)),
         _ => Err(Fail::from("no post")),
     }
@@ -94,7 +94,7 @@ fn push(
     requires { StandsFor calendar.now posts.old }
     ensures { OnOk result (StandsFor calendar.now posts.new) }
 {
-    let (key, post) = post_of(alloc, line)?;
+    let (key, post) = post_of(line)?;
     let accepted = day(rt, 19_905);
     assert!(rt; posts.len() < 200_000);
     assert!(rt; target_of(&post) <= u64::from(posts.len()));
@@ -118,7 +118,7 @@ fn open(rt: &impl Abort, alloc: Global, calendar: &Calendar) -> Result<Posts, Fa
     ensures { IfOk result (λ posts. StandsFor calendar.now posts) }
 {
     let line = "open a o 2024-03-01 5 1999 2499 2199 2999 2500 100";
-    let (key, post) = post_of(alloc, line)?;
+    let (key, post) = post_of(line)?;
     assert!(rt; opens(&post));
     Ok(Posts::start(alloc, &key, day(rt, 19_783), &post)?)
 }
@@ -150,7 +150,7 @@ fn later_posts_correct_earlier_ones(rt: HostRuntime) -> Result<(), Fail> {
     let posts = account(&rt, alloc, &Calendar::new(alloc))?;
     let copy = posts.copy(alloc)?;
     assert!(rt; are_ordered(copy.in_order()));
-    let key = name(&rt, alloc, "C")?;
+    let key = name(&rt, "C");
     assert!(rt; copy.with_key(&key) == Some(5));
     Ok(())
 }

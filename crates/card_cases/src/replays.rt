@@ -27,7 +27,7 @@ fn opened<L: Ledger>(
     ensures today { IfOk result (IsToday 19_728 shared.now) }
     ensures one { steps.new ≤ steps.old + 1 }
 {
-    let key = name(rt, alloc, "o")?;
+    let key = name(rt, "o");
     let opened = day(rt, 19_728);
     let mut account = Replay::start(alloc, &key, opened, &opening(rt), shared)?;
     account.to_day(alloc, opened, shared, steps)?;
@@ -114,7 +114,7 @@ fn accept<L: Ledger>(
     requires today { IsToday 19_793 shared.now account.old }
     ensures three { OnOk result (steps.new ≤ steps.old + 3) }
 {
-    let key = name(rt, alloc, "c")?;
+    let key = name(rt, "c");
     assert!(rt; account.posts().with_key(&key).is_none());
     let today = day(rt, 19_794);
     let post = charge(rt);

@@ -119,10 +119,10 @@ static ROWS: [(&str, &[u8], &[u8]); 22] = [
 ];
 
 // The request of a line.
-fn request(alloc: Global, line: &str) -> Result<Request, Fail>
+fn request(line: &str) -> Result<Request, Fail>
     ensures { IfOk result (λ r. is_dated r ≡ true) }
 {
-    match read_line(alloc, line.as_bytes())? {
+    match read_line(line.as_bytes()) {
         Line::Request(request) => Ok(request),
         _ => Err(Fail::from("no request")),
     }
@@ -130,15 +130,15 @@ fn request(alloc: Global, line: &str) -> Result<Request, Fail>
 
 // Whether this is the row of a line, and of what the row spells.
 fn is_row(alloc: Global, line: &str, row: &[u8]) -> Result<bool, Fail> {
-    let told = encode(alloc, &request(alloc, line)?)?.into_bytes();
-    let read = decode(alloc, row)?.ok_or("no spelling")?;
+    let told = encode(alloc, &request(line)?)?.into_bytes();
+    let read = decode(row).ok_or("no spelling")?;
     let again = encode(alloc, &read)?.into_bytes();
     Ok(told.as_slice() == row && again.as_slice() == row)
 }
 
 // Whether a row of format 1 spells what this one spells, or is empty and spells nothing.
 fn was_row(alloc: Global, row: &[u8], old: &[u8]) -> Result<bool, Fail> {
-    match decode(alloc, old)? {
+    match decode(old) {
         Some(read) => Ok(encode(alloc, &read)?.into_bytes().as_slice() == row),
         None => Ok(old.is_empty()),
     }
@@ -170,7 +170,7 @@ fn what_spells_nothing(rt: HostRuntime) -> Result<(), Fail> {
         b"\x01\x15\x01a\x01k".as_slice(),
         b"\x01\x01\x00\x00\xb9\x7a".as_slice(),
     ] {
-        assert!(rt; decode(rt.alloc(), bytes)?.is_none());
+        assert!(rt; decode(bytes).is_none());
     }
     Ok(())
 }

@@ -23,7 +23,7 @@ fn opened(rt: &impl Abort, alloc: Global) -> Result<Posts, Fail>
     ensures alone { IfOk result (λ posts. IsAlone posts.history) }
     ensures stands { IfOk result (λ posts. StandsFor [] posts) }
 {
-    let key = name(rt, alloc, "o")?;
+    let key = name(rt, "o");
     Ok(Posts::start(alloc, &key, day(rt, 19_728), &opening(rt))?)
 }
 

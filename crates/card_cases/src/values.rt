@@ -1,5 +1,5 @@
 // Days, numbers, names and tables.
-ghost use Rattle.std.specs.Prelude.{◌≡◌, ◌≤◌, IfOk};
+ghost use Rattle.std.specs.Prelude.{◌≡◌, ◌≤◌};
 ghost use Rattle.card_events.specs.Business.{last_minute};
 
 use card_events::{Anchor, Calendar, Channel, Day, Money, Name, Num, closing, credit_day, due};
@@ -20,10 +20,10 @@ pub fn num(rt: &impl Abort, n: u32) -> Num
     Num::new(u64::from(n)).expect(rt, "a number")
 }
 
-pub fn name(rt: &impl Abort, alloc: Global, text: &str) -> Result<Name, Fail>
-    ensures { IfOk result (λ name. name ≡ text.now) }
+pub fn name(rt: &impl Abort, text: &str) -> Name
+    ensures { result ≡ text.now }
 {
-    Ok(Name::read(alloc, text.as_bytes())?.expect(rt, "a name"))
+    Name::read(text.as_bytes()).expect(rt, "a name")
 }
 
 static MONEY: [(i64, &str); 3] = [

@@ -77,13 +77,12 @@ fn carry_out_words<I: Source, O: Sink, K: Keeper, D: Door>(
     ensures { let at = world I.left I.faults O.taken O.faults K.rows K.faults D.visits D.faults in
         ComesOf (at input.old output.old keeper.old door.old) (at input.new output.new keeper.new door.new) words.now result }
 {
-    match command_of(alloc, words) {
-        Ok(Some(command)) => carry_out(alloc, command, input, output, keeper, door),
-        Ok(None) => match usage(output) {
+    match command_of(words) {
+        Some(command) => carry_out(alloc, command, input, output, keeper, door),
+        None => match usage(output) {
             Ok(()) => Ended::Usage,
             Err(NoMemory) => Ended::Memory,
         },
-        Err(NoMemory) => Ended::Memory,
     }
 }
 

@@ -1,14 +1,12 @@
 // What a run over a file keeps, and the exit status of a whole run.
-ghost use Rattle.std.specs.Prelude.{◌≡◌, map, IfOk};
+ghost use Rattle.std.specs.Prelude.{◌≡◌, map};
 ghost use Rattle.std.specs.String.{string_bytes};
 ghost use Rattle.card_words.specs.Commands.{command_of};
 ghost use Rattle.card_commands.specs.Exit as spec;
 
 use crate::ended::{Ended, status_of};
-use card_events::NoMemory;
 use card_ports::KeeperFault;
 use card_words::{Command, command_of};
-use std::alloc::Global;
 
 /// How a command keeps its rows in a file.
 #[derive(Clone, Copy)]
@@ -21,14 +19,11 @@ pub enum Keeping {
     Reading,
 }
 
-/// How the command that the words are keeps its rows; words that are none keep none. An error says that memory was wanted.
-pub fn keeping_of(alloc: Global, words: &[String]) -> Result<Keeping, NoMemory>
-    ensures { IfOk result (λ keeping. keeping ≡ spec.keeping_of (command_of (map string_bytes words.now))) }
+/// How the command that the words are keeps its rows; words that are none keep none.
+pub fn keeping_of(words: &[String]) -> Keeping
+    ensures { result ≡ spec.keeping_of (command_of (map string_bytes words.now)) }
 {
-    match command_of(alloc, words) {
-        Ok(command) => Ok(kept_by(&command)),
-        Err(NoMemory) => Err(NoMemory),
-    }
+    kept_by(&command_of(words))
 }
 
 fn kept_by(command: &Option<Command>) -> Keeping

@@ -35,14 +35,14 @@ impl Model for Progress {
 
 // What a line says that a line feed ends.
 #[tactic(auto, unfolding(crate::specs::Input::ended_line))]
-fn read_ended(alloc: Global, raw: &[u8]) -> Result<Line, NoMemory>
-    ensures line { IfOk result (λ l. l ≡ ended_line raw.now) }
-    ensures dated { IfOk result IsDatedLine }
+fn read_ended(raw: &[u8]) -> Line
+    ensures line { result ≡ ended_line raw.now }
+    ensures dated { IsDatedLine result }
 {
     if raw.len() > LONGEST {
-        return Ok(Line::Bad(0));
+        return Line::Bad(0);
     }
-    read_line(alloc, without_return(raw))
+    read_line(without_return(raw))
 }
 
 fn without_return(raw: &[u8]) -> &[u8]
@@ -108,16 +108,16 @@ impl Progress {
 
     // Takes the line that is there away, with a run behind it that a line feed ends, and says what it says. A line that
     // lies whole in the run isn't copied.
-    fn take_line(&mut self, alloc: Global, run: &[u8]) -> Result<Line, NoMemory>
+    fn take_line(&mut self, run: &[u8]) -> Result<Line, NoMemory>
         ensures line { IfOk result (λ l. l ≡ ended_line (self.old.line ++ run.now)) }
         ensures dated { IfOk result IsDatedLine }
         ensures taken { OnOk result (self.new ≡ record self.old { line = [] }) }
     {
         if self.line.is_empty() {
-            return read_ended(alloc, run);
+            return Ok(read_ended(run));
         }
         self.keep(run)?;
-        let line = read_ended(alloc, &self.line)?;
+        let line = read_ended(&self.line);
         self.line.clear();
         Ok(line)
     }
@@ -138,7 +138,7 @@ impl Progress {
         ensures err { let at = sides O.taken O.faults K.rows K.faults in
             IfErr result (FellAt (at output.old keeper.old) (at output.new keeper.new) self.old (run.now ++ 10 ∷ [])) }
     {
-        let line = match self.take_line(alloc, run) {
+        let line = match self.take_line(run) {
             Ok(line) => line,
             Err(NoMemory) => return Err(Stop::Memory),
         };
@@ -226,11 +226,7 @@ impl Progress {
         if self.line.is_empty() {
             return Ok(self.run.is_refused());
         }
-        let line = match read_line(alloc, &self.line) {
-            Ok(line) => line,
-            Err(NoMemory) => return Err(Stop::Memory),
-        };
-        let item = item_of(self.number + 1, line);
+        let item = item_of(self.number + 1, read_line(&self.line));
         match self.run.handle(alloc, &item, output, keeper) {
             Ok(()) => Ok(self.run.is_refused()),
             Err(stop) => Err(stop),

@@ -9,14 +9,13 @@ use card_events::{Day, Name, NoMemory, Num};
 use std::alloc::Global;
 
 /// The name with this text, which is one.
-pub fn name(alloc: Global, text: &str) -> Result<Name, NoMemory>
+pub fn name(text: &str) -> Name
     requires { is_name text.now ≡ true }
-    ensures { IfOk result (λ name. name ≡ text.now) }
+    ensures { result ≡ text.now }
 {
-    match Name::read(alloc, text.as_bytes()) {
-        Ok(Some(name)) => Ok(name),
-        Ok(None) => unreachable!(),
-        Err(NoMemory) => Err(NoMemory),
+    match Name::read(text.as_bytes()) {
+        Some(name) => name,
+        None => unreachable!(),
     }
 }
 
@@ -26,7 +25,7 @@ pub fn account_name(alloc: Global, i: u32) -> Result<Name, NoMemory>
     ensures { IfOk result (λ name. name ≡ spec.account i) }
 {
     let text = format!(in alloc; "d{i}")?;
-    name(alloc, &text)
+    Ok(name(&text))
 }
 
 /// The key of the bill of cycle t.
@@ -35,7 +34,7 @@ pub fn bill_key(alloc: Global, t: u32) -> Result<Name, NoMemory>
     ensures { IfOk result (λ name. name ≡ spec.bill_key t) }
 {
     let text = format!(in alloc; "b{t}")?;
-    name(alloc, &text)
+    Ok(name(&text))
 }
 
 /// The key of the j-th charge of cycle t.
@@ -44,7 +43,7 @@ pub fn charge_key(alloc: Global, t: u32, j: u32) -> Result<Name, NoMemory>
     ensures { IfOk result (λ name. name ≡ spec.charge_key t j) }
 {
     let text = format!(in alloc; "c{t}-{j}")?;
-    name(alloc, &text)
+    Ok(name(&text))
 }
 
 /// The key of the payment of cycle t.
@@ -53,7 +52,7 @@ pub fn payment_key(alloc: Global, t: u32) -> Result<Name, NoMemory>
     ensures { IfOk result (λ name. name ≡ spec.payment_key t) }
 {
     let text = format!(in alloc; "p{t}")?;
-    name(alloc, &text)
+    Ok(name(&text))
 }
 
 /// The key of the amend of cycle t.
@@ -62,7 +61,7 @@ pub fn amend_key(alloc: Global, t: u32) -> Result<Name, NoMemory>
     ensures { IfOk result (λ name. name ≡ spec.amend_key t) }
 {
     let text = format!(in alloc; "a{t}")?;
-    name(alloc, &text)
+    Ok(name(&text))
 }
 
 /// A number of requests.

@@ -273,7 +273,7 @@ impl Desk {
         ensures recorded { MayGrow self.old.recorded self.new.recorded }
     {
         let row = self.next_row(alloc, given.request)?;
-        let name = given.account.copy(alloc)?;
+        let name = given.account.copy();
         let made = Account::open(alloc, name, given.key, self.today, given.post, &self.common)?;
         self.accounts.reserve(1)?;
         let place = self.accounts.len() as u32;
@@ -335,7 +335,7 @@ impl Desk {
         ensures recorded { ChangesAt at self.old.recorded self.new.recorded }
     {
         let row = self.next_row(alloc, given.request)?;
-        let key = given.key.copy(alloc)?;
+        let key = given.key.copy();
         let account = &mut self.accounts[at];
         let change = account.prepare(alloc, key, self.today, given.post, &self.common, steps)?;
         keep_row(alloc, keeper, row)?;

@@ -111,7 +111,7 @@ fn run_row<L: Ledger>(
     if row.seq != number {
         return Ok(false);
     }
-    match decode(alloc, row.body.bytes())? {
+    match decode(row.body.bytes()) {
         Some(request) => run_request(alloc, desk, &request, steps),
         None => Ok(false),
     }

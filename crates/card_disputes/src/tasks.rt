@@ -53,7 +53,7 @@ fn push_task(
 {
     match by {
         Some(by) => {
-            let account = name.copy(alloc)?;
+            let account = name.copy();
             tasks.push(Task {
                 by,
                 account,

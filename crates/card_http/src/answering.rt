@@ -68,13 +68,12 @@ fn look_up(alloc: Global, desk: &mut Desk, route: &Route) -> Outcome
     ensures state { desk.new.state ≡ desk.old.state }
     ensures told { IsLookedUp (told_asked desk.old.state (asked route.now)) result }
 {
-    match read_ask(alloc, route) {
-        Ok(Some(ask)) => match told_text(alloc, desk, &ask) {
+    match read_ask(route) {
+        Some(ask) => match told_text(alloc, desk, &ask) {
             Ok(Some(text)) => Outcome::Told(text),
             Ok(None) => Outcome::Missing,
             Err(NoMemory) => Outcome::MemoryWanted,
         },
-        Ok(None) => Outcome::Missing,
-        Err(NoMemory) => Outcome::MemoryWanted,
+        None => Outcome::Missing,
     }
 }

@@ -1,23 +1,21 @@
 // What a route asks of a ledger.
-ghost use Rattle.std.specs.Prelude.{◌≡◌, IfOk};
+ghost use Rattle.std.specs.Prelude.{◌≡◌};
 ghost use Rattle.card_http.specs.Outcomes.{asked};
 
 use card_desk::Ask;
-use card_events::NoMemory;
 use card_wire::Route;
-use std::alloc::Global;
 
 /// What this route asks. None: it asks nothing.
 #[tactic(auto, unfolding(crate::specs::Outcomes::asked))]
-pub fn read_ask(alloc: Global, route: &Route) -> Result<Option<Ask>, NoMemory>
-    ensures { IfOk result (λ ask. ask ≡ asked route.now) }
+pub fn read_ask(route: &Route) -> Option<Ask>
+    ensures { result ≡ asked route.now }
 {
     match route {
-        Route::Posts => Ok(None),
-        Route::Account(account) => Ok(Some(Ask::Show(account.name(alloc)?))),
-        Route::Statement(account, cycle) => Ok(Some(Ask::Issued(account.name(alloc)?, *cycle))),
-        Route::Cycle(account, cycle) => Ok(Some(Ask::Restated(account.name(alloc)?, *cycle))),
-        Route::Entries(account) => Ok(Some(Ask::Entries(account.name(alloc)?))),
-        Route::Work => Ok(Some(Ask::Work)),
+        Route::Posts => None,
+        Route::Account(account) => Some(Ask::Show(account.name())),
+        Route::Statement(account, cycle) => Some(Ask::Issued(account.name(), *cycle)),
+        Route::Cycle(account, cycle) => Some(Ask::Restated(account.name(), *cycle)),
+        Route::Entries(account) => Some(Ask::Entries(account.name())),
+        Route::Work => Some(Ask::Work),
     }
 }

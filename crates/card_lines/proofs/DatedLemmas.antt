@@ -225,6 +225,5 @@ unfolding line_of
 line_of_is_dated bs = if_bad_dated _ 0 _ (fields_dated (fields_of bs))
 
 -- and so of what is read from it
-pub read_is_dated : {E : Type 0} (bs : List ℕ) (r : Result Line E) → IfOk r (λ l. l ≡ line_of bs) → IfOk r IsDatedLine
-read_is_dated bs (Ok l) is = subst IsDatedLine (sym is) (line_of_is_dated bs)
-read_is_dated bs (Err e) is = tt
+pub read_is_dated : (bs : List ℕ) (l : Line) → l ≡ line_of bs → IsDatedLine l
+read_is_dated bs l is = subst IsDatedLine (sym is) (line_of_is_dated bs)

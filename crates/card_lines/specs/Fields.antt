@@ -2,8 +2,6 @@
 use Rattle.std.specs.Prelude.{◌≡◌, ℕ, ◌==◌, List, [], ◌∷◌, Option, Some, None, Result, Ok, Err}
 use Rattle.std.specs.List.{slice_split}
 use Rattle.card_lines.specs.declared.line.BadField.{BadField}
-use Rattle.card_lines.specs.declared.line.LineFault.{LineFault}
-use Rattle.card_lines.specs.declared.line.LineFault.TheVariants as fault
 
 -- the fields of a line, which single spaces separate
 abbrev pub fields_of : List ℕ → List (List ℕ)
@@ -35,27 +33,12 @@ abbrev pub end_at : ℕ → List (List ℕ) → Result (Unit {0}) ℕ
 end_at n [] = Ok tt
 end_at n (f ∷ fs) = Err n
 
--- what the code answers in place of a value is what reading gives, unless memory ran out
-abbrev pub Fails : {Y : Type 0} → LineFault → Result Y ℕ → Type 0
-Fails fault.Memory read = Unit {0}
-Fails (fault.Bad n) read = read ≡ Err n
-
 -- the code's value, and the fields behind the bytes that it left, are what reading gives
-abbrev pub Gives : {X : Type 0} → Result X LineFault → List (List ℕ) → Result (X × List (List ℕ)) ℕ → Type 0
-Gives (Ok x) rest read = read ≡ Ok (x, rest)
-Gives (Err e) rest read = Fails e read
-
--- the code's value is what reading all fields gives
-abbrev pub GivesAll : {X : Type 0} → Result X LineFault → Result X ℕ → Type 0
-GivesAll (Ok x) read = read ≡ Ok x
-GivesAll (Err e) read = Fails e read
-
--- the same where no memory is taken
 abbrev pub Reads : {X : Type 0} → Result X BadField → List (List ℕ) → Result (X × List (List ℕ)) ℕ → Type 0
 Reads (Ok x) rest read = read ≡ Ok (x, rest)
 Reads (Err bad) rest read = read ≡ Err bad.0
 
--- the same of all fields
+-- the code's value is what reading all fields gives
 abbrev pub ReadsAll : {X : Type 0} → Result X BadField → Result X ℕ → Type 0
 ReadsAll (Ok x) read = read ≡ Ok x
 ReadsAll (Err bad) read = read ≡ Err bad.0

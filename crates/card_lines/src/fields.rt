@@ -1,13 +1,12 @@
 // The fields of a line, from left to right.
 ghost use Rattle.std.specs.Prelude.{◌≡◌, ◌+◌, ◌≤◌, ◌==◌, ◌∷◌, ℕ, List, length, take, drop, not, Some, Ok, IfOk, IfErr};
 ghost use Rattle.std.specs.List.{position_or_len, prefix_len};
-ghost use Rattle.card_lines.specs.Fields.{fields_of, fields_left, field, end_at, Gives, Reads, ReadsAll};
+ghost use Rattle.card_lines.specs.Fields.{fields_of, fields_left, field, end_at, Reads, ReadsAll};
 ghost use Rattle.card_lines.specs.Forms.{name_of, number_of, day_of, category_of, place_of, channel_of, plan_kind_of, finding_of};
 
 use crate::forms;
-use crate::line::{BadField, LineFault};
+use crate::line::BadField;
 use card_events::{Category, Channel, Day, Finding, Name, Num, Place, PlanKind};
-use std::alloc::Global;
 use std::simd::prelude::*;
 
 /// The first field, and the rest of the line.
@@ -99,12 +98,12 @@ fn next_field<'a>(number: u8, rest: &mut &'a [u8]) -> Result<&'a [u8], BadField>
 
 /// The next field as a name.
 #[tactic(auto, unfolding(crate::specs::Forms::name_of))]
-pub fn name_field(alloc: Global, number: u8, rest: &mut &[u8]) -> Result<Name, LineFault>
-    ensures { Gives result (fields_left rest.new.now) (field name_of number (fields_left rest.old.now)) }
+pub fn name_field(number: u8, rest: &mut &[u8]) -> Result<Name, BadField>
+    ensures { Reads result (fields_left rest.new.now) (field name_of number (fields_left rest.old.now)) }
 {
     let text = next_field(number, rest)?;
-    match Name::read(alloc, text)? {
-        None => Err(LineFault::Bad(number)),
+    match Name::read(text) {
+        None => Err(BadField(number)),
         Some(name) => Ok(name),
     }
 }

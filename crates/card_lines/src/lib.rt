@@ -14,7 +14,7 @@ pub use forms::{
     are_digits, digits_value, read_category, read_channel, read_day, read_finding, read_number,
     read_place, read_plan_kind,
 };
-pub use line::{BadField, Line, LineFault};
+pub use line::{BadField, Line};
 pub use line_reading::read_line;
 pub use refusal::{RefusalValue, refusal_name, refusal_value};
 pub use reply::{bad_text, name_text, reply_text, show_text};

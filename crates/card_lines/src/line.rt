@@ -1,7 +1,4 @@
-ghost use Rattle.std.specs.Prelude.{◌≡◌};
-ghost use Rattle.card_lines.specs.declared.line.LineFault.TheVariants.{Bad, Memory};
-
-use card_events::{Name, NoMemory, Request};
+use card_events::{Name, Request};
 
 /// What a line says.
 #[derive(Drop)]
@@ -13,29 +10,6 @@ pub enum Line {
     Bad(u8),
 }
 
-/// Why a line or a record isn't read.
-#[derive(Clone, Copy)]
-pub enum LineFault {
-    Memory,
-    Bad(u8),
-}
-
-/// The number of the first field that is bad.
+/// The number of the first field that is bad, for which a line or a record isn't read.
 #[derive(Clone, Copy)]
 pub struct BadField(pub u8);
-
-impl From<BadField> for LineFault {
-    ghost from_gives = { λ field e. e ≡ Bad field.0 };
-
-    fn from(field: BadField) -> Self {
-        LineFault::Bad(field.0)
-    }
-}
-
-impl From<NoMemory> for LineFault {
-    ghost from_gives = { λ _ e. e ≡ Memory };
-
-    fn from(_: NoMemory) -> Self {
-        LineFault::Memory
-    }
-}

@@ -1,55 +1,54 @@
 // Lines, by their word.
-ghost use Rattle.std.specs.Prelude.{◌≡◌, ℕ, List, Result, IfOk};
+ghost use Rattle.std.specs.Prelude.{◌≡◌, ℕ, List, Result};
 ghost use Rattle.card_events.specs.declared.request.Request.{Request};
-ghost use Rattle.card_lines.specs.Fields.{fields_left, GivesAll, ReadsAll};
+ghost use Rattle.card_lines.specs.Fields.{fields_left, ReadsAll};
 ghost use Rattle.card_lines.specs.Lines.{roll_of, holiday_of, fee_row_of, index_of, posted_of, show_of, line_of_word, line_of, IsDatedLine};
 ghost use Rattle.card_lines.specs.Lines as spec;
 
 use crate::fields::{at_end, day_field, name_field, number_field, split_field};
-use crate::line::{BadField, Line, LineFault};
+use crate::line::{BadField, Line};
 use crate::post_reading::read_post;
 use crate::word::{PostKind, Word, read_word};
-use card_events::{Name, NoMemory, Request, Shared};
-use std::alloc::Global;
+use card_events::{Name, Request, Shared};
 
 /// What the line says, given without its line feed and without a carriage return before that. `Line::Bad` has the number of
 /// the first field that is missing, surplus or not of its form; a line of more than 512 bytes is bad at 0.
-pub fn read_line(alloc: Global, line: &[u8]) -> Result<Line, NoMemory>
-    ensures line { IfOk result (λ l. l ≡ line_of line.now) }
-    ensures dated { IfOk result IsDatedLine }
+pub fn read_line(line: &[u8]) -> Line
+    ensures line { result ≡ line_of line.now }
+    ensures dated { IsDatedLine result }
 {
-    read_words(alloc, line)
+    read_words(line)
 }
 
 #[tactic(auto, unfolding(crate::specs::Lines::line_of, crate::specs::Lines::line_of_fields))]
-fn read_words(alloc: Global, line: &[u8]) -> Result<Line, NoMemory>
-    ensures { IfOk result (λ l. l ≡ line_of line.now) }
+fn read_words(line: &[u8]) -> Line
+    ensures { result ≡ line_of line.now }
 {
     if line.len() > 512 {
-        return Ok(Line::Bad(0));
+        return Line::Bad(0);
     }
     let (word, rest) = split_field(line);
     match read_word(word) {
-        None => Ok(Line::Bad(1)),
-        Some(word) => read_fields(alloc, word, rest),
+        None => Line::Bad(1),
+        Some(word) => read_fields(word, rest),
     }
 }
 
 #[tactic(auto, unfolding(crate::specs::Lines::line_of_word))]
-fn read_fields(alloc: Global, word: Word, rest: &[u8]) -> Result<Line, NoMemory>
-    ensures { IfOk result (λ l. l ≡ line_of_word word (fields_left rest.now)) }
+fn read_fields(word: Word, rest: &[u8]) -> Line
+    ensures { result ≡ line_of_word word (fields_left rest.now) }
 {
     match word {
-        Word::Roll => Ok(shared_line(read_roll(rest))),
-        Word::Holiday => Ok(shared_line(read_holiday(rest))),
-        Word::FeeRow => Ok(shared_line(read_fee_row(rest))),
-        Word::Index => Ok(shared_line(read_index(rest))),
-        Word::Show => show_line(read_show(alloc, rest)),
-        Word::Post(kind) => request_line(read_posted(alloc, kind, rest)),
+        Word::Roll => request_line(read_roll(rest)),
+        Word::Holiday => request_line(read_holiday(rest)),
+        Word::FeeRow => request_line(read_fee_row(rest)),
+        Word::Index => request_line(read_index(rest)),
+        Word::Show => show_line(read_show(rest)),
+        Word::Post(kind) => request_line(read_posted(kind, rest)),
     }
 }
 
-fn shared_line(read: Result<Request, BadField>) -> Line
+fn request_line(read: Result<Request, BadField>) -> Line
     ensures { (r : Result Request ℕ) → ReadsAll read r → result ≡ spec.request_line r }
 {
     match read {
@@ -58,23 +57,12 @@ fn shared_line(read: Result<Request, BadField>) -> Line
     }
 }
 
-fn request_line(read: Result<Request, LineFault>) -> Result<Line, NoMemory>
-    ensures { (r : Result Request ℕ) → GivesAll read r → IfOk result (λ l. l ≡ spec.request_line r) }
+fn show_line(read: Result<Name, BadField>) -> Line
+    ensures { (r : Result (List ℕ) ℕ) → ReadsAll read r → result ≡ spec.show_line r }
 {
     match read {
-        Ok(request) => Ok(Line::Request(request)),
-        Err(LineFault::Bad(number)) => Ok(Line::Bad(number)),
-        Err(LineFault::Memory) => Err(NoMemory),
-    }
-}
-
-fn show_line(read: Result<Name, LineFault>) -> Result<Line, NoMemory>
-    ensures { (r : Result (List ℕ) ℕ) → GivesAll read r → IfOk result (λ l. l ≡ spec.show_line r) }
-{
-    match read {
-        Ok(account) => Ok(Line::Show(account)),
-        Err(LineFault::Bad(number)) => Ok(Line::Bad(number)),
-        Err(LineFault::Memory) => Err(NoMemory),
+        Ok(account) => Line::Show(account),
+        Err(BadField(number)) => Line::Bad(number),
     }
 }
 
@@ -123,22 +111,22 @@ fn read_index(text: &[u8]) -> Result<Request, BadField>
 }
 
 #[tactic(auto, unfolding(crate::specs::Lines::posted_of))]
-fn read_posted(alloc: Global, kind: PostKind, text: &[u8]) -> Result<Request, LineFault>
-    ensures { GivesAll result (posted_of kind (fields_left text.now)) }
+fn read_posted(kind: PostKind, text: &[u8]) -> Result<Request, BadField>
+    ensures { ReadsAll result (posted_of kind (fields_left text.now)) }
 {
     let mut rest = text;
-    let account = name_field(alloc, 2, &mut rest)?;
-    let key = name_field(alloc, 3, &mut rest)?;
+    let account = name_field(2, &mut rest)?;
+    let key = name_field(3, &mut rest)?;
     let post = read_post(kind, rest)?;
     Ok(Request::Post { account, key, post })
 }
 
 #[tactic(auto, unfolding(crate::specs::Lines::show_of))]
-fn read_show(alloc: Global, text: &[u8]) -> Result<Name, LineFault>
-    ensures { GivesAll result (show_of (fields_left text.now)) }
+fn read_show(text: &[u8]) -> Result<Name, BadField>
+    ensures { ReadsAll result (show_of (fields_left text.now)) }
 {
     let mut rest = text;
-    let account = name_field(alloc, 2, &mut rest)?;
+    let account = name_field(2, &mut rest)?;
     at_end(3, rest)?;
     Ok(account)
 }

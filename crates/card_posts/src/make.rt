@@ -57,15 +57,15 @@ pub fn waits_of(alloc: Global, post: &Post) -> Result<WaitTable, NoMemory>
     Ok(waits)
 }
 
-fn copy_kept(alloc: Global, kept: &Kept) -> Result<Kept, NoMemory>
-    ensures { IfOk result (λ k. k ≡ kept.now) }
+fn copy_kept(kept: &Kept) -> Kept
+    ensures { result ≡ kept.now }
 {
-    Ok(Kept {
+    Kept {
         number: kept.number,
-        key: kept.key.copy(alloc)?,
+        key: kept.key.copy(),
         accepted: kept.accepted,
         post: kept.post,
-    })
+    }
 }
 
 // The same posts.
@@ -74,8 +74,7 @@ pub fn copy_history(alloc: Global, history: &[Kept]) -> Result<Vec<Kept>, NoMemo
 {
     let mut copied = Vec::new(alloc);
     for i in 0..history.len() {
-        let kept = copy_kept(alloc, &history[i])?;
-        copied.push(kept)?;
+        copied.push(copy_kept(&history[i]))?;
     }
     Ok(copied)
 }

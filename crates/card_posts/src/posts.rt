@@ -75,7 +75,7 @@ impl Posts {
         let anchor = opening(post);
         let kept = Kept {
             number: 1,
-            key: key.copy(alloc)?,
+            key: key.copy(),
             accepted,
             post: *post,
         };

@@ -262,7 +262,7 @@ impl Replay {
         ensures folding { self.new.folding ≡ self.old.folding }
         ensures rewound { IfOk result (λ made. IsRewoundBy shared.now today key.now post.now (Some made) self.old) }
     {
-        let key = key.copy(alloc)?;
+        let key = key.copy();
         let draft = self
             .posts
             .draft(alloc, key, today, post, shared.calendar())?;

@@ -310,14 +310,11 @@ some_dated bytes = some_of_all (IsSomeSpelling bytes) (λ r. is_dated r ≡ true
 
 -- ---- what the code read
 
-pub read_some : {E : Type 0} (bytes : List ℕ) (found : Result (Option Request) E) → IfOk found (λ o. o ≡ request_in bytes) → IfOk found (λ o. IfSome o (IsSomeSpelling bytes))
-read_some bytes (Ok o) is = subst (λ o. IfSome o (IsSomeSpelling bytes)) (sym is) (request_in_sound bytes)
-read_some bytes (Err e) is = tt
+pub read_some : (bytes : List ℕ) (found : Option Request) → found ≡ request_in bytes → IfSome found (IsSomeSpelling bytes)
+read_some bytes found is = subst (λ o. IfSome o (IsSomeSpelling bytes)) (sym is) (request_in_sound bytes)
 
-pub read_none : {E : Type 0} (bytes : List ℕ) (found : Result (Option Request) E) → IfOk found (λ o. o ≡ request_in bytes) → IfOk found (λ o. IfNone o ((f : Format) (r : Request) → IsSpelling f bytes r → ⊥))
-read_none bytes (Ok o) is = subst (λ o. IfNone o ((f : Format) (r : Request) → IsSpelling f bytes r → ⊥)) (sym is) (request_in_none bytes)
-read_none bytes (Err e) is = tt
+pub read_none : (bytes : List ℕ) (found : Option Request) → found ≡ request_in bytes → IfNone found ((f : Format) (r : Request) → IsSpelling f bytes r → ⊥)
+read_none bytes found is = subst (λ o. IfNone o ((f : Format) (r : Request) → IsSpelling f bytes r → ⊥)) (sym is) (request_in_none bytes)
 
-pub read_dated : {E : Type 0} (bytes : List ℕ) (found : Result (Option Request) E) → IfOk found (λ o. o ≡ request_in bytes) → IfOk found (λ o. IfSome o (λ r. is_dated r ≡ true))
-read_dated bytes (Ok o) is = subst (λ o. IfSome o (λ r. is_dated r ≡ true)) (sym is) (some_dated bytes)
-read_dated bytes (Err e) is = tt
+pub read_dated : (bytes : List ℕ) (found : Option Request) → found ≡ request_in bytes → IfSome found (λ r. is_dated r ≡ true)
+read_dated bytes found is = subst (λ o. IfSome o (λ r. is_dated r ≡ true)) (sym is) (some_dated bytes)

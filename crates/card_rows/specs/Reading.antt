@@ -25,8 +25,6 @@ use Rattle.card_events.specs.Range.{first_calendar_day}
 use Rattle.card_rows.specs.Spelling.{is_code, day_bytes, number_bytes}
 use Rattle.card_rows.specs.declared.format.Format.{Format}
 use Rattle.card_rows.specs.declared.format.Format.TheVariants as format
-use Rattle.card_rows.specs.declared.fault.RowFault.{RowFault}
-use Rattle.card_rows.specs.declared.fault.RowFault.TheVariants as fault
 
 -- A reading gives a value and the bytes behind it, or nothing; the second reads where the first left off.
 infixl 10 ◌>>=◌
@@ -447,17 +445,7 @@ whole (x, b ∷ bs) = None
 unfoldable pub request_in : List ℕ → Option Request
 request_in bs = read_request bs >>= whole
 
--- what the code answers in place of a value: nothing was read, unless memory ran out
-abbrev pub Fails : {Y : Type 0} → RowFault → Option Y → Type 0
-Fails fault.Memory read = Unit {0}
-Fails fault.NoSpelling read = read ≡ None
-
 -- the code's value and the bytes that it left are what reading gives
-abbrev pub Gives : {X : Type 0} → Result X RowFault → List ℕ → Option (X × List ℕ) → Type 0
-Gives (Ok x) rest read = read ≡ Some (x, rest)
-Gives (Err e) rest read = Fails e read
-
--- the same where no memory is taken
 abbrev pub GivesSome : {X : Type 0} → Option X → List ℕ → Option (X × List ℕ) → Type 0
 GivesSome None rest read = read ≡ None
 GivesSome (Some x) rest read = read ≡ Some (x, rest)

@@ -1,26 +1,23 @@
 // Reading a kept row.
-ghost use Rattle.std.specs.Prelude.{◌≡◌, IfOk};
-ghost use Rattle.card_rows.specs.Reading.{Gives, GivesSome, request_in};
+ghost use Rattle.std.specs.Prelude.{◌≡◌};
+ghost use Rattle.card_rows.specs.Reading.{GivesSome, request_in};
 ghost use Rattle.card_rows.specs.Reading as spec;
 ghost use Rattle.card_rows.specs.Spelling.{is_code};
 
-use crate::fault::RowFault;
 use crate::fields::{read_byte, read_name};
 use crate::format::Format;
 use crate::kinds::{read_post, read_shared};
-use card_events::{NoMemory, Request};
-use std::alloc::Global;
+use card_events::Request;
 
 #[tactic(auto, unfolding(crate::specs::Reading::request_in))]
-pub fn read_row(alloc: Global, bytes: &[u8]) -> Result<Option<Request>, NoMemory>
-    ensures { IfOk result (λ found. found ≡ request_in bytes.now) }
+pub fn read_row(bytes: &[u8]) -> Option<Request>
+    ensures { result ≡ request_in bytes.now }
 {
     let mut left = bytes;
     let rest = &mut left;
-    match read_request(alloc, rest) {
-        Ok(request) => Ok(whole(request, rest)),
-        Err(RowFault::NoSpelling) => Ok(None),
-        Err(RowFault::Memory) => Err(NoMemory),
+    match read_request(rest) {
+        Some(request) => whole(request, rest),
+        None => None,
     }
 }
 
@@ -34,16 +31,12 @@ fn whole(request: Request, rest: &[u8]) -> Option<Request>
 }
 
 #[tactic(auto, unfolding(crate::specs::Reading::read_request))]
-fn read_request(alloc: Global, rest: &mut &[u8]) -> Result<Request, RowFault>
-    ensures { Gives result rest.new.now (spec.read_request rest.old.now) }
+fn read_request(rest: &mut &[u8]) -> Option<Request>
+    ensures { GivesSome result rest.new.now (spec.read_request rest.old.now) }
 {
-    let Some(format) = read_format(rest) else {
-        return Err(RowFault::NoSpelling);
-    };
-    match read_code(format, rest) {
-        None => Err(RowFault::NoSpelling),
-        Some(code) => read_coded(alloc, format, code, rest),
-    }
+    let format = read_format(rest)?;
+    let code = read_code(format, rest)?;
+    read_coded(format, code, rest)
 }
 
 #[tactic(auto, unfolding(crate::specs::Reading::read_format, crate::specs::Reading::format_in))]
@@ -92,20 +85,13 @@ fn is_shared_code(code: u8) -> bool
 }
 
 #[tactic(auto, unfolding(crate::specs::Reading::read_coded))]
-fn read_coded(
-    alloc: Global,
-    format: Format,
-    code: u8,
-    rest: &mut &[u8],
-) -> Result<Request, RowFault>
-    ensures { Gives result rest.new.now (spec.read_coded format code rest.old.now) }
+fn read_coded(format: Format, code: u8, rest: &mut &[u8]) -> Option<Request>
+    ensures { GivesSome result rest.new.now (spec.read_coded format code rest.old.now) }
 {
-    if !is_shared_code(code) {
-        return read_posted(alloc, format, code, rest);
-    }
-    match read_for_all(format, code, rest) {
-        None => Err(RowFault::NoSpelling),
-        Some(request) => Ok(request),
+    if is_shared_code(code) {
+        read_for_all(format, code, rest)
+    } else {
+        read_posted(format, code, rest)
     }
 }
 
@@ -118,18 +104,11 @@ fn read_for_all(format: Format, code: u8, rest: &mut &[u8]) -> Option<Request>
 }
 
 #[tactic(auto, unfolding(crate::specs::Reading::read_posted))]
-fn read_posted(
-    alloc: Global,
-    format: Format,
-    code: u8,
-    rest: &mut &[u8],
-) -> Result<Request, RowFault>
-    ensures { Gives result rest.new.now (spec.read_posted format code rest.old.now) }
+fn read_posted(format: Format, code: u8, rest: &mut &[u8]) -> Option<Request>
+    ensures { GivesSome result rest.new.now (spec.read_posted format code rest.old.now) }
 {
-    let account = read_name(alloc, rest)?;
-    let key = read_name(alloc, rest)?;
-    match read_post(format, code, rest) {
-        None => Err(RowFault::NoSpelling),
-        Some(post) => Ok(Request::Post { account, key, post }),
-    }
+    let account = read_name(rest)?;
+    let key = read_name(rest)?;
+    let post = read_post(format, code, rest)?;
+    Some(Request::Post { account, key, post })
 }

@@ -85,6 +85,5 @@ unfolding item_of_record
 item_dated row fs = either_dated (row == 1) (header_item (header_of fs)) (Some (numbered row (request_of fs))) (header_dated (header_of fs)) (numbered_dated row (request_of fs) (request_dated fs))
 
 -- every day of what is read from a record is a day of requests
-pub read_is_dated : {E : Type 0} (row : ℕ) (fs : List (List ℕ)) (r : Result (Option Item) E) → IfOk r (λ item. item ≡ item_of_record row fs) → IfOk r (λ item. IfSome item IsDatedItem)
-read_is_dated row fs (Ok item) is = subst (λ (o : Option Item). IfSome o IsDatedItem) (sym is) (item_dated row fs)
-read_is_dated row fs (Err e) is = tt
+pub read_is_dated : (row : ℕ) (fs : List (List ℕ)) (item : Option Item) → item ≡ item_of_record row fs → IfSome item IsDatedItem
+read_is_dated row fs item is = subst (λ (o : Option Item). IfSome o IsDatedItem) (sym is) (item_dated row fs)

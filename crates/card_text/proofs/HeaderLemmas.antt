@@ -74,7 +74,5 @@ unfolding item_of_record
 none_is_header row fs = either_none row fs (row == 1) refl
 
 -- and so of what is read
-pub read_none : {E : Type 0} (row : ℕ) (fs : List (List ℕ)) (r : Result (Option Item) E) → IfOk r (λ item. item ≡ item_of_record row fs)
-    → IfOk r (λ item. (item ≡ None) ↔ ((row ≡ 1) × (fs ≡ header)))
-read_none row fs (Ok item) is = rw is (none_is_header row fs)
-read_none row fs (Err e) is = tt
+pub read_none : (row : ℕ) (fs : List (List ℕ)) (item : Option Item) → item ≡ item_of_record row fs → (item ≡ None) ↔ ((row ≡ 1) × (fs ≡ header))
+read_none row fs item is = rw is (none_is_header row fs)

@@ -1,6 +1,6 @@
 // The columns of a record, counted from 1.
 ghost use Rattle.std.specs.Prelude.{◌≡◌, ◌≤◌, ◌-◌, Some, None, IfOk, IfErr};
-ghost use Rattle.card_lines.specs.Fields.{GivesAll, ReadsAll};
+ghost use Rattle.card_lines.specs.Fields.{ReadsAll};
 ghost use Rattle.card_lines.specs.Forms.{name_of, number_of, day_of, place_of, channel_of};
 ghost use Rattle.csv.specs.Records.{fields_of, field_at};
 ghost use Rattle.card_text.specs.Columns.{column, exactly, no_column};
@@ -8,9 +8,8 @@ ghost use Rattle.card_text.specs.Kinds.{kind_of};
 
 use crate::kind::{RecordKind, read_kind};
 use card_events::{Channel, Day, Name, Num, Place};
-use card_lines::{BadField, LineFault, read_channel, read_day, read_number, read_place};
+use card_lines::{BadField, read_channel, read_day, read_number, read_place};
 use csv::ByteRecord;
-use std::alloc::Global;
 
 fn field(fields: &ByteRecord, number: u8) -> Result<&[u8], BadField>
     requires { 1 ≤ number }
@@ -25,13 +24,13 @@ fn field(fields: &ByteRecord, number: u8) -> Result<&[u8], BadField>
 
 /// The column as a name.
 #[tactic(auto, unfolding(card_lines::specs::Forms::name_of))]
-pub fn name_column(alloc: Global, fields: &ByteRecord, number: u8) -> Result<Name, LineFault>
+pub fn name_column(fields: &ByteRecord, number: u8) -> Result<Name, BadField>
     requires { 1 ≤ number }
-    ensures { GivesAll result (column name_of number (fields_of fields.now)) }
+    ensures { ReadsAll result (column name_of number (fields_of fields.now)) }
 {
     let text = field(fields, number)?;
-    match Name::read(alloc, text)? {
-        None => Err(LineFault::Bad(number)),
+    match Name::read(text) {
+        None => Err(BadField(number)),
         Some(name) => Ok(name),
     }
 }

@@ -63,7 +63,7 @@ impl<'a> Records<'a> {
     {
         while let Some(fields) = self.records.next_record(alloc)? {
             self.number += 1;
-            if let Some(item) = import_record(alloc, self.number, &fields)? {
+            if let Some(item) = import_record(self.number, &fields) {
                 return Ok(Some(item));
             }
         }

@@ -237,7 +237,7 @@ fn carry_out<L: Ledger>(
     line: &[u8],
     steps: &mut Steps<L>,
 ) -> Result<(), Fail> {
-    match read_line(alloc, line)? {
+    match read_line(line) {
         Line::Request(request) => accept(rt, alloc, ledger, &request, steps),
         Line::Show(account) => {
             let _view = ledger.show(alloc, &account, steps)?;

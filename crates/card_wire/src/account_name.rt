@@ -1,6 +1,5 @@
 // Names of accounts in a path.
-use card_events::{Name, NoMemory, is_name};
-use std::alloc::Global;
+use card_events::{Name, is_name};
 use std::marker::Model;
 
 /// The name of an account, where it stands in a path.
@@ -21,7 +20,7 @@ impl<'a> Model for AccountName<'a> {
 }
 
 impl<'a> AccountName<'a> {
-    ghost use Rattle.std.specs.Prelude.{◌≡◌, IfOk};
+    ghost use Rattle.std.specs.Prelude.{◌≡◌};
     ghost use Rattle.card_wire.specs.Routes.{account_of};
 
     /// The name that this text is. None: it is no name.
@@ -36,13 +35,12 @@ impl<'a> AccountName<'a> {
     }
 
     /// The name, as a ledger has it.
-    pub fn name(&self, alloc: Global) -> Result<Name, NoMemory>
-        ensures { IfOk result (λ n. n ≡ self.now) }
+    pub fn name(&self) -> Name
+        ensures { result ≡ self.now }
     {
-        match Name::read(alloc, self.text.as_bytes()) {
-            Ok(Some(name)) => Ok(name),
-            Ok(None) => unreachable!(),
-            Err(NoMemory) => Err(NoMemory),
+        match Name::read(self.text.as_bytes()) {
+            Some(name) => name,
+            None => unreachable!(),
         }
     }
 }

@@ -150,7 +150,7 @@ fn read_spelled(
     ensures dated { IfOk result IsDatedLine }
 {
     let line = spell(alloc, kind, value, fields)?;
-    read_line(alloc, &line)
+    Ok(read_line(&line))
 }
 
 // The field with this number of the line is bad.

@@ -1,5 +1,5 @@
 // What is asked for.
-ghost use Rattle.std.specs.Prelude.{◌≡◌, ◌≤◌, map, option_map, IfOk, IfSome};
+ghost use Rattle.std.specs.Prelude.{◌≡◌, ◌≤◌, map, option_map, IfSome};
 ghost use Rattle.std.specs.String.{string_bytes};
 ghost use Rattle.card_lines.specs.Forms.{day_of, name_of, number_of};
 ghost use Rattle.card_words.specs.Commands.{demonstration_of};
@@ -7,9 +7,8 @@ ghost use Rattle.card_words.specs.Commands as spec;
 ghost use Rattle.card_words.specs.Usage.{usage_line};
 
 use crate::demonstration::Demonstration;
-use card_events::{Day, Name, NoMemory, Num};
+use card_events::{Day, Name, Num};
 use card_lines::{read_day, read_number};
-use std::alloc::Global;
 
 /// What is asked for.
 #[derive(Drop)]
@@ -52,23 +51,19 @@ fn command_of_word(word: &str) -> Option<Command>
 
 // The export of an account with this name, where it is a name.
 #[tactic(auto, unfolding(card_lines::specs::Forms::name_of))]
-fn export_of(alloc: Global, account: &str) -> Result<Option<Command>, NoMemory>
-    ensures { IfOk result (λ command. command ≡ option_map Command.Export (name_of account.now)) }
+fn export_of(account: &str) -> Option<Command>
+    ensures { result ≡ option_map Command.Export (name_of account.now) }
 {
-    match Name::read(alloc, account.as_bytes()) {
-        Ok(Some(name)) => Ok(Some(Command::Export(name))),
-        Ok(None) => Ok(None),
-        Err(NoMemory) => Err(NoMemory),
-    }
+    Name::read(account.as_bytes()).map(Command::Export)
 }
 
-fn command_of_account(alloc: Global, word: &str, account: &str) -> Result<Option<Command>, NoMemory>
-    ensures { IfOk result (λ command. command ≡ spec.command_of_account word.now account.now) }
+fn command_of_account(word: &str, account: &str) -> Option<Command>
+    ensures { result ≡ spec.command_of_account word.now account.now }
 {
     if word == "export" {
-        export_of(alloc, account)
+        export_of(account)
     } else {
-        Ok(None)
+        None
     }
 }
 
@@ -106,22 +101,12 @@ fn command_about(word: &str, name: Name, cycle: Num) -> Option<Command>
 }
 
 #[tactic(auto, unfolding(card_lines::specs::Forms::name_of))]
-fn command_of_cycle(
-    alloc: Global,
-    word: &str,
-    account: &str,
-    cycle: &str,
-) -> Result<Option<Command>, NoMemory>
-    ensures { IfOk result (λ command. command ≡ spec.command_of_cycle word.now (name_of account.now) (spec.cycle_of cycle.now)) }
+fn command_of_cycle(word: &str, account: &str, cycle: &str) -> Option<Command>
+    ensures { result ≡ spec.command_of_cycle word.now (name_of account.now) (spec.cycle_of cycle.now) }
 {
-    let Some(cycle) = cycle_of(cycle) else {
-        return Ok(None);
-    };
-    match Name::read(alloc, account.as_bytes()) {
-        Ok(Some(name)) => Ok(command_about(word, name, cycle)),
-        Ok(None) => Ok(None),
-        Err(NoMemory) => Err(NoMemory),
-    }
+    let cycle = cycle_of(cycle)?;
+    let name = Name::read(account.as_bytes())?;
+    command_about(word, name, cycle)
 }
 
 // A decimal number from low to high.
@@ -161,20 +146,15 @@ fn trial_of(from: &str, to: &str) -> Option<Command>
     }
 }
 
-fn command_of_two(
-    alloc: Global,
-    word: &str,
-    first: &str,
-    second: &str,
-) -> Result<Option<Command>, NoMemory>
-    ensures { IfOk result (λ command. command ≡ spec.command_of_two word.now first.now second.now) }
+fn command_of_two(word: &str, first: &str, second: &str) -> Option<Command>
+    ensures { result ≡ spec.command_of_two word.now first.now second.now }
 {
     if word == "serve" {
-        Ok(server_of(first, second))
+        server_of(first, second)
     } else if word == "trial" {
-        Ok(trial_of(first, second))
+        trial_of(first, second)
     } else {
-        command_of_cycle(alloc, word, first, second)
+        command_of_cycle(word, first, second)
     }
 }
 
@@ -198,23 +178,21 @@ fn command_of_numbers(word: &str, start: &str, accounts: &str, cycles: &str) -> 
     }
 }
 
-/// The command that the words are, if they are one. Memory is wanted for a name alone.
-pub fn command_of(alloc: Global, words: &[String]) -> Result<Option<Command>, NoMemory>
-    ensures { IfOk result (λ command. command ≡ spec.command_of (map string_bytes words.now)) }
+/// The command that the words are, if they are one. It takes no memory.
+pub fn command_of(words: &[String]) -> Option<Command>
+    ensures { result ≡ spec.command_of (map string_bytes words.now) }
 {
     match words {
-        [word] => Ok(command_of_word(word.as_str())),
-        [word, account] => command_of_account(alloc, word.as_str(), account.as_str()),
-        [word, first, second] => {
-            command_of_two(alloc, word.as_str(), first.as_str(), second.as_str())
-        }
-        [word, start, accounts, cycles] => Ok(command_of_numbers(
+        [word] => command_of_word(word.as_str()),
+        [word, account] => command_of_account(word.as_str(), account.as_str()),
+        [word, first, second] => command_of_two(word.as_str(), first.as_str(), second.as_str()),
+        [word, start, accounts, cycles] => command_of_numbers(
             word.as_str(),
             start.as_str(),
             accounts.as_str(),
             cycles.as_str(),
-        )),
-        _ => Ok(None),
+        ),
+        _ => None,
     }
 }
 

@@ -9,12 +9,12 @@ pub prepare-requires-clause-no_reason : goal.prepare-requires-clause-no_reason
 prepare-requires-clause-no_reason g c = no-reason c.day-today.result c.args.shared.now c.args.account.now.lists c.charge-post.result c.day-today.ensures c.requires.nothing c.requires.alone c.charge-post.ensures
 
 pub prepare-requires-clause-sound : goal.prepare-requires-clause-sound
-prepare-requires-clause-sound g c = sound-with c.day-today.result c.args.shared.now c.args.account.now.lists c.in_ok-key.key c.charge-post.result c.day-today.ensures c.requires.nothing c.requires.alone c.charge-post.ensures
+prepare-requires-clause-sound g c = sound-with c.day-today.result c.args.shared.now c.args.account.now.lists c.name-key.result c.charge-post.result c.day-today.ensures c.requires.nothing c.requires.alone c.charge-post.ensures
 
 pub returns : goal.returns
 returns g c =
     record {
-      three = three-steps c.day-today.result c.args.shared.now c.args.account.now.lists c.args.account.now.folding.reached c.in_ok-key.key c.charge-post.result c.args.steps.now c.prepare.new.steps
+      three = three-steps c.day-today.result c.args.shared.now c.args.account.now.lists c.args.account.now.folding.reached c.name-key.result c.charge-post.result c.args.steps.now c.prepare.new.steps
           c.day-today.ensures c.requires.nothing c.requires.alone c.requires.today.reached c.charge-post.ensures c.prepare.ensures.most;
     }
 

@@ -1,4 +1,4 @@
-use Rattle.std.proofs.Common.{◌≡◌, ℕ, ◌∷◌, List, [], true, IfOk, refl, sym, ap, ◌∙◌, subst}
+use Rattle.std.proofs.Common.{◌≡◌, ℕ, ◌∷◌, List, [], true, refl, sym, ap, ◌∙◌, subst}
 use Rattle.std.specs.Fmt.{decimal}
 use Rattle.std.specs.String.{string_bytes}
 use Rattle.card_events.specs.Names.{is_name}
@@ -19,4 +19,4 @@ returns c =
     let t = c.args.t in
     let j = c.args.j in
     let is : string_bytes c.in_ok-text.text ≡ charge_key t j = c.in_ok-text.ensures.ok ∙ ap (λ (l : List ℕ). 99 ∷ l) (sym (append_assoc (decimal t) (45 ∷ []) (decimal j))) in
-    subst (λ (l : List ℕ). IfOk c.name.result (λ name. name ≡ l)) (c.deref.ensures ∙ is) c.name.ensures
+    c.name.ensures ∙ c.deref.ensures ∙ is

@@ -40,7 +40,7 @@ invariant_of-self-in-Ok g c =
     let p = c.args.given.now.post.now in
     let accounts : c.push_account.new.list.items ≡ items ++ made ∷ [] = c.push_account.ensures ∙ ap (λ l. l ++ made ∷ []) c.in_ok-reserve.ensures.items in
     let made_is : made.named ≡ record { name = name; lists = record { posts = kept_as 1 key d.today p ∷ []; issued = [] } } =
-    c.in_ok-made.ensures.named ∙ ap (λ (n : List ℕ). record { name = n; lists = record { posts = kept_as 1 key d.today p ∷ []; issued = [] } }) c.in_ok-name.ensures in
+    c.in_ok-made.ensures.named ∙ ap (λ (n : List ℕ). record { name = n; lists = record { posts = kept_as 1 key d.today p ∷ []; issued = [] } }) c.copy-name.ensures in
     let name_is : made.named.name ≡ name = ap (λ (a : NamedAccount). a.name) made_is in
     let absent : place_from name 0 (named_all items) ≡ None = ap (λ (x : State). place_from name 0 x.accounts) (state_by _ _ c.self.view_is) ∙ c.requires.absent in
     let none = ap (λ (x : State). opening_reason x p) (state_by _ _ c.self.view_is) ∙ c.requires.no_reason in
@@ -72,7 +72,7 @@ returns-in-Ok-clause-carried g c =
     let accounts : t.accounts ≡ s.accounts ++ made.named ∷ [] =
     ap named_all items ∙ map-append (λ (x : OpenAccount). x.named) d.accounts.items (made ∷ []) ∙ ap (λ (x : State). x.accounts ++ made.named ∷ []) (state_by _ _ c.self.view_is) in
     let made_is : made.named ≡ record { name = name; lists = l } =
-    c.in_ok-made.ensures.named ∙ ap (λ (n : List ℕ). record { name = n; lists = record { posts = kept_as 1 key d.today p ∷ []; issued = [] } }) c.in_ok-name.ensures
+    c.in_ok-made.ensures.named ∙ ap (λ (n : List ℕ). record { name = n; lists = record { posts = kept_as 1 key d.today p ∷ []; issued = [] } }) c.copy-name.ensures
     ∙ ap (λ (n : ℕ). record { name = name; lists = record { posts = kept_as 1 key n p ∷ []; issued = [] } }) today in
     let state = opened_state s t name l made.named today (ap (λ (x : State). x.shared) (state_by _ _ c.self.view_is)) accounts made_is c.requires.absent in
     let one : length made.named.lists.posts ≡ 1 = ap (λ (a : NamedAccount). length a.lists.posts) made_is in

@@ -82,7 +82,7 @@ prepare-requires-clause-fresh g c =
     let there = known_outcome s name key p (get_or s.accounts at b.named).lists (c.requires.place.there b.named) in
     let fresh = fresh_of (now_at s at b.named) key p (with_key key (get_or s.accounts at b.named).lists.posts) (accepted (now_at s at b.named) key p) (sym there ∙ c.requires.accepted b.named) in
     let read = read_at items s.accounts at b b.named is (ap (λ (x : State). x.accounts) state) c.requires.place.bound in
-    ap (λ (k : List ℕ). with_key k b.named.lists.posts) c.in_ok-key.ensures ∙ (ap (λ (x : NamedAccount). with_key key x.lists.posts) read ∙ fresh)
+    ap (λ (k : List ℕ). with_key k b.named.lists.posts) c.copy-key.ensures ∙ (ap (λ (x : NamedAccount). with_key key x.lists.posts) read ∙ fresh)
 
 pub prepare-requires-clause-no_reason : goal.prepare-requires-clause-no_reason
 prepare-requires-clause-no_reason g c =
@@ -117,7 +117,7 @@ prepare-requires-clause-sound g c =
     let allowed = subst (λ (x : State). (e : NamedAccount) → outcome_in x name key p ≡ Accepts (accepted (now_of x (get_or x.accounts at e).lists) key p)) (sym state) c.requires.accepted in
     let outcome = posted_outcome d.index d.common d.count d.today d.shared.items items at b name key p c.self.invariant low is allowed in
     let one = posted_in d.index d.common d.count d.today d.shared.items items at b name key p c.self.invariant taken place outcome in
-    subst (λ (k : List ℕ). IsSound (given_of (accepted (present_of d.today d.common b.named.lists) k p) d.common)) (sym c.in_ok-key.ensures)
+    subst (λ (k : List ℕ). IsSound (given_of (accepted (present_of d.today d.common b.named.lists) k p) d.common)) (sym c.copy-key.ensures)
     (opened_sound d.index d.common d.count d.today d.shared.items items (accepted (present_of d.today d.common b.named.lists) key p) c.self.invariant one)
 
 pub commit-number-requires : goal.commit-number-requires
@@ -216,7 +216,7 @@ invariant_of-self-2 g c =
     let lists : a.named.lists ≡ accepted (present_of d.today d.common b.named.lists) key p =
     c.commit-number.ensures.lists
     ∙ (ap (λ (n : ℕ). accepted (present_of n d.common x.named.lists) change.key change.post) says.today
-    ∙ (ap (λ (k : List ℕ). accepted (present_of d.today d.common x.named.lists) k change.post) (says.key ∙ c.in_ok-key.ensures)
+    ∙ (ap (λ (k : List ℕ). accepted (present_of d.today d.common x.named.lists) k change.post) (says.key ∙ c.copy-key.ensures)
     ∙ (ap (λ (q : Post). accepted (present_of d.today d.common x.named.lists) key q) says.post ∙ ap (λ (y : NamedAccount). accepted (present_of d.today d.common y.lists) key p) same))) in
     let grew : length a.named.lists.posts ≡ length b.named.lists.posts + 1 = ap (λ (l : Lists). length l.posts) lists ∙ longer (present_of d.today d.common b.named.lists) key p in
     let named : a.named.name ≡ (get_or items at b).named.name = c.commit-number.ensures.name ∙ (ap (λ (y : NamedAccount). y.name) same ∙ ap (λ (y : OpenAccount). y.named.name) is) in
@@ -253,7 +253,7 @@ returns-clause-carried g c =
     let lists : a.named.lists ≡ accepted (present_of d.today d.common b.named.lists) key p =
     c.commit-number.ensures.lists
     ∙ (ap (λ (n : ℕ). accepted (present_of n d.common x.named.lists) change.key change.post) says.today
-    ∙ (ap (λ (k : List ℕ). accepted (present_of d.today d.common x.named.lists) k change.post) (says.key ∙ c.in_ok-key.ensures)
+    ∙ (ap (λ (k : List ℕ). accepted (present_of d.today d.common x.named.lists) k change.post) (says.key ∙ c.copy-key.ensures)
     ∙ (ap (λ (q : Post). accepted (present_of d.today d.common x.named.lists) key q) says.post ∙ ap (λ (y : NamedAccount). accepted (present_of d.today d.common y.lists) key p) same))) in
     let grew : length a.named.lists.posts ≡ length b.named.lists.posts + 1 = ap (λ (l : Lists). length l.posts) lists ∙ longer (present_of d.today d.common b.named.lists) key p in
     let rows = g.K.Keeper.rows c.args.keeper.now in
@@ -301,7 +301,7 @@ returns-in_err-change-clause-most g c =
     let allowed = subst (λ (x : State). (e : NamedAccount) → outcome_in x name key p ≡ Accepts (accepted (now_of x (get_or x.accounts at e).lists) key p)) (sym state) c.requires.accepted in
     let outcome = posted_outcome d.index d.common d.count d.today d.shared.items items at b name key p c.self.invariant low is allowed in
     let one = posted_in d.index d.common d.count d.today d.shared.items items at b name key p c.self.invariant taken place outcome in
-    let least = subst (λ (k : List ℕ). AreFewToPrepare d.today d.common b.named.lists b.folding.reached k p c.args.steps.now c.prepare.new.steps) c.in_ok-key.ensures c.prepare.ensures.most in
+    let least = subst (λ (k : List ℕ). AreFewToPrepare d.today d.common b.named.lists b.folding.reached k p c.args.steps.now c.prepare.new.steps) c.copy-key.ensures c.prepare.ensures.most in
     few_posted d.index d.common d.count d.today d.shared.items items at b c.args.self.now name key p c.args.steps.now c.prepare.new.steps c.self.invariant c.self.view_is low is outcome one least
 
 pub returns-in_err-keep_row-clause-most : goal.returns-in_err-keep_row-clause-most
@@ -322,7 +322,7 @@ returns-in_err-keep_row-clause-most g c =
     let allowed = subst (λ (x : State). (e : NamedAccount) → outcome_in x name key p ≡ Accepts (accepted (now_of x (get_or x.accounts at e).lists) key p)) (sym state) c.requires.accepted in
     let outcome = posted_outcome d.index d.common d.count d.today d.shared.items items at b name key p c.self.invariant low is allowed in
     let one = posted_in d.index d.common d.count d.today d.shared.items items at b name key p c.self.invariant taken place outcome in
-    let least = subst (λ (k : List ℕ). AreFewToPrepare d.today d.common b.named.lists b.folding.reached k p c.args.steps.now c.prepare.new.steps) c.in_ok-key.ensures c.prepare.ensures.most in
+    let least = subst (λ (k : List ℕ). AreFewToPrepare d.today d.common b.named.lists b.folding.reached k p c.args.steps.now c.prepare.new.steps) c.copy-key.ensures c.prepare.ensures.most in
     few_posted d.index d.common d.count d.today d.shared.items items at b c.args.self.now name key p c.args.steps.now c.prepare.new.steps c.self.invariant c.self.view_is low is outcome one least
 
 pub returns-clause-most : goal.returns-clause-most
@@ -343,7 +343,7 @@ returns-clause-most g c =
     let allowed = subst (λ (x : State). (e : NamedAccount) → outcome_in x name key p ≡ Accepts (accepted (now_of x (get_or x.accounts at e).lists) key p)) (sym state) c.requires.accepted in
     let outcome = posted_outcome d.index d.common d.count d.today d.shared.items items at b name key p c.self.invariant low is allowed in
     let one = posted_in d.index d.common d.count d.today d.shared.items items at b name key p c.self.invariant taken place outcome in
-    let least = subst (λ (k : List ℕ). AreFewToPrepare d.today d.common b.named.lists b.folding.reached k p c.args.steps.now c.prepare.new.steps) c.in_ok-key.ensures c.prepare.ensures.most in
+    let least = subst (λ (k : List ℕ). AreFewToPrepare d.today d.common b.named.lists b.folding.reached k p c.args.steps.now c.prepare.new.steps) c.copy-key.ensures c.prepare.ensures.most in
     few_posted d.index d.common d.count d.today d.shared.items items at b c.args.self.now name key p c.args.steps.now c.prepare.new.steps c.self.invariant c.self.view_is low is outcome one least
 
 -- ---- the day that it has reached
@@ -404,7 +404,7 @@ returns-clause-reached g c =
     let lists : a.named.lists ≡ accepted (present_of d.today d.common b.named.lists) key p =
     c.commit-number.ensures.lists
     ∙ (ap (λ (n : ℕ). accepted (present_of n d.common x.named.lists) change.key change.post) says.today
-    ∙ (ap (λ (k : List ℕ). accepted (present_of d.today d.common x.named.lists) k change.post) (says.key ∙ c.in_ok-key.ensures)
+    ∙ (ap (λ (k : List ℕ). accepted (present_of d.today d.common x.named.lists) k change.post) (says.key ∙ c.copy-key.ensures)
     ∙ (ap (λ (q : Post). accepted (present_of d.today d.common x.named.lists) key q) says.post ∙ ap (λ (y : NamedAccount). accepted (present_of d.today d.common y.lists) key p) c.prepare.ensures.told.named))) in
     let near = subst (λ (n : ℕ). StaysNear n d.common x.named.lists a.named.lists x.folding.reached a.folding.reached) says.today c.commit-number.ensures.reached in
     done-moves _ (Some at) _ _ _

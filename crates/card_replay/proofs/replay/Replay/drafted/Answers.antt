@@ -29,7 +29,7 @@ draft-requires-clause-stands c =
 
 pub draft-requires-clause-fresh : goal.draft-requires-clause-fresh
 draft-requires-clause-fresh c =
-    ap (λ k. with_key k c.self.inside.posts.history) c.in_ok-key.ensures ∙ (ap (λ (x : Replay). with_key c.args.key.now x.lists.posts) c.self.view_is ∙ c.requires.may.fresh)
+    ap (λ k. with_key k c.self.inside.posts.history) c.copy-key.ensures ∙ (ap (λ (x : Replay). with_key c.args.key.now x.lists.posts) c.self.view_is ∙ c.requires.may.fresh)
 
 pub draft-requires-clause-target : goal.draft-requires-clause-target
 draft-requires-clause-target c =
@@ -57,8 +57,8 @@ new-inputs-requires-clause-sound c =
     let posts = c.self.inside.posts in
     let new = c.draft.new.self in
     let u = c.requires.may.read in
-    let h = drafted shared today key c.in_ok-key.key p r posts new c.deref.result.now c.in_ok-draft.draft c.requires.may.replay u c.requires.may.sound (ap (λ (x : Replay). x.lists.posts) c.self.view_is) (ap (λ (x : Replay). x.corrected) c.self.view_is)
-    (c.deref.ensures.value ∙ ap (λ (x : Replay). x.lists.issued) c.self.view_is) c.in_ok-key.ensures c.in_ok-draft.ensures.draft (subst (λ holidays. StandsFor holidays new) c.calendar.ensures c.in_ok-draft.ensures.stands) in
+    let h = drafted shared today key c.copy-key.result p r posts new c.deref.result.now c.in_ok-draft.draft c.requires.may.replay u c.requires.may.sound (ap (λ (x : Replay). x.lists.posts) c.self.view_is) (ap (λ (x : Replay). x.corrected) c.self.view_is)
+    (c.deref.ensures.value ∙ ap (λ (x : Replay). x.lists.issued) c.self.view_is) c.copy-key.ensures c.in_ok-draft.ensures.draft (subst (λ holidays. StandsFor holidays new) c.calendar.ensures c.in_ok-draft.ensures.stands) in
     subst IsSound (sym h.inputs) h.more.sound
 
 pub lent-book-requires : goal.lent-book-requires
@@ -74,8 +74,8 @@ rewind-made-requires c =
     let posts = c.self.inside.posts in
     let new = c.draft.new.self in
     let u = c.requires.may.read in
-    let h = drafted shared today key c.in_ok-key.key p r posts new c.deref.result.now c.in_ok-draft.draft c.requires.may.replay u c.requires.may.sound (ap (λ (x : Replay). x.lists.posts) c.self.view_is) (ap (λ (x : Replay). x.corrected) c.self.view_is)
-    (c.deref.ensures.value ∙ ap (λ (x : Replay). x.lists.issued) c.self.view_is) c.in_ok-key.ensures c.in_ok-draft.ensures.draft (subst (λ holidays. StandsFor holidays new) c.calendar.ensures c.in_ok-draft.ensures.stands) in
+    let h = drafted shared today key c.copy-key.result p r posts new c.deref.result.now c.in_ok-draft.draft c.requires.may.replay u c.requires.may.sound (ap (λ (x : Replay). x.lists.posts) c.self.view_is) (ap (λ (x : Replay). x.corrected) c.self.view_is)
+    (c.deref.ensures.value ∙ ap (λ (x : Replay). x.lists.issued) c.self.view_is) c.copy-key.ensures c.in_ok-draft.ensures.draft (subst (λ holidays. StandsFor holidays new) c.calendar.ensures c.in_ok-draft.ensures.stands) in
     let at = more-told shared today key p r c.args.from c.requires.may c.requires.first in
     let inputs = c.new-inputs.ensures ∙ h.inputs in
     let was = given_of r.lists shared in
@@ -98,8 +98,8 @@ withdraw-requires c =
     let posts = c.self.inside.posts in
     let new = c.draft.new.self in
     let u = c.requires.may.read in
-    let h = drafted shared today key c.in_ok-key.key p r posts new c.deref.result.now c.in_ok-draft.draft c.requires.may.replay u c.requires.may.sound (ap (λ (x : Replay). x.lists.posts) c.self.view_is) (ap (λ (x : Replay). x.corrected) c.self.view_is)
-    (c.deref.ensures.value ∙ ap (λ (x : Replay). x.lists.issued) c.self.view_is) c.in_ok-key.ensures c.in_ok-draft.ensures.draft (subst (λ holidays. StandsFor holidays new) c.calendar.ensures c.in_ok-draft.ensures.stands) in
+    let h = drafted shared today key c.copy-key.result p r posts new c.deref.result.now c.in_ok-draft.draft c.requires.may.replay u c.requires.may.sound (ap (λ (x : Replay). x.lists.posts) c.self.view_is) (ap (λ (x : Replay). x.corrected) c.self.view_is)
+    (c.deref.ensures.value ∙ ap (λ (x : Replay). x.lists.issued) c.self.view_is) c.copy-key.ensures c.in_ok-draft.ensures.draft (subst (λ holidays. StandsFor holidays new) c.calendar.ensures c.in_ok-draft.ensures.stands) in
     record { draft = record { kept = kept_as (length r.lists.posts + 1) key today p; old = posts; draft = h.draft } }
 
 -- ---- what it is taken back to, with the post taken out
@@ -113,8 +113,8 @@ returns c =
     let posts = c.self.inside.posts in
     let new = c.draft.new.self in
     let u = c.requires.may.read in
-    let h = drafted shared today key c.in_ok-key.key p r posts new c.deref.result.now c.in_ok-draft.draft c.requires.may.replay u c.requires.may.sound (ap (λ (x : Replay). x.lists.posts) c.self.view_is) (ap (λ (x : Replay). x.corrected) c.self.view_is)
-    (c.deref.ensures.value ∙ ap (λ (x : Replay). x.lists.issued) c.self.view_is) c.in_ok-key.ensures c.in_ok-draft.ensures.draft (subst (λ holidays. StandsFor holidays new) c.calendar.ensures c.in_ok-draft.ensures.stands) in
+    let h = drafted shared today key c.copy-key.result p r posts new c.deref.result.now c.in_ok-draft.draft c.requires.may.replay u c.requires.may.sound (ap (λ (x : Replay). x.lists.posts) c.self.view_is) (ap (λ (x : Replay). x.corrected) c.self.view_is)
+    (c.deref.ensures.value ∙ ap (λ (x : Replay). x.lists.issued) c.self.view_is) c.copy-key.ensures c.in_ok-draft.ensures.draft (subst (λ holidays. StandsFor holidays new) c.calendar.ensures c.in_ok-draft.ensures.stands) in
     let at = more-told shared today key p r c.args.from c.requires.may c.requires.first in
     let inputs = c.new-inputs.ensures ∙ h.inputs in
     let made = c.rewind-made.result in
