@@ -1,5 +1,5 @@
 -- Closed cycles and issued statements (12 CFR 1026.5(b)(2), .7(b)). Days are day numbers, amounts cents.
-use Rattle.std.specs.Prelude.{ℕ, ℤ, pos, ◌==◌, Bool, false, nat_le, nat_lt, List, [], Option}
+use Rattle.std.specs.Prelude.{ℕ, ℤ, ◌==◌, Bool, nat_le, nat_lt, List, Option}
 use Rattle.std.specs.List.{filter, find, last_or, sum_by}
 use Rattle.std.specs.Prelude.{None, if◌then◌else◌}
 use Rattle.card_events.specs.declared.anchor.Anchor.{Anchor}
@@ -61,25 +61,6 @@ pub record Sheet : Type 0 where
   pub closing : Amounts
   pub floor : ℤ
   pub pct : ℕ
-
--- a sheet that shows nothing
-abbrev pub no_sheet : Sheet
-no_sheet =
-    record {
-      due_payment = false;
-      previous = pos 0;
-      corrections = pos 0;
-      moves = [];
-      fees_year = pos 0;
-      interest_year = pos 0;
-      rates = [];
-      deferred = [];
-      late_up_to = pos 0;
-      penalty = 0;
-      closing = [];
-      floor = pos 0;
-      pct = 0;
-    }
 
 -- a statement as it was issued: its cycle, the number of its Bill, its day, and the cycle's record and the sheet of that moment
 pub record IssuedRow : Type 0 where
