@@ -4,7 +4,7 @@ ghost use Rattle.card_events.specs.Range.{last_calendar_day};
 ghost use Rattle.card_model.specs.DueDates as model;
 
 use crate::Cycle;
-use card_events::Day;
+use card_events::{Day, NOTICE_DAYS};
 use card_model::Interval;
 
 /// The day on which a penalty begins that is notified on a day: 45 days after it (12 CFR 1026.9(g)(1)(i)). The day is at most
@@ -13,7 +13,7 @@ pub fn begin_after(day: Day) -> Day
     requires { day + 45 ≤ last_calendar_day }
     ensures { result ≡ day + 45 }
 {
-    day.plus(45)
+    day.plus(NOTICE_DAYS)
 }
 
 /// Whether the due date of a closed cycle lies after a day.

@@ -7,7 +7,7 @@ ghost use Rattle.card_model.specs.Deadlines.{increase_of, increases};
 ghost use Rattle.card_model.specs.Refusals.{holds_of, is_empty};
 ghost use Rattle.card_posts.specs.Posted.{StandsFor};
 
-use card_events::{Day, Kept, Post};
+use card_events::{Day, Kept, NOTICE_DAYS, Post};
 use card_posts::Posts;
 
 // whether a post raises a rate from this day on, or an earlier one
@@ -16,7 +16,7 @@ fn is_increase_by(kept: &Kept, day: Day) -> bool
 {
     match kept.post {
         Post::Notice { effective, .. } => effective <= day,
-        Post::Penalty => kept.accepted.number() + 45 <= day.number(),
+        Post::Penalty => kept.accepted.number() + NOTICE_DAYS as i32 <= day.number(),
         _ => false,
     }
 }

@@ -8,14 +8,14 @@ ghost use Rattle.card_model.specs.Deadlines as spec;
 ghost use Rattle.card_posts.specs.Posted.{StandsFor};
 ghost use Rattle.card_rates.specs.Segments.{ArePostsDated};
 
-use card_events::{Day, Kept, Post, six_months_after};
+use card_events::{Day, Kept, NOTICE_DAYS, Post, six_months_after};
 use card_posts::Posts;
 
 // the first day of a penalty rate, where it isn't after this day
 fn penalty_by(accepted: Day, day: Day) -> Option<Day>
     ensures { result ≡ (if nat_le (accepted + 45) day then Some (accepted + 45) else None) }
 {
-    let begins = accepted.number() + 45;
+    let begins = accepted.number() + NOTICE_DAYS as i32;
     if begins <= day.number() {
         Day::from_number(begins)
     } else {

@@ -30,7 +30,7 @@ pub use credit::credit_day;
 pub use day::Day;
 pub use kept::{Kept, Slot, numbered};
 pub use later::{six_months_after, year_after};
-pub use limits::{POST_LIMIT, RATE_LIMIT};
+pub use limits::{ACCOUNT_LIMIT, AMOUNT_LIMIT, NOTICE_DAYS, POST_LIMIT, RATE_LIMIT};
 pub use memory::NoMemory;
 pub use money::Money;
 pub use name::{Name, is_name};

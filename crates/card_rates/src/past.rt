@@ -3,7 +3,7 @@ ghost use Rattle.std.specs.Prelude.{◌≡◌, ◌+◌, ◌++◌, [], ◌∷◌,
 ghost use Rattle.card_model.specs.Cuts.{as_of, ended_before, penalties_at};
 
 use crate::segment::number_of;
-use card_events::{Day, NoMemory};
+use card_events::{Day, NOTICE_DAYS, NoMemory};
 use card_model::Interval;
 use std::alloc::Global;
 
@@ -11,7 +11,7 @@ use std::alloc::Global;
 fn is_known(penalty: &Interval, day: Day) -> bool
     ensures { result ≡ nat_le penalty.now.begins (day + 45) }
 {
-    number_of(penalty.begins) <= number_of(day) + 45
+    number_of(penalty.begins) <= number_of(day) + NOTICE_DAYS
 }
 
 // Whether a penalty's last day lies before a day, so that its end was known at the end of that day.

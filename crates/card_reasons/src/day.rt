@@ -4,7 +4,7 @@ ghost use Rattle.std.specs.Option.{option_or};
 ghost use Rattle.card_model.specs.Refusals as spec;
 ghost use Rattle.card_reasons.specs.Reasons as reasons;
 
-use card_events::{Day, Num, POST_LIMIT, Refusal};
+use card_events::{AMOUNT_LIMIT, Day, Num, POST_LIMIT, Refusal};
 use card_posts::Posts;
 
 // Before what is asked of its kind: an amount or a rate, and the day, in an account that was opened on a day.
@@ -61,10 +61,10 @@ pub fn in_order(
     first_of(early, later)
 }
 
-/// Whether an amount in cents is 0, or above 1,000,000,000.
+/// Whether an amount in cents is 0, or above the greatest amount.
 pub fn is_no_amount(cents: Num) -> bool
     ensures { result ≡ spec.is_no_amount cents }
 {
     let cents = cents.get();
-    cents == 0 || cents > 1_000_000_000
+    cents == 0 || cents > AMOUNT_LIMIT
 }

@@ -12,7 +12,7 @@ ghost use Rattle.card_reasons.specs.Reasons.{effective_reason, notice_reason};
 
 use crate::day::first_of;
 use crate::plan::has_all_segments;
-use card_events::{Anchor, Category, Day, Post, Refusal, year_after};
+use card_events::{Anchor, Category, Day, NOTICE_DAYS, Post, Refusal, year_after};
 use card_posts::Posts;
 
 fn is_same(a: Category, b: Category) -> bool
@@ -104,7 +104,7 @@ fn noticed_day(day: Day) -> Day
     requires { day ≤ last_request_day }
     ensures { result ≡ day + 45 }
 {
-    day.plus(45)
+    day.plus(NOTICE_DAYS)
 }
 
 /// Why a Notice of a day isn't accepted with its effective day, or as one more segment.

@@ -6,7 +6,7 @@ ghost use Rattle.card_model.specs.Machine.{is_open};
 ghost use Rattle.card_model.specs.Rates.{index_on};
 ghost use Rattle.card_model.specs.Refusals.{bad_terms_of, first_reason, reason_to_open, where_true};
 
-use card_events::{Day, Post, RATE_LIMIT, Refusal, Terms};
+use card_events::{ACCOUNT_LIMIT, Day, Post, RATE_LIMIT, Refusal, Terms};
 use card_fees::{IndexTable, SharedRows};
 
 // The first term that is out of its range: the closing day is 1 to 28, rates are at most 9,999 basis points, the floor is
@@ -96,7 +96,7 @@ fn later_open_reason(
     }
     match without {
         Some(refusal) => Some(refusal),
-        None if accounts >= 1_000_000 => Some(Refusal::LedgerFull),
+        None if accounts >= ACCOUNT_LIMIT => Some(Refusal::LedgerFull),
         None => None,
     }
 }

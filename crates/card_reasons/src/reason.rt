@@ -27,7 +27,7 @@ use crate::place::{charged_place, credited_place};
 use crate::plan::plan_end;
 use crate::returned::returned_target;
 use crate::review::review_day;
-use card_events::{Anchor, Category, Day, Num, Place, Post, RATE_LIMIT, Refusal};
+use card_events::{AMOUNT_LIMIT, Anchor, Category, Day, Num, Place, Post, RATE_LIMIT, Refusal};
 use card_posts::Posts;
 
 // the last minute of a day, 23:59
@@ -102,7 +102,7 @@ fn return_reason(posts: &Posts, opened: Day, today: Day, day: Day, target: Num) 
 fn is_no_correction(cents: Num) -> bool
     ensures { result ≡ nat_lt 1000000000 cents }
 {
-    cents.get() > 1_000_000_000
+    cents.get() > AMOUNT_LIMIT
 }
 
 // Why an Amend isn't accepted today.
