@@ -5,7 +5,8 @@ use crate::rate::{
     BegunRate, bears_its_own, capped_as, is_running, is_to_come, least_of, newest_of, no_rate,
     raised, rate_in_period, vintage_rate,
 };
-use crate::segment::{RateCap, RatedSegment, accrues, after_end, is_plan_sort, sort_of};
+use crate::segment::{RateCap, RatedSegment, accrues, after_end, is_plan_sort, number_of, sort_of};
+use crate::settled::{has_deferred, settled_from};
 use card_events::{Bp, Category, Day, NoMemory};
 use card_model::Interval;
 use card_posts::Posts;
@@ -23,20 +24,24 @@ pub struct RateBook {
     segments: Vec<RatedSegment>,
     caps: Vec<RateCap>,
     penalties: Vec<Interval>,
+    // the number of the day from which on nothing but the index changes a rate
+    settled: Option<u32>,
+    may_accrue: bool,
 }
 
 impl Model for RateBook {
-    ghost use Rattle.card_rates.specs.RateBooks.{AreByNumber, Rates};
+    ghost use Rattle.card_rates.specs.RateBooks.{Rates};
+    ghost use Rattle.card_rates.specs.Settled.{AreKept};
 
     ghost Value = { Rates };
 
     ghost view = { λ r. record { variable = r.variable; penalty = r.penalty_rate; segments = r.segments.items; lowerings = r.caps.items; penalties = r.penalties.items } };
 
-    ghost invariant = { λ r. AreByNumber 2 r.segments.items };
+    ghost invariant = { λ r. AreKept r.segments.items r.caps.items r.penalties.items r.settled r.may_accrue };
 }
 
 impl RateBook {
-    ghost use Rattle.std.specs.Prelude.{◌≡◌, ℕ, true, ◌+◌, ◌<◌, ◌≤◌, ◌++◌, List, [], ◌∷◌, Some, None, length, slice_index_or, slice_set, option_copied, IfOk, OnOk, OnErr};
+    ghost use Rattle.std.specs.Prelude.{◌≡◌, ℕ, true, false, ◌+◌, ◌<◌, ◌≤◌, ◌++◌, List, [], ◌∷◌, Some, None, length, slice_index_or, slice_set, option_copied, IfOk, OnOk, OnErr};
     ghost use Rattle.std.specs.List.{All, Contains, fold};
     ghost use Rattle.card_events.specs.History.{terms_of};
     ghost use Rattle.card_events.specs.SharedRows.{IndexRow};
@@ -47,6 +52,7 @@ impl RateBook {
     ghost use Rattle.card_model.specs.declared.segment.Interval.{Interval};
     ghost use Rattle.card_rates.specs.Next.{IsNext, changes, index_changes};
     ghost use Rattle.card_rates.specs.RateBooks.{lasting_rate, rate_of, rates_of, with_penalties};
+    ghost use Rattle.card_rates.specs.Settled.{AreSettled, has_deferred};
 
     /// The rates of an account's posts, where no penalty has begun. The terms are in their ranges, no rate of a post is above
     /// 9,999 basis points, and there are at most 64 segments.
@@ -56,16 +62,34 @@ impl RateBook {
         requires few { HasFewSegments posts.now.history }
         ensures { IfOk result (λ book. (holidays : List ℕ) → book ≡ rates_of holidays posts.now.history []) }
     {
+        RateBook::raised_by(alloc, posts, Vec::new(alloc))
+    }
+
+    // the rates of an account's posts, with these penalties
+    fn raised_by(
+        alloc: Global,
+        posts: &Posts,
+        penalties: Vec<Interval>,
+    ) -> Result<RateBook, NoMemory>
+        requires terms { AreInRange (terms_of posts.now.history) }
+        requires rates { All HasFewRates posts.now.history }
+        requires few { HasFewSegments posts.now.history }
+        ensures { IfOk result (λ book. (holidays : List ℕ) → book ≡ rates_of holidays posts.now.history penalties.items) }
+    {
         let opening = &post_of(posts, 1).post;
         let mut segments = first_segments(alloc, opening)?;
         let mut caps = Vec::new(alloc);
         add_all(&mut segments, &mut caps, posts)?;
+        let settled = settled_from(&segments, &caps, &penalties);
+        let may_accrue = has_deferred(&segments);
         Ok(RateBook {
             variable: opening.opens_variable(),
             penalty_rate: penalty_rate_in(opening),
             segments,
             caps,
-            penalties: Vec::new(alloc),
+            penalties,
+            settled,
+            may_accrue,
         })
     }
 
@@ -75,6 +99,7 @@ impl RateBook {
         ensures err { OnErr result (self.new ≡ self.old) }
     {
         self.penalties.push(Interval { begins, last: None })?;
+        self.settled = None;
         Ok(())
     }
 
@@ -125,6 +150,8 @@ impl RateBook {
             segments: Vec::from_slice(alloc, &self.segments)?,
             caps: Vec::from_slice(alloc, &self.caps)?,
             penalties: Vec::from_slice(alloc, &self.penalties)?,
+            settled: self.settled,
+            may_accrue: self.may_accrue,
         })
     }
 
@@ -139,6 +166,8 @@ impl RateBook {
             segments: Vec::from_slice(alloc, &self.segments)?,
             caps: Vec::from_slice(alloc, &self.caps)?,
             penalties: penalties_at(alloc, &self.penalties, day)?,
+            settled: self.settled,
+            may_accrue: self.may_accrue,
         })
     }
 
@@ -149,9 +178,7 @@ impl RateBook {
         requires few { HasFewSegments posts.now.history }
         ensures { IfOk result (λ book. (holidays : List ℕ) → book ≡ rates_of holidays posts.now.history self.now.penalties) }
     {
-        let mut book = RateBook::of(alloc, posts)?;
-        book.penalties = Vec::from_slice(alloc, &self.penalties)?;
-        Ok(book)
+        RateBook::raised_by(alloc, posts, Vec::from_slice(alloc, &self.penalties)?)
     }
 
     /// The rate of a segment on a day under this index, in basis points (12 CFR 1026.55(b)(1) to (b)(4)). It takes no memory.
@@ -165,6 +192,13 @@ impl RateBook {
             Some(g) => self.rate_of_its(index, g, day),
             None => no_rate(),
         }
+    }
+
+    /// Whether there is a deferred plan, so that interest may accrue (12 CFR 1026.55(b)(1)). It takes no memory.
+    pub fn may_accrue(&self) -> bool
+        ensures { result ≡ has_deferred self.now.segments }
+    {
+        self.may_accrue
     }
 
     /// The rate in basis points at which a deferred plan accrues interest on a day of its period, and None for any other
@@ -195,6 +229,9 @@ impl RateBook {
         requires { first ≤ end }
         ensures { IsNext (changes self.now) first end result }
     {
+        if self.changes_no_more(first) {
+            return end;
+        }
         let next = segments_change(&self.segments, first, end);
         penalties_change(&self.penalties, first, next)
     }
@@ -268,12 +305,35 @@ impl RateBook {
         )
     }
 
+    // whether each segment bears its own rate from a day on, with the index where it follows that
+    fn is_settled(&self, day: Day) -> bool
+        ensures { result ≡ true → AreSettled day self.now.segments self.now.lowerings self.now.penalties }
+    {
+        match self.settled {
+            Some(from) => from <= number_of(day),
+            None => false,
+        }
+    }
+
+    // whether no rate changes on a day or behind it but by the index
+    fn changes_no_more(&self, day: Day) -> bool
+        ensures { (x : ℕ) → result ≡ true → day ≤ x → changes self.now x ≡ false }
+    {
+        match self.settled {
+            Some(from) => from < number_of(day),
+            None => false,
+        }
+    }
+
     // whether a vintage bears its own rate, with no index, no Lower and no penalty to change it
     fn bears_unchanged(&self, g: &RatedSegment, day: Day) -> bool
         ensures { (rows : List IndexRow) → result ≡ true → Contains self.now.segments g.now → rate_of rows self.now day g.now ≡ g.now.rate }
     {
         if self.variable {
             return false;
+        }
+        if self.is_settled(day) {
+            return true;
         }
         if !self.caps.is_empty() || !self.penalties.is_empty() {
             return false;

@@ -11,6 +11,7 @@ mod plan;
 mod rate;
 mod segment;
 mod segments;
+mod settled;
 pub mod slot_laws;
 
 pub use book::RateBook;
