@@ -139,6 +139,16 @@ fn is_any_deferred(segments: &[RatedSegment], day: Day) -> bool
     false
 }
 
+// Whether some segment of an account accrues on a day. One without deferred plans isn't looked through.
+fn accrues_on(rates: &RateBook, day: Day) -> bool
+    ensures { result ≡ list_any (is_deferred_on day) rates.now.segments }
+{
+    if !rates.may_accrue() {
+        return false;
+    }
+    is_any_deferred(rates.segments(), day)
+}
+
 // What all segments accrue on so many days, at the rates of one of them. Most often none does.
 fn accrue_all(
     accruals: &mut Vec<Accrual>,
@@ -155,7 +165,7 @@ fn accrue_all(
     ensures balances { length segments.now.balances ≡ length rates.now.segments + 2 }
 {
     let _count = segments.len();
-    if !is_any_deferred(rates.segments(), day) {
+    if !accrues_on(rates, day) {
         return;
     }
     accrue_each(accruals, segments, rates, day, days);
