@@ -3,7 +3,7 @@ use crate::make::{add_all, first_segments, penalty_rate_in, post_of};
 use crate::past::penalties_at;
 use crate::rate::{
     BegunRate, bears_its_own, capped_as, is_running, is_to_come, least_of, newest_of, no_rate,
-    raised, rate_in_period, vintage_rate,
+    raised, rate_in_period, rate_with, vintage_rate,
 };
 use crate::segment::{RateCap, RatedSegment, accrues, after_end, is_plan_sort, number_of, sort_of};
 use crate::settled::{has_deferred, settled_from};
@@ -13,6 +13,14 @@ use card_posts::Posts;
 use card_shared::IndexTable;
 use std::alloc::Global;
 use std::marker::Model;
+
+/// What the rates of all segments on a day share: the index in basis points that the opening rates follow, where they do
+/// (12 CFR 1026.55(b)(2)), and whether each segment bears its own rate, with that index, as nothing else changes it.
+#[derive(Clone, Copy)]
+pub struct DayIndex {
+    pub(crate) index: Option<Bp>,
+    pub(crate) settled: bool,
+}
 
 /// The rates of an account: the segments that its posts add, with the rates that they give them, the lowered rates, the
 /// penalties that began, and whether the opening rates follow the index (12 CFR 1026.55(b)), which is no part of it. Segments
@@ -52,7 +60,7 @@ impl RateBook {
     ghost use Rattle.card_model.specs.declared.segment.Interval.{Interval};
     ghost use Rattle.card_rates.specs.Next.{IsNext, changes, index_changes};
     ghost use Rattle.card_rates.specs.RateBooks.{lasting_rate, rate_of, rates_of, with_penalties};
-    ghost use Rattle.card_rates.specs.Settled.{AreSettled, has_deferred};
+    ghost use Rattle.card_rates.specs.Settled.{BearOwnRates, IsOfDay, has_deferred};
 
     /// The rates of an account's posts, where no penalty has begun. The terms are in their ranges, no rate of a post is above
     /// 9,999 basis points, and there are at most 64 segments.
@@ -119,13 +127,6 @@ impl RateBook {
         &self.segments
     }
 
-    /// Whether the opening rates follow the index (12 CFR 1026.55(b)(2)). It takes no memory.
-    pub fn is_variable(&self) -> bool
-        ensures { result ≡ self.now.variable }
-    {
-        self.variable
-    }
-
     /// The rate of penalties by the account's terms, in basis points (12 CFR 1026.55(b)(4)). It takes no memory.
     pub fn penalty_rate(&self) -> Bp
         ensures { result ≡ self.now.penalty }
@@ -188,8 +189,29 @@ impl RateBook {
         ensures rate { (g : SegmentTerms) → Contains self.now.segments g → g.id ≡ segment → result ≡ rate_of index.now self.now day g }
         ensures unbilled { segment < 2 → result ≡ 0 }
     {
+        self.rate_by(&self.of_day(index, day), index, segment, day)
+    }
+
+    /// What the rates of all segments on a day share, under this index. It takes no memory.
+    pub fn of_day(&self, index: &IndexTable, day: Day) -> DayIndex
+        ensures { IsOfDay index.now self.now day result }
+    {
+        DayIndex {
+            index: self.index_of(index, day),
+            settled: self.is_settled(day),
+        }
+    }
+
+    /// The same rate as `rate_on`, where what the rates of the day share was read before (`of_day`). It takes no memory. The
+    /// segment is there.
+    pub fn rate_by(&self, of_day: &DayIndex, index: &IndexTable, segment: u8, day: Day) -> Bp
+        requires read { IsOfDay index.now self.now day of_day.now }
+        requires there { segment < length self.now.segments + 2 }
+        ensures rate { (g : SegmentTerms) → Contains self.now.segments g → g.id ≡ segment → result ≡ rate_of index.now self.now day g }
+        ensures unbilled { segment < 2 → result ≡ 0 }
+    {
         match self.segment_with(segment) {
-            Some(g) => self.rate_of_its(index, g, day),
+            Some(g) => self.rate_of_its(of_day, index, g, day),
             None => no_rate(),
         }
     }
@@ -305,9 +327,9 @@ impl RateBook {
         )
     }
 
-    // whether each segment bears its own rate from a day on, with the index where it follows that
+    // whether each segment bears its own rate on a day, with the index where it follows that
     fn is_settled(&self, day: Day) -> bool
-        ensures { result ≡ true → AreSettled day self.now.segments self.now.lowerings self.now.penalties }
+        ensures { result ≡ true → BearOwnRates self.now day }
     {
         match self.settled {
             Some(from) => from <= number_of(day),
@@ -332,9 +354,6 @@ impl RateBook {
         if self.variable {
             return false;
         }
-        if self.is_settled(day) {
-            return true;
-        }
         if !self.caps.is_empty() || !self.penalties.is_empty() {
             return false;
         }
@@ -342,10 +361,13 @@ impl RateBook {
     }
 
     // the rate of one of its segments, which most often is its own
-    fn rate_of_its(&self, index: &IndexTable, g: &RatedSegment, day: Day) -> Bp
+    fn rate_of_its(&self, of_day: &DayIndex, index: &IndexTable, g: &RatedSegment, day: Day) -> Bp
+        requires read { IsOfDay index.now self.now day of_day.now }
         ensures { Contains self.now.segments g.now → result ≡ rate_of index.now self.now day g.now }
     {
-        if self.bears_unchanged(g, day) {
+        if of_day.settled {
+            rate_with(g, &of_day.index)
+        } else if self.bears_unchanged(g, day) {
             g.rate
         } else {
             self.rate_for(index, g, day)

@@ -2,17 +2,8 @@ use Rattle.std.proofs.Common.{◌≡◌, false, [], vec_len, sym, ap, ◌∙◌,
 use Rattle.std.proofs.lemmas.Bool.{eqb-true}
 use Rattle.std.proofs.lemmas.List.{nil_from_length}
 use Rattle.card_rates.specs.RateBooks.{AreByNumber, Rates}
-use Rattle.card_rates.proofs.Settling.{borne}
 use Rattle.card_rates.proofs.Unchanged.{rate-is}
 use Rattle.card_rates.proofs.book.RateBook.bears_unchanged.Goals as goal
-
-pub returns-then-is_settled : goal.returns-then-is_settled
-returns-then-is_settled c rows is its =
-    let rates = c.args.self.now in
-    let there = subst (λ (r : Rates). AreByNumber 2 r.segments) c.self.view_is c.self.invariant.numbers in
-    let fixed : rates.variable ≡ false = ap (λ (r : Rates). r.variable) (sym c.self.view_is) ∙ c.if-self.false in
-    let settled = c.is_settled.ensures c.if-is_settled.true in
-    rate-is rows rates c.args.day c.args.g.now there fixed settled.unlowered settled.unraised its (borne c.args.day rates.segments rates.lowerings rates.penalties c.args.g.now settled its)
 
 pub returns : goal.returns
 returns c rows is its =
