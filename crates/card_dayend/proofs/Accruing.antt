@@ -3,12 +3,22 @@ use Rattle.std.proofs.Common.{◌≡◌, ℕ, Bool, true, false, ◌||◌, List,
 use Rattle.std.specs.List.{list_any}
 use Rattle.card_closing.specs.Accruals.{Accrued}
 use Rattle.card_model.specs.Rates.{accrual_rate}
-use Rattle.card_model.specs.Segments.{SegmentTerms, is_deferred_on}
+use Rattle.card_model.specs.Segments.{SegmentTerms, is_deferred_on, is_sort}
+use Rattle.card_model.specs.declared.segment.Sort.TheVariants.{Deferred}
+use Rattle.card_rates.specs.Settled.{has_deferred}
 use Rattle.card_dayend.specs.Rows.{each_with, owed_on, with_accrual_at}
 
 or-false : (a b : Bool) → (a || b) ≡ false → (a ≡ false) × (b ≡ false)
 or-false true b h = cc
 or-false false b h = (refl, h)
+
+-- without deferred plans none is in its period
+pub none-accrues-on : (day : ℕ) (ts : List SegmentTerms) → has_deferred ts ≡ false → list_any (is_deferred_on day) ts ≡ false
+none-accrues-on day [] h = refl
+none-accrues-on day (t ∷ ts) h =
+    let parts = or-false (is_sort Deferred t.sort) (has_deferred ts) h in
+    let here : is_deferred_on day t ≡ false = rw parts.0 refl in
+    rw here (none-accrues-on day ts parts.1)
 
 pub none-accrues : (days day : ℕ) (balances : List ℤ) (ts : List SegmentTerms) (xs : List Accrued) → list_any (is_deferred_on day) ts ≡ false
     → each_with (λ t x. with_accrual_at days (accrual_rate day t) (owed_on balances t) x) ts xs ≡ xs

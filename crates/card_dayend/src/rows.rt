@@ -9,6 +9,7 @@ ghost use Rattle.card_closing.specs.Rows.{Rows};
 ghost use Rattle.card_model.specs.Entries.{at_least_zero};
 ghost use Rattle.card_model.specs.Segments.{SegmentTerms, is_deferred_on};
 ghost use Rattle.card_rates.specs.RateBooks.{rate_of as rate_in_force};
+ghost use Rattle.card_rates.specs.Settled.{IsOfDay};
 ghost use Rattle.card_segments.specs.Balances.{AreWithin};
 ghost use Rattle.card_daily.specs.Given.{Given, IsSound, opened_in};
 ghost use Rattle.card_dayend.specs.Rows.{AwaitsRows, with_accrual_at, with_accruals, with_row, with_rows};
@@ -19,7 +20,7 @@ ghost use Rattle.card_daily.specs.declared.track.Track.{Track};
 use card_closing::{Accrual, CycleRows};
 use card_daily::State;
 use card_events::{Bp, Cents, Day, NoMemory};
-use card_rates::{IndexTable, RateBook, RatedSegment, is_deferred_on};
+use card_rates::{DayIndex, IndexTable, RateBook, RatedSegment, is_deferred_on};
 use card_segments::Segments;
 
 // The rate 0.
@@ -41,14 +42,22 @@ fn owed_on(segments: &Segments, id: u8) -> u64
 }
 
 // The rate of a segment's row: that of the day, and 0 where nothing is owed.
-fn row_rate(rates: &RateBook, index: &IndexTable, id: u8, day: Day, owed: u64) -> Bp
+fn row_rate(
+    rates: &RateBook,
+    index: &IndexTable,
+    of_day: &DayIndex,
+    id: u8,
+    day: Day,
+    owed: u64,
+) -> Bp
+    requires read { IsOfDay index.now rates.now day of_day.now }
     requires there { id < length rates.now.segments + 2 }
     ensures { (t : SegmentTerms) → Contains rates.now.segments t → t.id ≡ id → result ≡ rate_of owed (rate_in_force index.now rates.now day t) }
 {
     if owed == 0 {
         no_rate()
     } else {
-        rates.rate_on(index, id, day)
+        rates.rate_by(of_day, index, id, day)
     }
 }
 
@@ -57,17 +66,20 @@ fn add_row(
     rows: &mut CycleRows,
     rates: &RateBook,
     index: &IndexTable,
+    of_day: &DayIndex,
     id: u8,
     day: Day,
     days: u32,
     owed: u64,
 ) -> Result<(), NoMemory>
+    requires read { IsOfDay index.now rates.now day of_day.now }
     requires there { id < length rates.now.segments + 2 }
     requires small { owed ≤ balance_limit }
     requires few { length rows.old.days + days ≤ 31 }
     ensures { OnOk result ((t : SegmentTerms) → Contains rates.now.segments t → t.id ≡ id → rows.new ≡ with_row index.now days rates.now day t owed rows.old) }
 {
-    rows.row(days, owed as Cents, row_rate(rates, index, id, day, owed))
+    let rate = row_rate(rates, index, of_day, id, day, owed);
+    rows.row(days, owed as Cents, rate)
 }
 
 // The rows of all segments on so many days, at the rates of one of them.
@@ -85,10 +97,11 @@ fn add_rows(
     requires few { All (λ (r : Rows). length r.days + days ≤ 31) rows.old.items }
     ensures { OnOk result (rows.new.items ≡ with_rows index.now days rates.now segments.now.balances day rows.old.items) }
 {
+    let of_day = rates.of_day(index, day);
     for id in 2..segments.len() {
         let place = id as usize - 2;
         let owed = owed_on(segments, id);
-        add_row(&mut rows[place], rates, index, id, day, days, owed)?;
+        add_row(&mut rows[place], rates, index, &of_day, id, day, days, owed)?;
     }
     Ok(())
 }
@@ -139,6 +152,16 @@ fn is_any_deferred(segments: &[RatedSegment], day: Day) -> bool
     false
 }
 
+// Whether some segment of an account accrues on a day. One without deferred plans isn't looked through.
+fn accrues_on(rates: &RateBook, day: Day) -> bool
+    ensures { result ≡ list_any (is_deferred_on day) rates.now.segments }
+{
+    if !rates.may_accrue() {
+        return false;
+    }
+    is_any_deferred(rates.segments(), day)
+}
+
 // What all segments accrue on so many days, at the rates of one of them. Most often none does.
 fn accrue_all(
     accruals: &mut Vec<Accrual>,
@@ -155,7 +178,7 @@ fn accrue_all(
     ensures balances { length segments.now.balances ≡ length rates.now.segments + 2 }
 {
     let _count = segments.len();
-    if !is_any_deferred(rates.segments(), day) {
+    if !accrues_on(rates, day) {
         return;
     }
     accrue_each(accruals, segments, rates, day, days);

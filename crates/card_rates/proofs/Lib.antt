@@ -8,6 +8,7 @@ pub mod OneMore
 pub mod Penalties
 pub mod RowsAhead
 pub mod Runs
+pub mod Settling
 pub mod Spans
 pub mod Unchanged
 pub mod Ordered

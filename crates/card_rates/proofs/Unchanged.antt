@@ -4,7 +4,7 @@ use Rattle.std.specs.List.{Contains, fold}
 use Rattle.std.specs.Option.{option_or}
 use Rattle.std.proofs.lemmas.Bool.Decides.{nat_tests}
 use Rattle.card_events.specs.SharedRows.{IndexRow}
-use Rattle.card_model.specs.Rates.{Lowering, bears_as, bears_in, begun_of, capped, index_for, own, rate_on, starts, with_penalty}
+use Rattle.card_model.specs.Rates.{Lowering, bears_as, bears_in, begun_of, capped, index_for, own, rate_on, rate_with, starts, with_penalty}
 use Rattle.card_model.specs.Segments.{SegmentTerms, is_plan, is_sort, last_that}
 use Rattle.card_model.specs.declared.segment.Interval.{Interval}
 use Rattle.card_model.specs.declared.segment.Sort.{Sort}
@@ -61,32 +61,36 @@ newest-is day n (x ∷ xs) g (i, h) (suc k, l, e) b =
     here
 
 -- ---- its rate
-own-is : (day : ℕ) (gs : List SegmentTerms) (g : SegmentTerms) → AreByNumber 2 gs → Contains gs g → is_plan g ≡ false → leb g.begins day ≡ true → leb g.effective day ≡ true
-    → (own None gs day g).rate ≡ g.rate
-own-is day gs g h c plan begun effective =
+own-is : (index : Option ℕ) (day : ℕ) (gs : List SegmentTerms) (g : SegmentTerms) → AreByNumber 2 gs → Contains gs g → is_plan g ≡ false → leb g.begins day ≡ true → leb g.effective day ≡ true
+    → (own index gs day g).rate ≡ rate_with index g
+own-is index day gs g h c plan begun effective =
     let itself : leb g.id g.id ≡ true = grind (arith, nat_tests) in
     let test : bears_in day g.sort g.id g ≡ true = rw (sort-same g.sort, itself, begun, effective) refl in
-    let vintage : own None gs day g ≡ begun_of None (last_that (bears_in day g.sort g.id) gs) = rw plan refl in
-    ap (λ b. b.rate) vintage ∙ ap (λ o. (begun_of None o).rate) (newest-is day 2 gs g h c test)
+    let vintage : own index gs day g ≡ begun_of index (last_that (bears_in day g.sort g.id) gs) = rw plan refl in
+    ap (λ b. b.rate) vintage ∙ ap (λ o. (begun_of index o).rate) (newest-is day 2 gs g h c test)
 
 lasting-is : (index : Option ℕ) (lowers : List Lowering) (penalty day : ℕ) (penalties : List Interval) (gs : List SegmentTerms) (g : SegmentTerms) → is_plan g ≡ false
     → rate_on index lowers penalty (starts day penalties) gs day g ≡ fold (with_penalty lowers penalty (bears_as g) day) (capped lowers (bears_as g) day (own index gs day g)) (starts day penalties)
 unfolding rate_on
 lasting-is index lowers penalty day penalties gs g plan = rw plan refl
 
-pub rate-is : (rows : List IndexRow) (r : Rates) (day : ℕ) (g : SegmentTerms) → AreByNumber 2 r.segments → r.variable ≡ false → r.lowerings ≡ [] → r.penalties ≡ [] → Contains r.segments g
-    → (not (is_plan g) && leb g.effective day && leb g.begins day) ≡ true → rate_of rows r day g ≡ g.rate
-rate-is rows r day g h fixed lowers penalties c test =
+-- with the index, where it follows that
+pub rate-with-is : (rows : List IndexRow) (r : Rates) (day : ℕ) (g : SegmentTerms) → AreByNumber 2 r.segments → r.lowerings ≡ [] → r.penalties ≡ [] → Contains r.segments g
+    → (not (is_plan g) && leb g.effective day && leb g.begins day) ≡ true → rate_of rows r day g ≡ rate_with (index_for r.variable rows day) g
+rate-with-is rows r day g h lowers penalties c test =
     let one = and-parts (not (is_plan g) && leb g.effective day) (leb g.begins day) test in
     let two = and-parts (not (is_plan g)) (leb g.effective day) one.0 in
     let plan = not-true (is_plan g) two.0 in
     let s = bears_as g in
-    let b = own None r.segments day g in
-    let none : index_for r.variable rows day ≡ None = ap (λ v. index_for v rows day) fixed in
+    let index = index_for r.variable rows day in
+    let b = own index r.segments day g in
     let f = with_penalty r.lowerings r.penalty s day in
-    ap (λ i. rate_on i r.lowerings r.penalty (starts day r.penalties) r.segments day g) none
-    ∙ (lasting-is None r.lowerings r.penalty day r.penalties r.segments g plan
+    lasting-is index r.lowerings r.penalty day r.penalties r.segments g plan
     ∙ (ap (λ ps. fold f (capped r.lowerings s day b) (starts day ps)) penalties
     ∙ (raised-none f (capped r.lowerings s day b) day
     ∙ (ap (λ ls. capped ls s day b) lowers
-    ∙ (capped-none s day b ∙ own-is day r.segments g h c plan one.1 two.1)))))
+    ∙ (capped-none s day b ∙ own-is index day r.segments g h c plan one.1 two.1))))
+
+pub rate-is : (rows : List IndexRow) (r : Rates) (day : ℕ) (g : SegmentTerms) → AreByNumber 2 r.segments → r.variable ≡ false → r.lowerings ≡ [] → r.penalties ≡ [] → Contains r.segments g
+    → (not (is_plan g) && leb g.effective day && leb g.begins day) ≡ true → rate_of rows r day g ≡ g.rate
+rate-is rows r day g h fixed lowers penalties c test = rate-with-is rows r day g h lowers penalties c test ∙ ap (λ v. rate_with (index_for v rows day) g) fixed

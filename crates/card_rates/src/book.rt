@@ -3,15 +3,24 @@ use crate::make::{add_all, first_segments, penalty_rate_in, post_of};
 use crate::past::penalties_at;
 use crate::rate::{
     BegunRate, bears_its_own, capped_as, is_running, is_to_come, least_of, newest_of, no_rate,
-    raised, rate_in_period, vintage_rate,
+    raised, rate_in_period, rate_with, vintage_rate,
 };
-use crate::segment::{RateCap, RatedSegment, accrues, after_end, is_plan_sort, sort_of};
+use crate::segment::{RateCap, RatedSegment, accrues, after_end, is_plan_sort, number_of, sort_of};
+use crate::settled::{has_deferred, settled_from};
 use card_events::{Bp, Category, Day, NoMemory};
 use card_model::Interval;
 use card_posts::Posts;
 use card_shared::IndexTable;
 use std::alloc::Global;
 use std::marker::Model;
+
+/// What the rates of all segments on a day share: the index in basis points that the opening rates follow, where they do
+/// (12 CFR 1026.55(b)(2)), and whether each segment bears its own rate, with that index, as nothing else changes it.
+#[derive(Clone, Copy)]
+pub struct DayIndex {
+    pub(crate) index: Option<Bp>,
+    pub(crate) settled: bool,
+}
 
 /// The rates of an account: the segments that its posts add, with the rates that they give them, the lowered rates, the
 /// penalties that began, and whether the opening rates follow the index (12 CFR 1026.55(b)), which is no part of it. Segments
@@ -23,20 +32,24 @@ pub struct RateBook {
     segments: Vec<RatedSegment>,
     caps: Vec<RateCap>,
     penalties: Vec<Interval>,
+    // the number of the day from which on nothing but the index changes a rate
+    settled: Option<u32>,
+    may_accrue: bool,
 }
 
 impl Model for RateBook {
-    ghost use Rattle.card_rates.specs.RateBooks.{AreByNumber, Rates};
+    ghost use Rattle.card_rates.specs.RateBooks.{Rates};
+    ghost use Rattle.card_rates.specs.Settled.{AreKept};
 
     ghost Value = { Rates };
 
     ghost view = { λ r. record { variable = r.variable; penalty = r.penalty_rate; segments = r.segments.items; lowerings = r.caps.items; penalties = r.penalties.items } };
 
-    ghost invariant = { λ r. AreByNumber 2 r.segments.items };
+    ghost invariant = { λ r. AreKept r.segments.items r.caps.items r.penalties.items r.settled r.may_accrue };
 }
 
 impl RateBook {
-    ghost use Rattle.std.specs.Prelude.{◌≡◌, ℕ, true, ◌+◌, ◌<◌, ◌≤◌, ◌++◌, List, [], ◌∷◌, Some, None, length, slice_index_or, slice_set, option_copied, IfOk, OnOk, OnErr};
+    ghost use Rattle.std.specs.Prelude.{◌≡◌, ℕ, true, false, ◌+◌, ◌<◌, ◌≤◌, ◌++◌, List, [], ◌∷◌, Some, None, length, slice_index_or, slice_set, option_copied, IfOk, OnOk, OnErr};
     ghost use Rattle.std.specs.List.{All, Contains, fold};
     ghost use Rattle.card_events.specs.History.{terms_of};
     ghost use Rattle.card_events.specs.SharedRows.{IndexRow};
@@ -47,6 +60,7 @@ impl RateBook {
     ghost use Rattle.card_model.specs.declared.segment.Interval.{Interval};
     ghost use Rattle.card_rates.specs.Next.{IsNext, changes, index_changes};
     ghost use Rattle.card_rates.specs.RateBooks.{lasting_rate, rate_of, rates_of, with_penalties};
+    ghost use Rattle.card_rates.specs.Settled.{BearOwnRates, IsOfDay, has_deferred};
 
     /// The rates of an account's posts, where no penalty has begun. The terms are in their ranges, no rate of a post is above
     /// 9,999 basis points, and there are at most 64 segments.
@@ -56,16 +70,34 @@ impl RateBook {
         requires few { HasFewSegments posts.now.history }
         ensures { IfOk result (λ book. (holidays : List ℕ) → book ≡ rates_of holidays posts.now.history []) }
     {
+        RateBook::raised_by(alloc, posts, Vec::new(alloc))
+    }
+
+    // the rates of an account's posts, with these penalties
+    fn raised_by(
+        alloc: Global,
+        posts: &Posts,
+        penalties: Vec<Interval>,
+    ) -> Result<RateBook, NoMemory>
+        requires terms { AreInRange (terms_of posts.now.history) }
+        requires rates { All HasFewRates posts.now.history }
+        requires few { HasFewSegments posts.now.history }
+        ensures { IfOk result (λ book. (holidays : List ℕ) → book ≡ rates_of holidays posts.now.history penalties.items) }
+    {
         let opening = &post_of(posts, 1).post;
         let mut segments = first_segments(alloc, opening)?;
         let mut caps = Vec::new(alloc);
         add_all(&mut segments, &mut caps, posts)?;
+        let settled = settled_from(&segments, &caps, &penalties);
+        let may_accrue = has_deferred(&segments);
         Ok(RateBook {
             variable: opening.opens_variable(),
             penalty_rate: penalty_rate_in(opening),
             segments,
             caps,
-            penalties: Vec::new(alloc),
+            penalties,
+            settled,
+            may_accrue,
         })
     }
 
@@ -75,6 +107,7 @@ impl RateBook {
         ensures err { OnErr result (self.new ≡ self.old) }
     {
         self.penalties.push(Interval { begins, last: None })?;
+        self.settled = None;
         Ok(())
     }
 
@@ -92,13 +125,6 @@ impl RateBook {
         ensures { result.now ≡ self.now.segments }
     {
         &self.segments
-    }
-
-    /// Whether the opening rates follow the index (12 CFR 1026.55(b)(2)). It takes no memory.
-    pub fn is_variable(&self) -> bool
-        ensures { result ≡ self.now.variable }
-    {
-        self.variable
     }
 
     /// The rate of penalties by the account's terms, in basis points (12 CFR 1026.55(b)(4)). It takes no memory.
@@ -125,6 +151,8 @@ impl RateBook {
             segments: Vec::from_slice(alloc, &self.segments)?,
             caps: Vec::from_slice(alloc, &self.caps)?,
             penalties: Vec::from_slice(alloc, &self.penalties)?,
+            settled: self.settled,
+            may_accrue: self.may_accrue,
         })
     }
 
@@ -139,6 +167,8 @@ impl RateBook {
             segments: Vec::from_slice(alloc, &self.segments)?,
             caps: Vec::from_slice(alloc, &self.caps)?,
             penalties: penalties_at(alloc, &self.penalties, day)?,
+            settled: self.settled,
+            may_accrue: self.may_accrue,
         })
     }
 
@@ -149,9 +179,7 @@ impl RateBook {
         requires few { HasFewSegments posts.now.history }
         ensures { IfOk result (λ book. (holidays : List ℕ) → book ≡ rates_of holidays posts.now.history self.now.penalties) }
     {
-        let mut book = RateBook::of(alloc, posts)?;
-        book.penalties = Vec::from_slice(alloc, &self.penalties)?;
-        Ok(book)
+        RateBook::raised_by(alloc, posts, Vec::from_slice(alloc, &self.penalties)?)
     }
 
     /// The rate of a segment on a day under this index, in basis points (12 CFR 1026.55(b)(1) to (b)(4)). It takes no memory.
@@ -161,10 +189,38 @@ impl RateBook {
         ensures rate { (g : SegmentTerms) → Contains self.now.segments g → g.id ≡ segment → result ≡ rate_of index.now self.now day g }
         ensures unbilled { segment < 2 → result ≡ 0 }
     {
+        self.rate_by(&self.of_day(index, day), index, segment, day)
+    }
+
+    /// What the rates of all segments on a day share, under this index. It takes no memory.
+    pub fn of_day(&self, index: &IndexTable, day: Day) -> DayIndex
+        ensures { IsOfDay index.now self.now day result }
+    {
+        DayIndex {
+            index: self.index_of(index, day),
+            settled: self.is_settled(day),
+        }
+    }
+
+    /// The same rate as `rate_on`, where what the rates of the day share was read before (`of_day`). It takes no memory. The
+    /// segment is there.
+    pub fn rate_by(&self, of_day: &DayIndex, index: &IndexTable, segment: u8, day: Day) -> Bp
+        requires read { IsOfDay index.now self.now day of_day.now }
+        requires there { segment < length self.now.segments + 2 }
+        ensures rate { (g : SegmentTerms) → Contains self.now.segments g → g.id ≡ segment → result ≡ rate_of index.now self.now day g }
+        ensures unbilled { segment < 2 → result ≡ 0 }
+    {
         match self.segment_with(segment) {
-            Some(g) => self.rate_of_its(index, g, day),
+            Some(g) => self.rate_of_its(of_day, index, g, day),
             None => no_rate(),
         }
+    }
+
+    /// Whether there is a deferred plan, so that interest may accrue (12 CFR 1026.55(b)(1)). It takes no memory.
+    pub fn may_accrue(&self) -> bool
+        ensures { result ≡ has_deferred self.now.segments }
+    {
+        self.may_accrue
     }
 
     /// The rate in basis points at which a deferred plan accrues interest on a day of its period, and None for any other
@@ -195,6 +251,9 @@ impl RateBook {
         requires { first ≤ end }
         ensures { IsNext (changes self.now) first end result }
     {
+        if self.changes_no_more(first) {
+            return end;
+        }
         let next = segments_change(&self.segments, first, end);
         penalties_change(&self.penalties, first, next)
     }
@@ -268,6 +327,26 @@ impl RateBook {
         )
     }
 
+    // whether each segment bears its own rate on a day, with the index where it follows that
+    fn is_settled(&self, day: Day) -> bool
+        ensures { result ≡ true → BearOwnRates self.now day }
+    {
+        match self.settled {
+            Some(from) => from <= number_of(day),
+            None => false,
+        }
+    }
+
+    // whether no rate changes on a day or behind it but by the index
+    fn changes_no_more(&self, day: Day) -> bool
+        ensures { (x : ℕ) → result ≡ true → day ≤ x → changes self.now x ≡ false }
+    {
+        match self.settled {
+            Some(from) => from < number_of(day),
+            None => false,
+        }
+    }
+
     // whether a vintage bears its own rate, with no index, no Lower and no penalty to change it
     fn bears_unchanged(&self, g: &RatedSegment, day: Day) -> bool
         ensures { (rows : List IndexRow) → result ≡ true → Contains self.now.segments g.now → rate_of rows self.now day g.now ≡ g.now.rate }
@@ -282,10 +361,13 @@ impl RateBook {
     }
 
     // the rate of one of its segments, which most often is its own
-    fn rate_of_its(&self, index: &IndexTable, g: &RatedSegment, day: Day) -> Bp
+    fn rate_of_its(&self, of_day: &DayIndex, index: &IndexTable, g: &RatedSegment, day: Day) -> Bp
+        requires read { IsOfDay index.now self.now day of_day.now }
         ensures { Contains self.now.segments g.now → result ≡ rate_of index.now self.now day g.now }
     {
-        if self.bears_unchanged(g, day) {
+        if of_day.settled {
+            rate_with(g, &of_day.index)
+        } else if self.bears_unchanged(g, day) {
             g.rate
         } else {
             self.rate_for(index, g, day)

@@ -11,9 +11,10 @@ mod plan;
 mod rate;
 mod segment;
 mod segments;
+mod settled;
 pub mod slot_laws;
 
-pub use book::RateBook;
+pub use book::{DayIndex, RateBook};
 pub use card_shared::IndexTable;
 pub use day::{DayPost, first_place, folded_at, is_folded};
 pub use plan::{plan_segment, segment_at};

@@ -75,7 +75,7 @@ pub fn bears_its_own(g: &RatedSegment, day: Day) -> bool
 }
 
 // The rate of a vintage, where the opening rates follow this index, if any.
-fn rate_with(g: &RatedSegment, index: &Option<Bp>) -> Bp
+pub fn rate_with(g: &RatedSegment, index: &Option<Bp>) -> Bp
     ensures { result ≡ rate_with index.now g.now }
 {
     match index {

@@ -9,7 +9,7 @@ pub returns : goal.returns
 returns c rows is its =
     let rates = c.args.self.now in
     let inside = c.self.inside in
-    let there = subst (λ (r : Rates). AreByNumber 2 r.segments) c.self.view_is c.self.invariant in
+    let there = subst (λ (r : Rates). AreByNumber 2 r.segments) c.self.view_is c.self.invariant.numbers in
     let caps = inside.caps.ok.0 in
     let no_cap = eqb-true (vec_len inside.caps) 0 (sym c.is_empty.ensures ∙ c.if-not-is_empty.false) in
     let lowers : rates.lowerings ≡ [] = ap (λ (r : Rates). r.lowerings) (sym c.self.view_is) ∙ nil_from_length inside.caps.items (omega (arith, caps, no_cap)) in

@@ -1,7 +1,7 @@
 use Rattle.std.proofs.Common.{◌≡◌, sym, ap, ◌∙◌, subst}
 use Rattle.std.specs.List.{Contains}
 use Rattle.card_rates.specs.RateBooks.{rate_of}
-use Rattle.card_rates.proofs.book.RateBook.rate_on.Goals as goal
+use Rattle.card_rates.proofs.book.RateBook.rate_by.Goals as goal
 
 pub returns-in-Some-clause-rate : goal.returns-in-Some-clause-rate
 returns-in-Some-clause-rate c g h e =
