@@ -9,14 +9,14 @@ use Rattle.card_events.specs.History.{CorrectedPost}
 use Rattle.card_events.specs.declared.post.Place.{Place}
 use Rattle.card_events.specs.declared.post.Post.{Post}
 use Rattle.card_model.specs.Allocation.{Paying, excess_rule, minimum_rule, paid_at, paid_on, part_of, parts, pay, place_rule, takes, untouched}
-use Rattle.card_model.specs.Books.{Account, Book, all_segments, newest_purchase, note_of, present_cycle, with_fee}
+use Rattle.card_model.specs.Books.{Account, Book, all_segments, newest_purchase, note_of, present_cycle}
 use Rattle.card_model.specs.Caps.{row_for}
 use Rattle.card_model.specs.Closing.{Posting, close, closing_interest, interest_note, post_interest, post_one, posted_for}
 use Rattle.card_model.specs.Cycles.{Cycle, IssuedRow, Seen, last_cycle, post_at, posts_on}
-use Rattle.card_model.specs.DueDates.{after_due_date, late_fee, on_due}
+use Rattle.card_model.specs.DueDates.{after_due_date, on_due}
 use Rattle.card_model.specs.Effects.{after_posts, credit_parts, disputed_cents, disputed_charge, disputed_segment, effect, holding, holdings, is_part_of, meant_for, moved_by, parts_entries, payment_at, payment_parts, put_back, returned, returned_fee, size}
 use Rattle.card_model.specs.Entries.{credit_balance, debit, entry_of, holds, is_kind, lowers, negated, raises, releases}
-use Rattle.card_model.specs.Fees.{fee_cents}
+use Rattle.card_model.specs.Fees.{fee_cents, late_fee, with_fee}
 use Rattle.card_model.specs.Folds.{book_after, day_after}
 use Rattle.card_model.specs.Payments.{minimum_left}
 use Rattle.card_model.specs.Segments.{SegmentTerms, id_of, is_plan, is_sort, last_that, segment_at}

@@ -16,14 +16,14 @@ use Rattle.card_events.specs.declared.post.Post.TheVariants as post
 use Rattle.card_fees.proofs.OneFee.{one-fee-each}
 use Rattle.card_model.proofs.Caps.{above-is}
 use Rattle.card_model.proofs.EntryFacts.{all-debit, all-holds, all-parts, all-releases}
-use Rattle.card_model.specs.Books.{Account, Book, account_of, all_segments, newest_purchase, note_of, penalty_fee, present_cycle, with_entries, with_fee}
-use Rattle.card_model.specs.Caps.{capped_by, charged_fee, issued_fee, row_for}
+use Rattle.card_model.specs.Books.{Account, Book, account_of, all_segments, newest_purchase, note_of, present_cycle, with_entries}
+use Rattle.card_model.specs.Caps.{capped_by, row_for}
 use Rattle.card_model.specs.Closing.{Posting, close, closed_cycle, closing_interest, post_interest, post_one, posted_for}
 use Rattle.card_model.specs.Cycles.{Cycle, IssuedRow, Seen, last_cycle, post_at, posts_on, seen_on}
-use Rattle.card_model.specs.DueDates.{after_due_date, late_fee, on_due}
+use Rattle.card_model.specs.DueDates.{after_due_date, on_due}
 use Rattle.card_model.specs.Effects.{after_posts, credit_parts, disputed_cents, disputed_charge, disputed_segment, effect, is_part_of, meant_for, moved_by, payment_at, payment_parts, put_back, returned, returned_fee, size}
 use Rattle.card_model.specs.Entries.{credit_balance, debit, is_kind, raises}
-use Rattle.card_model.specs.Fees.{fee_amount, fee_cents, fee_by, fee_for, fees_sum, is_charged_for, is_repeat, last_due, row_in_force, tier_amount}
+use Rattle.card_model.specs.Fees.{charged_fee, fee_amount, fee_by, fee_cents, fee_for, fees_sum, is_charged_for, is_repeat, issued_fee, last_due, late_fee, penalty_fee, row_in_force, tier_amount, with_fee}
 use Rattle.card_model.specs.Folds.{book, book_after, day_after}
 use Rattle.card_model.specs.Laws.{total}
 use Rattle.card_model.specs.Payments.{asked, has_due_payment, is_timely, met}

@@ -11,14 +11,14 @@ use Rattle.card_bounds.specs.Bounds.{AreBounded, BalancesBounded, moved, moves}
 use Rattle.card_events.specs.Civil.{day_of_month}
 use Rattle.card_events.specs.History.{CorrectedPost}
 use Rattle.card_events.specs.declared.post.Post.{Post}
-use Rattle.card_model.specs.Books.{Account, Book, present_cycle, with_fee}
+use Rattle.card_model.specs.Books.{Account, Book, present_cycle}
 use Rattle.card_model.specs.Caps.{capped_by, issued_interest, row_for}
 use Rattle.card_model.specs.Closing.{Posting, close, closing_interest, post_interest, post_one, posted_for, within_limit}
 use Rattle.card_model.specs.Cycles.{Cycle, IssuedRow, Seen, last_cycle, posts_on}
-use Rattle.card_model.specs.DueDates.{after_due_date, late_fee, on_due}
+use Rattle.card_model.specs.DueDates.{after_due_date, on_due}
 use Rattle.card_model.specs.Effects.{after_posts, credit_parts, disputed_cents, effect, is_part_of, meant_for, moved_by, parts_entries, payment_at, payment_parts, put_back, returned, returned_fee, size}
 use Rattle.card_model.specs.Entries.{at_least_zero, balance, credit_balance, debit, entry_of, holds, is_kind, lowers, negated, owing, raises, releases}
-use Rattle.card_model.specs.Fees.{fee_cents}
+use Rattle.card_model.specs.Fees.{fee_cents, late_fee, with_fee}
 use Rattle.card_model.specs.Folds.{book, book_after, day_after}
 use Rattle.card_model.specs.Segments.{SegmentTerms, newest}
 use Rattle.card_model.specs.declared.entry.Entry.{Entry}

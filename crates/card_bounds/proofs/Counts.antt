@@ -18,14 +18,14 @@ use Rattle.card_events.specs.declared.post.Post.TheVariants as post
 use Rattle.card_events.specs.declared.post.Terms.{Terms}
 use Rattle.card_model.proofs.EntryFacts.{all-debit, all-holds, all-parts, all-releases, balance-append, balance-debit}
 use Rattle.card_model.specs.Allocation.{Paying, excess_rule, minimum_rule, paid_at, part_of, parts, pay, place_rule, takes, untouched}
-use Rattle.card_model.specs.Books.{Account, Book, all_segments, newest_purchase, note_of, with_fee}
+use Rattle.card_model.specs.Books.{Account, Book, all_segments, newest_purchase, note_of}
 use Rattle.card_model.specs.Caps.{issued_interest}
 use Rattle.card_model.specs.Closing.{Posting, close, closing_interest, interest_note, post_interest, post_one, posted_for, within_limit}
 use Rattle.card_model.specs.Cycles.{Cycle, IssuedRow, Seen, last_cycle, post_at}
-use Rattle.card_model.specs.DueDates.{after_due_date, late_fee, on_due}
+use Rattle.card_model.specs.DueDates.{after_due_date, on_due}
 use Rattle.card_model.specs.Effects.{credit_parts, disputed_cents, disputed_charge, disputed_segment, effect, holding, holdings, is_part_of, meant_for, moved_by, parts_entries, payment_at, payment_parts, put_back, returned, returned_fee, size}
 use Rattle.card_model.specs.Entries.{at_least_zero, balance, credit_balance, debit, holds, is_kind, lowers, owing, raises, releases}
-use Rattle.card_model.specs.Fees.{fee_cents}
+use Rattle.card_model.specs.Fees.{fee_cents, late_fee, with_fee}
 use Rattle.card_model.specs.Interest.{accrual, deferred_interest, ends_today}
 use Rattle.card_model.specs.Payments.{minimum_left}
 use Rattle.card_model.specs.Segments.{SegmentTerms, is_sort, segment_at, segment_of, segments, sort_of_category, sort_of_plan}

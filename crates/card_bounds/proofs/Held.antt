@@ -8,13 +8,13 @@ use Rattle.std.proofs.lemmas.List.Elements.{All-nil, All-cons, All-head, All-tai
 use Rattle.std.specs.Prelude.{min}
 use Rattle.card_events.specs.History.{CorrectedPost}
 use Rattle.card_events.specs.declared.post.Post.{Post}
-use Rattle.card_model.specs.Books.{Account, Book, all_segments, newest_purchase, with_fee}
+use Rattle.card_model.specs.Books.{Account, Book, all_segments, newest_purchase}
 use Rattle.card_model.specs.Closing.{Posting, close, closing_interest, post_interest, post_one, posted_for}
 use Rattle.card_model.specs.Cycles.{Cycle, IssuedRow, Seen, post_at}
-use Rattle.card_model.specs.DueDates.{after_due_date, late_fee, on_due}
+use Rattle.card_model.specs.DueDates.{after_due_date, on_due}
 use Rattle.card_model.specs.Effects.{after_posts, charge_at, credit_parts, disputed_cents, disputed_charge, disputed_segment, effect, is_part_of, meant_for, parts_entries, payment_at, payment_parts, put_back, returned, returned_fee, size}
 use Rattle.card_model.specs.Entries.{at_least_zero, credit_balance, debit, entry_of, holds, is_kind, lowers, negated, raises, releases}
-use Rattle.card_model.specs.Fees.{fee_cents}
+use Rattle.card_model.specs.Fees.{fee_cents, late_fee, with_fee}
 use Rattle.card_model.specs.Rates.{own}
 use Rattle.card_model.specs.Segments.{SegmentTerms, newest, segment_at}
 use Rattle.card_model.specs.declared.entry.Entry.{Entry}

@@ -24,14 +24,14 @@ use Rattle.card_model.proofs.Sound.{payment-good}
 use Rattle.card_model.proofs.WholeParts.{paid_at-ascends}
 use Rattle.card_model.specs.Accepted.{HasFewCents, HasFewFees}
 use Rattle.card_model.specs.Allocation.{Ascends, Paying, excess_rule, minimum_rule, part_of, parts, pay, takes, untouched}
-use Rattle.card_model.specs.Books.{Account, Book, account_of, all_segments, present_cycle, with_fee}
+use Rattle.card_model.specs.Books.{Account, Book, account_of, all_segments, present_cycle}
 use Rattle.card_model.specs.Caps.{row_for}
 use Rattle.card_model.specs.Closing.{Posting, close, closing_interest, post_interest, post_one, posted_for}
 use Rattle.card_model.specs.Cycles.{Cycle, IssuedRow, Seen, last_cycle, post_at, posts_on, seen_on}
-use Rattle.card_model.specs.DueDates.{after_due_date, late_fee, on_due}
+use Rattle.card_model.specs.DueDates.{after_due_date, on_due}
 use Rattle.card_model.specs.Effects.{after_posts, credit_parts, disputed_cents, disputed_charge, disputed_segment, effect, holdings, is_part_of, meant_for, moved_by, parts_entries, payment_at, payment_parts, put_back, returned, returned_fee, size}
 use Rattle.card_model.specs.Entries.{credit_balance, debit, is_kind}
-use Rattle.card_model.specs.Fees.{fee_cents}
+use Rattle.card_model.specs.Fees.{fee_cents, late_fee, with_fee}
 use Rattle.card_model.specs.Folds.{book_after, day_after}
 use Rattle.card_model.specs.Payments.{is_credit, minimum_left}
 use Rattle.card_model.specs.Segments.{SegmentTerms, newest, segment_at}

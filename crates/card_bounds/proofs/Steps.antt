@@ -10,13 +10,12 @@ use Rattle.card_bounds.specs.Bounds.{moved}
 use Rattle.card_events.specs.History.{CorrectedPost}
 use Rattle.card_events.specs.SharedRows.{FeeRow}
 use Rattle.card_events.specs.declared.post.Post.{Post}
-use Rattle.card_model.specs.Books.{Account, Book, all_segments, penalty_fee, present_cycle, with_fee}
-use Rattle.card_model.specs.Caps.{capped_by, charged_fee, issued_fee}
+use Rattle.card_model.specs.Books.{Account, Book, all_segments, present_cycle}
+use Rattle.card_model.specs.Caps.{capped_by}
 use Rattle.card_model.specs.Cycles.{Cycle, IssuedRow, Seen, post_at}
-use Rattle.card_model.specs.DueDates.{late_fee}
 use Rattle.card_model.specs.Effects.{charge_at, corrected_cents, credit_parts, disputed_cents, disputed_charge, disputed_segment, effect, is_charge, is_held_by, is_part_of, meant_for, moved_by, payment_at, payment_parts, returned, returned_fee}
 use Rattle.card_model.specs.Entries.{at_least_zero, credit_balance, debit, owing, sum_of}
-use Rattle.card_model.specs.Fees.{fee_cents, fee_by, fee_for, is_repeat, later_row, row_in_force, tier_amount}
+use Rattle.card_model.specs.Fees.{charged_fee, fee_by, fee_cents, fee_for, is_repeat, issued_fee, late_fee, later_row, penalty_fee, row_in_force, tier_amount, with_fee}
 use Rattle.card_model.specs.Machine.{step}
 use Rattle.card_model.specs.Payments.{met}
 use Rattle.card_model.specs.Segments.{newest}

@@ -11,9 +11,10 @@ use Rattle.card_events.specs.declared.kept.Kept.{Kept}
 use Rattle.card_model.specs.Books.{Account, Book}
 use Rattle.card_model.specs.Closing.{Posting, close, closing_interest, post_interest, post_one, posted_for}
 use Rattle.card_model.specs.Cycles.{Cycle, IssuedRow, Seen, last_cycle, posts_on}
-use Rattle.card_model.specs.DueDates.{after_due_date, late_fee, on_due}
+use Rattle.card_model.specs.DueDates.{after_due_date, on_due}
 use Rattle.card_model.specs.Effects.{after_posts, effect}
 use Rattle.card_model.specs.Entries.{credit_balance, debit, posted}
+use Rattle.card_model.specs.Fees.{late_fee}
 use Rattle.card_model.specs.Folds.{day_after}
 use Rattle.card_model.specs.Segments.{SegmentTerms}
 use Rattle.card_model.specs.declared.entry.Entry.{Entry}

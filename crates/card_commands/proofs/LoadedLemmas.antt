@@ -1,22 +1,15 @@
 -- What a command comes to from the ledger that the kept rows gave.
 use Rattle.std.proofs.Common.{◌≡◌, ℕ, Bool, true, false, ◌⊎◌, inl, inr, List, [], refl, ◌∙◌, subst, Option, None, Some}
 use Rattle.std.proofs.KnownBytes.{Appends-nil}
-use Rattle.std.specs.Option.{option_map}
-use Rattle.card_account.specs.Accounts.{issued_statement, restated_statement}
-use Rattle.card_daily.specs.declared.track.Statement.{Statement}
 use Rattle.card_words.specs.Demonstrations.{Demonstration}
 use Rattle.card_demo.specs.Summary.{demo_text}
-use Rattle.card_desk.specs.Views.{issued, listed, restated, seen, stated}
-use Rattle.card_http.specs.Told.{entries_told, repaid, repayment_told, statement_told, text_of_statement, told}
+use Rattle.card_http.specs.Told.{repaid, told}
 use Rattle.card_desk.specs.declared.view.Ask.TheVariants as ask
 use Rattle.card_ports.specs.Rows.{KeepsRows}
-use Rattle.card_model.specs.Machine.{State, lists_of}
-use Rattle.card_model.specs.Refusals.{Lists}
-use Rattle.card_model.specs.Work.{present_in}
+use Rattle.card_model.specs.Machine.{State}
 use Rattle.card_ports.specs.Counts.{Rose}
-use Rattle.card_text.specs.Repayment.{repayment_text}
 use Rattle.card_commands.specs.Input.{Cut, lines, records}
-use Rattle.card_commands.specs.Outside.{Outside, Outcome, Runs, TriedAll, TriedFront, Tries, HasCause, Unfailed, Loads, Views, Ends, sides_of, lists_issued, lists_repaid, lists_restated, lists_text, entries_text, issued_text, repaid_text, restated_text, work_text}
+use Rattle.card_commands.specs.Outside.{Outside, Outcome, Runs, TriedAll, TriedFront, Tries, HasCause, Unfailed, Loads, Views, Ends, sides_of}
 use Rattle.card_commands.specs.Views.{GaveLedger, GaveNone, Loaded, NotLoaded, SidesFailed, Tells, Told, Viewed}
 use Rattle.card_ports.specs.Written.{SinkSide}
 use Rattle.card_commands.specs.Written.{KeeperSide, Sides}
@@ -229,91 +222,28 @@ viewed_loads old new text e same keeps (inl none) = ((same, keeps), inl ((same, 
 viewed_loads old new text e same keeps (inr some) = ((same, keeps), inr some)
 
 pub work_outcome : {I K : Type 0} (old new : Outside I K) (e : Ended) → new.input ≡ old.input → new.source_faults ≡ old.source_faults → Viewed (sides_of old) (sides_of new) (λ s. told s ask.Work) e → Outcome old new (Some command.Work) e
-unfolding Ends seen told work_text
-work_outcome old new e same count viewed = record { ends = viewed_loads old new work_text e same viewed.rows viewed.ends; cause = viewed_cause old new _ e count viewed }
-
--- the same text
-viewed_same : (old new : Sides) (f g : State → Option (List ℕ)) (e : Ended) → ((s : State) → f s ≡ g s) → Viewed old new f e → Viewed old new g e
-viewed_same old new f g e same viewed = record { ends = by viewed.ends; rows = viewed.rows; cause = viewed.cause }
-  where
-    by : NotLoaded old new e ⊎ Loaded old.keeper.rows (λ s. Tells old.sink.taken new.sink.taken e (f s)) → NotLoaded old new e ⊎ Loaded old.keeper.rows (λ s. Tells old.sink.taken new.sink.taken e (g s))
-    by (inl none) = inl none
-    by (inr some) = inr (record { ledger = some.ledger; loaded = some.loaded; ran = subst (Tells old.sink.taken new.sink.taken e) (same some.ledger) some.ran })
-
--- the text of an account's entries
-lists_told : (s : State) (lists : Option Lists) → entries_told (listed s lists) ≡ lists_text s lists
-lists_told s None = refl
-lists_told s (Some lists) = refl
-
-entries_same : (name : List ℕ) (s : State) → told s (ask.Entries name) ≡ entries_text name s
-unfolding seen told entries_text
-entries_same name s = lists_told s (lists_of name s.accounts)
+unfolding Ends
+work_outcome old new e same count viewed = record { ends = viewed_loads old new (λ s. told s ask.Work) e same viewed.rows viewed.ends; cause = viewed_cause old new (λ s. told s ask.Work) e count viewed }
 
 pub export_outcome : {I K : Type 0} (old new : Outside I K) (name : List ℕ) (e : Ended) → new.input ≡ old.input → new.source_faults ≡ old.source_faults
     → Viewed (sides_of old) (sides_of new) (λ s. told s (ask.Entries name)) e → Outcome old new (Some (command.Export name)) e
 unfolding Ends
-export_outcome old new name e same count by =
-    let viewed = viewed_same (sides_of old) (sides_of new) (λ s. told s (ask.Entries name)) (entries_text name) e (entries_same name) by in
-    record { ends = viewed_loads old new (entries_text name) e same viewed.rows viewed.ends; cause = viewed_cause old new (entries_text name) e count viewed }
+export_outcome old new name e same count viewed = record { ends = viewed_loads old new (λ s. told s (ask.Entries name)) e same viewed.rows viewed.ends; cause = viewed_cause old new (λ s. told s (ask.Entries name)) e count viewed }
 
--- the text of a statement
-stated_told : (name : List ℕ) (o : Option Statement) → statement_told name (stated o) ≡ option_map (text_of_statement name) o
-stated_told name None = refl
-stated_told name (Some s) = refl
-
-issued_told : (name : List ℕ) (cycle : ℕ) (lists : Option Lists) → statement_told name (issued cycle lists) ≡ lists_issued name cycle lists
-issued_told name cycle None = refl
-issued_told name cycle (Some lists) = stated_told name (issued_statement cycle lists.issued)
-
-statement_is : (name : List ℕ) (cycle : ℕ) (s : State) → told s (ask.Issued name cycle) ≡ issued_text name cycle s
-unfolding seen told issued_text
-statement_is name cycle s = issued_told name cycle (lists_of name s.accounts)
-
-restated_told : (name : List ℕ) (cycle : ℕ) (s : State) (lists : Option Lists) → statement_told name (restated s cycle lists) ≡ lists_restated name cycle s lists
-restated_told name cycle s None = refl
-restated_told name cycle s (Some lists) = stated_told name (restated_statement (present_in s lists) cycle)
-
-restate_is : (name : List ℕ) (cycle : ℕ) (s : State) → told s (ask.Restated name cycle) ≡ restated_text name cycle s
-unfolding seen told restated_text
-restate_is name cycle s = restated_told name cycle s (lists_of name s.accounts)
-
--- so the commands come to what their lines say
 pub statement_outcome : {I K : Type 0} (old new : Outside I K) (name : List ℕ) (cycle : ℕ) (e : Ended) → new.input ≡ old.input → new.source_faults ≡ old.source_faults
     → Viewed (sides_of old) (sides_of new) (λ s. told s (ask.Issued name cycle)) e → Outcome old new (Some (command.Statement name cycle)) e
 unfolding Ends
-statement_outcome old new name cycle e same count by =
-    let text = issued_text name cycle in
-    let viewed = viewed_same (sides_of old) (sides_of new) (λ s. told s (ask.Issued name cycle)) text e (statement_is name cycle) by in
-    record { ends = viewed_loads old new text e same viewed.rows viewed.ends; cause = viewed_cause old new text e count viewed }
+statement_outcome old new name cycle e same count viewed = record { ends = viewed_loads old new (λ s. told s (ask.Issued name cycle)) e same viewed.rows viewed.ends; cause = viewed_cause old new (λ s. told s (ask.Issued name cycle)) e count viewed }
 
 pub restate_outcome : {I K : Type 0} (old new : Outside I K) (name : List ℕ) (cycle : ℕ) (e : Ended) → new.input ≡ old.input → new.source_faults ≡ old.source_faults
     → Viewed (sides_of old) (sides_of new) (λ s. told s (ask.Restated name cycle)) e → Outcome old new (Some (command.Restate name cycle)) e
 unfolding Ends
-restate_outcome old new name cycle e same count by =
-    let text = restated_text name cycle in
-    let viewed = viewed_same (sides_of old) (sides_of new) (λ s. told s (ask.Restated name cycle)) text e (restate_is name cycle) by in
-    record { ends = viewed_loads old new text e same viewed.rows viewed.ends; cause = viewed_cause old new text e count viewed }
-
--- what the balances of a statement come to
-stated_repaid : (o : Option Statement) → repayment_told (stated o) ≡ option_map (λ s. repayment_text s.sheet) o
-stated_repaid None = refl
-stated_repaid (Some s) = refl
-
-issued_repaid : (cycle : ℕ) (lists : Option Lists) → repayment_told (issued cycle lists) ≡ lists_repaid cycle lists
-issued_repaid cycle None = refl
-issued_repaid cycle (Some lists) = stated_repaid (issued_statement cycle lists.issued)
-
-repaid_is : (name : List ℕ) (cycle : ℕ) (s : State) → repaid s (ask.Issued name cycle) ≡ repaid_text name cycle s
-unfolding seen repaid repaid_text
-repaid_is name cycle s = issued_repaid cycle (lists_of name s.accounts)
+restate_outcome old new name cycle e same count viewed = record { ends = viewed_loads old new (λ s. told s (ask.Restated name cycle)) e same viewed.rows viewed.ends; cause = viewed_cause old new (λ s. told s (ask.Restated name cycle)) e count viewed }
 
 pub repay_outcome : {I K : Type 0} (old new : Outside I K) (name : List ℕ) (cycle : ℕ) (e : Ended) → new.input ≡ old.input → new.source_faults ≡ old.source_faults
     → Viewed (sides_of old) (sides_of new) (λ s. repaid s (ask.Issued name cycle)) e → Outcome old new (Some (command.Repay name cycle)) e
 unfolding Ends
-repay_outcome old new name cycle e same count by =
-    let text = repaid_text name cycle in
-    let viewed = viewed_same (sides_of old) (sides_of new) (λ s. repaid s (ask.Issued name cycle)) text e (repaid_is name cycle) by in
-    record { ends = viewed_loads old new text e same viewed.rows viewed.ends; cause = viewed_cause old new text e count viewed }
+repay_outcome old new name cycle e same count viewed = record { ends = viewed_loads old new (λ s. repaid s (ask.Issued name cycle)) e same viewed.rows viewed.ends; cause = viewed_cause old new (λ s. repaid s (ask.Issued name cycle)) e count viewed }
 
 -- ---- the text of a demonstration
 

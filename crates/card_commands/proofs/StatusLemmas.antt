@@ -1,9 +1,12 @@
 -- The statuses of each command.
 use Rattle.std.proofs.Common.{ℕ, inl, inr, List, [], ◌∷◌, refl, Option, None, Some}
+use Rattle.card_desk.specs.Views.{seen}
+use Rattle.card_desk.specs.declared.view.Ask.TheVariants as ask
+use Rattle.card_http.specs.Told.{repaid, told}
 use Rattle.card_model.specs.Machine.{State}
 use Rattle.card_commands.specs.Statuses.{status_of, statuses_of, account_statuses, run_statuses, IsOneOf}
 use Rattle.card_commands.specs.Input.{Cut, lines, records}
-use Rattle.card_commands.specs.Outside.{Outside, Runs, Tries, NoCommand, Loads, Ends, sides_of, entries_text, issued_text, repaid_text, restated_text, work_text}
+use Rattle.card_commands.specs.Outside.{Outside, Runs, Tries, NoCommand, Loads, Ends, sides_of}
 use Rattle.card_commands.specs.Views.{NotLoaded, Tells}
 use Rattle.card_commands.specs.Written.{Sides}
 use Rattle.card_words.specs.declared.command.Command.{Command}
@@ -97,8 +100,8 @@ tells_status old new ended.Door text told = absurd told
 tells_status old new ended.Damaged text told = absurd told
 tells_status old new ended.Endless text told = absurd told
 
-work_status : {I K : Type 0} (old new : Outside I K) (e : Ended) → Loads old new (λ s f. Tells old.taken new.taken f (work_text s)) e → IsOneOf (status_of e) (statuses_of (Some command.Work))
-unfolding work_text
+work_status : {I K : Type 0} (old new : Outside I K) (e : Ended) → Loads old new (λ s f. Tells old.taken new.taken f (told s ask.Work)) e → IsOneOf (status_of e) (statuses_of (Some command.Work))
+unfolding seen told
 work_status old new e (inl none) = among_view (status_of e) (not_loaded_status (sides_of old) (sides_of new) e none.1)
 work_status old new e (inr run) = tells_status old.taken new.taken e _ run.ran
 
@@ -144,11 +147,11 @@ unfolding Ends
 ends_status old new None e ends = no_command_status old new e ends.2
 ends_status old new (Some command.Apply) e ends = loads_status old new lines e ends
 ends_status old new (Some command.Import) e ends = loads_status old new records e ends
-ends_status old new (Some (command.Export name)) e ends = account_view_status old new (entries_text name) e ends.1
+ends_status old new (Some (command.Export name)) e ends = account_view_status old new (λ s. told s (ask.Entries name)) e ends.1
 ends_status old new (Some command.Work) e ends = work_status old new e ends.1
-ends_status old new (Some (command.Statement name cycle)) e ends = account_view_status old new (issued_text name cycle) e ends.1
-ends_status old new (Some (command.Restate name cycle)) e ends = account_view_status old new (restated_text name cycle) e ends.1
-ends_status old new (Some (command.Repay name cycle)) e ends = account_view_status old new (repaid_text name cycle) e ends.1
+ends_status old new (Some (command.Statement name cycle)) e ends = account_view_status old new (λ s. told s (ask.Issued name cycle)) e ends.1
+ends_status old new (Some (command.Restate name cycle)) e ends = account_view_status old new (λ s. told s (ask.Restated name cycle)) e ends.1
+ends_status old new (Some (command.Repay name cycle)) e ends = account_view_status old new (λ s. repaid s (ask.Issued name cycle)) e ends.1
 ends_status old new (Some (command.Demo d)) e ends = demo_status old.taken new.taken e _ ends.2
 ends_status old new (Some (command.Serve port count)) e ends = among_server port count (status_of e) (not_loaded_status (sides_of old) (sides_of new) e ends.1)
 ends_status old new (Some (command.Trial from to)) e ends = trial_status old new from to e ends

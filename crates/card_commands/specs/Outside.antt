@@ -1,19 +1,11 @@
 -- What a call finds outside and leaves there, and what the one has to do with the other.
 use Rattle.std.specs.Prelude.{◌≡◌, ◌⊎◌, ℕ, ◌-◌, Bool, true, false, List, ◌++◌, length, take, Option, Some, None, ⊤}
 use Rattle.std.specs.Io.KnownBytes.{Appends, Consumes, IsAtEnd}
-use Rattle.std.specs.Option.{option_map}
-use Rattle.card_account.specs.Accounts.{issued_statement, restated_statement}
 use Rattle.card_demo.specs.Summary.{demo_text}
-use Rattle.card_model.specs.Refusals.{Lists, book_today}
-use Rattle.card_model.specs.Work.{present_in, work}
-use Rattle.card_rates.specs.Segments.{account_segments}
-use Rattle.card_text.specs.Export.{export_text}
-use Rattle.card_text.specs.Repayment.{repayment_text}
-use Rattle.card_text.specs.Tasks.{tasks_text}
 use Rattle.card_trial.specs.Trial.{trial_text}
 use Rattle.card_ports.specs.Rows.{AddsRows, KeepsRows}
 use Rattle.card_ports.specs.declared.row.Row.{Row}
-use Rattle.card_model.specs.Machine.{State, lists_of}
+use Rattle.card_model.specs.Machine.{State}
 use Rattle.card_ports.specs.Counts.{Rose}
 use Rattle.card_commands.specs.Input.{Cut, lines, records, all_items}
 use Rattle.card_commands.specs.Run.{after, text_of, rows_kept, any_refused}
@@ -21,7 +13,8 @@ use Rattle.card_commands.specs.Said.{TookLine}
 use Rattle.card_words.specs.Usage.{usage_line}
 use Rattle.card_commands.specs.Views.{Loaded, NotLoaded, Tells}
 use Rattle.card_ports.specs.Written.{TookFront}
-use Rattle.card_http.specs.Told.{text_of_statement}
+use Rattle.card_desk.specs.declared.view.Ask.TheVariants as ask
+use Rattle.card_http.specs.Told.{repaid, told}
 use Rattle.card_commands.specs.Written.{Sides, TookBetween, SameCounts}
 use Rattle.card_words.specs.declared.command.Command.{Command}
 use Rattle.card_words.specs.declared.command.Command.TheVariants as command
@@ -63,46 +56,6 @@ AreFirst items all = (others : List Item) × (all ≡ items ++ others)
 
 abbrev pub but_last : List Item → List Item
 but_last items = take (length items - 1) items
-
--- the entries of an account that has these lists, by its book of today, as CSV
-abbrev pub lists_text : State → Option Lists → Option (List ℕ)
-lists_text s None = None
-lists_text s (Some lists) = Some (export_text (book_today (present_in s lists)).entries (account_segments (present_in s lists).shared.holidays lists.posts))
-
--- the same of the account with this name
-unfoldable pub entries_text : List ℕ → State → Option (List ℕ)
-entries_text name s = lists_text s (lists_of name s.accounts)
-
--- the statement of a cycle of an account that has these lists, as it was issued
-abbrev pub lists_issued : List ℕ → ℕ → Option Lists → Option (List ℕ)
-lists_issued name cycle None = None
-lists_issued name cycle (Some lists) = option_map (text_of_statement name) (issued_statement cycle lists.issued)
-
--- the same of the account with this name
-unfoldable pub issued_text : List ℕ → ℕ → State → Option (List ℕ)
-issued_text name cycle s = lists_issued name cycle (lists_of name s.accounts)
-
--- the statement of a cycle of an account that has these lists, as the book of today has it
-abbrev pub lists_restated : List ℕ → ℕ → State → Option Lists → Option (List ℕ)
-lists_restated name cycle s None = None
-lists_restated name cycle s (Some lists) = option_map (text_of_statement name) (restated_statement (present_in s lists) cycle)
-
--- the same of the account with this name
-unfoldable pub restated_text : List ℕ → ℕ → State → Option (List ℕ)
-restated_text name cycle s = lists_restated name cycle s (lists_of name s.accounts)
-
--- what the balances of the issued statement of a cycle come to where they are repaid, of an account that has these lists
-abbrev pub lists_repaid : ℕ → Option Lists → Option (List ℕ)
-lists_repaid cycle None = None
-lists_repaid cycle (Some lists) = option_map (λ s. repayment_text s.sheet) (issued_statement cycle lists.issued)
-
--- the same of the account with this name
-unfoldable pub repaid_text : List ℕ → ℕ → State → Option (List ℕ)
-repaid_text name cycle s = lists_repaid cycle (lists_of name s.accounts)
-
--- the text of the open tasks of all accounts
-unfoldable pub work_text : State → Option (List ℕ)
-work_text s = Some (tasks_text (work s))
 
 module _ {I K : Type 0} (old new : Outside I K) where
   -- the replies to these items were written, and their rows kept
@@ -193,11 +146,11 @@ module _ {I K : Type 0} (old new : Outside I K) where
   Ends None e = (new.keeper ≡ old.keeper) × Untouched × NoCommand e
   Ends (Some command.Apply) e = Loads (Runs lines) e
   Ends (Some command.Import) e = Loads (Runs records) e
-  Ends (Some (command.Export name)) e = Views (entries_text name) e
-  Ends (Some command.Work) e = Views work_text e
-  Ends (Some (command.Statement name cycle)) e = Views (issued_text name cycle) e
-  Ends (Some (command.Restate name cycle)) e = Views (restated_text name cycle) e
-  Ends (Some (command.Repay name cycle)) e = Views (repaid_text name cycle) e
+  Ends (Some (command.Export name)) e = Views (λ s. told s (ask.Entries name)) e
+  Ends (Some command.Work) e = Views (λ s. told s ask.Work) e
+  Ends (Some (command.Statement name cycle)) e = Views (λ s. told s (ask.Issued name cycle)) e
+  Ends (Some (command.Restate name cycle)) e = Views (λ s. told s (ask.Restated name cycle)) e
+  Ends (Some (command.Repay name cycle)) e = Views (λ s. repaid s (ask.Issued name cycle)) e
   Ends (Some (command.Demo d)) e = (new.keeper ≡ old.keeper) × Untouched × Tells old.taken new.taken e (Some (demo_text d.start d.accounts d.cycles))
   Ends (Some (command.Serve port count)) e = Untouched × NotLoaded (sides_of old) (sides_of new) e
   Ends (Some (command.Trial from to)) e = Loads (Tries from to) e

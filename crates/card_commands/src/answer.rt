@@ -9,6 +9,7 @@ ghost use Rattle.card_ports.specs.Rows.{AddsRows, KeepsRows};
 ghost use Rattle.card_model.specs.Machine.{State};
 ghost use Rattle.card_commands.specs.Answers.{answer_text, is_refused, item_rows, next, reply_in};
 ghost use Rattle.card_commands.specs.Answers as spec;
+ghost use Rattle.card_demo.specs.Progress.{is_refusal};
 ghost use Rattle.card_text.specs.Items.{IsDatedItem};
 
 use card_desk::{Desk, Fault, View, uncounted};
@@ -108,7 +109,7 @@ fn is_no_account(view: &View) -> bool
 }
 
 fn is_refusal(reply: &Reply) -> bool
-    ensures { result ≡ spec.is_refusal reply.now }
+    ensures { result ≡ is_refusal reply.now }
 {
     matches!(reply, Reply::Refused(_))
 }

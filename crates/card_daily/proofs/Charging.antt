@@ -14,13 +14,13 @@ use Rattle.card_fees.specs.DueLaws.{issued_fees}
 use Rattle.card_events.specs.History.{anchor_of}
 use Rattle.card_events.specs.SharedRows.{FeeRow}
 use Rattle.card_model.proofs.Calendar.{cycles_are_of_the_calendar}
-use Rattle.card_model.specs.Books.{Book, penalty_fee, present_cycle}
+use Rattle.card_model.specs.Books.{Book, present_cycle}
 use Rattle.card_model.specs.CycleDays.{HasItsDays}
-use Rattle.card_model.specs.Caps.{charged_by, fees_for, capped_by, charged_fee, fee_above, issued_fee, row_for}
+use Rattle.card_model.specs.Caps.{capped_by, row_for}
 use Rattle.card_model.specs.Cycles.{Cycle, IssuedRow, Seen}
 use Rattle.card_model.specs.Effects.{returned_fee}
 use Rattle.card_model.specs.Entries.{at_least_zero}
-use Rattle.card_model.specs.Fees.{fee_by, row_in_force, fee_cents, fee_for, last_due}
+use Rattle.card_model.specs.Fees.{charged_by, charged_fee, fee_above, fee_by, fee_cents, fee_for, fees_for, issued_fee, last_due, penalty_fee, row_in_force}
 use Rattle.card_model.specs.Folds.{cycle_at}
 use Rattle.card_model.specs.Limits.{balance_limit}
 use Rattle.card_model.specs.Payments.{asked}

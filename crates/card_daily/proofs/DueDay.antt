@@ -13,13 +13,13 @@ use Rattle.card_events.specs.History.{anchor_of}
 use Rattle.card_closing.specs.BookRows.{brought, rows_of}
 use Rattle.card_closing.specs.Growth.{with_repaid}
 use Rattle.card_model.proofs.EntryFacts.{all-debit}
-use Rattle.card_model.specs.Books.{Account, Book, newest_purchase, present_cycle, with_fee, with_penalties}
-use Rattle.card_model.specs.Caps.{capped_by, charged_fee, fee_above, issued_fee}
+use Rattle.card_model.specs.Books.{Account, Book, newest_purchase, present_cycle, with_penalties}
+use Rattle.card_model.specs.Caps.{capped_by}
 use Rattle.card_model.specs.Cycles.{Cycle, IssuedRow, Seen, last_cycle}
-use Rattle.card_model.specs.DueDates.{after_due_date, cured_by, late_fee, on_due}
+use Rattle.card_model.specs.DueDates.{after_due_date, cured_by, on_due}
 use Rattle.card_model.specs.Effects.{after_posts}
 use Rattle.card_model.specs.Entries.{AreBalances, at_least_zero, credit_balance, debit}
-use Rattle.card_model.specs.Fees.{fee_cents, fee_for}
+use Rattle.card_model.specs.Fees.{charged_fee, fee_above, fee_cents, fee_for, issued_fee, late_fee, with_fee}
 use Rattle.card_model.specs.Payments.{is_returned, met}
 use Rattle.card_model.specs.Segments.{SegmentTerms}
 use Rattle.card_model.specs.declared.entry.EntryKind.TheVariants as kind

@@ -11,7 +11,7 @@ use Rattle.card_events.specs.SharedRows.{FeeRow}
 use Rattle.card_fees.proofs.Days.{closing-from, due-later}
 use Rattle.card_model.specs.Caps.{row_for}
 use Rattle.card_model.specs.Cycles.{Cycle}
-use Rattle.card_model.specs.DueDates.{late_fee}
+use Rattle.card_model.specs.Fees.{late_fee}
 use Rattle.card_model.specs.Payments.{due_cycle_of}
 use Rattle.card_model.specs.declared.fee.Fee.{Fee}
 use Rattle.card_daily.proofs.Lasts.{IsLast}

@@ -19,11 +19,11 @@ use Rattle.card_closing.proofs.Growing.{rows_grow}
 use Rattle.card_closing.specs.Growth.{IsOfNoCredit, or_post, with_repaid}
 use Rattle.card_closing.specs.Rows.{Rows, without_post}
 use Rattle.card_model.proofs.EntryFacts.{all-debit}
-use Rattle.card_model.specs.Books.{Account, Book, all_segments, newest_purchase, note_of, with_fee}
+use Rattle.card_model.specs.Books.{Account, Book, all_segments, newest_purchase, note_of}
 use Rattle.card_model.specs.Cycles.{IssuedRow, Seen}
 use Rattle.card_model.specs.Effects.{effect, is_part_of, meant_for, parts_entries, payment_at, put_back, returned, returned_fee, size}
 use Rattle.card_model.specs.Entries.{credit_balance, debit}
-use Rattle.card_model.specs.Fees.{fee_cents}
+use Rattle.card_model.specs.Fees.{fee_cents, with_fee}
 use Rattle.card_model.specs.Interest.{repays}
 use Rattle.card_model.specs.Limits.{balance_limit}
 use Rattle.card_model.specs.Payments.{returns}

@@ -1,8 +1,8 @@
 -- What a due date brings on the day after it (12 CFR 1026.52(b)(1)(ii), .55(b)(4)(ii)).
 use Rattle.std.specs.Prelude.{ℕ, ◌+◌, ◌-◌, ◌==◌, if◌then◌else◌, [], Option, Some, None}
-use Rattle.card_model.specs.Books.{Book, with_fee}
+use Rattle.card_model.specs.Books.{Book}
 use Rattle.card_model.specs.Cycles.{Cycle, IssuedRow, Seen, last_cycle}
-use Rattle.card_model.specs.DueDates.{late_fee}
+use Rattle.card_model.specs.Fees.{late_fee, with_fee}
 use Rattle.card_model.specs.declared.fee.Fee.{Fee}
 use Rattle.card_daily.specs.Given.{Given, account_in, opened_in, row_in, seen_in}
 use Rattle.card_daily.specs.Stands.{HaveAccrued, StandFor, before, rows_amid}

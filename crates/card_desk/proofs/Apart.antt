@@ -13,9 +13,9 @@ use Rattle.card_ports.specs.declared.row.Row.{Row}
 use Rattle.card_model.specs.Isolated.{Own, own_of}
 use Rattle.card_model.specs.Machine.{Accepts, NamedAccount, Outcome, Refuses, Repeats, State, accounts_after, has_accounts, lists_of, outcome_in, reply_to, shared_reason, step, with_lists, with_shared}
 use Rattle.card_model.specs.Refusals.{Lists, book_today}
+use Rattle.card_model.specs.Work.{present_in}
 use Rattle.card_desk.specs.Applied.{Steps}
 use Rattle.card_desk.specs.Apart.{IsApart, LooksAlike, RequestsStandApart, lists_after}
-use Rattle.card_desk.specs.Desks.{now_of}
 use Rattle.card_desk.specs.Views.{issued, restated, seen, shown}
 
 names-equal : (a b : List ℕ) → bytes_eq a b ≡ true → a ≡ b
@@ -104,7 +104,7 @@ restated-same s t cycle None e f = refl
 restated-same s t cycle (Some l) e f = rw (e, f) refl
 
 cycles-same : (s t : State) (o : Option Lists) → s.today ≡ t.today → s.shared ≡ t.shared
-    → option_map (λ (l : Lists). (book_today (now_of s l)).cycles) o ≡ option_map (λ (l : Lists). (book_today (now_of t l)).cycles) o
+    → option_map (λ (l : Lists). (book_today (present_in s l)).cycles) o ≡ option_map (λ (l : Lists). (book_today (present_in t l)).cycles) o
 cycles-same s t None e f = refl
 cycles-same s t (Some l) e f = rw (e, f) refl
 
@@ -115,7 +115,7 @@ looks-alike name s t e =
     let rows : s.shared ≡ t.shared = ap (λ (o : Own). o.shared) e in
     let lists : lists_of name s.accounts ≡ lists_of name t.accounts = ap (λ (o : Own). o.lists) e in
     record {
-      cycles = cycles-same s t (lists_of name s.accounts) today rows ∙ ap (option_map (λ (l : Lists). (book_today (now_of t l)).cycles)) lists;
+      cycles = cycles-same s t (lists_of name s.accounts) today rows ∙ ap (option_map (λ (l : Lists). (book_today (present_in t l)).cycles)) lists;
       shown = shown-same s t (lists_of name s.accounts) today rows ∙ ap (shown t) lists;
       issued = λ cycle. ap (issued cycle) lists;
       restated = λ cycle. restated-same s t cycle (lists_of name s.accounts) today rows ∙ ap (restated t cycle) lists;

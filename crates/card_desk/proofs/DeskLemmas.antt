@@ -6,6 +6,7 @@ use Rattle.card_events.specs.declared.request.Shared.{Shared}
 use Rattle.card_desk.specs.IndexPlaces.{place_of}
 use Rattle.card_model.specs.Machine.{State, NamedAccount, lists_of, with_lists, at_key, outcome_in}
 use Rattle.card_model.specs.Refusals.{Lists}
+use Rattle.card_model.specs.Work.{present_in}
 use Rattle.card_desk.specs.Kept.{accepted_count, posts_in}
 use Rattle.card_desk.specs.Places.{place_from, IsIndex, IsPlace}
 use Rattle.card_account.specs.Verdicts.{verdict_of}
@@ -13,7 +14,7 @@ use Rattle.card_account.specs.declared.verdict.Verdict.{Verdict}
 use Rattle.card_desk.proofs.CountLemmas.{sum_pushed, sum_set}
 use Rattle.card_desk.proofs.OutcomeLemmas.{known_outcome}
 use Rattle.card_account.specs.Accounts.{OpenAccount}
-use Rattle.card_desk.specs.Desks.{OpenDesk, named_all, now_of}
+use Rattle.card_desk.specs.Desks.{OpenDesk, named_all}
 use Rattle.std.proofs.lemmas.List.{get_or-map, length-map}
 use Rattle.card_desk.proofs.PlaceLemmas.{is_place, no_place}
 
@@ -71,8 +72,8 @@ pub there_at : (xs : List OpenAccount) (name : List ℕ) (i : ℕ) (a : OpenAcco
 there_at xs name i a place is = ap (λ (x : NamedAccount). Some x.lists) (read_at xs (named_all xs) i a a.named is refl place.bound) ∙ sym (place.there a.named)
 
 pub outcome_at : (s : State) (name key : List ℕ) (p : Post) (i : ℕ) (d : NamedAccount) (v : Verdict) → IsPlace name s.accounts i
-    → v ≡ verdict_of (at_key (now_of s (get_or s.accounts i d).lists) key p (with_key key (get_or s.accounts i d).lists.posts))
-    → (v ≡ verdict_of (outcome_in s name key p)) × (outcome_in s name key p ≡ at_key (now_of s (get_or s.accounts i d).lists) key p (with_key key (get_or s.accounts i d).lists.posts))
+    → v ≡ verdict_of (at_key (present_in s (get_or s.accounts i d).lists) key p (with_key key (get_or s.accounts i d).lists.posts))
+    → (v ≡ verdict_of (outcome_in s name key p)) × (outcome_in s name key p ≡ at_key (present_in s (get_or s.accounts i d).lists) key p (with_key key (get_or s.accounts i d).lists.posts))
 outcome_at s name key p i d v place is =
     let known = known_outcome s name key p (get_or s.accounts i d).lists (place.there d) in
     (is ∙ ap verdict_of (sym known), known)

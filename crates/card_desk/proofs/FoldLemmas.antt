@@ -20,7 +20,7 @@ use Rattle.card_events.proofs.Agree.{with_holiday-agrees}
 use Rattle.card_events.specs.Range.{first_calendar_day, last_request_day}
 use Rattle.card_desk.proofs.DeskLemmas.{read_at}
 use Rattle.card_reasons.proofs.SameReasons.{AreAlike, same_reason}
-use Rattle.card_desk.specs.Desks.{AreAccounts, AreSameHolidays, IsDesk, IsRun, named_all, now_at, now_of, state_of}
+use Rattle.card_desk.specs.Desks.{AreAccounts, AreSameHolidays, IsDesk, IsRun, named_all, now_at, state_of}
 use Rattle.card_events.specs.Dated.{is_dated, is_dated_post, is_dated_shared, is_request_day}
 use Rattle.card_events.specs.History.{CorrectedPost, anchor_of, at_number, corrected, is_folded, is_variable, opening_in, terms_of}
 use Rattle.card_events.specs.Keys.{with_key}
@@ -46,6 +46,7 @@ use Rattle.card_model.specs.Machine.{Accepts, NamedAccount, Refuses, Repeats, St
 use Rattle.card_model.specs.Refusals.{Lists, Present, book_today, reason_against}
 use Rattle.card_model.specs.Segments.{kept_segments}
 use Rattle.card_model.specs.Sheets.{issued_sheet_of, sheet_in, sheet_of}
+use Rattle.card_model.specs.Work.{present_in}
 use Rattle.card_model.specs.declared.entry.Entry.{Entry}
 use Rattle.card_model.specs.declared.segment.Segment.{Segment}
 use Rattle.card_posts.specs.Posted.{opens}
@@ -137,7 +138,7 @@ one_book lists today these those same fees index =
 
 pub same_book : (places : List (List ℕ × ℕ)) (common : SharedRows) (count today : ℕ) (rows : List Shared) (accounts : List OpenAccount) (i : ℕ) (d : OpenAccount)
     → IsDesk places common count today rows accounts → i < length accounts
-    → book_today (present_of today common (get_or accounts i d).named.lists) ≡ book_today (now_of (state_of today rows accounts) (get_or accounts i d).named.lists)
+    → book_today (present_of today common (get_or accounts i d).named.lists) ≡ book_today (present_in (state_of today rows accounts) (get_or accounts i d).named.lists)
 same_book places common count today rows accounts i d desk low =
     let lists = (get_or accounts i d).named.lists in
     let one = running_at (state_of today rows accounts) accounts i d low (all_running (state_of today rows accounts) desk.ran) in
@@ -171,7 +172,7 @@ alike_run s lists common one holidays table index = alike_timely s.today lists c
 
 pub same_reason_at : (places : List (List ℕ × ℕ)) (common : SharedRows) (count today : ℕ) (rows : List Shared) (accounts : List OpenAccount) (i : ℕ) (d : OpenAccount) (p : Post)
     → IsDesk places common count today rows accounts → i < length accounts
-    → reason_against (present_of today common (get_or accounts i d).named.lists) p ≡ reason_against (now_of (state_of today rows accounts) (get_or accounts i d).named.lists) p
+    → reason_against (present_of today common (get_or accounts i d).named.lists) p ≡ reason_against (present_in (state_of today rows accounts) (get_or accounts i d).named.lists) p
 same_reason_at places common count today rows accounts i d p desk low =
     same_reason today (get_or accounts i d).named.lists common (shared_rows rows) p (alike_at places common count today rows accounts i d desk low)
 
@@ -186,9 +187,9 @@ pub none_at : (places : List (List ℕ × ℕ)) (common : SharedRows) (count tod
 none_at places common count today rows accounts i b s p desk state low is none =
     let here : i < length accounts = omega (arith, low, ap (λ (x : State). length x.accounts) state, length-map accounts (λ (x : OpenAccount). x.named)) in
     let read = read_at accounts s.accounts i b b.named is (ap (λ (x : State). x.accounts) state) low in
-    subst (λ (x : OpenAccount). reason_against (present_of today common x.named.lists) p ≡ reason_against (now_of (state_of today rows accounts) x.named.lists) p) (sym is)
+    subst (λ (x : OpenAccount). reason_against (present_of today common x.named.lists) p ≡ reason_against (present_in (state_of today rows accounts) x.named.lists) p) (sym is)
     (same_reason_at places common count today rows accounts i b p desk here)
-    ∙ ap (λ (x : State). reason_against (now_of x b.named.lists) p) state ∙ ap (λ (x : NamedAccount). reason_against (now_of s x.lists) p) read ∙ none b.named
+    ∙ ap (λ (x : State). reason_against (present_in x b.named.lists) p) state ∙ ap (λ (x : NamedAccount). reason_against (present_in s x.lists) p) read ∙ none b.named
 
 -- and its verdict is one
 verdict_by : (a b : Present) (key : List ℕ) (p : Post) (k : Option ℕ) → a.lists ≡ b.lists → reason_against a p ≡ reason_against b p → verdict_of (at_key a key p k) ≡ verdict_of (at_key b key p k)
@@ -206,13 +207,13 @@ verdict_by a b key p None lists same = new_by (is_open p) (reason_against a p) (
 pub same_verdict : (places : List (List ℕ × ℕ)) (common : SharedRows) (count today : ℕ) (rows : List Shared) (accounts : List OpenAccount) (i : ℕ) (a : OpenAccount) (key : List ℕ) (p : Post) (v : Verdict)
     → IsDesk places common count today rows accounts → i < length accounts → a ≡ get_or accounts i a
     → v ≡ verdict_of (at_key (present_of today common a.named.lists) key p (with_key key a.named.lists.posts))
-    → v ≡ verdict_of (at_key (now_of (state_of today rows accounts) a.named.lists) key p (with_key key a.named.lists.posts))
+    → v ≡ verdict_of (at_key (present_in (state_of today rows accounts) a.named.lists) key p (with_key key a.named.lists.posts))
 same_verdict places common count today rows accounts i a key p v desk low is found =
     let s = state_of today rows accounts in
     let same = same_reason_at places common count today rows accounts i a p desk low in
     found
-    ∙ verdict_by (present_of today common a.named.lists) (now_of s a.named.lists) key p (with_key key a.named.lists.posts) refl
-    (subst (λ (x : OpenAccount). reason_against (present_of today common x.named.lists) p ≡ reason_against (now_of s x.named.lists) p) (sym is) same)
+    ∙ verdict_by (present_of today common a.named.lists) (present_in s a.named.lists) key p (with_key key a.named.lists.posts) refl
+    (subst (λ (x : OpenAccount). reason_against (present_of today common x.named.lists) p ≡ reason_against (present_in s x.named.lists) p) (sym is) same)
 
 -- and so do its sheets
 pub same_sheet : (today : ℕ) (lists : Lists) (a b : SharedRows) (issue : ℕ) (c : Cycle) → AreAlike today lists a b → sheet_of lists.posts lists.issued a issue c ≡ sheet_of lists.posts lists.issued b issue c
@@ -258,23 +259,23 @@ same_accepted today lists a b key p alike =
 pub accepted_in : (places : List (List ℕ × ℕ)) (common : SharedRows) (count today : ℕ) (rows : List Shared) (accounts : List OpenAccount) (i : ℕ) (a b : OpenAccount) (name key : List ℕ) (p : Post)
     → IsDesk places common count today rows accounts → i < length accounts → b ≡ get_or accounts i b
     → a.named.lists ≡ accepted (present_of today common b.named.lists) key p
-    → ((e : NamedAccount) → outcome_in (state_of today rows accounts) name key p ≡ Accepts (accepted (now_of (state_of today rows accounts) (get_or (named_all accounts) i e).lists) key p))
+    → ((e : NamedAccount) → outcome_in (state_of today rows accounts) name key p ≡ Accepts (accepted (present_in (state_of today rows accounts) (get_or (named_all accounts) i e).lists) key p))
     → outcome_in (state_of today rows accounts) name key p ≡ Accepts a.named.lists
 accepted_in places common count today rows accounts i a b name key p desk low is lists allowed =
     let s = state_of today rows accounts in
     let here = (get_or accounts i b).named.lists in
     let read : (get_or (named_all accounts) i b.named).lists ≡ here = ap (λ (x : NamedAccount). x.lists) (get_or-map (λ (x : OpenAccount). x.named) accounts i b b.named low) in
     let same = same_accepted today here common (shared_rows rows) key p (alike_at places common count today rows accounts i b desk low) in
-    allowed b.named ∙ ap (λ (l : Lists). Accepts (accepted (now_of s l) key p)) read ∙ ap (λ (l : Lists). Accepts l) (sym same)
+    allowed b.named ∙ ap (λ (l : Lists). Accepts (accepted (present_in s l) key p)) read ∙ ap (λ (l : Lists). Accepts l) (sym same)
     ∙ ap (λ (x : OpenAccount). Accepts (accepted (present_of today common x.named.lists) key p)) (sym is) ∙ ap (λ (l : Lists). Accepts l) (sym lists)
 
 -- ---- what is shown
 -- the account that is read at a place, and its book
 pub book_at : (places : List (List ℕ × ℕ)) (common : SharedRows) (count today : ℕ) (rows : List Shared) (accounts : List OpenAccount) (i : ℕ) (a : OpenAccount)
     → IsDesk places common count today rows accounts → i < length accounts → a ≡ get_or accounts i a
-    → book_today (present_of today common a.named.lists) ≡ book_today (now_of (state_of today rows accounts) a.named.lists)
+    → book_today (present_of today common a.named.lists) ≡ book_today (present_in (state_of today rows accounts) a.named.lists)
 book_at places common count today rows accounts i a desk low is =
-    subst (λ (x : OpenAccount). book_today (present_of today common x.named.lists) ≡ book_today (now_of (state_of today rows accounts) x.named.lists)) (sym is)
+    subst (λ (x : OpenAccount). book_today (present_of today common x.named.lists) ≡ book_today (present_in (state_of today rows accounts) x.named.lists)) (sym is)
     (same_book places common count today rows accounts i a desk low)
 
 -- and it is alike under the desk's rows and the state's
@@ -309,9 +310,9 @@ same_entries today lists a b alike =
 
 pub entries_at : (places : List (List ℕ × ℕ)) (common : SharedRows) (count today : ℕ) (rows : List Shared) (accounts : List OpenAccount) (i : ℕ) (a : OpenAccount)
     → IsDesk places common count today rows accounts → i < length accounts → a ≡ get_or accounts i a
-    → entries_today (present_of today common a.named.lists) ≡ entries_today (now_of (state_of today rows accounts) a.named.lists)
+    → entries_today (present_of today common a.named.lists) ≡ entries_today (present_in (state_of today rows accounts) a.named.lists)
 entries_at places common count today rows accounts i a desk low is =
-    subst (λ (x : OpenAccount). entries_today (present_of today common x.named.lists) ≡ entries_today (now_of (state_of today rows accounts) x.named.lists)) (sym is)
+    subst (λ (x : OpenAccount). entries_today (present_of today common x.named.lists) ≡ entries_today (present_in (state_of today rows accounts) x.named.lists)) (sym is)
     (same_entries today (get_or accounts i a).named.lists common (shared_rows rows) (alike_at places common count today rows accounts i a desk low))
 
 -- ---- later rows

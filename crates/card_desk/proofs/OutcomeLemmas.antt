@@ -1,7 +1,6 @@
 -- What a post comes to, for an account that is there and for one that isn't.
 use Rattle.std.proofs.Common.{◌≡◌, ℕ, Bool, true, false, List, [], ◌∷◌, length, Option, Some, None, refl, ap, ◌∙◌}
 use Rattle.std.specs.Prelude.{if◌then◌else◌, nat_le}
-use Rattle.card_desk.specs.Desks.{now_of}
 use Rattle.card_events.specs.Keys.{with_key}
 use Rattle.card_events.specs.SharedRows.{SharedRows, shared_rows}
 use Rattle.card_events.specs.declared.post.Post.{Post}
@@ -9,12 +8,13 @@ use Rattle.card_events.specs.declared.reply.Refusal.{Refusal}
 use Rattle.card_events.specs.declared.reply.Refusal.TheVariants as refusal
 use Rattle.card_model.specs.Machine.{State, Outcome, Refuses, Repeats, Accepts, lists_of, outcome, outcome_in, at_key, judged, accepted, kept_as, is_open, is_repeat_of, opened}
 use Rattle.card_model.specs.Refusals.{Lists, Present, bad_terms, day_ahead, first_reason, no_index, reason_against, reason_to_open, where_true}
+use Rattle.card_model.specs.Work.{present_in}
 use Rattle.card_events.specs.History.{at_number}
 use Rattle.card_account.specs.Verdicts.{verdict_of}
 use Rattle.card_account.specs.declared.verdict.Verdict.TheVariants as verdict
 
 pub known_outcome : (s : State) (name key : List ℕ) (p : Post) (lists : Lists) → lists_of name s.accounts ≡ Some lists
-    → outcome_in s name key p ≡ at_key (now_of s lists) key p (with_key key lists.posts)
+    → outcome_in s name key p ≡ at_key (present_in s lists) key p (with_key key lists.posts)
 unfolding outcome
 known_outcome s name key p lists is = ap (outcome s.today s.shared (length s.accounts) key p) is
 

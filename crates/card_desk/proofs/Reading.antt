@@ -8,13 +8,14 @@ use Rattle.card_account.specs.declared.verdict.Verdict.{Verdict}
 use Rattle.card_desk.proofs.DeskLemmas.{read_at}
 use Rattle.card_desk.proofs.FoldLemmas.{alike_seen, book_at, entries_at, same_restated, same_verdict}
 use Rattle.card_desk.proofs.KeptLemmas.{roomy_desk}
-use Rattle.card_desk.specs.Desks.{IsDesk, now_at, now_of, state_of}
+use Rattle.card_desk.specs.Desks.{IsDesk, now_at, state_of}
 use Rattle.card_events.specs.Keys.{with_key}
 use Rattle.card_events.specs.SharedRows.{SharedRows, shared_rows}
 use Rattle.card_events.specs.declared.post.Post.{Post}
 use Rattle.card_events.specs.declared.request.Shared.{Shared}
 use Rattle.card_model.specs.Machine.{NamedAccount, State, at_key}
 use Rattle.card_model.specs.Refusals.{Present, book_today}
+use Rattle.card_model.specs.Work.{present_in}
 use Rattle.card_replay.specs.Replays.{present_of}
 
 -- a place of the state is one of the desk
@@ -23,9 +24,9 @@ low_in rows today accounts s i state low = omega (arith, low, ap (λ (x : State)
 
 -- what is read at it
 now_read : (rows : List Shared) (today : ℕ) (accounts : List OpenAccount) (i : ℕ) (b : OpenAccount) (s : State) (e : NamedAccount) → state_of today rows accounts ≡ s → i < length s.accounts → b ≡ get_or accounts i b
-    → now_of (state_of today rows accounts) b.named.lists ≡ now_at s i e
+    → present_in (state_of today rows accounts) b.named.lists ≡ now_at s i e
 now_read rows today accounts i b s e state low is =
-    ap (λ (x : State). now_of x b.named.lists) state ∙ ap (λ (x : NamedAccount). now_of s x.lists) (read_at accounts s.accounts i b e is (ap (λ (x : State). x.accounts) state) low)
+    ap (λ (x : State). present_in x b.named.lists) state ∙ ap (λ (x : NamedAccount). present_in s x.lists) (read_at accounts s.accounts i b e is (ap (λ (x : State). x.accounts) state) low)
 
 pub book_read : (places : List (List ℕ × ℕ)) (common : SharedRows) (count today : ℕ) (rows : List Shared) (accounts : List OpenAccount) (i : ℕ) (b : OpenAccount) (s : State) (e : NamedAccount)
     → IsDesk places common count today rows accounts → state_of today rows accounts ≡ s → i < length s.accounts → b ≡ get_or accounts i b

@@ -10,7 +10,7 @@ use Rattle.card_desk.proofs.FoldLemmas.{accepted_in, alike_at, alike_run, all_ru
 use Rattle.card_desk.proofs.KeptLemmas.{opened_is, posted_is, run_on}
 use Rattle.card_desk.proofs.Left.{few_to_keep, there_is}
 use Rattle.card_desk.proofs.OutcomeLemmas.{opening_reason}
-use Rattle.card_desk.specs.Desks.{IsDesk, IsRun, OpenDesk, named_all, now_of, open_desk, state_of}
+use Rattle.card_desk.specs.Desks.{IsDesk, IsRun, OpenDesk, named_all, open_desk, state_of}
 use Rattle.card_desk.specs.Places.{IsPlace, place_from}
 use Rattle.card_desk.specs.Steps.{AreFewToKeep, ReachedLists, reached_at}
 use Rattle.card_events.specs.SharedRows.{FeeRow, SharedRows, shared_rows}
@@ -21,6 +21,7 @@ use Rattle.card_events.specs.declared.request.Shared.{Shared}
 use Rattle.card_model.specs.Accepted.{HasFewFees}
 use Rattle.card_model.specs.Machine.{Accepts, NamedAccount, State, accepted, is_open, outcome_in, step}
 use Rattle.card_model.specs.Refusals.{Lists}
+use Rattle.card_model.specs.Work.{present_in}
 use Rattle.card_reasons.proofs.SameReasons.{AreAlike}
 use Rattle.card_replay.specs.Replays.{given_of, opened_lists, present_of}
 use Rattle.card_replay.specs.Steps.{AreFewToPrepare}
@@ -69,7 +70,7 @@ posted_running s name key p i l d ran taken place accepts =
 -- what it comes to in the state, by the lists that the account would have
 pub posted_outcome : (places : List (List ℕ × ℕ)) (common : SharedRows) (count today : ℕ) (rows : List Shared) (accounts : List OpenAccount) (i : ℕ) (b : OpenAccount) (name key : List ℕ) (p : Post)
     → IsDesk places common count today rows accounts → i < length accounts → b ≡ get_or accounts i b
-    → ((e : NamedAccount) → outcome_in (state_of today rows accounts) name key p ≡ Accepts (accepted (now_of (state_of today rows accounts) (get_or (named_all accounts) i e).lists) key p))
+    → ((e : NamedAccount) → outcome_in (state_of today rows accounts) name key p ≡ Accepts (accepted (present_in (state_of today rows accounts) (get_or (named_all accounts) i e).lists) key p))
     → outcome_in (state_of today rows accounts) name key p ≡ Accepts (accepted (present_of today common b.named.lists) key p)
 posted_outcome places common count today rows accounts i b name key p desk low is allowed =
     accepted_in places common count today rows accounts i (record b { named = record { name = b.named.name; lists = accepted (present_of today common b.named.lists) key p } }) b name key p desk low is refl allowed

@@ -5,7 +5,7 @@ use Rattle.card_account.specs.Reached.{StaysNear}
 use Rattle.card_desk.proofs.Entries.{recorded_there}
 use Rattle.card_desk.proofs.FoldLemmas.{account_at, alike_seen, alike_timely, one_book, same_accepted}
 use Rattle.card_desk.proofs.Left.{same_first, there_is}
-use Rattle.card_desk.specs.Desks.{IsDesk, OpenDesk, now_of, open_desk, state_of}
+use Rattle.card_desk.specs.Desks.{IsDesk, OpenDesk, open_desk, state_of}
 use Rattle.card_desk.specs.Recorded.{AreStanding, entries_on}
 use Rattle.card_desk.specs.Steps.{ReachedLists, reached_there}
 use Rattle.card_events.specs.History.{anchor_of}
@@ -15,6 +15,7 @@ use Rattle.card_events.specs.declared.request.Shared.{Shared}
 use Rattle.card_model.specs.Books.{Book}
 use Rattle.card_model.specs.Machine.{accepted}
 use Rattle.card_model.specs.Refusals.{Lists, book_today}
+use Rattle.card_model.specs.Work.{present_in}
 use Rattle.card_model.specs.declared.entry.Entry.{Entry}
 use Rattle.card_daily.specs.Given.{book_on}
 use Rattle.card_posts.specs.Stored.{AreTimely}
@@ -40,7 +41,7 @@ standing_by places common count today rows accounts i b n p desk low is h =
     record {
       within = subst (λ (es : List Entry). suc n ≤ length es) recorded h.within;
       stay = λ key lists day taken near.
-          let taken_here : lists ≡ accepted (now_of (state_of today rows accounts) old) key p = taken ∙ ap (λ (a : ReachedLists). accepted (now_of (state_of today rows accounts) a.lists) key p) there in
+          let taken_here : lists ≡ accepted (present_in (state_of today rows accounts) old) key p = taken ∙ ap (λ (a : ReachedLists). accepted (present_in (state_of today rows accounts) a.lists) key p) there in
           let near_here = subst (λ (a : ReachedLists). StaysNear today (shared_rows rows) a.lists lists a.reached day) there near in
           let same : replay.lists_after today common key p (replay_of b) ≡ lists = same_accepted today old common (shared_rows rows) key p one ∙ sym taken_here in
           let all = accepts common today key p (replay_of b) account.replay account.reach (h.received (omega arith)) in

@@ -1,7 +1,6 @@
 -- One account, apart from all others: what a single request does, and what whole lists of requests do.
 use Rattle.std.specs.Prelude.{ℕ, ◌≡◌, false, List, Option, Some, length, option_map}
 use Rattle.std.specs.List.{filter}
-use Rattle.card_desk.specs.Desks.{now_of}
 use Rattle.card_desk.specs.Views.{seen}
 use Rattle.card_desk.specs.declared.view.Ask.TheVariants as ask
 use Rattle.card_events.specs.declared.post.Post.{Post}
@@ -12,6 +11,7 @@ use Rattle.card_model.specs.Cycles.{Cycle}
 use Rattle.card_model.specs.Isolated.{NeverFull, concerns, is_on, is_shared, replies_where}
 use Rattle.card_model.specs.Machine.{Accepts, Outcome, State, lists_of, outcome, reply_to, run_from, step}
 use Rattle.card_model.specs.Refusals.{Lists, book_today}
+use Rattle.card_model.specs.Work.{present_in}
 
 -- what an account has after an outcome
 abbrev pub lists_after : Outcome → Option Lists → Option Lists
@@ -35,7 +35,7 @@ RequestsStandApart = (s : State) (r : Request) (new : State) (reply : Reply) →
 
 -- the cycles of an account, in its book of today, if it is there
 abbrev pub cycles_of : State → List ℕ → Option (List Cycle)
-cycles_of s name = option_map (λ lists. (book_today (now_of s lists)).cycles) (lists_of name s.accounts)
+cycles_of s name = option_map (λ lists. (book_today (present_in s lists)).cycles) (lists_of name s.accounts)
 
 -- the account with a name has the same cycles in two states, and all that can be asked of it is answered alike
 pub record LooksAlike (name : List ℕ) (s t : State) : Type 0 where

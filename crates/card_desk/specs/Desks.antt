@@ -13,7 +13,8 @@ use Rattle.card_events.specs.declared.request.Request.{Request}
 use Rattle.card_events.specs.declared.request.Shared.{Shared}
 use Rattle.card_model.specs.Machine.{NamedAccount, State, run}
 use Rattle.card_model.specs.declared.entry.Entry.{Entry}
-use Rattle.card_model.specs.Refusals.{Lists, Present}
+use Rattle.card_model.specs.Refusals.{Present}
+use Rattle.card_model.specs.Work.{present_in}
 
 -- the accounts as the machine has them
 abbrev pub named_all : List OpenAccount → List NamedAccount
@@ -42,13 +43,9 @@ recorded_all accounts = map (λ a. a.folding.past.track.entries.items) accounts
 abbrev pub open_desk : ℕ → List Shared → List OpenAccount → OpenDesk
 open_desk today rows accounts = record { state = state_of today rows accounts; reached = reached_all accounts; recorded = recorded_all accounts }
 
--- what an account with these lists is judged and shown by, in a state
-abbrev pub now_of : State → Lists → Present
-now_of s lists = record { today = s.today; shared = shared_rows s.shared; lists = lists }
-
--- the same of the account at a place
+-- what the account at a place is judged and shown by, in a state
 abbrev pub now_at : State → ℕ → NamedAccount → Present
-now_at s i d = now_of s (slice_index_or s.accounts i d).lists
+now_at s i d = present_in s (slice_index_or s.accounts i d).lists
 
 -- some requests that may be spelled lead to the state
 pub record IsRun (s : State) : Type 0 where

@@ -1,7 +1,7 @@
 -- What is recorded of accounts, in the order of their opening: it stays of all but one.
 use Rattle.std.specs.Prelude.{⊤, ◌≡◌, ◌≤◌, ◌⊎◌, ℕ, length, map, take, List, [], ◌∷◌, ◌++◌, slice_set, Option, Some, None}
 use Rattle.card_account.specs.Reached.{StaysNear}
-use Rattle.card_desk.specs.Desks.{OpenDesk, now_of}
+use Rattle.card_desk.specs.Desks.{OpenDesk}
 use Rattle.card_desk.specs.Places.{place_from}
 use Rattle.card_desk.specs.Steps.{reached_there}
 use Rattle.card_desk.specs.declared.view.Ask.{Ask}
@@ -13,6 +13,7 @@ use Rattle.card_events.specs.SharedRows.{shared_rows}
 use Rattle.card_model.specs.Folds.{book}
 use Rattle.card_model.specs.Machine.{State, accepted}
 use Rattle.card_model.specs.Refusals.{Lists}
+use Rattle.card_model.specs.Work.{present_in}
 use Rattle.card_model.specs.declared.entry.Entry.{Entry}
 
 -- that of the account at a place may have changed
@@ -61,7 +62,7 @@ entries_there d i = let a = reached_there d i in entries_on d.state a.lists a.re
 pub record AreStanding (count place : ℕ) (p : Post) (d : OpenDesk) : Type 0 where
   pub within : count ≤ length (entries_there d place)
   pub stay :
-      (key : List ℕ) (lists : Lists) (day : ℕ) → lists ≡ accepted (now_of d.state (reached_there d place).lists) key p
+      (key : List ℕ) (lists : Lists) (day : ℕ) → lists ≡ accepted (present_in d.state (reached_there d place).lists) key p
       → StaysNear d.state.today (shared_rows d.state.shared) (reached_there d place).lists lists (reached_there d place).reached day
       → take count (entries_on d.state lists day) ≡ take count (entries_there d place)
 

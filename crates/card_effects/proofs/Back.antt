@@ -13,10 +13,11 @@ use Rattle.card_events.specs.declared.kept.Slot.{Slot}
 use Rattle.card_events.specs.declared.post.Post.TheVariants as post
 use Rattle.card_model.proofs.EntryFacts.{balance-append}
 use Rattle.card_model.proofs.Posted.{debit-known, length-posted, posted-append}
-use Rattle.card_model.specs.Books.{Account, Book, newest_purchase, note_of, with_fee}
+use Rattle.card_model.specs.Books.{Account, Book, newest_purchase, note_of}
 use Rattle.card_model.specs.Cycles.{IssuedRow, Seen}
 use Rattle.card_model.specs.Effects.{effect, is_part_of, meant_for, payment_at, put_back, returned, returned_fee, size}
 use Rattle.card_model.specs.Entries.{credit_in, debit, posted}
+use Rattle.card_model.specs.Fees.{with_fee}
 use Rattle.card_model.specs.Limits.{balance_limit}
 use Rattle.card_model.specs.Segments.{newest}
 use Rattle.card_model.specs.declared.entry.Entry.{Entry}

@@ -10,10 +10,11 @@ use Rattle.card_events.specs.declared.post.Place.TheVariants as place
 use Rattle.card_events.specs.History.{CorrectedPost}
 use Rattle.card_events.specs.declared.kept.Slot.{Slot}
 use Rattle.card_events.specs.declared.post.Post.TheVariants as post
-use Rattle.card_model.specs.Books.{Account, Book, all_segments, note_of, with_fee}
+use Rattle.card_model.specs.Books.{Account, Book, all_segments, note_of}
 use Rattle.card_model.specs.Cycles.{IssuedRow, Seen}
 use Rattle.card_model.specs.Effects.{effect}
 use Rattle.card_model.specs.Entries.{AreBalances, at_least_zero, balance, credit_balance, credit_in, debit, posted}
+use Rattle.card_model.specs.Fees.{with_fee}
 use Rattle.card_model.specs.Limits.{balance_limit}
 use Rattle.card_model.specs.Rates.{index_for, lowerings, rate_on, starts}
 use Rattle.card_model.specs.Segments.{SegmentTerms, newest, opening_vintage, segment_at, segment_of, segments}

@@ -7,10 +7,11 @@ use Rattle.card_events.specs.declared.kept.Slot.{Slot}
 use Rattle.card_events.specs.declared.post.Place.{Place}
 use Rattle.card_events.specs.declared.post.Post.{Post}
 use Rattle.card_events.specs.declared.post.Post.TheVariants as post
-use Rattle.card_model.specs.Books.{Account, Book, with_fee}
+use Rattle.card_model.specs.Books.{Account, Book}
 use Rattle.card_model.specs.Cycles.{IssuedRow, Seen, last_cycle}
 use Rattle.card_model.specs.Effects as model
 use Rattle.card_model.specs.Effects.{effect, meant_for, payment_at, returned_fee, second_closing}
+use Rattle.card_model.specs.Fees.{with_fee}
 use Rattle.card_model.specs.Limits.{balance_limit}
 use Rattle.card_model.specs.Payments.{minimum_left}
 use Rattle.card_model.specs.Rates.{index_on}

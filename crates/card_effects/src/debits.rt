@@ -4,9 +4,10 @@ ghost use Rattle.card_model.specs.Limits.{balance_limit};
 ghost use Rattle.card_effects.specs.Entering.{ChargesFee, Enters, Leaves, MayMove};
 ghost use Rattle.card_events.specs.History.{CorrectedPost};
 ghost use Rattle.card_events.specs.declared.post.Post.TheVariants as post;
-ghost use Rattle.card_model.specs.Books.{Account, Book, with_fee};
+ghost use Rattle.card_model.specs.Books.{Account, Book};
 ghost use Rattle.card_model.specs.Cycles.{IssuedRow, Seen};
 ghost use Rattle.card_model.specs.Effects.{effect};
+ghost use Rattle.card_model.specs.Fees.{with_fee};
 ghost use Rattle.card_segments.specs.Balances.{AreWithin};
 
 use crate::place::{newest, segment_at};

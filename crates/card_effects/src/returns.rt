@@ -7,10 +7,11 @@ ghost use Rattle.card_effects.specs.Entering.{ChargesFee, EntersWhere, IsReturnO
 ghost use Rattle.card_effects.specs.Standing.{AreRated};
 ghost use Rattle.card_events.specs.History.{CorrectedPost};
 ghost use Rattle.card_events.specs.declared.post.Post.TheVariants as post;
-ghost use Rattle.card_model.specs.Books.{Account, Book, with_fee};
+ghost use Rattle.card_model.specs.Books.{Account, Book};
 ghost use Rattle.card_model.specs.Cycles.{IssuedRow, Seen};
 ghost use Rattle.card_model.specs.Effects.{effect, meant_for, payment_at};
 ghost use Rattle.card_model.specs.Effects as model;
+ghost use Rattle.card_model.specs.Fees.{with_fee};
 ghost use Rattle.card_model.specs.declared.entry.Entry.{Entry};
 ghost use Rattle.card_model.specs.declared.entry.EntryKind.TheVariants as kind;
 ghost use Rattle.card_segments.specs.Balances.{AreWithin, movable_balance};

@@ -11,10 +11,8 @@ use Rattle.card_fees.specs.DueLaws.{issued_fees}
 use Rattle.card_fees.proofs.Charges.{missed-asks-last}
 use Rattle.card_fees.proofs.PastPosts.{past-posts}
 use Rattle.card_model.specs.Books.{Book, present_cycle}
-use Rattle.card_model.specs.Caps.{charged_by, charged_fee, fees_for}
 use Rattle.card_model.specs.Cycles.{Cycle, IssuedRow, Seen}
-use Rattle.card_model.specs.DueDates.{late_fee}
-use Rattle.card_model.specs.Fees.{fee_by, fee_for, last_due, row_in_force}
+use Rattle.card_model.specs.Fees.{charged_by, charged_fee, fee_by, fee_for, fees_for, last_due, late_fee, row_in_force}
 use Rattle.card_model.specs.Payments.{asked, due_cycle_of, is_met, met}
 use Rattle.card_model.specs.declared.fee.Cause.{Cause}
 use Rattle.card_model.specs.declared.fee.Fee.{Fee}

@@ -4,14 +4,12 @@ use Rattle.card_events.specs.Billing.{cycle_of}
 use Rattle.card_events.specs.declared.anchor.Anchor.{Anchor}
 use Rattle.card_events.specs.History.{CorrectedPost}
 use Rattle.card_events.specs.SharedRows.{FeeRow}
-use Rattle.card_model.specs.Caps.{charged_by, fees_for}
-use Rattle.card_model.specs.Fees.{fee_by}
+use Rattle.card_model.specs.Fees.{charged_by, fee_by, fees_for, row_on}
 use Rattle.card_model.specs.Payments.{is_met}
 use Rattle.card_model.specs.declared.due_cycle.DueCycle.{DueCycle}
 use Rattle.card_model.specs.declared.fee.Cause.{Cause}
 use Rattle.card_model.specs.declared.fee.Fee.{Fee}
 use Rattle.card_model.specs.declared.fee.FeeKind.TheVariants as kind
-use Rattle.card_shared.specs.Table.{row_on}
 
 -- what it is for: it is charged on the day after the due date
 abbrev pub late_cause : Anchor → DueCycle → Cause

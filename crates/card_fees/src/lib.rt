@@ -2,13 +2,12 @@
 //! 1026.5(b)(2)(ii), .52(b), .54, .55(b)(4)).
 #![tactic(auto)]
 
-mod charge;
 mod counting;
 mod due;
 mod due_cycle;
-mod due_fees;
 pub mod due_laws;
 mod grace;
+mod late_fees;
 pub mod laws;
 mod left;
 mod required;
@@ -20,11 +19,10 @@ pub use card_model::{DueCycle, Fee, FeeKind, GraceCase};
 pub use card_shared::{
     FeeTable, IndexTable, SharedRows, fees_reason, holiday_reason, index_reason, roll_reason,
 };
-pub use charge::{late_fee, returned_fee};
 pub use due::{met, met_in_time, owes_sixty_days, past_due};
 pub use due_cycle::asked;
-pub use due_fees::{capped_fee, due_fee};
 pub use grace::{paid, purchase_case};
+pub use late_fees::{capped_fee, due_fee, late_fee, returned_fee};
 pub use left::minimum_left;
 pub use required::minimum;
 pub use tally::{Sum, Tally};

@@ -7,14 +7,14 @@ use Rattle.std.specs.Prelude.{min}
 use Rattle.card_events.specs.Civil.{day_of_month}
 use Rattle.card_events.specs.History.{CorrectedPost}
 use Rattle.card_events.specs.declared.post.Post.{Post}
-use Rattle.card_model.specs.Books.{Account, Book, present_cycle, with_fee}
+use Rattle.card_model.specs.Books.{Account, Book, present_cycle}
 use Rattle.card_model.specs.Caps.{row_for}
 use Rattle.card_model.specs.Closing.{Posting, close, closing_interest, post_interest, post_one, posted_for}
 use Rattle.card_model.specs.Cycles.{Cycle, IssuedRow, Seen, last_cycle, posts_on}
-use Rattle.card_model.specs.DueDates.{after_due_date, late_fee, on_due}
+use Rattle.card_model.specs.DueDates.{after_due_date, on_due}
 use Rattle.card_model.specs.Effects.{after_posts, credit_parts, effect, is_part_of, meant_for, parts_entries, payment_at, payment_parts, put_back, returned, returned_fee, size}
 use Rattle.card_model.specs.Entries.{credit_balance, debit, holds, is_kind, lowers, negated, owed, raises, releases, sum_of}
-use Rattle.card_model.specs.Fees.{fee_cents}
+use Rattle.card_model.specs.Fees.{fee_cents, late_fee, with_fee}
 use Rattle.card_model.specs.Folds.{book, book_after, day_after}
 use Rattle.card_model.specs.Laws.{BalanceIdentity, IsBalanced, total}
 use Rattle.card_model.specs.Segments.{SegmentTerms, newest}

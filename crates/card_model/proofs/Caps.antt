@@ -7,14 +7,14 @@ use Rattle.std.proofs.lemmas.Bool.{eqb-true}
 use Rattle.card_events.specs.Civil.{day_of_month}
 use Rattle.card_events.specs.History.{CorrectedPost}
 use Rattle.card_events.specs.declared.post.Post.{Post}
-use Rattle.card_model.specs.Books.{Account, Book, all_segments, penalty_fee, present_cycle, with_fee}
-use Rattle.card_model.specs.Caps.{at_cents, capped_by, charged_fee, fee_above, issued_fee, issued_grace, issued_interest, issued_minimum, row_for}
+use Rattle.card_model.specs.Books.{Account, Book, all_segments, present_cycle}
+use Rattle.card_model.specs.Caps.{capped_by, issued_grace, issued_interest, issued_minimum, row_for}
 use Rattle.card_model.specs.Closing.{Posting, by_segment, close, closed_cycle, closing_interest, grace_amount, minimum_payment, post_interest, post_one, posted_for, within_limit}
 use Rattle.card_model.specs.Cycles.{Cycle, IssuedRow, Seen, amount_at, last_cycle, posts_on}
-use Rattle.card_model.specs.DueDates.{after_due_date, late_fee, on_due}
+use Rattle.card_model.specs.DueDates.{after_due_date, on_due}
 use Rattle.card_model.specs.Effects.{after_posts, effect, meant_for, payment_at, returned, returned_fee}
 use Rattle.card_model.specs.Entries.{owing}
-use Rattle.card_model.specs.Fees.{fee_cents, fee_by, fee_for}
+use Rattle.card_model.specs.Fees.{at_cents, charged_fee, fee_above, fee_by, fee_cents, fee_for, issued_fee, late_fee, penalty_fee, with_fee}
 use Rattle.card_model.specs.Folds.{book, book_after, day_after}
 use Rattle.card_model.specs.Interest.{row}
 use Rattle.card_model.specs.Laws.{IsCycleWithin, IsFeeWithin, IsWithin, IssuedCaps}

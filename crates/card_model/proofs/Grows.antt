@@ -4,13 +4,14 @@ use Rattle.std.proofs.lemmas.List.{append-nil}
 use Rattle.std.specs.List.{filter}
 use Rattle.card_events.specs.History.{CorrectedPost}
 use Rattle.card_events.specs.declared.post.Post.{Post}
-use Rattle.card_model.specs.Books.{Account, Book, note_of, present_cycle, with_entries, with_fee}
+use Rattle.card_model.specs.Books.{Account, Book, note_of, present_cycle, with_entries}
 use Rattle.card_model.specs.Caps.{row_for}
 use Rattle.card_model.specs.Closing.{Posting, close, closing_interest, post_interest, post_one, posted_for}
 use Rattle.card_model.specs.Cycles.{Cycle, IssuedRow, Seen, last_cycle, posts_on}
-use Rattle.card_model.specs.DueDates.{after_due_date, late_fee, on_due}
+use Rattle.card_model.specs.DueDates.{after_due_date, on_due}
 use Rattle.card_model.specs.Effects.{after_posts, effect, is_part_of, meant_for, payment_at, put_back, returned, returned_fee, size}
 use Rattle.card_model.specs.Entries.{credit_balance, debit}
+use Rattle.card_model.specs.Fees.{late_fee, with_fee}
 use Rattle.card_model.specs.Folds.{book_after, day_after}
 use Rattle.card_model.specs.Segments.{SegmentTerms, newest}
 use Rattle.card_model.specs.declared.entry.Entry.{Entry}

@@ -14,14 +14,14 @@ use Rattle.card_events.specs.History.{CorrectedPost, anchor_of}
 use Rattle.card_events.specs.SharedRows.{SharedRows}
 use Rattle.card_events.specs.declared.kept.Kept.{Kept}
 use Rattle.card_events.specs.declared.post.Post.{Post}
-use Rattle.card_model.specs.Books.{Account, Book, account_of, all_segments, penalty_fee, present_cycle, with_fee}
-use Rattle.card_model.specs.Caps.{at_cents, charged_fee, fee_above, issued_fee, row_for}
+use Rattle.card_model.specs.Books.{Account, Book, account_of, all_segments, present_cycle}
+use Rattle.card_model.specs.Caps.{row_for}
 use Rattle.card_model.specs.Closing.{Posting, by_segment, close, closed_cycle, closing_interest, first_day_of, grace_amount, minimum_payment, post_interest, post_one, posted_for, purchase_case_in}
 use Rattle.card_model.specs.Cycles.{Cycle, IssuedRow, Seen, Sheet, amount_at, last_cycle, posts_on, seen_on}
-use Rattle.card_model.specs.DueDates.{after_due_date, late_fee, on_due}
+use Rattle.card_model.specs.DueDates.{after_due_date, on_due}
 use Rattle.card_model.specs.Effects.{after_posts, effect, meant_for, payment_at, returned, returned_fee}
 use Rattle.card_model.specs.Entries.{posted}
-use Rattle.card_model.specs.Fees.{fee_cents, fee_for, fees_in}
+use Rattle.card_model.specs.Fees.{at_cents, charged_fee, fee_above, fee_cents, fee_for, fees_in, issued_fee, late_fee, penalty_fee, with_fee}
 use Rattle.card_model.specs.Folds.{book, book_after, cycle_at, day_after, row_of_cycle, rows_issued}
 use Rattle.card_model.specs.Interest.{cycle_interest, deferred_interest}
 use Rattle.card_model.specs.Laws.{IsFeeWithin, IssuingChangesNoPastDay}

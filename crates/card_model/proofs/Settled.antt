@@ -8,13 +8,13 @@ use Rattle.std.proofs.lemmas.Bool.{ne_eqb}
 use Rattle.card_events.specs.Civil.{day_of_month}
 use Rattle.card_events.specs.History.{CorrectedPost}
 use Rattle.card_events.specs.declared.post.Post.{Post}
-use Rattle.card_model.specs.Books.{Account, Book, penalty_fee, present_cycle, with_fee}
-use Rattle.card_model.specs.Caps.{capped_by, charged_fee, issued_fee, row_for}
+use Rattle.card_model.specs.Books.{Account, Book, present_cycle}
+use Rattle.card_model.specs.Caps.{capped_by, row_for}
 use Rattle.card_model.specs.Closing.{close, closed_cycle, closing_interest}
 use Rattle.card_model.specs.Cycles.{Cycle, IssuedRow, Seen, last_cycle, posts_on}
-use Rattle.card_model.specs.DueDates.{after_due_date, late_fee, on_due}
+use Rattle.card_model.specs.DueDates.{after_due_date, on_due}
 use Rattle.card_model.specs.Effects.{after_posts, effect, meant_for, payment_at, returned, returned_fee}
-use Rattle.card_model.specs.Fees.{fee_cents, fees_in}
+use Rattle.card_model.specs.Fees.{charged_fee, fee_cents, fees_in, issued_fee, late_fee, penalty_fee, with_fee}
 use Rattle.card_model.specs.Folds.{book_after, day_after}
 use Rattle.card_model.specs.Payments.{met}
 use Rattle.card_model.specs.declared.fee.Fee.{Fee}

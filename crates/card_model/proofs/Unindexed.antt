@@ -9,13 +9,13 @@ use Rattle.card_events.specs.declared.post.Place.{Place}
 use Rattle.card_events.specs.declared.post.Post.{Post}
 use Rattle.card_events.specs.declared.post.Post.TheVariants as post
 use Rattle.card_model.specs.Allocation.{allocated, placed}
-use Rattle.card_model.specs.Books.{Account, Book, all_segments, note_of, present_cycle, rate_in, with_all_entries, with_cycle, with_entries, with_fee, with_penalties}
+use Rattle.card_model.specs.Books.{Account, Book, all_segments, note_of, present_cycle, rate_in, with_all_entries, with_cycle, with_entries, with_penalties}
 use Rattle.card_model.specs.Caps.{row_for}
 use Rattle.card_model.specs.Closing.{Posting, close, closed_cycle, closing_interest, first_day_of, grace_amount, minimum_of, minimum_payment, nonzero, net_balance, post_interest, post_one, posted_for, purchase_case_in}
 use Rattle.card_model.specs.Cycles.{Cycle, IssuedRow, Seen, amounts_sum, last_cycle, posts_on}
-use Rattle.card_model.specs.DueDates.{cured_by, late_fee, on_due}
+use Rattle.card_model.specs.DueDates.{cured_by, on_due}
 use Rattle.card_model.specs.Effects.{after_posts, credit_parts, effect, holding, holdings, meant_for, parts_entries, payment_at, payment_parts, returned, returned_fee}
-use Rattle.card_model.specs.Fees.{fee_by, fees_in, fees_sum}
+use Rattle.card_model.specs.Fees.{fee_by, fees_in, fees_sum, late_fee, with_fee}
 use Rattle.card_model.specs.Folds.{book_after, day_after}
 use Rattle.card_model.specs.Interest.{average_balance, accrual, case_of, charged, charged_on, cycle_interest, days_from, deferred_interest, half_up, interest_sum, purchase_case}
 use Rattle.card_events.specs.Money.{daily, interest}

@@ -1,21 +1,16 @@
--- The book of an account: what its fold gives up to a day. Penalty fees by 12 CFR 1026.52(b); the rest is the ledger's own.
-use Rattle.std.specs.Prelude.{ℕ, ◌+◌, ◌++◌, Bool, length, List, [], ◌∷◌, Option, Some, None}
+-- The book of an account: what its fold gives up to a day. It is the ledger's own.
+use Rattle.std.specs.Prelude.{ℕ, ◌+◌, ◌++◌, Bool, length, List, [], ◌∷◌}
 use Rattle.card_events.specs.declared.anchor.Anchor.{Anchor}
 use Rattle.card_events.specs.History.{anchor_of, is_variable, terms_of}
 use Rattle.card_events.specs.declared.kept.Kept.{Kept}
 use Rattle.card_events.specs.declared.post.Terms.{Terms}
-use Rattle.card_model.specs.Caps.{charged_fee}
-use Rattle.card_model.specs.Cycles.{Cycle, IssuedRow, Seen}
-use Rattle.card_model.specs.Entries.{debit, credit_balance}
-use Rattle.card_model.specs.Fees.{fee_cents, fee_for}
+use Rattle.card_model.specs.Cycles.{Cycle, Seen}
 use Rattle.card_model.specs.Rates.{index_for, rate_on, lowerings, starts}
 use Rattle.card_model.specs.Segments.{SegmentTerms, segments, newest}
 use Rattle.card_model.specs.declared.entry.Entry.{Entry}
 use Rattle.card_model.specs.declared.entry.EntryKind.{EntryKind}
-use Rattle.card_model.specs.declared.entry.EntryKind.TheVariants as kind
 use Rattle.card_model.specs.declared.entry.Note.{Note}
 use Rattle.card_model.specs.declared.fee.Fee.{Fee}
-use Rattle.card_model.specs.declared.fee.FeeKind.{FeeKind}
 use Rattle.card_model.specs.declared.segment.Interval.{Interval}
 use Rattle.card_model.specs.declared.segment.Sort.TheVariants as sort
 
@@ -78,19 +73,3 @@ newest_purchase a seen = newest sort.Purchase seen.day (all_segments a seen)
 -- the note of entries of today
 abbrev pub note_of : Seen → EntryKind → ℕ → Note
 note_of seen k n = record { day = seen.day; kind = k; post = n }
-
--- ---- a penalty fee (12 CFR 1026.52(b))
--- the fee for the due date of a cycle, charged today
-abbrev pub penalty_fee : Option IssuedRow → Seen → Book → FeeKind → Cycle → Option Fee
-penalty_fee issued seen b k c = charged_fee issued (fee_for seen b.cycles b.fees (present_cycle b) k c)
-
--- it is debited to the newest Purchase vintage
-abbrev pub with_fee : Account → Seen → ℕ → Option Fee → Book → Book
-with_fee a seen n None b = b
-with_fee a seen n (Some f) b =
-    record {
-      entries = b.entries ++ debit (note_of seen kind.Fee n) (newest_purchase a seen) (fee_cents f) (credit_balance b.entries);
-      cycles = b.cycles;
-      fees = b.fees ++ f ∷ [];
-      penalties = b.penalties;
-    }

@@ -1,11 +1,10 @@
 -- The day after a due date: the late fee (12 CFR 1026.52(b)(1)(ii)), and the end of a penalty rate (12 CFR 1026.55(b)(4)(ii)).
 use Rattle.std.specs.Prelude.{ℕ, ◌+◌, Bool, ◌&&◌, not, ◌==◌, nat_lt, if◌then◌else◌, is_some, length, map, List, Option, Some, None}
 use Rattle.std.specs.List.{filter, list_all}
-use Rattle.card_model.specs.Books.{Account, Book, penalty_fee, with_fee, with_penalties}
+use Rattle.card_model.specs.Books.{Account, Book, with_penalties}
 use Rattle.card_model.specs.Cycles.{Cycle, IssuedRow, Seen}
+use Rattle.card_model.specs.Fees.{late_fee, with_fee}
 use Rattle.card_model.specs.Payments.{met}
-use Rattle.card_model.specs.declared.fee.Fee.{Fee}
-use Rattle.card_model.specs.declared.fee.FeeKind.TheVariants as fee
 use Rattle.card_model.specs.declared.segment.Interval.{Interval}
 
 -- the cycles whose due dates lie after a day
@@ -20,12 +19,6 @@ awaits_end cycles i = not (is_some i.last) && (length (due_after_day i.begins cy
 abbrev pub cured_by : Seen → List Cycle → ℕ → Interval → Interval
 cured_by seen cycles due i =
     if awaits_end cycles i && list_all (met seen) (due_after_day i.begins cycles) then record { begins = i.begins; last = Some due } else i
-
--- the late fee, where the due date wasn't met
-abbrev pub late_fee : Option IssuedRow → Seen → Book → Cycle → Option Fee
-late_fee issued seen b c =
-    let charged = penalty_fee issued seen b fee.Late c in
-    if met seen c then None else charged
 
 -- the late fee is charged, and penalties end
 abbrev pub after_due_date : Option IssuedRow → Account → Seen → Book → Cycle → Book

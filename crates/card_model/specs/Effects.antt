@@ -7,9 +7,10 @@ use Rattle.card_events.specs.declared.post.Place.{Place}
 use Rattle.card_events.specs.declared.post.Post.{Post}
 use Rattle.card_events.specs.declared.post.Post.TheVariants as post
 use Rattle.card_model.specs.Allocation.{allocated, placed}
-use Rattle.card_model.specs.Books.{Account, Book, all_segments, newest_purchase, note_of, penalty_fee, rate_in, with_all_entries, with_entries, with_fee, with_penalties}
+use Rattle.card_model.specs.Books.{Account, Book, all_segments, newest_purchase, note_of, rate_in, with_all_entries, with_entries, with_penalties}
 use Rattle.card_model.specs.Cycles.{Cycle, IssuedRow, Seen, last_cycle, post_at}
 use Rattle.card_model.specs.Entries.{at_least_zero, credit_balance, debit, holds, is_kind, lowers, owing, releases, sum_of}
+use Rattle.card_model.specs.Fees.{penalty_fee, with_fee}
 use Rattle.card_model.specs.Payments.{is_payment, minimum_left, sixty_days_late}
 use Rattle.card_model.specs.Segments.{SegmentTerms, is_deferred_in, is_of_place, kept_segment, last_that, segment_at}
 use Rattle.card_model.specs.declared.entry.Entry.{Entry}

@@ -1,11 +1,14 @@
 -- Penalty fees (12 CFR 1026.52(b)). Amounts are cents.
-use Rattle.std.specs.Prelude.{ℕ, ◌+◌, Bool, true, false, ◌&&◌, ◌||◌, not, ◌==◌, nat_le, nat_lt, if◌then◌else◌, min, List, [], ◌∷◌, Option, Some, None, pos}
+use Rattle.std.specs.Prelude.{ℕ, zero, suc, ◌+◌, Bool, true, false, ◌&&◌, ◌||◌, not, ◌==◌, nat_le, nat_lt, if◌then◌else◌, min, List, [], ◌∷◌, ◌++◌, Option, Some, None, pos}
 use Rattle.std.specs.List.{filter, sum_by, list_any}
 use Rattle.card_events.specs.SharedRows.{FeeRow}
-use Rattle.card_model.specs.Cycles.{Cycle, Seen}
-use Rattle.card_model.specs.Entries.{at_least_zero}
-use Rattle.card_model.specs.Payments.{asked}
+use Rattle.card_model.specs.Books.{Account, Book, newest_purchase, note_of, present_cycle}
+use Rattle.card_model.specs.Caps.{capped_by}
+use Rattle.card_model.specs.Cycles.{Cycle, IssuedRow, Seen}
+use Rattle.card_model.specs.Entries.{at_least_zero, credit_balance, debit}
+use Rattle.card_model.specs.Payments.{asked, met}
 use Rattle.card_model.specs.Segments.{last_that}
+use Rattle.card_model.specs.declared.entry.EntryKind.TheVariants as kind
 use Rattle.card_model.specs.declared.fee.Cause.{Cause}
 use Rattle.card_model.specs.declared.fee.Fee.{Fee}
 use Rattle.card_model.specs.declared.fee.FeeKind.{FeeKind}
@@ -27,6 +30,10 @@ later_row r (Some t) = if nat_lt t.day r.day then r else t
 abbrev pub row_in_force : List FeeRow → Option FeeRow
 row_in_force [] = None
 row_in_force (r ∷ rs) = Some (later_row r (row_in_force rs))
+
+-- the row that is in force on a day
+abbrev pub row_on : List FeeRow → ℕ → Option FeeRow
+row_on rows day = row_in_force (filter (λ r. nat_le r.day day) rows)
 
 -- the amount of a tier, 0 without a row
 abbrev pub tier_amount : Option FeeRow → Bool → ℕ
@@ -83,3 +90,52 @@ fee_by row fees c minimum last_due =
 abbrev pub fee_for : Seen → List Cycle → List Fee → ℕ → FeeKind → Cycle → Option Fee
 fee_for seen cycles fees cycle k c =
     fee_by (row_in_force seen.fees) fees (record { kind = k; due_cycle = c.number; cycle = cycle; day = seen.day }) c.minimum (asked seen.issued (last_due seen.day cycles))
+
+-- ---- what was issued bounds it, by the ledger's own rule on corrections
+-- the cents of fees for a due date, 0 where there is none
+abbrev pub fees_for : ℕ → List Fee → ℕ
+fees_for due_cycle fees = sum_by (λ f. if f.due_cycle == due_cycle then fee_cents f else 0) fees
+
+-- those in an issued row
+abbrev pub issued_fee : ℕ → IssuedRow → ℕ
+issued_fee due_cycle r = fees_for due_cycle r.statement.fees
+
+-- a fee at other cents
+abbrev pub at_cents : ℕ → Fee → Fee
+at_cents cents f = record { due_cycle = f.due_cycle; kind = f.kind; repeat = f.repeat; cycle = f.cycle; day = f.day; cents = pos cents }
+
+-- a fee at these cents, none for 0
+abbrev pub fee_above : ℕ → Fee → Option Fee
+fee_above zero f = None
+fee_above (suc n) f = Some (at_cents (suc n) f)
+
+-- a fee, at most what was issued for its due date. One of 0 isn't charged
+abbrev pub charged_by : {A : Type 0} → (ℕ → A → ℕ) → Option A → Option Fee → Option Fee
+charged_by cents issued None = None
+charged_by cents issued (Some f) = fee_above (capped_by (cents f.due_cycle) issued (fee_cents f)) f
+
+-- a fee of the present cycle, as its issued row lowers it
+abbrev pub charged_fee : Option IssuedRow → Option Fee → Option Fee
+charged_fee issued f = charged_by issued_fee issued f
+
+-- ---- charged today
+-- the fee for the due date of a cycle, charged today
+abbrev pub penalty_fee : Option IssuedRow → Seen → Book → FeeKind → Cycle → Option Fee
+penalty_fee issued seen b k c = charged_fee issued (fee_for seen b.cycles b.fees (present_cycle b) k c)
+
+-- it is debited to the newest Purchase vintage
+abbrev pub with_fee : Account → Seen → ℕ → Option Fee → Book → Book
+with_fee a seen n None b = b
+with_fee a seen n (Some f) b =
+    record {
+      entries = b.entries ++ debit (note_of seen kind.Fee n) (newest_purchase a seen) (fee_cents f) (credit_balance b.entries);
+      cycles = b.cycles;
+      fees = b.fees ++ f ∷ [];
+      penalties = b.penalties;
+    }
+
+-- the late fee, where the due date wasn't met
+abbrev pub late_fee : Option IssuedRow → Seen → Book → Cycle → Option Fee
+late_fee issued seen b c =
+    let charged = penalty_fee issued seen b fee.Late c in
+    if met seen c then None else charged

@@ -6,10 +6,10 @@ use Rattle.card_events.specs.SharedRows.{FeeRow, IndexRow, SharedRows}
 use Rattle.card_events.specs.declared.kept.Kept.{Kept}
 use Rattle.card_events.specs.declared.post.Post.TheVariants as post
 use Rattle.card_model.specs.Books.{Book}
-use Rattle.card_model.specs.Caps.{issued_fee, row_for}
+use Rattle.card_model.specs.Caps.{row_for}
 use Rattle.card_model.specs.Cycles.{Cycle, IssuedRow, Sheet, amount_at}
 use Rattle.card_model.specs.Entries.{balance, is_kind, owed, sum_of}
-use Rattle.card_model.specs.Fees.{fee_cents}
+use Rattle.card_model.specs.Fees.{fee_cents, issued_fee}
 use Rattle.card_model.specs.Folds.{book, rows_issued}
 use Rattle.card_model.specs.declared.entry.Entry.{Entry}
 use Rattle.card_model.specs.declared.entry.EntryKind.{EntryKind}

@@ -28,7 +28,8 @@ use Rattle.card_replay.proofs.Through.{last-is}
 use Rattle.card_replay.proofs.Unread.{begun-on}
 use Rattle.card_replay.specs.Changes.{IsRewoundBy, MayPrepare}
 use Rattle.card_replay.specs.Rewinds.{IsAgain, IsBeforeChange, IsOneMore, MayGoBackOn, cycle_before}
-use Rattle.card_replay.specs.Needs.{is_bill, needs_today}
+use Rattle.card_book.specs.Laws.{is_bill}
+use Rattle.card_replay.specs.Needs.{needs_today}
 use Rattle.card_replay.specs.Replays.{IsFolding, IsReplay, IsWhole, Replay, Stands, day_of, given_of, posted_of, present_of}
 use Rattle.card_replay.specs.Steps.{IsFirstBetween, first_in_cycle}
 use Rattle.card_replay.specs.declared.change.TakenBack.{TakenBack}

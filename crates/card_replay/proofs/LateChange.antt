@@ -18,7 +18,8 @@ use Rattle.card_daily.specs.Given.{Given}
 use Rattle.card_book.specs.GoingOn.{sets_rates}
 use Rattle.card_replay.proofs.Changed.{continues-before}
 use Rattle.card_replay.proofs.Unread.{folding-on}
-use Rattle.card_replay.specs.Needs.{is_bill, needs_today}
+use Rattle.card_book.specs.Laws.{is_bill}
+use Rattle.card_replay.specs.Needs.{needs_today}
 use Rattle.card_replay.specs.Rewinds.{IsOneMore}
 use Rattle.card_replay.specs.Replays.{Folding, IsFolding}
 

@@ -10,6 +10,7 @@ ghost use Rattle.card_daily.specs.Given.{Given};
 ghost use Rattle.card_book.specs.Rewound.{AreFolded};
 ghost use Rattle.card_book.specs.GoingOn as going;
 ghost use Rattle.card_events.specs.declared.post.Post.{Post};
+ghost use Rattle.card_book.specs.Laws.{is_bill};
 ghost use Rattle.card_replay.specs.Needs as needs;
 ghost use Rattle.card_replay.specs.Replays.{day_of, day_reached};
 ghost use Rattle.card_replay.specs.Rewinds.{IsAgain, IsAtBeginning, IsAtClosing, MayBegin, MayGoBackOn, MayRewind, cycle_before};
@@ -51,7 +52,7 @@ pub fn sets_rates(post: &Post) -> bool
 }
 
 fn is_bill(post: &Post) -> bool
-    ensures { result ≡ needs.is_bill post.now }
+    ensures { result ≡ is_bill post.now }
 {
     matches!(post, Post::Bill { .. })
 }

@@ -15,14 +15,14 @@ use Rattle.card_events.specs.declared.post.Post.{Post}
 use Rattle.card_events.specs.declared.post.Post.TheVariants as post
 use Rattle.card_model.proofs.Past.{same_books}
 use Rattle.card_model.specs.Allocation.{allocated, placed}
-use Rattle.card_model.specs.Books.{Account, Book, account_of, all_segments, note_of, penalty_fee, present_cycle, rate_in, with_all_entries, with_cycle, with_entries, with_fee, with_penalties}
+use Rattle.card_model.specs.Books.{Account, Book, account_of, all_segments, note_of, present_cycle, rate_in, with_all_entries, with_cycle, with_entries, with_penalties}
 use Rattle.card_model.specs.Caps.{row_for}
 use Rattle.card_model.specs.Closing.{Posting, ends_after, close, closed_cycle, closing_interest, first_day_of, grace_amount, minimum_of, minimum_payment, nonzero, net_balance, post_interest, post_one, posted_for, purchase_case_in}
 use Rattle.card_model.specs.Cycles.{Cycle, IssuedRow, Seen, amount_at, amounts_sum, last_cycle, post_at, posts_on, seen_on}
-use Rattle.card_model.specs.DueDates.{awaits_end, cured_by, due_after_day, late_fee, on_due}
+use Rattle.card_model.specs.DueDates.{awaits_end, cured_by, due_after_day, on_due}
 use Rattle.card_model.specs.Effects.{closing_from, disputed_cents, is_part_of, place_segment, put_back, size, after_posts, charge_at, charge_segment, corrected_cents, credit_parts, disputed_charge, disputed_segment, effect, holding, holdings, is_charge, meant_for, moved_by, parts_entries, payment_at, payment_parts, place_charged, returned, returned_fee}
 use Rattle.card_model.specs.Entries.{at_least_zero, credit_balance, debit, holds, is_kind, owing, releases, sum_of}
-use Rattle.card_model.specs.Fees.{fee_by, fee_cents, fees_in, fees_sum}
+use Rattle.card_model.specs.Fees.{fee_by, fee_cents, fees_in, fees_sum, late_fee, penalty_fee, with_fee}
 use Rattle.card_model.specs.Folds.{book, book_after, day_after}
 use Rattle.card_model.specs.Interest.{average_balance, accrual, case_of, charged, charged_on, cycle_before, cycle_interest, days_from, deferred_interest, half_up, interest_sum, is_repayment, purchase_case, repaid_after, row}
 use Rattle.card_model.specs.Payments.{asked, asks, counted, credited, due_cycle_of, folded_before, has_due_payment, is_before, is_between, is_credit, is_met, is_paid, is_paid_if_any, is_payment, is_returned, met, minimum_left, owes_sixty_days, paid, past_due, returns, sixty_days_late}

@@ -13,14 +13,14 @@ use Rattle.card_events.specs.declared.post.Post.TheVariants as post
 use Rattle.card_model.proofs.EntryFacts.{all-debit, all-holds, all-parts, all-releases}
 use Rattle.card_model.proofs.PartsSum.{SegmentsAscend}
 use Rattle.card_model.proofs.Posted.{sum_of-append}
-use Rattle.card_model.specs.Books.{Account, Book, account_of, all_segments, present_cycle, with_fee}
+use Rattle.card_model.specs.Books.{Account, Book, account_of, all_segments, present_cycle}
 use Rattle.card_model.specs.Caps.{row_for}
 use Rattle.card_model.specs.Closing.{Posting, close, closing_interest, post_interest, post_one, posted_for}
 use Rattle.card_model.specs.Cycles.{Cycle, IssuedRow, Seen, last_cycle, post_at, posts_on, seen_on}
-use Rattle.card_model.specs.DueDates.{after_due_date, late_fee, on_due}
+use Rattle.card_model.specs.DueDates.{after_due_date, on_due}
 use Rattle.card_model.specs.Effects.{after_posts, credit_parts, disputed_cents, disputed_charge, disputed_segment, effect, is_part_of, meant_for, moved_by, parts_entries, payment_at, payment_parts, put_back, returned, returned_fee, size}
 use Rattle.card_model.specs.Entries.{credit_balance, debit, is_kind, sum_of}
-use Rattle.card_model.specs.Fees.{fee_cents}
+use Rattle.card_model.specs.Fees.{fee_cents, late_fee, with_fee}
 use Rattle.card_model.specs.Folds.{book, book_after, day_after}
 use Rattle.card_model.specs.Payments.{is_between, is_payment}
 use Rattle.card_model.specs.Segments.{SegmentTerms, newest, segment_at}

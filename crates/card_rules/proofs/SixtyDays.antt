@@ -15,12 +15,13 @@ use Rattle.card_events.specs.declared.post.Post.TheVariants as post
 use Rattle.card_fees.proofs.Fold.{counted-seen}
 use Rattle.card_model.proofs.Caps.{due-cycles, effect-cycles, posts-cycles}
 use Rattle.card_model.proofs.Penalties.{due-by}
-use Rattle.card_model.specs.Books.{Account, Book, account_of, present_cycle, with_fee}
+use Rattle.card_model.specs.Books.{Account, Book, account_of, present_cycle}
 use Rattle.card_model.specs.Caps.{row_for}
 use Rattle.card_model.specs.Closing.{close, closed_cycle, closing_interest}
 use Rattle.card_model.specs.Cycles.{Cycle, IssuedRow, Seen, last_cycle, posts_on, seen_on}
 use Rattle.card_model.specs.DueDates.{awaits_end, cured_by, due_after_day, on_due}
 use Rattle.card_model.specs.Effects.{after_posts, effect, meant_for, payment_at, returned, returned_fee}
+use Rattle.card_model.specs.Fees.{with_fee}
 use Rattle.card_model.specs.Folds.{book, book_after, day_after}
 use Rattle.card_model.specs.Payments.{counted, has_due_payment, is_timely, met, owes_sixty_days, sixty_days_late}
 use Rattle.card_model.specs.declared.fee.Fee.{Fee}

@@ -6,9 +6,8 @@ use Rattle.std.proofs.lemmas.Bool.Decides.{nat_tests}
 use Rattle.std.proofs.lemmas.List.Elements.{filter-append}
 use Rattle.std.proofs.lemmas.List.{append-nil, map-append, take_more}
 use Rattle.card_events.specs.SharedRows.{FeeRow}
-use Rattle.card_model.specs.Fees.{later_row, row_in_force}
+use Rattle.card_model.specs.Fees.{later_row, row_in_force, row_on}
 use Rattle.card_shared.specs.Rows.{fee_row, fee_rows, later_of, latest}
-use Rattle.card_shared.specs.Table.{row_on}
 use Rattle.card_shared.specs.declared.table.Row.{Row}
 
 -- a row behind those before it

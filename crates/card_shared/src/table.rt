@@ -29,7 +29,7 @@ impl Model for FeeTable {
 
 ghost use Rattle.std.specs.Prelude.{◌≡◌, Some, option_map};
 ghost use Rattle.card_shared.specs.Rows.{fee_row, fee_rows, later_of, latest};
-ghost use Rattle.card_shared.specs.Table.{row_on};
+ghost use Rattle.card_model.specs.Fees.{row_on};
 
 // the row with the later day, and of two for one day the second
 fn later_of(found: Option<Row>, row: Row) -> Row
@@ -65,7 +65,8 @@ fn in_force(rows: &[Row], day: Day) -> Option<Row>
 
 impl FeeTable {
     ghost use Rattle.std.specs.Prelude.{◌≡◌, ◌++◌, [], ◌∷◌, IfOk, OnOk, OnErr, pos, ◌≤ℤ◌, option_map, unsigned_abs};
-    ghost use Rattle.card_shared.specs.Table.{amounts_of, row_on};
+    ghost use Rattle.card_shared.specs.Table.{amounts_of};
+    ghost use Rattle.card_model.specs.Fees.{row_on};
 
     /// A table without a row.
     pub fn new(alloc: Global) -> FeeTable

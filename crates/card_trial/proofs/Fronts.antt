@@ -6,7 +6,7 @@ use Rattle.card_account.specs.Verdicts.{verdict_of}
 use Rattle.card_desk.proofs.OutcomeLemmas.{known_outcome, new_at_key}
 use Rattle.card_desk.proofs.PlaceLemmas.{is_place}
 use Rattle.card_desk.specs.Applied as applied
-use Rattle.card_desk.specs.Desks.{OpenDesk, now_of}
+use Rattle.card_desk.specs.Desks.{OpenDesk}
 use Rattle.card_desk.specs.Places.{place_from}
 use Rattle.card_desk.specs.Reached.{IsDayAfter, MovesOn, MovesToApply, MovesToTell, day_there}
 use Rattle.card_desk.specs.Recorded.{AreStanding, entries_on, entries_there}
@@ -22,6 +22,7 @@ use Rattle.card_events.specs.declared.request.Shared.{Shared}
 use Rattle.card_model.specs.Folds.{book}
 use Rattle.card_model.specs.Machine.{Accepts, NamedAccount, Outcome, Refuses, Repeats, State, accepted, lists_of, outcome_in, step, with_lists, with_outcome}
 use Rattle.card_model.specs.Refusals.{Lists}
+use Rattle.card_model.specs.Work.{present_in}
 use Rattle.card_model.specs.declared.entry.Entry.{Entry}
 use Rattle.card_ports.specs.declared.row.Row.{Row}
 use Rattle.card_replay.proofs.EntryDays.{entries-grow}
@@ -42,11 +43,11 @@ same-front d new i n same forward within =
 
 -- ---- where a post is accepted
 -- what is accepted
-accepted-is : (s : State) (name key : List ℕ) (p : Post) (lists l : Lists) → lists_of name s.accounts ≡ Some lists → outcome_in s name key p ≡ Accepts l → l ≡ accepted (now_of s lists) key p
+accepted-is : (s : State) (name key : List ℕ) (p : Post) (lists l : Lists) → lists_of name s.accounts ≡ Some lists → outcome_in s name key p ≡ Accepts l → l ≡ accepted (present_in s lists) key p
 accepted-is s name key p lists l there is =
     let known = known_outcome s name key p lists there in
-    let all = known ∙ new_at_key (now_of s lists) key p (with_key key lists.posts) (ap verdict_of (sym is ∙ known)) in
-    let same : Accepts l ≡ Accepts (accepted (now_of s lists) key p) = sym is ∙ all in
+    let all = known ∙ new_at_key (present_in s lists) key p (with_key key lists.posts) (ap verdict_of (sym is ∙ known)) in
+    let same : Accepts l ≡ Accepts (accepted (present_in s lists) key p) = sym is ∙ all in
     cc
 
 under-rows : (s t : State) (l : Lists) (day n : ℕ) → t.shared ≡ s.shared → take n (entries_on t l day) ≡ take n (entries_on s l day)

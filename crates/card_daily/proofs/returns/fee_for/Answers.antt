@@ -2,10 +2,9 @@ use Rattle.std.proofs.Common.{◌≤◌, refl, sym, ap, ◌∙◌, subst, arith}
 use Rattle.std.specs.Prelude.{option_copied}
 use Rattle.card_events.specs.Billing.{closing, cycle_of}
 use Rattle.card_events.specs.History.{anchor_of}
-use Rattle.card_model.specs.Caps.{charged_by, fees_for}
 use Rattle.card_fees.specs.DueLaws.{issued_fees}
 use Rattle.card_model.specs.Cycles.{Cycle}
-use Rattle.card_model.specs.Fees.{last_due}
+use Rattle.card_model.specs.Fees.{charged_by, fees_for, last_due}
 use Rattle.card_model.specs.Payments.{asked}
 use Rattle.card_daily.proofs.Charging.{by-parts, counted-cycles, due-by, fee-is, few-cycles}
 use Rattle.card_daily.proofs.Following.{upto-closing}

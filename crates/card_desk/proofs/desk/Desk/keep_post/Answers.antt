@@ -13,8 +13,9 @@ use Rattle.card_events.specs.declared.request.Request.{Request}
 use Rattle.card_events.specs.declared.request.Request.TheVariants as request
 use Rattle.card_model.specs.Machine.{Accepts, State, NamedAccount, accepted, outcome_in}
 use Rattle.card_model.specs.Refusals.{Lists}
+use Rattle.card_model.specs.Work.{present_in}
 use Rattle.card_desk.specs.Applied.{Carried, Steps}
-use Rattle.card_desk.specs.Desks.{now_at, now_of, state_of}
+use Rattle.card_desk.specs.Desks.{now_at, state_of}
 use Rattle.card_desk.specs.Kept.{row_of, accepted_count}
 use Rattle.card_desk.specs.Places.{IsPlace}
 use Rattle.card_desk.specs.Steps.{reached_at}
@@ -114,7 +115,7 @@ prepare-requires-clause-sound g c =
     let low = low_in d.shared.items d.today items s at state c.requires.place.bound in
     let taken : is_request (request.Post name key p) ≡ true = ap is_request (sym c.requires.request) ∙ c.in_ok-row.ensures.held in
     let place = subst (λ (x : State). IsPlace name x.accounts at) (sym state) c.requires.place in
-    let allowed = subst (λ (x : State). (e : NamedAccount) → outcome_in x name key p ≡ Accepts (accepted (now_of x (get_or x.accounts at e).lists) key p)) (sym state) c.requires.accepted in
+    let allowed = subst (λ (x : State). (e : NamedAccount) → outcome_in x name key p ≡ Accepts (accepted (present_in x (get_or x.accounts at e).lists) key p)) (sym state) c.requires.accepted in
     let outcome = posted_outcome d.index d.common d.count d.today d.shared.items items at b name key p c.self.invariant low is allowed in
     let one = posted_in d.index d.common d.count d.today d.shared.items items at b name key p c.self.invariant taken place outcome in
     subst (λ (k : List ℕ). IsSound (given_of (accepted (present_of d.today d.common b.named.lists) k p) d.common)) (sym c.copy-key.ensures)
@@ -205,7 +206,7 @@ invariant_of-self-2 g c =
     let low = low_in d.shared.items d.today items s at state c.requires.place.bound in
     let taken : is_request (request.Post name key p) ≡ true = ap is_request (sym c.requires.request) ∙ c.in_ok-row.ensures.held in
     let place = subst (λ (x : State). IsPlace name x.accounts at) (sym state) c.requires.place in
-    let allowed = subst (λ (x : State). (e : NamedAccount) → outcome_in x name key p ≡ Accepts (accepted (now_of x (get_or x.accounts at e).lists) key p)) (sym state) c.requires.accepted in
+    let allowed = subst (λ (x : State). (e : NamedAccount) → outcome_in x name key p ≡ Accepts (accepted (present_in x (get_or x.accounts at e).lists) key p)) (sym state) c.requires.accepted in
     let outcome = posted_outcome d.index d.common d.count d.today d.shared.items items at b name key p c.self.invariant low is allowed in
     let one = posted_in d.index d.common d.count d.today d.shared.items items at b name key p c.self.invariant taken place outcome in
     let x = c.prepare.new.self in
@@ -222,7 +223,7 @@ invariant_of-self-2 g c =
     let named : a.named.name ≡ (get_or items at b).named.name = c.commit-number.ensures.name ∙ (ap (λ (y : NamedAccount). y.name) same ∙ ap (λ (y : OpenAccount). y.named.name) is) in
     let comes = outcome ∙ ap (λ (l : Lists). Accepts l) (sym lists) in
     let read = read_at items s.accounts at b b.named is (ap (λ (y : State). y.accounts) state) c.requires.place.bound in
-    let room = few (now_of s (get_or s.accounts at b.named).lists) p (c.requires.no_reason b.named) in
+    let room = few (present_in s (get_or s.accounts at b.named).lists) p (c.requires.no_reason b.named) in
     let short : length a.named.lists.posts ≤ post_limit = omega (arith, grew, room, ap (λ (y : NamedAccount). length y.lists.posts) read) in
     posted_desk d.index d.common d.count d.today d.shared.items items at a b name key p c.self.invariant taken place low named comes
     (grew ∙ ap (λ (y : OpenAccount). length y.named.lists.posts + 1) is) short (subst (λ (n : ℕ). IsAccount n d.common a) says.today c.commit-number.ensures.account)
@@ -242,7 +243,7 @@ returns-clause-carried g c =
     let low = low_in d.shared.items d.today items s at state c.requires.place.bound in
     let taken : is_request (request.Post name key p) ≡ true = ap is_request (sym c.requires.request) ∙ c.in_ok-row.ensures.held in
     let place = subst (λ (x : State). IsPlace name x.accounts at) (sym state) c.requires.place in
-    let allowed = subst (λ (x : State). (e : NamedAccount) → outcome_in x name key p ≡ Accepts (accepted (now_of x (get_or x.accounts at e).lists) key p)) (sym state) c.requires.accepted in
+    let allowed = subst (λ (x : State). (e : NamedAccount) → outcome_in x name key p ≡ Accepts (accepted (present_in x (get_or x.accounts at e).lists) key p)) (sym state) c.requires.accepted in
     let outcome = posted_outcome d.index d.common d.count d.today d.shared.items items at b name key p c.self.invariant low is allowed in
     let one = posted_in d.index d.common d.count d.today d.shared.items items at b name key p c.self.invariant taken place outcome in
     let x = c.prepare.new.self in
@@ -298,7 +299,7 @@ returns-in_err-change-clause-most g c =
     let low = low_in d.shared.items d.today items s at state c.requires.place.bound in
     let taken : is_request (request.Post name key p) ≡ true = ap is_request (sym c.requires.request) ∙ c.in_ok-row.ensures.held in
     let place = subst (λ (x : State). IsPlace name x.accounts at) (sym state) c.requires.place in
-    let allowed = subst (λ (x : State). (e : NamedAccount) → outcome_in x name key p ≡ Accepts (accepted (now_of x (get_or x.accounts at e).lists) key p)) (sym state) c.requires.accepted in
+    let allowed = subst (λ (x : State). (e : NamedAccount) → outcome_in x name key p ≡ Accepts (accepted (present_in x (get_or x.accounts at e).lists) key p)) (sym state) c.requires.accepted in
     let outcome = posted_outcome d.index d.common d.count d.today d.shared.items items at b name key p c.self.invariant low is allowed in
     let one = posted_in d.index d.common d.count d.today d.shared.items items at b name key p c.self.invariant taken place outcome in
     let least = subst (λ (k : List ℕ). AreFewToPrepare d.today d.common b.named.lists b.folding.reached k p c.args.steps.now c.prepare.new.steps) c.copy-key.ensures c.prepare.ensures.most in
@@ -319,7 +320,7 @@ returns-in_err-keep_row-clause-most g c =
     let low = low_in d.shared.items d.today items s at state c.requires.place.bound in
     let taken : is_request (request.Post name key p) ≡ true = ap is_request (sym c.requires.request) ∙ c.in_ok-row.ensures.held in
     let place = subst (λ (x : State). IsPlace name x.accounts at) (sym state) c.requires.place in
-    let allowed = subst (λ (x : State). (e : NamedAccount) → outcome_in x name key p ≡ Accepts (accepted (now_of x (get_or x.accounts at e).lists) key p)) (sym state) c.requires.accepted in
+    let allowed = subst (λ (x : State). (e : NamedAccount) → outcome_in x name key p ≡ Accepts (accepted (present_in x (get_or x.accounts at e).lists) key p)) (sym state) c.requires.accepted in
     let outcome = posted_outcome d.index d.common d.count d.today d.shared.items items at b name key p c.self.invariant low is allowed in
     let one = posted_in d.index d.common d.count d.today d.shared.items items at b name key p c.self.invariant taken place outcome in
     let least = subst (λ (k : List ℕ). AreFewToPrepare d.today d.common b.named.lists b.folding.reached k p c.args.steps.now c.prepare.new.steps) c.copy-key.ensures c.prepare.ensures.most in
@@ -340,7 +341,7 @@ returns-clause-most g c =
     let low = low_in d.shared.items d.today items s at state c.requires.place.bound in
     let taken : is_request (request.Post name key p) ≡ true = ap is_request (sym c.requires.request) ∙ c.in_ok-row.ensures.held in
     let place = subst (λ (x : State). IsPlace name x.accounts at) (sym state) c.requires.place in
-    let allowed = subst (λ (x : State). (e : NamedAccount) → outcome_in x name key p ≡ Accepts (accepted (now_of x (get_or x.accounts at e).lists) key p)) (sym state) c.requires.accepted in
+    let allowed = subst (λ (x : State). (e : NamedAccount) → outcome_in x name key p ≡ Accepts (accepted (present_in x (get_or x.accounts at e).lists) key p)) (sym state) c.requires.accepted in
     let outcome = posted_outcome d.index d.common d.count d.today d.shared.items items at b name key p c.self.invariant low is allowed in
     let one = posted_in d.index d.common d.count d.today d.shared.items items at b name key p c.self.invariant taken place outcome in
     let least = subst (λ (k : List ℕ). AreFewToPrepare d.today d.common b.named.lists b.folding.reached k p c.args.steps.now c.prepare.new.steps) c.copy-key.ensures c.prepare.ensures.most in
@@ -394,7 +395,7 @@ returns-clause-reached g c =
     let p = c.args.given.now.post.now in
     let taken : is_request (request.Post name key p) ≡ true = ap is_request (sym c.requires.request) ∙ c.in_ok-row.ensures.held in
     let place = subst (λ (x : State). IsPlace name x.accounts at) (sym state) c.requires.place in
-    let allowed = subst (λ (x : State). (e : NamedAccount) → outcome_in x name key p ≡ Accepts (accepted (now_of x (get_or x.accounts at e).lists) key p)) (sym state) c.requires.accepted in
+    let allowed = subst (λ (x : State). (e : NamedAccount) → outcome_in x name key p ≡ Accepts (accepted (present_in x (get_or x.accounts at e).lists) key p)) (sym state) c.requires.accepted in
     let outcome = posted_outcome d.index d.common d.count d.today d.shared.items items at b name key p c.self.invariant low is allowed in
     let one = posted_in d.index d.common d.count d.today d.shared.items items at b name key p c.self.invariant taken place outcome in
     let x = c.prepare.new.self in

@@ -7,8 +7,9 @@ use Rattle.card_events.specs.declared.reply.Reply.TheVariants as reply
 use Rattle.card_events.specs.declared.request.Request.{Request}
 use Rattle.card_model.specs.Machine.{Accepts, NamedAccount, State, accepted, outcome_in}
 use Rattle.card_model.specs.Refusals.{reason_against}
+use Rattle.card_model.specs.Work.{present_in}
 use Rattle.card_desk.specs.Applied.{Carried, IsAsked, Steps}
-use Rattle.card_desk.specs.Desks.{now_at, now_of}
+use Rattle.card_desk.specs.Desks.{now_at}
 use Rattle.card_desk.specs.Places.{IsPlace}
 use Rattle.card_desk.specs.Steps.{reached_there}
 use Rattle.card_desk.proofs.DeskLemmas.{outcome_at}
@@ -43,7 +44,7 @@ keep_post-requires-clause-no_reason g c =
     let key = c.args.given.now.key.now in
     let p = c.args.given.now.post.now in
     subst (λ (x : State). (d : NamedAccount) → reason_against (now_at x c.args.at d) p ≡ None) (sym c.judge_at.ensures.state)
-    (λ d. none_against (now_of s (get_or s.accounts c.args.at d).lists) key p (with_key key (get_or s.accounts c.args.at d).lists.posts) (sym c.in-Ok-New.field-0-is ∙ c.in-Ok-New.ensures.value d))
+    (λ d. none_against (present_in s (get_or s.accounts c.args.at d).lists) key p (with_key key (get_or s.accounts c.args.at d).lists.posts) (sym c.in-Ok-New.field-0-is ∙ c.in-Ok-New.ensures.value d))
 
 pub keep_post-requires-clause-accepted : goal.keep_post-requires-clause-accepted
 keep_post-requires-clause-accepted g c =
@@ -55,7 +56,7 @@ keep_post-requires-clause-accepted g c =
     (λ d.
     let a = get_or s.accounts c.args.at d in
     let both = outcome_at s name key p c.args.at d verdict.New c.requires.place (sym c.in-Ok-New.field-0-is ∙ c.in-Ok-New.ensures.value d) in
-    both.1 ∙ new_at_key (now_of s a.lists) key p (with_key key a.lists.posts) (both.0 ∙ ap verdict_of both.1))
+    both.1 ∙ new_at_key (present_in s a.lists) key p (with_key key a.lists.posts) (both.0 ∙ ap verdict_of both.1))
 
 -- ---- what is left
 pub returns-in-Ok-Refused-clause-carried : goal.returns-in-Ok-Refused-clause-carried
@@ -106,8 +107,8 @@ returns-in-Ok-New-clause-most g c =
     let judged = sym c.in-Ok-New.field-0-is ∙ c.in-Ok-New.ensures.value e in
     let a = get_or s.accounts c.args.at e in
     let both = outcome_at s c.args.given.now.account.now key p c.args.at e verdict.New c.requires.place judged in
-    let accepts = both.1 ∙ new_at_key (now_of s a.lists) key p (with_key key a.lists.posts) (both.0 ∙ ap verdict_of both.1) in
-    few_judged c.args.self.now c.judge_at.new.self c.args.given.now.account.now key p c.args.at (accepted (now_of s a.lists) key p) c.args.steps.now c.judge_at.new.steps c.keep_post.new.steps
+    let accepts = both.1 ∙ new_at_key (present_in s a.lists) key p (with_key key a.lists.posts) (both.0 ∙ ap verdict_of both.1) in
+    few_judged c.args.self.now c.judge_at.new.self c.args.given.now.account.now key p c.args.at (accepted (present_in s a.lists) key p) c.args.steps.now c.judge_at.new.steps c.keep_post.new.steps
     c.judge_at.ensures.state accepts c.in-Ok-New.ensures.spent c.keep_post.ensures.most
 
 pub returns-in-Err-clause-carried : goal.returns-in-Err-clause-carried
@@ -147,8 +148,8 @@ returns-in-Ok-New-clause-reached g c =
     let p = c.args.given.now.post.now in
     let both = outcome_at s name key p c.args.at no_account verdict.New c.requires.place (sym c.in-Ok-New.field-0-is ∙ c.in-Ok-New.ensures.value no_account) in
     let a = get_or s.accounts c.args.at no_account in
-    let accepts = both.1 ∙ new_at_key (now_of s a.lists) key p (with_key key a.lists.posts) (both.0 ∙ ap verdict_of both.1) in
-    judged-moves c.keep_post.result d c.judge_at.new.self c.keep_post.new.self name key p c.args.at (accepted (now_of s a.lists) key p) c.judge_at.ensures.state accepts c.judge_at.ensures.reached c.keep_post.ensures.reached
+    let accepts = both.1 ∙ new_at_key (present_in s a.lists) key p (with_key key a.lists.posts) (both.0 ∙ ap verdict_of both.1) in
+    judged-moves c.keep_post.result d c.judge_at.new.self c.keep_post.new.self name key p c.args.at (accepted (present_in s a.lists) key p) c.judge_at.ensures.state accepts c.judge_at.ensures.reached c.keep_post.ensures.reached
 
 pub returns-in-Err-clause-reached : goal.returns-in-Err-clause-reached
 returns-in-Err-clause-reached g c = record { done = tt; failed = c.judge_at.ensures.reached }
