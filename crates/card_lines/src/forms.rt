@@ -1,5 +1,5 @@
 // The forms of fields.
-ghost use Rattle.std.specs.Prelude.{◌≡◌, true, false, ◌&&◌, ◌≤◌, ◌<◌, ◌^◌, length, MatchOption};
+ghost use Rattle.std.specs.Prelude.{◌≡◌, true, false, ◌&&◌, ◌≤◌, ◌<◌, ◌^◌, length, take, drop, MatchOption};
 ghost use Rattle.std.specs.Char.{is_ascii_digit};
 ghost use Rattle.std.specs.List.{list_all};
 ghost use Rattle.card_lines.specs.Forms.{number_of, is_decimal, value_after, day_of, request_day_at, category_of, place_in, place_of, channel_of, plan_kind_of, finding_of};
@@ -71,30 +71,26 @@ pub fn digits_value(text: &[u8]) -> u64
 }
 
 /// The day that is written `YYYY-MM-DD`, where the calendar has it and it lies from 2011-01-01 to 2099-12-31.
-#[tactic(auto, unfolding(crate::specs::Forms::day_of, crate::specs::Forms::is_day_text))]
+#[tactic(auto, unfolding(crate::specs::Forms::day_of))]
 pub fn read_day(text: &[u8]) -> Option<Day>
     ensures { result ≡ day_of text.now }
 {
-    if !is_day_text(text) {
+    if !has_day_form(text) {
         return None;
     }
-    request_day(
-        digits_value(&text[..4]),
-        digits_value(&text[5..7]),
-        digits_value(&text[8..]),
-    )
+    let year = read_digits(&text[..4])?;
+    let month = read_digits(&text[5..7])?;
+    let day = read_digits(&text[8..])?;
+    request_day(year, month, day)
 }
 
+// Ten bytes, the fifth and the eighth of them dashes.
 #[tactic(auto, unfolding(crate::specs::Forms::is_day_text))]
-fn is_day_text(text: &[u8]) -> bool
-    ensures { result ≡ spec.is_day_text text.now }
+fn has_day_form(text: &[u8]) -> bool
+    ensures decides { (result && (list_all is_ascii_digit (take 4 text.now) && (list_all is_ascii_digit (take 2 (drop 5 text.now)) && list_all is_ascii_digit (drop 8 text.now)))) ≡ spec.is_day_text text.now }
+    ensures ten { result ≡ true → length text.now ≡ 10 }
 {
-    text.len() == 10
-        && text[4] == b'-'
-        && text[7] == b'-'
-        && are_digits(&text[..4])
-        && are_digits(&text[5..7])
-        && are_digits(&text[8..])
+    text.len() == 10 && text[4] == b'-' && text[7] == b'-'
 }
 
 #[tactic(auto, unfolding(crate::specs::Forms::request_day_at))]

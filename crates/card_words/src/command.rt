@@ -54,7 +54,10 @@ fn command_of_word(word: &str) -> Option<Command>
 fn export_of(account: &str) -> Option<Command>
     ensures { result ≡ option_map Command.Export (name_of account.now) }
 {
-    Name::read(account.as_bytes()).map(Command::Export)
+    match Name::read(account.as_bytes()) {
+        Some(name) => Some(Command::Export(name)),
+        None => None,
+    }
 }
 
 fn command_of_account(word: &str, account: &str) -> Option<Command>
