@@ -68,7 +68,7 @@ class Words(Case):
                 self.assert_done(run(words.split(), read(DAY)), 2, USAGE, words)
 
     def test_no_text(self) -> None:
-        """A word that isn't UTF-8 makes no command, also as the name of a file, which isn't made."""
+        """A word that isn't UTF-8 makes no command, also as a name of a file, which isn't made."""
         for words in ([NO_TEXT, "apply"], [NO_TEXT, "work"], ["-", "export", NO_TEXT]):
             with self.subTest(words):
                 place = [self.at(NO_TEXT)] if words[0] == NO_TEXT else ["-"]
