@@ -1,5 +1,7 @@
 """Words that are no command give status 2 and the usage line; what isn't there gives `none`."""
 
+import os
+
 from tests.support.case import Case, read
 from tests.support.program import EXAMPLES, run
 
@@ -54,6 +56,8 @@ NO_COMMANDS = """
 - trial 2024-1-1 2024-01-02
 - trial 2024-01-01 2024-01-02 now
 """.split("\n")[:-1]
+# a word with a byte that isn't UTF-8, as Python hands it on
+NO_TEXT = "rows-\udcff.db"
 NOT_THERE = ("export nobody", "statement nobody 1", "restate nobody 1", "repay nobody 1")
 
 
@@ -62,6 +66,14 @@ class Words(Case):
         for words in NO_COMMANDS:
             with self.subTest(words):
                 self.assert_done(run(words.split(), read(DAY)), 2, USAGE, words)
+
+    def test_no_text(self) -> None:
+        """A word that isn't UTF-8 makes no command, also as a name of a file, which isn't made."""
+        for words in ([NO_TEXT, "apply"], [NO_TEXT, "work"], ["-", "export", NO_TEXT]):
+            with self.subTest(words):
+                place = [self.at(NO_TEXT)] if words[0] == NO_TEXT else ["-"]
+                self.assert_done(run(place + words[1:], read(DAY)), 2, USAGE, str(words))
+        self.assertEqual(os.listdir(self.room), [])
 
     def test_not_there(self) -> None:
         self.assert_done(run([self.file, "apply"], read(DAY)), 0)

@@ -29,6 +29,10 @@ impl<W: Write + Drop> Replies<W> {
 }
 
 impl<W: Write + Drop> Write for Replies<W> {
+    ghost use Rattle.std.specs.Prelude.{◌≡◌, [], OnOk};
+    ghost use Rattle.std.specs.Io.Buffered.{writer_buffer, writer_contents};
+    ghost use Rattle.std.specs.Io.KnownBytes.{Keeps};
+
     ghost contents = { λ r. writer_contents W.contents r.writer };
 
     fn write(&mut self, bytes: &[u8]) -> io::Result<usize> {
@@ -40,7 +44,10 @@ impl<W: Write + Drop> Write for Replies<W> {
         written
     }
 
-    fn flush(&mut self) -> io::Result<()> {
+    fn flush(&mut self) -> io::Result<()>
+        ensures bytes { Keeps (writer_contents W.contents self.old.writer) (writer_contents W.contents self.new.writer) }
+        ensures ok { OnOk result (writer_buffer self.new.writer ≡ []) }
+    {
         if self.failed {
             return Err(Error::from(ErrorKind::BrokenPipe));
         }
