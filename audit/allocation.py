@@ -6,11 +6,13 @@ rules cent by cent, and a test compares them.  All take the balances and the
 ranks of the day, both by segment number.
 """
 
+from collections.abc import Sequence
 from typing import NamedTuple
 
 
 class Rank(NamedTuple):
-    """The rate of the day, and the end of a deferred balance in the last two cycles of its period."""
+    """The rate of the day, and the end of a deferred balance in the last two cycles of its
+    period."""
     rate: int
     last_two: int | None
 
@@ -39,13 +41,14 @@ def excess_rule(unpaid: list[int], ranks: list[Rank]) -> int:
     return min(ending, key=lambda s: (ranks[s].last_two, s)) if ending else rate_rule(unpaid, ranks)
 
 
-def place_rule(unpaid: list[int], ranks: list[Rank], first: list[int]) -> int:
-    """A merchant's credit: the segments of its place, the oldest before others, then as the excess."""
+def place_rule(unpaid: list[int], ranks: list[Rank], first: Sequence[int]) -> int:
+    """A merchant's credit: the segments of its place, the oldest before others, then as the
+    excess."""
     placed = [s for s in unpaid if s in first]
     return min(placed) if placed else excess_rule(unpaid, ranks)
 
 
-def next_cent(balances: list[int], ranks: list[Rank], kind: str, first: list[int] = ()) -> int:
+def next_cent(balances: list[int], ranks: list[Rank], kind: str, first: Sequence[int] = ()) -> int:
     """The segment that the next cent goes to: the credit balance (0) where nothing is unpaid."""
     unpaid = _unpaid(balances)
     if not unpaid:
@@ -59,7 +62,8 @@ def _parts(reached: dict[int, int]) -> Parts:
     return sorted((s, cents) for s, cents in reached.items() if cents)
 
 
-def _by_cents(balances: list[int], ranks: list[Rank], kinds: list[str], first=()) -> Parts:
+def _by_cents(balances: list[int], ranks: list[Rank], kinds: list[str],
+              first: Sequence[int] = ()) -> Parts:
     left = list(balances)
     reached: dict[int, int] = {}
     for kind in kinds:
@@ -69,17 +73,19 @@ def _by_cents(balances: list[int], ranks: list[Rank], kinds: list[str], first=()
     return _parts(reached)
 
 
-def allocate_by_cents(balances, ranks, minimum_part: int, amount: int) -> Parts:
+def allocate_by_cents(balances: list[int], ranks: list[Rank], minimum_part: int,
+                      amount: int) -> Parts:
     kinds = ["minimum"] * minimum_part + ["excess"] * (amount - minimum_part)
     return _by_cents(balances, ranks, kinds)
 
 
-def place_credit_by_cents(balances, ranks, first: list[int], amount: int) -> Parts:
+def place_credit_by_cents(balances: list[int], ranks: list[Rank], first: list[int],
+                          amount: int) -> Parts:
     return _by_cents(balances, ranks, ["place"] * amount, first)
 
 
 def _whole(balances: list[int], ranks: list[Rank], amounts: list[tuple[str, int]],
-           first=()) -> Parts:
+           first: Sequence[int] = ()) -> Parts:
     """Gives each run of equal cents to the rule's segment until it is paid or the run ends."""
     left = list(balances)
     reached: dict[int, int] = {}
@@ -93,11 +99,11 @@ def _whole(balances: list[int], ranks: list[Rank], amounts: list[tuple[str, int]
     return _parts(reached)
 
 
-def allocate(balances, ranks, minimum_part: int, amount: int) -> Parts:
+def allocate(balances: list[int], ranks: list[Rank], minimum_part: int, amount: int) -> Parts:
     """The parts of a payment: first the minimum part, then the excess, ascending by segment."""
     return _whole(balances, ranks, [("minimum", minimum_part), ("excess", amount - minimum_part)])
 
 
-def place_credit(balances, ranks, first: list[int], amount: int) -> Parts:
+def place_credit(balances: list[int], ranks: list[Rank], first: list[int], amount: int) -> Parts:
     """The parts of a merchant's credit whose place has the segments `first`."""
     return _whole(balances, ranks, [("place", amount)], first)

@@ -7,6 +7,7 @@ ledger's file meanwhile, and a call of its own loads no more rows than it needs.
 
 import contextlib
 import tempfile
+from collections.abc import Iterator
 from pathlib import Path
 
 from .ledger_file import write
@@ -21,10 +22,13 @@ class Alone:
         self.bodies, self.path = [body for _, body in kept], path
         self.places: dict[str | None, list[int]] = {}  # of the shared rows by None
         for place, body in enumerate(self.bodies):
-            self.places.setdefault(decode(body).account, []).append(place)
+            request = decode(body)
+            if request is None:
+                raise ValueError(f"row {place + 1} is no request: check the rows first")
+            self.places.setdefault(request.account, []).append(place)
 
     @contextlib.contextmanager
-    def program(self, account: str):
+    def program(self, account: str) -> Iterator[Program]:
         """The program over a file with this account alone."""
         places = sorted(self.places.get(None, []) + self.places.get(account, []))
         with tempfile.TemporaryDirectory(prefix="audit-") as folder:

@@ -1,7 +1,8 @@
-"""The book of an account at the end of a day: its entries, closed cycles, fees and penalty rates."""
+"""The book of an account at the end of a day: its entries, closed cycles, fees and penalty
+rates."""
 
 from dataclasses import dataclass, field
-from typing import NamedTuple
+from typing import TYPE_CHECKING, NamedTuple
 
 from .days import Anchor
 from .fees import Fee, FeeRow
@@ -9,6 +10,9 @@ from .history import Corrected, corrected
 from .rates import Penalty, RateBook
 from .segments import CREDIT
 from .words import Kept
+
+if TYPE_CHECKING:
+    from .statement import Statement
 
 ENTRY_KINDS = ("charge", "credit", "payment", "return", "refund", "fee", "interest", "hold")
 
@@ -45,12 +49,13 @@ class Issued(NamedTuple):
     cycle: int
     bill: int
     day: int
-    statement: object
+    statement: "Statement"
 
 
-class SharedRows(NamedTuple):
+@dataclass(frozen=True)
+class SharedRows:
     """What all accounts share, as the fold reads it."""
-    holidays: frozenset
+    holidays: frozenset[int]
     fees: list[FeeRow]
     index: list[tuple[int, int]]
 
@@ -66,7 +71,7 @@ class Book:
     cycles: list[Cycle] = field(default_factory=list)
     fees: list[Fee] = field(default_factory=list)
 
-    def __post_init__(self):
+    def __post_init__(self) -> None:
         self.terms = self.posts[0].post
         self.corrected: Corrected = corrected(self.anchor, self.posts, self.shared.holidays)
         self.rates = RateBook(self.anchor, self.posts, self.shared.index)
@@ -120,7 +125,8 @@ class Book:
         return -self.balance(CREDIT)
 
     def credit_since(self) -> int | None:
-        """The first day of the present run of days that end with a credit balance, None without one."""
+        """The first day of the present run of days that end with a credit balance, None without
+        one."""
         if self.balance(CREDIT) == 0:
             return None
         entries = self.of_segment[CREDIT]

@@ -2,7 +2,9 @@
 
 import sys
 import time
+from collections.abc import Sequence
 from dataclasses import dataclass, fields
+from typing import Protocol
 
 from .alone import Alone
 from .commands import Damaged, load
@@ -39,7 +41,8 @@ class Counted:
             setattr(self, f.name, getattr(self, f.name) + getattr(other, f.name))
 
     def text(self) -> str:
-        """All counts in one line; of repayments and statements as sent only where some were there."""
+        """All counts in one line; of repayments and statements as sent only where some were
+        there."""
         parts = [f"accounts {self.accounts}", f"statements issued {self.issued}",
                  f"recomputed {self.recomputed}", f"entries {self.entries}", f"cents {self.cents}",
                  f"open tasks {self.tasks}"]
@@ -72,13 +75,29 @@ def same(what: str, model: str | None, other: bytes | None, side: str = "program
     return model is not None
 
 
+class Answers(Protocol):
+    """What answers a path, as `program.Server` does."""
+
+    def get(self, path: str) -> bytes | None:
+        """The body of its answer, None for 404."""
+
+
+class Runs(Protocol):
+    """What runs a command over the rows, as `program.Program` does."""
+
+    def run(self, words: list[str], data: bytes = b"") -> tuple[bytes, int]:
+        """What a run writes, and its status."""
+
+
 class Audit:
     """The model of a ledger's rows beside the program over the same rows."""
 
-    def __init__(self, machine: Machine, server: Server, alone: Alone | None = None):
+    def __init__(self, machine: Machine, server: Answers, alone: Alone | None = None):
         """Repayments are asked of `alone`, and not at all without it."""
         self.machine, self.server, self.alone = machine, server, alone
         work = server.get("/work")
+        if work is None:
+            raise Failed("GET /work is answered 404: ask a program that knows the path")
         self.tasks: dict[str, list[bytes]] = {}
         for line in work.splitlines(keepends=True):
             self.tasks.setdefault(line.split(b" ")[1].decode(), []).append(line)
@@ -88,9 +107,9 @@ class Audit:
         """A view by its command's word, and by the program's answer to its path."""
         return same(what, view(self.machine, word, name, cycle), self.server.get(path))
 
-    def repayments(self, name: str, issued: list[int]) -> int:
+    def repayments(self, alone: Alone, name: str, issued: list[int]) -> int:
         """The lines of `repay` of these statements, which have no path of their own."""
-        with self.alone.program(name) as program:
+        with alone.program(name) as program:
             return sum(same(f"account {name}, repayment of statement {k}",
                             view(self.machine, "repay", name, k),
                             program.run(["repay", name, str(k)])[0]) for k in issued)
@@ -107,7 +126,7 @@ class Audit:
                                            f"{base}/cycles/{k}", name, k)
         found.issued = len(all_issued)
         if self.alone and all_issued:
-            found.repayments = self.repayments(name, all_issued)
+            found.repayments = self.repayments(self.alone, name, all_issued)
         return found
 
     def account(self, name: str) -> Counted:
@@ -116,9 +135,9 @@ class Audit:
         self.asked(f"account {name}, entries", "export", f"/accounts/{name}/entries", name)
         tasks = self.machine.tasks(name)
         same(f"account {name}, open tasks", tasks_text(tasks),
-                  b"".join(self.tasks.get(name, [])))
+             b"".join(self.tasks.get(name, [])))
         found = self.statements(name)
-        entries = self.machine.entries(name)[0]
+        entries = self.machine.entries_of(name)
         found.add(Counted(accounts=1, entries=len(entries), tasks=len(tasks),
                           cents=sum(abs(e.cents) for e in entries)))
         return found
@@ -135,7 +154,7 @@ class Audit:
         return counted
 
 
-def recomputed(kept: list[tuple[int, bytes]], program: Program, progress: Progress) -> Machine:
+def recomputed(kept: list[tuple[int, bytes]], program: Runs, progress: Progress) -> Machine:
     """The model of the rows; where they are damaged, the program has to say so too."""
     try:
         return load(kept, progress.loaded)
@@ -157,7 +176,7 @@ def compare_sent(machine: Machine, sent: list[Sent]) -> Counted:
     return Counted(sent=len(sent))
 
 
-def check(file: str, path: str, sent: list[str] = (), quiet: bool = False) -> str:
+def check(file: str, path: str, sent: Sequence[str] = (), quiet: bool = False) -> str:
     """What was compared, in words; `Different` where something isn't the same."""
     progress = Progress(quiet)
     statements = statements_below(sent)

@@ -1,7 +1,7 @@
 """The closing of a cycle: interest, the minimum payment, the grace amount, the cycle's record."""
 
 from .book import Book, Cycle
-from .days import closing, cycle_start, due
+from .days import closing_day, cycle_start, due_day
 from .fees import fees_sum
 from .interest import charged, deferred_interest, interest_sum
 from .money import CENTS_LIMIT, half_up, portion
@@ -27,8 +27,8 @@ def post_interest(book: Book, x: int, segment: int, cents: int, cap: Cycle | Non
 
 
 def closing_interest(book: Book, k: int, x: int, cap: Cycle | None) -> dict[int, int]:
-    """The interest of each segment: of the cycle, and what a plan deferred that ends today and isn't
-    paid off."""
+    """The interest of each segment: of the cycle, and what a plan deferred that ends today and
+    isn't paid off."""
     posted = {}
     for segment in book.segments[2:]:
         s = segment.number
@@ -41,16 +41,17 @@ def closing_interest(book: Book, k: int, x: int, cap: Cycle | None) -> dict[int,
 
 
 def average_balances(book: Book, k: int) -> dict[int, int]:
-    """Of each segment the balances that bore interest over all days of the cycle, rounded half up."""
-    days = closing(book.anchor, k) - cycle_start(book.anchor, k) + 1
+    """Of each segment the balances that bore interest over all days of the cycle, rounded half
+    up."""
+    days = closing_day(book.anchor, k) - cycle_start(book.anchor, k) + 1
     found = {s.number: half_up(sum(balance for balance, _ in charged(book, s.number, k)), days)
              for s in book.segments[2:]}
     return {s: cents for s, cents in found.items() if cents}
 
 
 def minimum_of(balance: int, floor: int, pct: int, charges: int, late: int) -> int:
-    """A part of the balance with the cycle's interest and fees, at least the floor, and what is past
-    due on top; never above the balance."""
+    """A part of the balance with the cycle's interest and fees, at least the floor, and what is
+    past due on top; never above the balance."""
     if balance <= 0:
         return 0
     return min(balance, max(floor, portion(balance, pct) + charges) + late)
@@ -59,7 +60,7 @@ def minimum_of(balance: int, floor: int, pct: int, charges: int, late: int) -> i
 def later_deferred(book: Book, k: int) -> int:
     """The deferred balances whose period ends after the next closing."""
     return sum(book.balance(s.number) for s in book.segments
-               if s.sort == "deferred" and s.ends > closing(book.anchor, k + 1))
+               if s.sort == "deferred" and s.end_day > closing_day(book.anchor, k + 1))
 
 
 def grace_amount(book: Book, k: int) -> int:
@@ -82,6 +83,6 @@ def close(book: Book, k: int, x: int) -> None:
         minimum, grace = min(minimum, cap.minimum), min(grace, cap.grace_amount)
     first = cycle_start(book.anchor, k)
     book.cycles.append(Cycle(
-        number=k, first=first, closing=x, due=due(book.anchor, k),
+        number=k, first=first, closing=x, due=due_day(book.anchor, k),
         previous=book.owed_at(first - 1), new_balance=new_balance, held=held, interest=posted,
         average=average, fees=fees, minimum=minimum, grace_amount=grace, entries=len(book.entries)))

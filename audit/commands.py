@@ -8,6 +8,8 @@ FILE is `-` for no rows, or a ledger's file, which is read and never written.
 
 import re
 import sys
+from collections.abc import Callable
+from typing import NamedTuple
 
 from . import csv_text, lines, rows
 from .connections import serve
@@ -27,7 +29,8 @@ class Damaged(Exception):
         self.row = row
 
 
-def load(kept: list[tuple[int, bytes]], told=lambda done, all_rows: None) -> Machine:
+def load(kept: list[tuple[int, bytes]],
+         told: Callable[[int, int], None] = lambda done, all_rows: None) -> Machine:
     """Carries out kept rows, each with its number; `told` hears how far it came."""
     machine = Machine()
     for place, (seq, body) in enumerate(kept, start=1):
@@ -43,7 +46,7 @@ class Keeper:
 
     def __init__(self, kept: list[tuple[int, bytes]] | None = None):
         self.rows = kept or []
-        self._loaded: tuple[list, Machine] | None = None
+        self._loaded: tuple[list[tuple[int, bytes]], Machine] | None = None
 
     def machine(self) -> Machine:
         if self._loaded is None or self._loaded[0] != self.rows:
@@ -61,7 +64,11 @@ class Keeper:
 # -- words -----------------------------------------------------------------------------------
 
 
-def _number(low: int, high: int):
+# Reads a word of a command; None where it isn't of its form.
+Reader = Callable[[str], int | str | None]
+
+
+def _number(low: int, high: int) -> Reader:
     def read(word: str) -> int | None:
         if not re.fullmatch("0|[1-9][0-9]{0,11}", word, re.ASCII):
             return None
@@ -79,7 +86,7 @@ def _day(word: str) -> int | None:
 
 _CYCLE = _number(1, 1_200)
 # command -> its words with their readers, in the order of the usage line
-COMMANDS = {
+COMMANDS: dict[str, dict[str, Reader]] = {
     "apply": {},
     "import": {},
     "statement": {"ACCOUNT": _name, "CYCLE": _CYCLE},
@@ -100,19 +107,28 @@ def usage() -> str:
     return "usage: " + " | ".join(forms) + "\n"
 
 
-def read_words(words: list[str], unknown: frozenset = COMMANDS_TO_COME) -> tuple[str, list] | None:
-    """The command of a list of words with its values, None where they are none."""
+class Command(NamedTuple):
+    """A command, with the account that it names and its numbers and days in order."""
+    name: str
+    account: str | None = None
+    numbers: tuple[int, ...] = ()
+
+
+def read_words(words: list[str], unknown: frozenset[str] = COMMANDS_TO_COME) -> Command | None:
+    """The command of a list of words, None where they are none."""
     if words == ["answer"]:
-        return "answer", []
+        return Command("answer")
     if not words or words[0] not in COMMANDS or words[0] in unknown:
         return None
     readers = list(COMMANDS[words[0]].values())
     if len(words) != len(readers) + 1:
         return None
     values = [read(word) for read, word in zip(readers, words[1:])]
-    if any(value is None for value in values) or (words[0] == "trial" and values[0] > values[1]):
+    numbers = tuple(value for value in values if isinstance(value, int))
+    if None in values or (words[0] == "trial" and numbers[0] > numbers[1]):
         return None
-    return words[0], values
+    account = next((value for value in values if isinstance(value, str)), None)
+    return Command(words[0], account, numbers)
 
 
 # -- the run ---------------------------------------------------------------------------------
@@ -156,32 +172,32 @@ def _status(replies: list[str]) -> int:
     return 0 if all(reply.startswith(("ok", "show")) for reply in replies) else 1
 
 
-def _carry_out(name: str, values: list, keeper: Keeper, data: bytes) -> tuple[str, int]:
-    machine = keeper.machine()
+def _carry_out(command: Command, keeper: Keeper, data: bytes) -> tuple[str, int]:
+    machine, name = keeper.machine(), command.name
     if name == "apply":
         return apply_lines(machine, keeper, data)
     if name == "import":
         return import_csv(machine, keeper, data)
     if name == "trial":
         replies, status = apply_lines(machine, keeper, data)
-        return replies + trial_text(machine, *values), status
+        return replies + trial_text(machine, *command.numbers), status
     if name == "answer":
         answer = serve(machine, data, keeper.keep)
         return ("", 1) if answer is None else (answer.to_bytes().decode("utf-8"), 0)
-    text = view(machine, name, *values)
+    text = view(machine, name, command.account, *command.numbers)
     return ("none\n", 1) if text is None else (text, 0)
 
 
 def run(words: list[str], keeper: Keeper, data: bytes = b"",
-        unknown: frozenset = COMMANDS_TO_COME) -> tuple[bytes, int]:
+        unknown: frozenset[str] = COMMANDS_TO_COME) -> tuple[bytes, int]:
     """What a run with these words and this input writes, and its status."""
     command = read_words(words, unknown)
     if command is None:
         return usage().encode(), 2
-    if command[0] == "demo":
-        return demo_text(*command[1]).encode(), 0
+    if command.name == "demo":
+        return demo_text(*command.numbers).encode(), 0
     try:
-        text, status = _carry_out(*command, keeper, data)
+        text, status = _carry_out(command, keeper, data)
     except Damaged as damaged:
         text, status = f"damaged {damaged.row}\n", 8
     return text.encode("utf-8"), status

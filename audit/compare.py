@@ -14,6 +14,7 @@ import subprocess
 import sys
 import tempfile
 import time
+from collections.abc import Sequence
 from pathlib import Path
 
 from .commands import Keeper, run
@@ -32,7 +33,7 @@ SETUP = ("feerow", "roll", "open", "openvar", "index", "holiday", "plan")
 class Model:
     """The model over rows in memory."""
 
-    def __init__(self):
+    def __init__(self) -> None:
         self.keeper = Keeper()
 
     def run(self, words: list[str], data: bytes = b"") -> tuple[bytes, int]:
@@ -64,7 +65,7 @@ def views(model: Model, commands: set[str]) -> list[list[str]]:
 
 
 def both(model: Model, program: Program, words: list[str], data: bytes = b"",
-         sent: list[str] = ()) -> str | None:
+         sent: Sequence[str] = ()) -> str | None:
     """The first difference between two runs with the same words and input."""
     ours, theirs = model.run(words, data), program.run(words, data)
     if ours == theirs:
@@ -76,7 +77,7 @@ def both(model: Model, program: Program, words: list[str], data: bytes = b"",
 
 
 def compare_lines(model: Model, program: Program, lines: list[str], runs: int,
-                  words: list[str] = ("apply",)) -> str | None:
+                  words: Sequence[str] = ("apply",)) -> str | None:
     """The lines in so many runs of a command that reads lines."""
     size = -(-len(lines) // runs)
     for at in range(0, len(lines), size):

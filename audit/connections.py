@@ -1,16 +1,18 @@
 """The answer to the bytes of one connection over HTTP."""
 
 import re
+from collections.abc import Callable
 from typing import NamedTuple
 
 from .heads import Head, NoHead, Partial, read_head
-from .json_text import JsonError, Number, read_json, string_text
+from .json_text import Json, JsonError, Number, read_json, string_text
 from .lines import FORMS, read_name, read_number
-from .machine import Machine, Reply
+from .machine import Machine
 from .product import WORDS_TO_COME
+from .refusals import Refused
 from .rows import encode
 from .views import view
-from .words import WORDS, Request
+from .words import WORDS, Request, Value, request_of
 
 HEAD_LIMIT = 8_192
 BODY_LIMIT = 16_384
@@ -38,16 +40,18 @@ class NotARequest(NamedTuple):
     field: str
 
 
-def json_request(value, unknown: frozenset = WORDS_TO_COME) -> Request | NotARequest:
+def json_request(value: Json, unknown: frozenset[str] = WORDS_TO_COME) -> Request | NotARequest:
     """The request of a JSON value: first the kind, then the fields in the table's order, then
     the least member by bytes that isn't a field."""
-    kind = value.get("kind") if isinstance(value, dict) else None
+    if not isinstance(value, dict):
+        return NotARequest("kind")
+    kind = value.get("kind")
     if not isinstance(kind, str) or kind not in WORDS or kind in unknown:
         return NotARequest("kind")
-    values = {}
+    values: dict[str, Value] = {}
     for name, form in WORDS[kind][1]:
         given = value.get(name)
-        found = None
+        found: Value | None = None
         if form == "number":
             if isinstance(given, Number):
                 found = read_number(given.text.encode())
@@ -59,7 +63,7 @@ def json_request(value, unknown: frozenset = WORDS_TO_COME) -> Request | NotAReq
     others = [m for m in value if m != "kind" and m not in values]
     if others:
         return NotARequest(min(others, key=lambda m: m.encode("utf-8")))
-    return Request(kind, **values)
+    return request_of(kind, values)
 
 
 def _match(path: str) -> tuple[str, str, list[str]] | None:
@@ -80,8 +84,7 @@ def _match(path: str) -> tuple[str, str, list[str]] | None:
     return None
 
 
-def _refusal_body(reply: Reply) -> str:
-    refused = reply.refused
+def _refusal_body(refused: Refused) -> str:
     body = f'{{"name":"{refused.name}","no":{refused.number}'
     if refused.value is not None:
         value = refused.value_text()
@@ -123,7 +126,8 @@ def _wanted(head: Head, path: str, length: int) -> tuple[str, str | None, int | 
     return name, account, cycle
 
 
-def serve(machine: Machine, data: bytes, keep=lambda body: None) -> Answer | None:
+def serve(machine: Machine, data: bytes,
+          keep: Callable[[bytes], None] = lambda body: None) -> Answer | None:
     """The answer to the bytes of a connection, None where they end inside the request.
 
     `keep` takes the spelling of a newly accepted request.
@@ -149,7 +153,7 @@ def serve(machine: Machine, data: bytes, keep=lambda body: None) -> Answer | Non
         return Answer(wrong.status, wrong.body.encode("utf-8"), json)
 
 
-def _post(machine: Machine, body: bytes, keep) -> str:
+def _post(machine: Machine, body: bytes, keep: Callable[[bytes], None]) -> str:
     """The body of the answer to a post that was accepted."""
     try:
         value = read_json(body)
@@ -160,7 +164,7 @@ def _post(machine: Machine, body: bytes, keep) -> str:
         raise _Wrong(422, '{"field":' + string_text(request.field) + "}")
     reply = machine.apply(request)
     if reply.refused:
-        raise _Wrong(409, _refusal_body(reply))
+        raise _Wrong(409, _refusal_body(reply.refused))
     if reply.new:
         keep(encode(request))
     return '{"ok":%d}' % (reply.number or 0)

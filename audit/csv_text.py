@@ -1,14 +1,18 @@
 """CSV: the reader's automaton, records as requests, and the export."""
 
+from collections.abc import Sequence
 from typing import NamedTuple
 
+from .book import Entry
 from .days import day_text
 from .lines import FORMS
-from .words import Request
+from .segments import Segment
+from .words import Request, Value, request_of
 
 HEADER = [b"account", b"key", b"kind", b"day", b"place", b"cents", b"minute", b"channel"]
 KINDS = (b"charge", b"credit", b"payment")
 _BOM = b"\xef\xbb\xbf"
+_KIND = "kind"
 _EMPTY = "empty"
 
 
@@ -25,7 +29,7 @@ class _Records:
     `quote` behind a quote inside them.
     """
 
-    def __init__(self):
+    def __init__(self) -> None:
         self.done: list[list[bytes]] = []
         self.fields: list[bytes] = []
         self.text = bytearray()
@@ -91,16 +95,16 @@ def read_records(data: bytes) -> list[list[bytes]]:
 def _forms(kind: bytes | None) -> list[str]:
     """The forms of the eight columns for a kind."""
     if kind == b"payment":
-        return ["name", "name", "kind", "day", _EMPTY, "number", "number", "channel"]
-    return ["name", "name", "kind", "day", "place", "number", _EMPTY, _EMPTY]
+        return ["name", "name", _KIND, "day", _EMPTY, "number", "number", "channel"]
+    return ["name", "name", _KIND, "day", "place", "number", _EMPTY, _EMPTY]
 
 
-def _read_field(form: str, text: bytes):
+def _read_field(form: str, text: bytes) -> Value | None:
     """The value of a field, None where it isn't of its form."""
-    if form == "kind":
-        return text if text in KINDS else None
+    if form == _KIND:
+        return text.decode() if text in KINDS else None
     if form == _EMPTY:
-        return True if text == b"" else None
+        return "" if text == b"" else None
     return FORMS[form](text)
 
 
@@ -116,19 +120,16 @@ def import_record(row: int, fields: list[bytes]) -> Request | BadRecord | None:
     if row == 1:
         return _read_header(fields)
     kind = fields[2] if len(fields) > 2 else None
-    values = []
+    values: dict[str, Value] = {}
     for place, form in enumerate(_forms(kind)):
         value = _read_field(form, fields[place]) if place < len(fields) else None
         if value is None:
             return BadRecord(row, place + 1)
-        values.append(value)
+        if form not in (_KIND, _EMPTY):
+            values[HEADER[place].decode()] = value
     if len(fields) > len(HEADER):
         return BadRecord(row, len(HEADER) + 1)
-    account, key, _, day, place, cents, minute, channel = values
-    if kind == b"payment":
-        return Request("payment", account=account, key=key, day=day, minute=minute,
-                       channel=channel, cents=cents)
-    return Request(kind.decode(), account=account, key=key, day=day, place=place, cents=cents)
+    return request_of(fields[2].decode(), values)
 
 
 def import_items(data: bytes) -> list[Request | BadRecord]:
@@ -137,7 +138,7 @@ def import_items(data: bytes) -> list[Request | BadRecord]:
     return [item for item in items if item is not None]
 
 
-def export_text(entries, segments) -> str:
+def export_text(entries: Sequence[Entry], segments: Sequence[Segment]) -> str:
     """The header and one record per entry in the order in which they were made."""
     lines = ["day,segment,kind,post,cents"]
     for e in entries:

@@ -20,13 +20,14 @@ def from_ymd(year: int, month: int, day: int) -> int | None:
         return None
 
 
-def _day(year: int, month: int, day: int) -> int:
+def known_day(year: int, month: int, day: int) -> int:
+    """The day with a civil date that is known to be there."""
     return datetime.date(year, month, day).toordinal() - _EPOCH
 
 
-FIRST_DAY = _day(2011, 1, 1)
-LAST_REQUEST_DAY = _day(2099, 12, 31)
-LAST_DAY = _day(2102, 12, 31)
+FIRST_DAY = known_day(2011, 1, 1)
+LAST_REQUEST_DAY = known_day(2099, 12, 31)
+LAST_DAY = known_day(2102, 12, 31)
 
 
 @lru_cache(maxsize=None)
@@ -41,7 +42,8 @@ def day_text(day: int) -> str:
 
 def day_of(text: str) -> int:
     """The day of a text that is known to be good, as `2024-01-10`."""
-    return from_ymd(*map(int, text.split("-")))
+    year, month, day = map(int, text.split("-"))
+    return known_day(year, month, day)
 
 
 class Anchor(NamedTuple):
@@ -80,9 +82,25 @@ def due(anchor: Anchor, k: int) -> int | None:
     return _in_month(months + 1, anchor.close_day - 4)
 
 
+def closing_day(anchor: Anchor, k: int) -> int:
+    """The closing of a cycle that is known to have one."""
+    found = closing(anchor, k)
+    if found is None:
+        raise ValueError(f"cycle {k} has no closing: ask for cycles from 1 to the last year's")
+    return found
+
+
+def due_day(anchor: Anchor, k: int) -> int:
+    """The due date of a cycle that is known to have one."""
+    found = due(anchor, k)
+    if found is None:
+        raise ValueError(f"cycle {k} has no due date: ask for cycles from 1 to the last year's")
+    return found
+
+
 def is_timely(anchor: Anchor, k: int, issued: int) -> bool:
     """Statement k was issued at least 21 days before its payment is due."""
-    return due(anchor, k) - issued >= TIMELY_DAYS
+    return due_day(anchor, k) - issued >= TIMELY_DAYS
 
 
 @lru_cache(maxsize=None)
@@ -95,7 +113,7 @@ def cycle_of(anchor: Anchor, day: int) -> int:
 
 def cycle_start(anchor: Anchor, k: int) -> int:
     """Cycle 1 begins on the opening day, cycle k+1 on the day after closing(k)."""
-    return anchor.opened if k == 1 else closing(anchor, k - 1) + 1
+    return anchor.opened if k == 1 else closing_day(anchor, k - 1) + 1
 
 
 def six_months_after(day: int) -> int:
@@ -113,15 +131,15 @@ def year_after(day: int) -> int:
     """The same day a year later, and March 1 for February 29."""
     year, month, dom = ymd(day)
     found = from_ymd(year + 1, month, dom)
-    return found if found is not None else from_ymd(year + 1, 3, 1)
+    return found if found is not None else known_day(year + 1, 3, 1)
 
 
-def is_business(day: int, holidays: frozenset) -> bool:
+def is_business(day: int, holidays: frozenset[int]) -> bool:
     """A Monday to Friday that isn't a loaded holiday.  1970-01-01 was a Thursday."""
     return (day + 3) % 7 < 5 and day not in holidays
 
 
-def next_business(day: int, holidays: frozenset) -> int:
+def next_business(day: int, holidays: frozenset[int]) -> int:
     """The first business day after a day."""
     day += 1
     while not is_business(day, holidays):
@@ -131,7 +149,7 @@ def next_business(day: int, holidays: frozenset) -> int:
 
 @lru_cache(maxsize=None)
 def credit_day(anchor: Anchor, receipt: int, minute: int, channel: str,
-               holidays: frozenset) -> int:
+               holidays: frozenset[int]) -> int:
     """The day on which a payment is credited.
 
     After 17:00 it is the next day.  A mail payment received on the first

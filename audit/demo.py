@@ -1,6 +1,6 @@
 """The generated requests of `demo` and its summary."""
 
-from .days import day_of, from_ymd
+from .days import day_of, known_day
 from .machine import Machine
 from .money import money_text
 from .words import CATEGORIES, Place, Request
@@ -28,7 +28,7 @@ def demo_requests(start: int, accounts: int, cycles: int) -> list[Request]:
                            pct=100))
     year, month = 2024, 1
     for t in range(1, cycles + 1):
-        today = from_ymd(year, month, 20)
+        today = known_day(year, month, 20)
         for i in range(1, accounts + 1):
             name = f"d{i}"
             out.append(Request("bill", name, f"b{t}", cycle=t))
@@ -44,7 +44,7 @@ def demo_requests(start: int, accounts: int, cycles: int) -> list[Request]:
             out.append(Request("amend", name, f"a{t}", target=3, day=day_of("2024-01-10"),
                                cents=draw() % 5000))
         year, month = (year, month + 1) if month < 12 else (year + 1, 1)
-        out.append(Request("roll", day=from_ymd(year, month, 20)))
+        out.append(Request("roll", day=known_day(year, month, 20)))
     return out
 
 
@@ -54,7 +54,7 @@ def demo_text(start: int, accounts: int, cycles: int) -> str:
     requests = demo_requests(start, accounts, cycles)
     replies = [machine.apply(r) for r in requests]
     refused = sum(reply.refused is not None for reply in replies)
-    entries = [e for name in machine.accounts for e in machine.entries(name)[0]]
+    entries = [e for name in machine.accounts for e in machine.entries_of(name)]
     return (f"requests {len(requests)}\naccepted {len(requests) - refused}\nrefused {refused}\n"
             f"owed {money_text(sum(e.cents for e in entries))}\n"
             f"interest {money_text(sum(e.cents for e in entries if e.kind == 'interest'))}\n"

@@ -1,11 +1,13 @@
 """The first place at which two texts differ, shown with both."""
 
+from collections.abc import Sequence
+
 
 def shown(line: bytes) -> str:
     return line.decode("utf-8", "replace")
 
 
-def first_difference(model: bytes, other: bytes, sent: list[str] = (),
+def first_difference(model: bytes, other: bytes, sent: Sequence[str] = (),
                      side: str = "program") -> str | None:
     """The first line that differs, with the line that was sent for it where there is one."""
     name = f"{side}:".ljust(8)

@@ -1,4 +1,5 @@
-"""What a writer of request lines draws: names, days, amounts and numbers that mostly fit the state."""
+"""What a writer of request lines draws: names, days, amounts and numbers that mostly fit the
+state."""
 
 import random
 
@@ -14,7 +15,7 @@ class Drawn:
     It knows today, the accounts, the post numbers and the balances.
     """
 
-    def __init__(self, seed: int, accounts: int, unknown: frozenset = WORDS_TO_COME):
+    def __init__(self, seed: int, accounts: int, unknown: frozenset[str] = WORDS_TO_COME):
         self.draw = random.Random(seed)
         self.unknown = unknown  # words that the program doesn't know: such a line is bad
         self.machine = Machine()
@@ -47,6 +48,9 @@ class Drawn:
             if item.word == "roll" and reply.new:
                 self.after_roll()
         self.lines.append(line)
+
+    def after_roll(self) -> None:
+        """What follows when a day has begun: nothing but where a writer of lines has more."""
 
     def name(self) -> str | None:
         known = [n for n in self.names if n in self.machine.accounts]

@@ -1,7 +1,7 @@
 """The day after a due date: the late fee, and the end of a penalty rate."""
 
 from .book import Book
-from .days import cycle_of, due
+from .days import cycle_of, due_day
 from .fees import Fee, fees_sum, is_charged_for, is_repeat, tier_amount
 from .payments import asked, met
 from .rates import Penalty
@@ -12,7 +12,7 @@ CURE = 6  # met due dates in turn that end a penalty rate
 
 def last_asked(book: Book, day: int) -> int:
     """What the last due date before a day asks for."""
-    before = [c.number for c in book.cycles if due(book.anchor, c.number) < day]
+    before = [c.number for c in book.cycles if due_day(book.anchor, c.number) < day]
     return asked(book, before[-1]) if before else 0
 
 
@@ -52,7 +52,7 @@ def late_fee(book: Book, k: int, x: int) -> Fee | None:
 def cured_by(book: Book, penalty: Penalty, k: int, x: int) -> bool:
     """Due date k, the day before x, is the sixth after the penalty began, and all six were met."""
     after = [c.number for c in book.cycles
-             if penalty.begins < due(book.anchor, c.number) < x]
+             if penalty.begins < due_day(book.anchor, c.number) < x]
     return len(after) == CURE and after[-1] == k and all(met(book, j) for j in after)
 
 
@@ -61,4 +61,4 @@ def after_due(book: Book, k: int, x: int) -> None:
     charge_fee(book, late_fee(book, k, x))
     for place, penalty in enumerate(book.penalties):
         if cured_by(book, penalty, k, x):
-            book.penalties[place] = Penalty(penalty.begins, due(book.anchor, k))
+            book.penalties[place] = Penalty(penalty.begins, due_day(book.anchor, k))

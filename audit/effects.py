@@ -72,7 +72,8 @@ def returned(book: Book, number: int, x: int) -> None:
 
 
 def dispute(book: Book, number: int, x: int) -> None:
-    """Set aside is the least of the claim, of the charge as it stands and of its segment's balance."""
+    """Set aside is the least of the claim, of the charge as it stands and of its segment's
+    balance."""
     target = book.posts[number - 1].post.target
     segment = charged_segment(book, target)
     held = min(book.corrected.cents[number], book.corrected.cents[target], book.balance(segment))
@@ -94,7 +95,8 @@ def refund(book: Book, number: int, x: int) -> None:
 
 
 def penalized(book: Book, number: int, x: int) -> None:
-    """The penalty rate begins 45 days on, where the account is sixty days late by all corrections."""
+    """The penalty rate begins 45 days on, where the account is sixty days late by all
+    corrections."""
     if sixty_days_late(book, x):
         book.penalties.append(Penalty(x + NOTICE_DAYS, None))
 

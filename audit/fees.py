@@ -37,7 +37,8 @@ def is_charged_for(fees: list[Fee], k: int) -> bool:
 
 
 def is_repeat(fees: list[Fee], kind: str, cycle: int) -> bool:
-    """A fee of the kind at the first amount was charged in the cycle or in one of the six before."""
+    """A fee of the kind at the first amount was charged in the cycle or in one of the six
+    before."""
     return any(f.kind == kind and not f.repeat and cycle - WINDOW <= f.cycle <= cycle for f in fees)
 
 

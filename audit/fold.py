@@ -2,7 +2,7 @@
 
 from .book import Book
 from .closing import close
-from .days import closing, cycle_of, due
+from .days import closing, closing_day, cycle_of, due, due_day
 from .due_dates import after_due
 from .effects import effect
 from .interest import make_rows
@@ -33,10 +33,10 @@ def break_days(book: Book, first: int, last: int) -> set[int]:
     anchor = book.anchor
     cycles = range(1, cycle_of(anchor, max(last, anchor.opened)) + 1)
     found = set(book.corrected.by_day)
-    found |= {closing(anchor, k) for k in cycles}
-    found |= {due(anchor, k) + 1 for k in cycles}
+    found |= {closing_day(anchor, k) for k in cycles}
+    found |= {due_day(anchor, k) + 1 for k in cycles}
     found |= {row.day for row in book.issued.values()}
-    found |= {s.ends for s in book.segments if s.is_plan}
+    found |= {s.end_day for s in book.segments if s.is_plan}
     for kept in book.posts:
         if kept.post.word == "notice":
             found |= {kept.post.day + 15, kept.post.effective}

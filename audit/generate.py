@@ -8,7 +8,7 @@ state.
 
 import argparse
 
-from .days import closing, cycle_of, day_of, day_text, due
+from .days import closing_day, cycle_of, day_of, day_text, due_day
 from .lines import line_text
 from .post_lines import PostLines
 from .product import WORDS_TO_COME
@@ -67,12 +67,12 @@ class Writer(PostLines):
         if anchor is None or kind < 20:
             day = self.today + 1
         elif kind < 66:
-            nexts = [closing(a.anchor, cycle_of(a.anchor, self.today))
+            nexts = [closing_day(a.anchor, cycle_of(a.anchor, self.today))
                      for a in self.machine.accounts.values()]
             day = min(nexts) + self.draw.choice((1, 1, 1, 2, 3, 5))
         elif kind < 82:
             k = max(1, cycle_of(anchor, self.today) - self.draw.randint(0, 1))
-            day = due(anchor, k) + self.draw.choice((0, 1, 1, 2))
+            day = due_day(anchor, k) + self.draw.choice((0, 1, 1, 2))
             day = day if day > self.today else self.today + self.draw.randint(1, 5)
         elif kind < 95:
             day = self.today + self.draw.randint(2, 9)
@@ -114,7 +114,7 @@ class Writer(PostLines):
         if name and self.chance(60):
             anchor = self.account(name).anchor
             k = max(1, cycle_of(anchor, self.today) - self.draw.randint(0, 1))
-            day = due(anchor, k) + self.draw.choice((0, 1, 2))
+            day = due_day(anchor, k) + self.draw.choice((0, 1, 2))
         if self.chance(4):
             day = self.today
         self.emit(f"holiday {day_text(day)}")
@@ -186,7 +186,8 @@ class Writer(PostLines):
         method(name, account)
 
 
-def generate(seed: int, n: int, accounts: int = 3, unknown: frozenset = WORDS_TO_COME) -> list[str]:
+def generate(seed: int, n: int, accounts: int = 3,
+             unknown: frozenset[str] = WORDS_TO_COME) -> list[str]:
     """The first n lines for a seed."""
     writer = Writer(seed, accounts, unknown)
     writer.first_lines()

@@ -1,5 +1,6 @@
 """The head of a request over HTTP."""
 
+from collections.abc import Container
 from typing import NamedTuple
 
 HEADER_LINES = 64
@@ -64,7 +65,7 @@ class _HeadReader:
         if self.next() not in b"01":
             raise NoHead
         self.newline(self.next())
-        headers = []
+        headers: list[tuple[bytes, bytes]] = []
         while True:
             c = self.next()
             if c in (0x0D, 0x0A):
@@ -78,7 +79,7 @@ class _HeadReader:
                 raise NoHead
             headers.append(found)
 
-    def until_space(self, allowed) -> bytes:
+    def until_space(self, allowed: Container[int]) -> bytes:
         start = self.place
         while True:
             c = self.next()

@@ -18,8 +18,8 @@ class PaymentFact(NamedTuple):
 
 @dataclass
 class Corrected:
-    """`day[n]` and `cents[n]` are the corrected day and cents of post n, `effective[n]` its effective
-    day, and `by_day[d]` the numbers of the posts of day d in ascending order."""
+    """`day[n]` and `cents[n]` are the corrected day and cents of post n, `effective[n]` its
+    effective day, and `by_day[d]` the numbers of the posts of day d in ascending order."""
     day: dict[int, int] = field(default_factory=dict)
     cents: dict[int, int] = field(default_factory=dict)
     effective: dict[int, int] = field(default_factory=dict)
@@ -37,7 +37,7 @@ def confirmed(posts: list[Kept]) -> dict[int, int]:
     return found
 
 
-def effective_day(anchor: Anchor, kept: Kept, out: Corrected, holidays: frozenset) -> int:
+def effective_day(anchor: Anchor, kept: Kept, out: Corrected, holidays: frozenset[int]) -> int:
     """The day from which a post counts; the posts before it stand in `out`, and its own day.
 
     The target of a return, a dispute or a resolution has a smaller number.
@@ -64,7 +64,7 @@ def _payments(posts: list[Kept], out: Corrected) -> list[PaymentFact]:
     return facts
 
 
-def corrected(anchor: Anchor, posts: list[Kept], holidays: frozenset) -> Corrected:
+def corrected(anchor: Anchor, posts: list[Kept], holidays: frozenset[int]) -> Corrected:
     """The corrected list of accepted posts (number n stands at place n-1).
 
     A charge, credit or payment has the day and cents of the last amendment

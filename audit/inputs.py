@@ -142,7 +142,8 @@ def _post(draw: random.Random, body: bytes) -> bytes:
     elif kind == 9:
         lines.append(name + b": " + length)
     elif kind == 10:
-        lines[0] = draw.choice((b"POST /posts HTTP/1.0", b"POST /posts HTTP/2.0", b"post /posts HTTP/1.1",
+        lines[0] = draw.choice((b"POST /posts HTTP/1.0", b"POST /posts HTTP/2.0",
+                                b"post /posts HTTP/1.1",
                                 b"POST /posts/ HTTP/1.1", b"POST /posts?x=1 HTTP/1.1",
                                 b"PUT /posts HTTP/1.1", b"POST  /posts HTTP/1.1"))
     return end.join(lines) + end + end + body
@@ -162,7 +163,8 @@ def _strange(draw: random.Random) -> bytes:
     many = b"".join(b"h%d: x\r\n" % i for i in range(draw.choice((63, 64, 65))))
     return draw.choice((
         b"", b"\r\n", b"\x00", b"GET", b"GET /work HTTP/1.1\r\n" + many + b"\r\n",
-        b"GET /work HTTP/1.1\r\nh: " + b"x" * draw.choice((8_100, 8_166, 8_167, 9_000)) + b"\r\n\r\n",
+        b"GET /work HTTP/1.1\r\nh: " + b"x" * draw.choice((8_100, 8_166, 8_167, 9_000))
+        + b"\r\n\r\n",
         b"GET /work HTTP/1.1\r\na : b\r\n\r\n", b"GET /work HTTP/1.1\r\na: b\r\n c\r\n\r\n",
         b"GET /\xc3\xa9 HTTP/1.1\r\n\r\n", b"GET /\xff HTTP/1.1\r\n\r\n",
         b"GET /work HTTP/1.1\r\na: \xff\r\n\r\n", b"\r\n\r\nGET /work HTTP/1.1\r\n\r\n",

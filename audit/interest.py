@@ -1,7 +1,7 @@
 """Interest of a cycle: the rows of its days, and which balances bear it."""
 
 from .book import Book
-from .days import closing, cycle_start, due
+from .days import closing_day, cycle_start, due
 from .money import daily, interest
 from .payments import paid
 
@@ -9,8 +9,8 @@ Row = tuple[int, int, int]  # day, balance, rate
 
 
 def make_rows(book: Book, x: int) -> None:
-    """One row per segment with its balance and rate; a deferred balance in its period has an accrual
-    beside it.  Segments with a balance of 0 are left out."""
+    """One row per segment with its balance and rate; a deferred balance in its period has an
+    accrual beside it.  Segments with a balance of 0 are left out."""
     for segment in book.segments[2:]:
         s = segment.number
         balance = book.balance(s)
@@ -36,7 +36,7 @@ def purchase_case(book: Book, k: int) -> tuple[str, int | None]:
 def case_of(book: Book, segment: int, k: int) -> tuple[str, int | None]:
     """How a segment bears interest in cycle k."""
     found = book.segments[segment]
-    if found.sort == "deferred" and found.in_period(closing(book.anchor, k)):
+    if found.sort == "deferred" and found.in_period(closing_day(book.anchor, k)):
         return "none", None
     if found.sort == "purchase":
         return purchase_case(book, k)
@@ -54,13 +54,13 @@ def repaid(book: Book, segment: int, first: int, last: int, end: int) -> list[tu
 
 def charged(book: Book, segment: int, k: int) -> list[tuple[int, int]]:
     """Per day of cycle k with a row, the balance that bears interest and the day's rate."""
-    start, end = cycle_start(book.anchor, k), closing(book.anchor, k)
+    start, end = cycle_start(book.anchor, k), closing_day(book.anchor, k)
     kept = book.rows[segment]
     rows = [(x, *kept[x]) for x in range(start, end + 1) if x in kept]
     case, last = case_of(book, segment, k)
     if case == "none":
         return []
-    if case == "plain":
+    if case == "plain" or last is None:
         return [(balance, rate) for _, balance, rate in rows]
     brought = repaid(book, segment, start, last, end)
     return [(max(0, balance - sum(cents for day, cents in brought if day > x)), rate)

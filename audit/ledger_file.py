@@ -10,6 +10,7 @@ import fcntl
 import shutil
 import sqlite3
 import tempfile
+from collections.abc import Iterator
 from pathlib import Path
 
 # the bytes of a file by which readers and writers of SQLite keep out of each other's way
@@ -38,7 +39,7 @@ def _copy(path: Path, folder: Path) -> Path:
 
 
 @contextlib.contextmanager
-def copied(path: str):
+def copied(path: str) -> Iterator[Path]:
     """A copy of a ledger's file, with its log, in a folder of its own."""
     with tempfile.TemporaryDirectory(prefix="audit-") as folder:
         try:

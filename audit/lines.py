@@ -1,16 +1,20 @@
 """Request lines and reply lines."""
 
 import re
+from collections.abc import Callable, Sequence
 from typing import NamedTuple
 
 from .days import FIRST_DAY, LAST_REQUEST_DAY, day_text, from_ymd
 from .machine import Reply
 from .product import WORDS_TO_COME
-from .words import CATEGORIES, CHANNELS, FINDINGS, PLAN_KINDS, WORDS, Place, Request
+from .words import (
+    CATEGORIES, CHANNELS, FINDINGS, PLAN_KINDS, WORDS, Place, Request, Value, request_of,
+)
 
 LINE_LIMIT = 512
 _NAME = re.compile(rb"[A-Za-z0-9][A-Za-z0-9._-]{0,31}")
 _NUMBER = re.compile(rb"0|[1-9][0-9]{0,11}")
+_SHOW = [("account", "name")]
 _DAY = re.compile(rb"([0-9]{4})-([0-9]{2})-([0-9]{2})")
 
 
@@ -46,19 +50,19 @@ def read_place(text: bytes) -> Place | None:
     return None if category is None else Place(category)
 
 
-def _word_of(words):
+def _word_of(words: Sequence[str]) -> Callable[[bytes], str | None]:
     return lambda text: next((w for w in words if w.encode() == text), None)
 
 
 # form -> reader of its bytes, which answers None where they aren't of the form
-FORMS = {
+FORMS: dict[str, Callable[[bytes], Value | None]] = {
     "name": read_name, "number": read_number, "day": read_day, "place": read_place,
     "category": _word_of(CATEGORIES), "channel": _word_of(CHANNELS),
     "plan": _word_of(PLAN_KINDS), "finding": _word_of(FINDINGS),
 }
 
 
-def read_line(line: bytes, unknown: frozenset = WORDS_TO_COME) -> Request | Show | Bad:
+def read_line(line: bytes, unknown: frozenset[str] = WORDS_TO_COME) -> Request | Show | Bad:
     """Reads a line without its line feed; the words in `unknown` aren't in the table yet.
 
     The word is field 1.  The first field from the left that is missing,
@@ -69,12 +73,12 @@ def read_line(line: bytes, unknown: frozenset = WORDS_TO_COME) -> Request | Show
     fields = line.split(b" ")
     word = fields[0].decode("ascii", "replace")
     if word == "show":
-        forms = [("account", "name")]
+        forms = _SHOW
     elif word in WORDS and word not in unknown:
         forms = WORDS[word][1]
     else:
         return Bad(1)
-    values = {}
+    values: dict[str, Value] = {}
     for place, (name, form) in enumerate(forms, start=1):
         value = FORMS[form](fields[place]) if place < len(fields) else None
         if value is None:
@@ -82,7 +86,7 @@ def read_line(line: bytes, unknown: frozenset = WORDS_TO_COME) -> Request | Show
         values[name] = value
     if len(fields) > len(forms) + 1:
         return Bad(len(forms) + 2)
-    return Show(values["account"]) if word == "show" else Request(word, **values)
+    return Show(fields[1].decode("ascii")) if word == "show" else request_of(word, values)
 
 
 def split_lines(data: bytes) -> list[bytes]:

@@ -4,12 +4,13 @@ from dataclasses import dataclass, field
 from typing import NamedTuple
 
 from . import product
-from .book import Book, Issued, SharedRows
+from .book import Book, Entry, Issued, SharedRows
 from .days import FIRST_DAY, Anchor, closing, is_timely
 from .fees import FeeRow
 from .fold import advance
 from .history import Corrected, corrected
 from .refusals import Refused, post_reason, reason_to_open, shared_reason
+from .segments import Segment
 from .statement import Statement, restated, statement_of
 from .tasks import Task, open_tasks, task_order
 from .words import OPENINGS, Kept, Request
@@ -32,9 +33,9 @@ class Account:
     posts: list[Kept] = field(default_factory=list)
     issued: dict[int, Issued] = field(default_factory=dict)
     keys: dict[str, int] = field(default_factory=dict)
-    known: tuple | None = None
+    known: tuple[int, ...] | None = None
     book: Book | None = None
-    corrected_known: tuple | None = None
+    corrected_known: tuple[int, ...] | None = None
     corrected: Corrected | None = None
 
 
@@ -44,7 +45,7 @@ class Machine:
     def __init__(self, post_limit: int = product.POST_LIMIT):
         self.post_limit = post_limit
         self.today = FIRST_DAY
-        self.holidays: frozenset = frozenset()
+        self.holidays: frozenset[int] = frozenset()
         self.fee_rows: list[FeeRow] = []
         self.index_rows: list[tuple[int, int]] = []
         self.holiday_rows = 0
@@ -52,7 +53,7 @@ class Machine:
 
     # -- derived values ----------------------------------------------------------------
 
-    def _lists_key(self, account: Account) -> tuple:
+    def _lists_key(self, account: Account) -> tuple[int, ...]:
         """All lists only grow at their ends, so their lengths name their contents."""
         return (len(account.posts), len(account.issued), self.holiday_rows, len(self.fee_rows),
                 len(self.index_rows))
@@ -65,18 +66,20 @@ class Machine:
         """
         day = self.today if day is None else day
         key = self._lists_key(account)
-        if account.known != key or account.book.day > day:
+        book = account.book
+        if book is None or account.known != key or book.day > day:
             shared = SharedRows(self.holidays, list(self.fee_rows), list(self.index_rows))
-            account.book = Book(account.anchor, list(account.posts), dict(account.issued), shared)
-            account.known = key
-        return advance(account.book, day)
+            book = Book(account.anchor, list(account.posts), dict(account.issued), shared)
+            account.book, account.known = book, key
+        return advance(book, day)
 
     def corrected(self, account: Account) -> Corrected:
         key = (len(account.posts), self.holiday_rows)
-        if account.corrected_known != key:
-            account.corrected = corrected(account.anchor, account.posts, self.holidays)
-            account.corrected_known = key
-        return account.corrected
+        found = account.corrected
+        if found is None or account.corrected_known != key:
+            found = corrected(account.anchor, account.posts, self.holidays)
+            account.corrected, account.corrected_known = found, key
+        return found
 
     # -- the step ----------------------------------------------------------------------
 
@@ -156,17 +159,21 @@ class Machine:
         """The cycle as recomputed now; None where it isn't closed before today."""
         account = self.accounts.get(name)
         day = closing(account.anchor, k) if account is not None and k <= LAST_CYCLE else None
-        if day is None or not day < self.today:
+        if account is None or day is None or not day < self.today:
             return None
         return restated(self.book(account), k)
 
-    def entries(self, name: str) -> tuple[list, list] | None:
+    def entries(self, name: str) -> tuple[list[Entry], list[Segment]] | None:
         """The entries and the segments of an account."""
         account = self.accounts.get(name)
         if account is None:
             return None
         book = self.book(account)
         return book.entries, book.segments
+
+    def entries_of(self, name: str) -> list[Entry]:
+        """The entries of an account that is there."""
+        return self.book(self.accounts[name]).entries
 
     def tasks(self, name: str) -> list[Task]:
         """The open tasks of an account that is there."""

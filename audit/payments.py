@@ -1,7 +1,7 @@
 """Sums over payments: what a due date asks for, and whether it was met."""
 
 from .book import Book
-from .days import closing, cycle_of, due, is_timely
+from .days import closing_day, cycle_of, due_day, is_timely
 from .history import Corrected
 
 LATE_DAYS = 60  # after a due date, before an account may bear the penalty rate
@@ -16,7 +16,7 @@ def counted(corrected: Corrected, first: int, last: int) -> int:
 
 def counted_since(book: Book, k: int, last: int) -> int:
     """The payments credited after closing k and up to a day."""
-    return counted(book.corrected, closing(book.anchor, k) + 1, last)
+    return counted(book.corrected, closing_day(book.anchor, k) + 1, last)
 
 
 def has_due_payment(book: Book, k: int) -> bool:
@@ -32,7 +32,7 @@ def asked(book: Book, k: int) -> int:
 
 def met(book: Book, k: int) -> bool:
     """The payments credited after the closing and up to the due date reach the minimum payment."""
-    return counted_since(book, k, due(book.anchor, k)) >= asked(book, k)
+    return counted_since(book, k, due_day(book.anchor, k)) >= asked(book, k)
 
 
 def paid(book: Book, k: int) -> bool:
@@ -42,7 +42,7 @@ def paid(book: Book, k: int) -> bool:
     """
     if k == 0 or not has_due_payment(book, k):
         return True
-    first, last = closing(book.anchor, k) + 1, due(book.anchor, k)
+    first, last = closing_day(book.anchor, k) + 1, due_day(book.anchor, k)
     credits = sum(book.corrected.cents[kept.number] for kept in book.posts
                   if kept.post.word == "credit"
                   and first <= book.corrected.effective[kept.number] <= last)
@@ -53,7 +53,7 @@ def past_due(book: Book, k: int) -> int:
     """At closing k: the minimum payment before less the payments credited since that closing."""
     if k == 1 or not has_due_payment(book, k - 1):
         return 0
-    left = book.cycle(k - 1).minimum - counted_since(book, k - 1, closing(book.anchor, k))
+    left = book.cycle(k - 1).minimum - counted_since(book, k - 1, closing_day(book.anchor, k))
     return max(0, left)
 
 
@@ -68,9 +68,9 @@ def minimum_left(book: Book, number: int, x: int) -> int:
         return 0
     place = (x, number)
     before = sum(p.cents for p in book.corrected.payments
-                 if closing(book.anchor, k) < p.effective
+                 if closing_day(book.anchor, k) < p.effective
                  and (p.effective, p.number) < place
-                 and not (p.return_number is not None
+                 and not (p.return_number is not None and p.return_effective is not None
                           and (p.return_effective, p.return_number) < place))
     return max(0, book.cycle(k).minimum - before)
 
@@ -78,7 +78,7 @@ def minimum_left(book: Book, number: int, x: int) -> int:
 def sixty_days_late(book: Book, day: int) -> bool:
     """For some statement with a due payment more than 60 days have passed since its due date, and
     the payments credited since its closing are below its minimum payment."""
-    return any(due(book.anchor, c.number) + LATE_DAYS < day
+    return any(due_day(book.anchor, c.number) + LATE_DAYS < day
                and has_due_payment(book, c.number)
                and counted_since(book, c.number, day) < c.minimum
                for c in book.cycles)

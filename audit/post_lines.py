@@ -1,7 +1,8 @@
-"""A line of each kind of post: mostly one that fits the account, now and then one that is refused."""
+"""A line of each kind of post: mostly one that fits the account, now and then one that is
+refused."""
 
 from . import days
-from .days import closing, cycle_of, day_text, due, is_business, next_business
+from .days import closing_day, cycle_of, day_text, due_day, is_business, next_business
 from .drawn import Drawn
 from .machine import Account
 from .payments import sixty_days_late
@@ -52,7 +53,7 @@ class PostLines(Drawn):
             self.emit(f"show {name}")
             return
         if self.chance(25):  # a mail payment around a due date that is no business day
-            dues = [due(anchor, j) for j in range(1, k + 1)]
+            dues = [due_day(anchor, j) for j in range(1, k + 1)]
             dues = [d for d in dues if not is_business(d, self.machine.holidays)]
             if dues:
                 first = next_business(self.draw.choice(dues[-6:]), self.machine.holidays)
@@ -77,11 +78,11 @@ class PostLines(Drawn):
         anchor = account.anchor
         day = max(anchor.opened, self.today - self.draw.choice((0, 0, 5, 40, 120, 170)))
         k = cycle_of(anchor, day) + 6
-        if closing(anchor, k) < days.six_months_after(day):
+        if closing_day(anchor, k) < days.six_months_after(day):
             k += 1
-        end = closing(anchor, k + self.draw.choice((0, 0, 0, 1, 3)))
+        end = closing_day(anchor, k + self.draw.choice((0, 0, 0, 1, 3)))
         if self.chance(8):
-            end = closing(anchor, k - 2)
+            end = closing_day(anchor, k - 2)
         elif self.chance(6):
             end -= self.draw.choice((1, 9, 300))
         self.emit(f"plan {name} {self.key()} {day_text(day)} "

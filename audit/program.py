@@ -8,6 +8,7 @@ import socket
 import subprocess
 import tempfile
 import time
+from typing import IO
 
 MOST_CONNECTIONS = 1_000_000
 PORT_TAKEN = 7  # the status of a program that couldn't listen
@@ -49,7 +50,7 @@ class Program:
         usage = self.run([])[0].decode("ascii", "replace").removeprefix("usage: ")
         return {form.split()[0] for form in usage.split("|") if form.split()}
 
-    def serve(self, port: int, count: int, out) -> subprocess.Popen:
+    def serve(self, port: int, count: int, out: IO[bytes] | int) -> subprocess.Popen:
         return subprocess.Popen([self.path, self.file, "serve", str(port), str(count)],
                                 stdin=subprocess.DEVNULL, stdout=out)
 
@@ -66,7 +67,7 @@ class Server:
     def __enter__(self) -> "Server":
         return self
 
-    def __exit__(self, *error) -> None:
+    def __exit__(self, *error: object) -> None:
         if self.run is not None:
             self.run.kill()
             self.run.wait()
@@ -79,21 +80,22 @@ class Server:
             self.port, self.left = free_port(), MOST_CONNECTIONS
             self.said = tempfile.TemporaryFile()
             self.run = self.program.serve(self.port, self.left, self.said)
-            if self._listens():
+            if self._listens(self.run):
                 return
-            if self.run.returncode != PORT_TAKEN:
+            status = self.run.returncode
+            if status != PORT_TAKEN:
                 break
         self.said.seek(0)
         said = self.said.read().decode("utf-8", "replace").strip()
-        raise Failed(f"serve ends with status {self.run.returncode}: {said}")
+        raise Failed(f"serve ends with status {status}: {said}")
 
     def _link(self) -> contextlib.closing:
         self.left -= 1
         return contextlib.closing(http.client.HTTPConnection("127.0.0.1", self.port))
 
-    def _listens(self) -> bool:
+    def _listens(self, run: subprocess.Popen) -> bool:
         """Waits until all rows are loaded; False where the run ended before."""
-        while self.run.poll() is None:
+        while run.poll() is None:
             with contextlib.suppress(ConnectionRefusedError), self._link() as link:
                 link.connect()
                 return True

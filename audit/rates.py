@@ -2,7 +2,7 @@
 
 from typing import NamedTuple
 
-from .days import Anchor
+from .days import Anchor, day_text
 from .segments import CREDIT, HELD, OPENING_VINTAGE, Segment, segments_of
 from .words import Kept, Request
 
@@ -43,9 +43,12 @@ class RateBook:
         return self.posts[segment.post - 1].post
 
     def _opening_rate(self, category: str, day: int) -> int:
-        rate = getattr(self.terms, category)
+        rate: int = getattr(self.terms, category)
         if self.terms.word == "openvar":
-            rate = min(RATE_LIMIT, rate + index_on(self.index_rows, day))
+            index = index_on(self.index_rows, day)
+            if index is None:
+                raise ValueError(f"no index row counts on {day_text(day)}: load one before it")
+            rate = min(RATE_LIMIT, rate + index)
         return rate
 
     def own(self, segment: Segment, day: int) -> tuple[int, int]:
@@ -55,7 +58,7 @@ class RateBook:
         rate takes effect.
         """
         if segment.is_plan:
-            return self._post(segment).after, segment.ends + 1
+            return self._post(segment).after, segment.end_day + 1
         if segment.number == OPENING_VINTAGE[segment.sort]:
             return self._opening_rate(segment.sort, day), self.anchor.opened
         notice = self._post(segment)
@@ -65,15 +68,17 @@ class RateBook:
                      if s.sort == segment.sort and s.number < segment.number)
         return self.own(self.segments[before], day)
 
-    def capped(self, rate: int, category: str, began: int, day: int) -> int:
-        """The least of a rate and the lowered rates of its category on days from `began` to `day`."""
+    def capped(self, rate: int, category: str | None, began: int, day: int) -> int:
+        """The least of a rate and the lowered rates of its category on days from `began` to
+        `day`."""
         for lower in self.lowers:
             if lower.category == category and began <= lower.day <= day:
                 rate = min(rate, lower.rate)
         return rate
 
-    def with_penalty(self, rate: int, category: str, day: int) -> int:
-        """The greatest of a rate and the penalty rates in force, each held down from its beginning on."""
+    def with_penalty(self, rate: int, category: str | None, day: int) -> int:
+        """The greatest of a rate and the penalty rates in force, each held down from its
+        beginning on."""
         for penalty in self.penalties:
             if penalty.in_force(day):
                 rate = max(rate, self.capped(self.terms.penalty, category, penalty.begins, day))
@@ -90,7 +95,7 @@ class RateBook:
         segment = self.segments[number]
         if number in (CREDIT, HELD):
             return 0
-        if segment.is_plan and day <= segment.ends:
+        if segment.is_plan and day <= segment.end_day:
             return self.period_rate(segment, day)
         own, began = self.own(segment, day)
         rate = self.capped(own, segment.category, began, day)

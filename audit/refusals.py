@@ -1,14 +1,20 @@
 """Why a request isn't accepted: the first reason that holds, in the order of RULES."""
 
 from dataclasses import dataclass
-from typing import NamedTuple
+from typing import TYPE_CHECKING, NamedTuple
 
-from .days import (LAST_REQUEST_DAY, closing, cycle_of, day_text, six_months_after, year_after)
+from .days import (
+    LAST_REQUEST_DAY, Anchor, closing, closing_day, cycle_of, day_text, six_months_after,
+    year_after,
+)
 from .payments import sixty_days_late
 from .rates import RATE_LIMIT, index_on
 from .segments import SEGMENT_LIMIT, segments_of
 from .tasks import increases, last_notice_day
 from .words import AMENDABLE, Kept, Request
+
+if TYPE_CHECKING:
+    from .machine import Account, Machine
 
 CENTS_OF_REQUEST = 1_000_000_000
 ACCOUNT_LIMIT = 1_000_000
@@ -43,13 +49,15 @@ class Refused(NamedTuple):
         return self.number in _DAY_VALUES
 
     def value_text(self) -> str:
-        return day_text(self.value) if self.value_is_day else str(self.value)
+        if self.value_is_day and self.value is not None:
+            return day_text(self.value)
+        return str(self.value)
 
 
 # -- shared requests and openings ------------------------------------------------------------
 
 
-def shared_reason(machine, r: Request) -> Refused | None:
+def shared_reason(machine: "Machine", r: Request) -> Refused | None:
     """Why a shared request isn't accepted."""
     if r.word == "roll":
         if r.day <= machine.today:
@@ -68,7 +76,7 @@ def bad_terms(r: Request) -> Refused | None:
     return Refused(4, bad.index(True) + 1) if any(bad) else None
 
 
-def reason_to_open(machine, r: Request) -> Refused | None:
+def reason_to_open(machine: "Machine", r: Request) -> Refused | None:
     """Why an account isn't opened."""
     bad = bad_terms(r)
     if bad:
@@ -85,9 +93,10 @@ def reason_to_open(machine, r: Request) -> Refused | None:
 
 @dataclass
 class Case:
-    """A post that is judged: the machine, the account and the request, and the post that it names."""
-    machine: object
-    account: object
+    """A post that is judged: the machine, the account and the request, and the post that it
+    names."""
+    machine: "Machine"
+    account: "Account"
     r: Request
 
     @property
@@ -95,7 +104,7 @@ class Case:
         return self.account.posts
 
     @property
-    def anchor(self):
+    def anchor(self) -> Anchor:
         return self.account.anchor
 
     @property
@@ -120,7 +129,8 @@ def is_out_of_range(c: Case) -> Refused | None:
     bad = ((r.word in ("charge", "credit", "payment", "refund", "dispute")
             and not 1 <= r.cents <= CENTS_OF_REQUEST)
            or (r.word in ("amend", "resolve") and r.cents > CENTS_OF_REQUEST)
-           or (r.word == "resolve" and c.target_is("dispute") and r.cents > c.target.cents)
+           or (r.word == "resolve" and c.target is not None
+               and c.target.word == "dispute" and r.cents > c.target.cents)
            or (r.word == "payment" and r.minute >= MINUTES)
            or (r.word in ("plan", "notice", "lower") and r.rate > RATE_LIMIT)
            or (r.word == "plan" and r.after > RATE_LIMIT)
@@ -154,12 +164,12 @@ def outside_plan(c: Case) -> Refused | None:
     place = None
     if c.r.word == "charge":
         place = c.r.place
-    elif c.r.word == "amend" and c.target_is("charge"):
+    elif c.r.word == "amend" and c.target is not None and c.target.word == "charge":
         place = c.target.place
     if place is None or place.plan is None:
         return None
     plan = c.named(place.plan)
-    return None if plan.day <= c.r.day <= plan.end else Refused(9)
+    return None if plan is not None and plan.day <= c.r.day <= plan.end else Refused(9)
 
 
 def plan_end_not_closing(c: Case) -> Refused | None:
@@ -242,9 +252,10 @@ def no_open_dispute(c: Case) -> Refused | None:
 
 
 def not_closed(c: Case) -> Refused | None:
-    if c.r.word != "bill" or closing(c.anchor, c.r.cycle) < c.machine.today:
+    if c.r.word != "bill":
         return None
-    return Refused(22, closing(c.anchor, c.r.cycle))
+    day = closing_day(c.anchor, c.r.cycle)
+    return None if day < c.machine.today else Refused(22, day)
 
 
 def refund_too_large(c: Case) -> Refused | None:
@@ -270,7 +281,7 @@ POST_REASONS = (is_out_of_range, day_ahead, day_before_open, unknown_plan, outsi
                 account_full)
 
 
-def post_reason(machine, account, r: Request) -> Refused | None:
+def post_reason(machine: "Machine", account: "Account", r: Request) -> Refused | None:
     """The first reason against a post of an account that is there, its key being new."""
     case = Case(machine, account, r)
     return next(filter(None, (reason(case) for reason in POST_REASONS)), None)

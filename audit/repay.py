@@ -5,6 +5,7 @@ functions ending in `_by_cents` pay one cent at a time, as the rule says; the
 others move whole amounts, and a self-test compares them.
 """
 
+from collections.abc import Callable, Sequence
 from typing import NamedTuple
 
 from .money import daily, interest, money_text, portion
@@ -29,6 +30,12 @@ class In36(NamedTuple):
     total: int
 
 
+# The item that the next cent goes to, from the cents and the rates of all items.
+Choice = Callable[[list[int], list[int]], int]
+# Pays an amount: the cents that are left.
+Payer = Callable[[list[int], list[int], int, Choice], list[int]]
+
+
 def _down(cents: list[int], rates: list[int]) -> int:
     """The item above 0 with the least rate, then the first."""
     return min((i for i in range(len(cents)) if cents[i] > 0), key=lambda i: (rates[i], i))
@@ -39,17 +46,17 @@ def _up(cents: list[int], rates: list[int]) -> int:
     return min((i for i in range(len(cents)) if cents[i] > 0), key=lambda i: (-rates[i], i))
 
 
-def pay_by_cents(cents, rates, amount: int, choose) -> list[int]:
+def pay_by_cents(owed: Sequence[int], rates: list[int], amount: int, choose: Choice) -> list[int]:
     """Pays an amount of at most the total one cent at a time."""
-    cents = list(cents)
+    cents = list(owed)
     for _ in range(amount):
         cents[choose(cents, rates)] -= 1
     return cents
 
 
-def pay(cents, rates, amount: int, choose) -> list[int]:
+def pay(owed: Sequence[int], rates: list[int], amount: int, choose: Choice) -> list[int]:
     """Pays an amount of at most the total in whole parts."""
-    cents = list(cents)
+    cents = list(owed)
     while amount > 0:
         i = choose(cents, rates)
         part = min(amount, cents[i])
@@ -58,11 +65,11 @@ def pay(cents, rates, amount: int, choose) -> list[int]:
     return cents
 
 
-def _month_interest(cents, rates) -> list[int]:
+def _month_interest(cents: list[int], rates: list[int]) -> list[int]:
     return [interest(30 * c * daily(r)) for c, r in zip(cents, rates)]
 
 
-def at_minimum(owing: list[Owing], floor: int, pct: int, payer=pay) -> AtMinimum | None:
+def at_minimum(owing: list[Owing], floor: int, pct: int, payer: Payer = pay) -> AtMinimum | None:
     """The least number of months at minimum after which the total is 0, and what was paid;
     None where the total is above 0 after 1,200 months."""
     cents, rates = [o.cents for o in owing], [o.rate for o in owing]
@@ -79,7 +86,8 @@ def at_minimum(owing: list[Owing], floor: int, pct: int, payer=pay) -> AtMinimum
     return None
 
 
-def after_months(owing: list[Owing], payment: int, months: int, payer=pay) -> tuple[list[int], int]:
+def after_months(owing: list[Owing], payment: int, months: int,
+                 payer: Payer = pay) -> tuple[list[int], int]:
     """The items after some months at a payment, and the sum of what was paid."""
     cents, rates = [o.cents for o in owing], [o.rate for o in owing]
     paid = 0

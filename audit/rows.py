@@ -1,9 +1,14 @@
 """Kept rows: the spelling of a request in format 1 and in format 2."""
 
+from collections.abc import Sequence
+
 from .days import FIRST_DAY, LAST_REQUEST_DAY
 from .lines import read_name
 from .product import ROW_FORMAT
-from .words import CATEGORIES, CHANNELS, FINDINGS, NUMBER_LIMIT, PLAN_KINDS, WORDS, Place, Request
+from .words import (
+    CATEGORIES, CHANNELS, FINDINGS, NUMBER_LIMIT, PLAN_KINDS, WORDS, Place, Request, Value,
+    request_of,
+)
 
 _WORD_LISTS = {"category": CATEGORIES, "channel": CHANNELS, "plan": PLAN_KINDS,
                "finding": FINDINGS}
@@ -94,13 +99,13 @@ class _Reader:
             raise _NoSpelling
         return name
 
-    def tag(self, words) -> str:
+    def tag(self, words: Sequence[str]) -> str:
         place = self.byte()
         if place >= len(words):
             raise _NoSpelling
         return words[place]
 
-    def field(self, form: str):
+    def field(self, form: str) -> Value:
         if form == "name":
             return self.name()
         if form == "day":
@@ -129,4 +134,4 @@ def decode(body: bytes) -> Request | None:
         values = {name: reader.field(form) for name, form in WORDS[word][1]}
     except _NoSpelling:
         return None
-    return Request(word, **values) if reader.place == len(body) else None
+    return request_of(word, values) if reader.place == len(body) else None

@@ -30,11 +30,18 @@ class Segment(NamedTuple):
         return self.sort if self.number < 2 else f"{self.sort}:{self.number}"
 
     @property
+    def end_day(self) -> int:
+        """The day on which a plan ends."""
+        if self.ends is None:
+            raise ValueError(f"segment {self.number} is no plan: only a plan ends")
+        return self.ends
+
+    @property
     def is_plan(self) -> bool:
         return self.ends is not None
 
     def in_period(self, day: int) -> bool:
-        return self.is_plan and self.begins <= day <= self.ends
+        return self.ends is not None and self.begins <= day <= self.ends
 
 
 def segments_of(anchor: Anchor, posts: list[Kept]) -> list[Segment]:
@@ -54,7 +61,7 @@ def segments_of(anchor: Anchor, posts: list[Kept]) -> list[Segment]:
     return out
 
 
-def newest(segments: list[Segment], category: str, day: int) -> int:
+def newest(segments: list[Segment], category: str | None, day: int) -> int:
     """The newest vintage of a category that has begun by a day."""
     return max(s.number for s in segments if s.sort == category and s.begins <= day)
 
@@ -66,9 +73,9 @@ def plan_segment(segments: list[Segment], post: int) -> int:
 
 def segment_at(segments: list[Segment], place: Place, day: int) -> int:
     """Where a charge goes: to the newest vintage of its category, or to its plan."""
-    if place.plan is None:
-        return newest(segments, place.category, day)
-    return plan_segment(segments, place.plan)
+    if place.plan is not None:
+        return plan_segment(segments, place.plan)
+    return newest(segments, place.category, day)
 
 
 def segments_at(segments: list[Segment], place: Place) -> list[int]:

@@ -1,6 +1,8 @@
-"""Statements as they were sent, printed on their day: what a row that was changed since can't change."""
+"""Statements as they were sent, printed on their day: what a row that was changed since can't
+change."""
 
 import re
+from collections.abc import Sequence
 from pathlib import Path
 from typing import NamedTuple
 
@@ -31,7 +33,7 @@ def statements_in(path: Path) -> list[Sent]:
             for m, end in zip(begins, ends)]
 
 
-def statements_below(paths: list[str]) -> list[Sent]:
+def statements_below(paths: Sequence[str]) -> list[Sent]:
     """The statements of files, and of all files in folders; each path has to have one."""
     found = []
     for path in map(Path, paths):

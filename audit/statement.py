@@ -3,7 +3,7 @@
 from typing import NamedTuple
 
 from .book import Book, Cycle
-from .days import cycle_start, due, ymd
+from .days import cycle_start, due_day, ymd
 from .fees import fees_sum, row_in_force
 from .interest import deferred_interest
 from .payments import has_due_payment
@@ -96,12 +96,13 @@ def deferred_lines(book: Book, cycle: Cycle) -> list[DeferredLine]:
         balance = book.balance_at(s, day)
         if segment.sort == "deferred" and segment.in_period(day) and balance > 0:
             lines.append(DeferredLine(s, segment.name, balance, deferred_interest(book, s, day),
-                                      segment.ends))
+                                      segment.end_day))
     return lines
 
 
 def previous_balance(book: Book, k: int, owed_before: int) -> int:
-    """The new balance of the issued statement before; without one, what was owed at that closing."""
+    """The new balance of the issued statement before; without one, what was owed at that
+    closing."""
     row = book.issued.get(k - 1)
     return owed_before if row is None else row.statement.cycle.new_balance
 
@@ -141,5 +142,5 @@ def restated(book: Book, k: int) -> Statement:
     Without a bill that is the due date, so it asks for no payment.
     """
     row = book.issued.get(k)
-    issue = row.day if row else due(book.anchor, k)
+    issue = row.day if row else due_day(book.anchor, k)
     return statement_of(book, k, issue, has_due_payment(book, k))

@@ -2,7 +2,7 @@
 
 from typing import NamedTuple
 
-from .days import Anchor, closing, cycle_of, day_text, next_business, six_months_after
+from .days import Anchor, closing_day, cycle_of, day_text, next_business, six_months_after
 from .history import Corrected
 from .words import Kept
 
@@ -37,10 +37,10 @@ def ack_by(day: int) -> int:
 
 def resolve_by(anchor: Anchor, day: int) -> int:
     """Two closings after the dispute's cycle, and at most 90 days."""
-    return min(closing(anchor, cycle_of(anchor, day) + 2), day + 90)
+    return min(closing_day(anchor, cycle_of(anchor, day) + 2), day + 90)
 
 
-def refund_by(day: int, holidays: frozenset) -> int:
+def refund_by(day: int, holidays: frozenset[int]) -> int:
     """The seventh business day after a day."""
     for _ in range(7):
         day = next_business(day, holidays)
@@ -52,8 +52,8 @@ def lower_by(day: int) -> int:
 
 
 def increases(posts: list[Kept]) -> list[int]:
-    """When the increases take effect, by the posts: a notice on its effective day, a penalty 45 days
-    after its acceptance."""
+    """When the increases take effect, by the posts: a notice on its effective day, a penalty 45
+    days after its acceptance."""
     days = []
     for kept in posts:
         if kept.post.word == "notice":
@@ -83,7 +83,7 @@ def has_later(posts: list[Kept], word: str, number: int) -> bool:
 
 
 def tasks_of_post(account: str, anchor: Anchor, posts: list[Kept], kept: Kept, credit: int,
-                  holidays: frozenset) -> list[Task]:
+                  holidays: frozenset[int]) -> list[Task]:
     """What a post asks for and isn't done."""
     number, post = kept.number, kept.post
     tasks = []
@@ -101,12 +101,12 @@ def tasks_of_post(account: str, anchor: Anchor, posts: list[Kept], kept: Kept, c
 
 
 def open_tasks(account: str, anchor: Anchor, posts: list[Kept], credit: int,
-               credit_since: int | None, holidays: frozenset, today: int) -> list[Task]:
+               credit_since: int | None, holidays: frozenset[int], today: int) -> list[Task]:
     """The open tasks of one account by day, kind and post."""
     tasks = []
     for kept in posts:
         tasks += tasks_of_post(account, anchor, posts, kept, credit, holidays)
-    if credit > DOLLAR:
+    if credit > DOLLAR and credit_since is not None:
         tasks.append(Task(six_months_after(credit_since), account, "CREDIT", 0))
     review = review_by(posts, today)
     if review is not None:
@@ -114,7 +114,7 @@ def open_tasks(account: str, anchor: Anchor, posts: list[Kept], credit: int,
     return sorted(tasks, key=task_order)
 
 
-def task_order(task: Task):
+def task_order(task: Task) -> tuple[int, str, int, int]:
     """By day, account, kind in the order of KINDS, post."""
     return task.by, task.account, KINDS.index(task.kind), task.post
 

@@ -13,12 +13,16 @@ def view(machine: Machine, name: str, account: str | None = None,
     """The text of a view by its command's word, None where the account or statement isn't there."""
     if name == "work":
         return tasks_text(machine.work())
+    if account is None:
+        return None
     if name == "show":
         shown = machine.show(account)
         return None if shown is None else show_text(account, *shown)
     if name == "export":
         found = machine.entries(account)
         return None if found is None else export_text(*found)
+    if cycle is None:
+        return None
     if name == "restate":
         statement = machine.restated_statement(account, cycle)
     else:

@@ -1,7 +1,7 @@
 """Requests: the table of words with their fields, and what a request holds."""
 
 from dataclasses import dataclass
-from typing import NamedTuple
+from typing import Any, NamedTuple
 
 CATEGORIES = ("purchase", "cash", "transfer")
 CHANNELS = ("mail", "online")
@@ -52,44 +52,59 @@ class Place(NamedTuple):
     plan: int | None = None
 
 
+# The value of a field by its form: a name or word, a number or day, a place.
+Value = str | int | Place
+# Stands in the fields that a request's word doesn't have.  `WORDS` says which it has.
+ABSENT: Any = None
+
+
 @dataclass(frozen=True)
 class Request:
     """One request with the fields of its word; the others are None.
+
+    The type of a field is that of its value where the word has the field.
+    A reader asks for the word first, or compares the field with None.
 
     In `plan` posts the member `plan` is the kind of the plan.  In `open` and
     `openvar` posts `purchase`, `cash`, `transfer` and `penalty` are the rates
     of the terms (margins for the first three of `openvar`).
     """
     word: str
-    account: str | None = None
-    key: str | None = None
-    day: int | None = None
-    place: Place | None = None
-    cents: int | None = None
-    minute: int | None = None
-    channel: str | None = None
-    target: int | None = None
-    plan: str | None = None
-    rate: int | None = None
-    end: int | None = None
-    after: int | None = None
-    category: str | None = None
-    effective: int | None = None
-    finding: str | None = None
-    cycle: int | None = None
-    first: int | None = None
-    repeat: int | None = None
-    close: int | None = None
-    purchase: int | None = None
-    cash: int | None = None
-    transfer: int | None = None
-    penalty: int | None = None
-    floor: int | None = None
-    pct: int | None = None
+    account: str = ABSENT
+    key: str = ABSENT
+    day: int = ABSENT
+    place: Place = ABSENT
+    cents: int = ABSENT
+    minute: int = ABSENT
+    channel: str = ABSENT
+    target: int = ABSENT
+    plan: str = ABSENT
+    rate: int = ABSENT
+    end: int = ABSENT
+    after: int = ABSENT
+    category: str = ABSENT
+    effective: int = ABSENT
+    finding: str = ABSENT
+    cycle: int = ABSENT
+    first: int = ABSENT
+    repeat: int = ABSENT
+    close: int = ABSENT
+    purchase: int = ABSENT
+    cash: int = ABSENT
+    transfer: int = ABSENT
+    penalty: int = ABSENT
+    floor: int = ABSENT
+    pct: int = ABSENT
 
     @property
     def is_shared(self) -> bool:
         return self.word in SHARED_WORDS
+
+
+def request_of(word: str, values: dict[str, Value]) -> Request:
+    """The request of a word with its fields by name, each with a value of its form."""
+    fields: dict[str, Any] = dict(values)
+    return Request(word, **fields)
 
 
 class Kept(NamedTuple):

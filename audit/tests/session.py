@@ -2,6 +2,7 @@
 
 from functools import lru_cache
 
+from audit.book import Book, Cycle
 from audit.commands import Keeper, run
 from audit.days import day_of
 from audit.generate import generate
@@ -10,7 +11,8 @@ from audit.machine import Machine
 from audit.product import COMMANDS_TO_COME
 from audit.words import Request
 
-EVERY_WORD = frozenset()  # no word is left out, nor those that the program doesn't know yet
+# No word is left out, nor those that the program doesn't know yet.
+EVERY_WORD: frozenset[str] = frozenset()
 
 START = ["feerow 2011-01-02 3000 4100", "roll 2024-01-10",
          "open a o 2024-01-06 5 1999 2499 2199 2999 2500 100"]
@@ -19,11 +21,12 @@ START = ["feerow 2011-01-02 3000 4100", "roll 2024-01-10",
 class Session:
     """Several runs over the same rows."""
 
-    def __init__(self, kept=None, unknown: frozenset = COMMANDS_TO_COME):
+    def __init__(self, kept: list[tuple[int, bytes]] | None = None,
+                 unknown: frozenset[str] = COMMANDS_TO_COME) -> None:
         self.keeper, self.unknown = Keeper(kept), unknown
 
     @property
-    def machine(self):
+    def machine(self) -> Machine:
         return self.keeper.machine()
 
     def run(self, *words: str, data: bytes = b"") -> tuple[bytes, int]:
@@ -49,11 +52,11 @@ class Session:
     def owed(self, account: str) -> int:
         return int(self.last(f"show {account}").split(" owed ")[1].split()[0])
 
-    def book(self, account: str):
+    def book(self, account: str) -> Book:
         """The book of an account at the end of today."""
         return self.machine.book(self.machine.accounts[account])
 
-    def cycles(self, account: str):
+    def cycles(self, account: str) -> list[Cycle]:
         return self.book(account).cycles
 
     def rate(self, account: str, segment: int, day: str) -> int:
@@ -68,9 +71,11 @@ def started() -> Session:
     return session
 
 
-def request_of(line: str):
+def request_of(line: str) -> Request:
     """The request of a line, also of a word that the program doesn't know yet."""
-    return read_line(line.encode(), EVERY_WORD)
+    item = read_line(line.encode(), EVERY_WORD)
+    assert isinstance(item, Request), f"no request line: {line}"
+    return item
 
 
 @lru_cache(maxsize=None)
@@ -78,7 +83,7 @@ def machine_of(seed: int, lines: int, accounts: int = 2) -> Machine:
     """The ledger of a random history of all words."""
     machine = Machine()
     for line in generate(seed, lines, accounts, EVERY_WORD):
-        item = request_of(line)
+        item = read_line(line.encode(), EVERY_WORD)
         if isinstance(item, Request):
             machine.apply(item)
     return machine

@@ -1,5 +1,7 @@
-"""A ledger's file recomputed: reading it leaves it alone, and a difference is shown with both sides."""
+"""A ledger's file recomputed: reading it leaves it alone, and a difference is shown with both
+sides."""
 
+import dataclasses
 import hashlib
 import sqlite3
 import subprocess
@@ -16,7 +18,6 @@ from audit.program import Failed
 from audit.rows import decode, encode
 from audit.sent import statements_below
 from audit.views import view
-from audit.words import Request
 
 from .session import billed
 
@@ -31,28 +32,38 @@ def rows() -> list[tuple[int, bytes]]:
     return p.keeper.rows
 
 
-def changed(kept: list[tuple[int, bytes]], place: int, **fields) -> list[tuple[int, bytes]]:
+def changed(kept: list[tuple[int, bytes]], place: int, **fields: int) -> list[tuple[int, bytes]]:
     """The same rows but for some fields of one."""
     request = decode(kept[place][1])
-    other = Request(**{**vars(request), **fields})
+    assert request is not None, f"row {place + 1} is no request"
+    other = dataclasses.replace(request, **fields)
     return [*kept[:place], (place + 1, encode(other)), *kept[place + 1:]]
 
 
 class Stub:
     """What a program tells that carried out other rows: a program and its server in one."""
 
-    def __init__(self, kept):
-        self.machine = load(kept)
+    def __init__(self, kept: list[tuple[int, bytes]], wrong: dict[str, bytes] | None = None,
+                 told: tuple[bytes, int] = (b"", 0)) -> None:
+        """What it answers wrongly behind the right text, by path; and what its runs tell."""
+        self.machine, self.wrong, self.told = load(kept), wrong or {}, told
 
-    def run(self, words, data=b""):
-        return b"", 0
+    def run(self, words: list[str], data: bytes = b"") -> tuple[bytes, int]:
+        return self.told
 
     def get(self, path: str) -> bytes | None:
         answer = serve(self.machine, f"GET {path} HTTP/1.1\r\n\r\n".encode())
-        return answer.body if answer.status == 200 else None
+        found = answer.body if answer is not None and answer.status == 200 else None
+        return (found or b"") + self.wrong[path] if path in self.wrong else found
 
 
-def audited(kept, others) -> str:
+def word_of(body: bytes) -> str | None:
+    """The word of a kept row."""
+    request = decode(body)
+    return None if request is None else request.word
+
+
+def audited(kept: list[tuple[int, bytes]], others: list[tuple[int, bytes]]) -> str:
     stub = Stub(others)
     return Audit(load(kept), stub).whole(Progress(quiet=True)).text()
 
@@ -67,7 +78,7 @@ class Compared(unittest.TestCase):
 
     def test_changed_amount(self) -> None:
         kept = rows()
-        place = next(i for i, (_, body) in enumerate(kept) if decode(body).word == "payment")
+        place = next(i for i, (_, body) in enumerate(kept) if word_of(body) == "payment")
         with self.assertRaises(Different) as found:
             audited(changed(kept, place, cents=50001), kept)
         text = str(found.exception)
@@ -82,29 +93,24 @@ class Compared(unittest.TestCase):
                            ("/accounts/a/cycles/2", "account a, cycle 2 as recomputed"),
                            ("/accounts/a/statements/3", "account a, statement 3 as issued"),
                            ("/work", "account a, open tasks")):
-            stub = Stub(rows())
-            true = stub.get
-            stub.get = lambda p: true(p) if p != path else (true(p) or b"") + b"2024-09-09 a ACK 9\n"
+            stub = Stub(rows(), {path: b"2024-09-09 a ACK 9\n"})
             with self.assertRaises(Different) as found:
                 Audit(load(rows()), stub).whole(Progress(quiet=True))
             self.assertTrue(str(found.exception).startswith(name + ","), found.exception)
 
     def test_task_of_no_account(self) -> None:
-        stub = Stub(rows())
-        true = stub.get
-        stub.get = lambda p: true(p) if p != "/work" else true(p) + b"2099-12-31 z CREDIT 0\n"
+        stub = Stub(rows(), {"/work": b"2099-12-31 z CREDIT 0\n"})
         with self.assertRaises(Different) as found:
             Audit(load(rows()), stub).whole(Progress(quiet=True))
         self.assertTrue(str(found.exception).startswith("open tasks of all accounts,"))
 
     def test_damaged(self) -> None:
-        stub = Stub([])
         kept = rows()[:3] + [(9, b"")]
-        stub.run = lambda words, data=b"": (b"damaged 4\n", 8)
+        stub = Stub([], told=(b"damaged 4\n", 8))
         with self.assertRaises(Failed) as found:
             recomputed(kept, stub, Progress(quiet=True))
         self.assertIn("row 4 is damaged", str(found.exception))
-        stub.run = lambda words, data=b"": (b"", 0)
+        stub = Stub([])
         with self.assertRaises(Different):
             recomputed(kept, stub, Progress(quiet=True))
 
@@ -115,7 +121,7 @@ class Files(unittest.TestCase):
         self.addCleanup(self.folder.cleanup)
         self.file = Path(self.folder.name) / "ledger.db"
 
-    def written(self, kept, log: bool = False) -> None:
+    def written(self, kept: list[tuple[int, bytes]], log: bool = False) -> None:
         """A file with these rows; or with all of them in the log that a killed run leaves."""
         lines = ["import os, sqlite3", f"base = sqlite3.connect({str(self.file)!r})"]
         if log:
@@ -154,11 +160,12 @@ class Files(unittest.TestCase):
         machine = load(kept)
         sent = Path(self.folder.name) / "sent"
         sent.mkdir()
-        (sent / "both").write_text("".join(view(machine, "statement", "a", k) for k in (1, 2)))
+        (sent / "both").write_text("".join(view(machine, "statement", "a", k) or ""
+                                           for k in (1, 2)))
         statements = statements_below([str(sent)])
         self.assertEqual([(s.account, s.cycle) for s in statements], [("a", 1), ("a", 2)])
         self.assertEqual(compare_sent(machine, statements).sent, 2)
-        place = next(i for i, (_, body) in enumerate(kept) if decode(body).word == "payment")
+        place = next(i for i, (_, body) in enumerate(kept) if word_of(body) == "payment")
         with self.assertRaises(Different) as found:
             compare_sent(load(changed(kept, place, cents=50001)), statements)
         self.assertIn(f"account a, statement 2 in {sent / 'both'}, line ", str(found.exception))

@@ -13,7 +13,7 @@ from audit.words import Request
 from .session import Session, started
 
 
-def kind_of(data: bytes):
+def kind_of(data: bytes) -> Head | str:
     """The head, `none` where the bytes begin no head, or `partial`."""
     try:
         return read_head(data)
@@ -28,7 +28,7 @@ class Heads(unittest.TestCase):
         for data in (b"GET / HTTP/1.0\n\n", b"\r\n\nGET / HTTP/1.1\r\n\r\n",
                      b"x!#$%&'*+-.^_`|~9 \xc3\xa9 HTTP/1.1\r\na:\r\nB:\t x \xff\t y \t\r\n\n"):
             self.assertIsInstance(kind_of(data), Head, data)
-        head = kind_of(b"GET /a?b HTTP/1.1\r\nContent-Length: \t 12 \t\r\n\r\nrest")
+        head = read_head(b"GET /a?b HTTP/1.1\r\nContent-Length: \t 12 \t\r\n\r\nrest")
         self.assertEqual((head.method, head.target, head.headers),
                          ("GET", "/a?b", [(b"Content-Length", b"12")]))
         self.assertEqual(head.length, 45)
@@ -146,24 +146,27 @@ class Connections(unittest.TestCase):
 
 class Json(unittest.TestCase):
     def test_refused(self) -> None:
-        for body in (b"", b" ", b"{", b"{}x", b'{"a":1,}', b"[1,]", b"01", b"1.", b".5", b"+1", b"1e",
-                     b"NaN", b"tru", b"'a'", b'"\n"', b'"\\x"', b'"\\ud800"', b'"\\ud800\\u0041"',
-                     b'"\\udc00"', b'"\xff"', b"\xef\xbb\xbf{}", b"1e999", b"[" * 128 + b"]" * 128,
+        for body in (b"", b" ", b"{", b"{}x", b'{"a":1,}', b"[1,]", b"01", b"1.", b".5", b"+1",
+                     b"1e", b"NaN", b"tru", b"'a'", b'"\n"', b'"\\x"', b'"\\ud800"',
+                     b'"\\ud800\\u0041"', b'"\\udc00"', b'"\xff"', b"\xef\xbb\xbf{}",
+                     b"1e999", b"[" * 128 + b"]" * 128,
                      b'{"a" 1}', b'{a:1}'):
             with self.assertRaises(JsonError, msg=body):
                 read_json(body)
 
     def test_read(self) -> None:
-        self.assertEqual(read_json(b' {"a":[1,-0,1.5e3,true,null,"\\u00e9\\ud83d\\ude00\\/"],"a":2}\n'),
-                         {"a": Number("2")})
-        self.assertEqual(read_json(b'["\\u00e9\\ud83d\\ude00\\/",-0]'), ["\u00e9\U0001f600/", Number("-0")])
+        self.assertEqual(
+            read_json(b' {"a":[1,-0,1.5e3,true,null,"\\u00e9\\ud83d\\ude00\\/"],"a":2}\n'),
+            {"a": Number("2")})
+        self.assertEqual(read_json(b'["\\u00e9\\ud83d\\ude00\\/",-0]'),
+                         ["\u00e9\U0001f600/", Number("-0")])
         read_json(b"[" * 127 + b"]" * 127)
 
     def test_string_text(self) -> None:
         self.assertEqual(string_text('a"\\\n\x01\x7f\u00e9'), '"a\\"\\\\\\n\\u0001\x7f\u00e9"')
 
     def test_fields(self) -> None:
-        def field(body: bytes):
+        def field(body: bytes) -> Request | str:
             found = json_request(read_json(body))
             return found.field if isinstance(found, NotARequest) else found
 
@@ -177,7 +180,8 @@ class Json(unittest.TestCase):
                            (b'{"kind":"bill","account":"a","key":"q","cycle":"1"}', "cycle"),
                            (b'{"kind":"bill","account":"a","key":"q","cycle":1.0}', "cycle"),
                            (b'{"kind":"bill","account":"a","key":"q","cycle":-0}', "cycle"),
-                           (b'{"kind":"bill","account":"a","key":"q","cycle":1000000000000}', "cycle"),
+                           (b'{"kind":"bill","account":"a","key":"q","cycle":1000000000000}',
+                            "cycle"),
                            (b'{"kind":"roll","day":"2024-02-30"}', "day")):
             self.assertEqual(field(body), name, body)
         self.assertEqual(field(b'{"kind":"bill","account":"a","key":"q","cycle":999999999999}'),

@@ -3,11 +3,13 @@
 import random
 import unittest
 
-from audit.book import Book, SharedRows
+from audit.book import Book, Cycle, Entry, SharedRows
+from audit.days import Anchor
 from audit.fold import advance, break_days
 from audit.generate import generate
 from audit.history import corrected as corrected_list
 from audit.machine import Machine
+from audit.rates import Penalty
 from audit.trial import totals
 from audit.words import Kept, Request
 
@@ -17,25 +19,26 @@ SEEDS = range(100, 106)
 LINES = 260
 
 
-def machines():
+def machines() -> list[tuple[int, Machine]]:
     """Each seed with its ledger."""
     return [(seed, machine_of(seed, LINES)) for seed in SEEDS]
 
 
 def shared_of(machine: Machine, until: int | None = None) -> SharedRows:
     """The shared rows, or those for days up to a day."""
-    def keep(day):
+    def keep(day: int) -> bool:
         return until is None or day <= until
     return SharedRows(frozenset(h for h in machine.holidays if keep(h)),
                       [r for r in machine.fee_rows if keep(r.day)],
                       [r for r in machine.index_rows if keep(r[0])])
 
 
-def value(book: Book):
+def value(book: Book) -> tuple[list[Entry], list[Cycle], list[Penalty]]:
     return book.entries, book.cycles, book.penalties
 
 
-def slots(anchor, posts, shared):
+def slots(anchor: Anchor, posts: list[Kept],
+          shared: SharedRows) -> dict[int, list[tuple[int, int]]]:
     """The corrected list as (number, cents) per day."""
     corrected = corrected_list(anchor, posts, shared.holidays)
     return {day: [(n, corrected.cents[n]) for n in numbers]
@@ -97,7 +100,8 @@ class Laws(unittest.TestCase):
                         if k.post.word == "amend" and k.post.target == kept.number:
                             day, cents = k.post.day, k.post.cents
                     posts, n = account.posts, len(account.posts)
-                    there = Request("amend", "x", "1", target=kept.number, cents=draw.randint(0, 9999),
+                    there = Request("amend", "x", "1", target=kept.number,
+                                    cents=draw.randint(0, 9999),
                                     day=draw.randint(account.anchor.opened, machine.today))
                     back = Request("amend", "x", "2", target=kept.number, cents=cents, day=day)
                     longer = posts + [Kept(n + 1, machine.today, there),
@@ -129,7 +133,7 @@ class Laws(unittest.TestCase):
                 cycles = len(machine.book(account).cycles)
                 shown = [machine.restated_statement(name, k) for k in range(1, cycles + 1)]
                 shown += [row.statement for row in account.issued.values()]
-                for s in filter(None, shown):
+                for s in [statement for statement in shown if statement is not None]:
                     interest = sum(s.cycle.interest.values())
                     self.assertEqual(s.previous + s.corrections + sum(m.cents for m in s.moves)
                                      + interest, s.cycle.new_balance)
@@ -166,7 +170,8 @@ class Laws(unittest.TestCase):
     def test_loading_gives_the_state_again(self) -> None:
         """Replies are the same from a loaded machine, and a kept row is one new request."""
         lines = generate(77, 300, accounts=2)
-        whole, kept = Session(), []
+        whole = Session()
+        kept: list[tuple[int, bytes]] = []
         first = whole.apply(*lines)
         second = []
         for start in range(0, 300, 100):

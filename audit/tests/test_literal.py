@@ -6,6 +6,7 @@ import unittest
 
 from audit import allocation, days, repay
 from audit.allocation import Rank
+from audit.book import Book, Cycle, Entry
 from audit.csv_text import read_records
 from audit.days import Anchor, day_of
 from audit.generate import generate
@@ -14,9 +15,10 @@ from audit.money import daily, half_up, interest, money_text
 from audit.payments import counted, has_due_payment, met, paid
 from audit.repay import Owing
 from audit.rows import decode, encode
+from audit.segments import Segment
 from audit.words import Request
 
-from .session import EVERY_WORD, Session, machine_of, request_of
+from .session import EVERY_WORD, Session, machine_of
 
 
 class Allocation(unittest.TestCase):
@@ -42,7 +44,7 @@ class Calendar(unittest.TestCase):
         for close in (1, 2, 4, 5, 15, 27, 28):
             for opened in ("2023-12-01", "2024-01-28", "2024-02-29", "2024-03-05"):
                 a = Anchor(day_of(opened), close)
-                found = []
+                found: list[int] = []
                 for day in range(a.opened, a.opened + 800):
                     self.assertEqual(days.cycle_of(a, day), len(found) + 1)
                     if days.ymd(day)[2] == close:
@@ -53,7 +55,7 @@ class Calendar(unittest.TestCase):
                         date = (datetime.date(y, m, close + 24) if close <= 4 else
                                 datetime.date(y + m // 12, m % 12 + 1, close - 4))
                         self.assertEqual(days.due(a, k), day_of(date.isoformat()))
-                        self.assertIn(days.due(a, k) - day, range(24, 28))
+                        self.assertIn(days.due_day(a, k) - day, range(24, 28))
                         self.assertEqual(days.ymd(days.due(a, k))[2], days.ymd(days.due(a, 1))[2])
 
     def test_six_months_and_year(self) -> None:
@@ -124,7 +126,7 @@ class Spellings(unittest.TestCase):
     def test_rows_and_lines_come_back(self) -> None:
         seen = set()
         for line in generate(5, 250, unknown=EVERY_WORD):
-            request = request_of(line)
+            request = read_line(line.encode(), EVERY_WORD)
             if not isinstance(request, Request):
                 continue
             seen.add(request.word)
@@ -154,8 +156,9 @@ class Fold(unittest.TestCase):
                 self.fees(book)
                 self.payments(book)
 
-    def rows(self, book):
-        """A row is the sum of the entries dated before the day and those of the day but interest."""
+    def rows(self, book: Book) -> None:
+        """A row is the sum of the entries dated before the day and those of the day but
+        interest."""
         last = book.day
         for segment in book.segments[2:]:
             entries = [e for e in book.entries if e.segment == segment.number]
@@ -168,7 +171,7 @@ class Fold(unittest.TestCase):
                 if row:
                     self.assertEqual(kept[1], book.rates.rate_on(segment.number, x))
 
-    def interest(self, book):
+    def interest(self, book: Book) -> None:
         """Interest of a cycle by the sum over its days, without the kept rows."""
         for c in book.cycles:
             for segment in book.segments[2:]:
@@ -194,7 +197,7 @@ class Fold(unittest.TestCase):
                 self.assertEqual(c.interest.get(segment.number, 0), want)
                 self.assertEqual(want, self.posted(book, c, segment))
 
-    def posted(self, book, c, segment):
+    def posted(self, book: Book, c: Cycle, segment: Segment) -> int:
         """The interest entries of a closing that belong to a segment; those on Credit are added
         where they stand directly before."""
         if any(e.day == c.closing and e.kind == "interest" and e.segment == 0
@@ -203,8 +206,9 @@ class Fold(unittest.TestCase):
         return sum(e.cents for e in book.entries if e.day == c.closing and e.kind == "interest"
                    and e.segment == segment.number)
 
-    def charged(self, book, c, segment, entries, x, balance):
-        if segment.sort == "deferred" and segment.begins <= x <= segment.ends:
+    def charged(self, book: Book, c: Cycle, segment: Segment, entries: list[Entry], x: int,
+                balance: int) -> int:
+        if segment.sort == "deferred" and segment.begins <= x <= segment.end_day:
             return 0
         if segment.sort != "purchase":
             return balance
@@ -215,14 +219,14 @@ class Fold(unittest.TestCase):
             return balance
         if paid(book, k):
             return 0
-        due_day = days.due(book.anchor, k)
+        due_day = days.due_day(book.anchor, k)
         returned = {p.post.target for p in book.posts if p.post.word == "return"
                     and book.corrected.effective[p.number] <= c.closing}
         brought = -sum(e.cents for e in entries if e.kind in ("payment", "credit")
                        and x < e.day <= due_day and e.post not in returned)
         return max(0, balance - brought)
 
-    def fees(self, book):
+    def fees(self, book: Book) -> None:
         """Penalty fees by their rules: when, how much, and at most one per due date."""
         fees = [f for c in book.cycles for f in c.fees]
         fees += [f for f in book.fees if f.cycle > len(book.cycles)]
@@ -235,7 +239,7 @@ class Fold(unittest.TestCase):
             self.assertEqual(f.repeat, not first)
             rows = [r for r in book.shared.fees if r.day <= f.day]
             row = max(enumerate(rows), key=lambda pair: (pair[1].day, pair[0]))[1]
-            dues = [c for c in book.cycles if days.due(book.anchor, c.number) < f.day]
+            dues = [c for c in book.cycles if days.due_day(book.anchor, c.number) < f.day]
             last = dues[-1].minimum if has_due_payment(book, dues[-1].number) else 0
             want = min(row.first if first else row.repeat, book.cycle(k).minimum, last)
             issued = book.issued.get(f.cycle)
@@ -244,13 +248,13 @@ class Fold(unittest.TestCase):
                                      if g.due_cycle == k))
             self.assertEqual(f.cents, want)
             if f.kind == "late":
-                self.assertEqual(f.day, days.due(book.anchor, k) + 1)
+                self.assertEqual(f.day, days.due_day(book.anchor, k) + 1)
                 self.assertFalse(met(book, k))
             entries = [e for e in book.entries if e.kind == "fee" and e.day == f.day
                        and e.post == f.post]
             self.assertGreaterEqual(sum(e.cents for e in entries), f.cents)
 
-    def payments(self, book):
+    def payments(self, book: Book) -> None:
         """The parts of payments by the next-cent rule over the entries before them."""
         for p in book.corrected.payments:
             if p.effective > book.day or not 0 < p.cents <= 30_000:
@@ -266,11 +270,11 @@ class Fold(unittest.TestCase):
                           s.ends if s.sort == "deferred" and s.ends in two else None)
                      for s in book.segments]
             left, row = 0, book.issued.get(k - 1)
-            if row and days.due(book.anchor, k - 1) - row.day >= 21 and row.day < p.effective:
+            if row and days.due_day(book.anchor, k - 1) - row.day >= 21 and row.day < p.effective:
                 done = sum(q.cents for q in book.corrected.payments
-                           if q.effective > days.closing(book.anchor, k - 1)
+                           if q.effective > days.closing_day(book.anchor, k - 1)
                            and (q.effective, q.number) < (p.effective, p.number)
-                           and not (q.return_number and
+                           and not (q.return_number and q.return_effective is not None and
                                     (q.return_effective, q.return_number)
                                     < (p.effective, p.number)))
                 left = max(0, book.cycle(k - 1).minimum - done)
@@ -278,7 +282,7 @@ class Fold(unittest.TestCase):
             self.assertEqual([(book.entries[i].segment, -book.entries[i].cents) for i in places],
                              parts)
 
-    def credit_run(self, book):
+    def credit_run(self, book: Book) -> None:
         """The first day of the present run of days that end with Credit."""
         since = None
         for x in range(book.anchor.opened, book.day + 1):
@@ -288,10 +292,10 @@ class Fold(unittest.TestCase):
                 since = x
         self.assertEqual(book.credit_since(), since)
 
-    def identity(self, book):
+    def identity(self, book: Book) -> None:
         """Owed is charges, interest, fees, refunds and returns less payments and credits; a
         Credit that isn't 0 leaves no balance but Held."""
-        size = {}
+        size: dict[str, int] = {}
         for e in book.entries:
             size[e.kind] = size.get(e.kind, 0) + e.cents
         self.assertEqual(size.get("hold", 0), 0)
@@ -320,7 +324,8 @@ class Fold(unittest.TestCase):
     def test_counted_leaves_out_returned_payments(self) -> None:
         p = Session()
         p.apply("roll 2024-01-10", "open a o 2024-01-06 5 1999 2499 2199 2999 2500 100",
-                "payment a p 2024-01-10 600 online 70", "roll 2024-01-12", "return a r 2024-01-12 2")
+                "payment a p 2024-01-10 600 online 70", "roll 2024-01-12",
+                "return a r 2024-01-12 2")
         machine = p.machine
         corrected = machine.book(machine.accounts["a"]).corrected
         day = day_of("2024-01-11")

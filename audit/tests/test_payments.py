@@ -35,7 +35,7 @@ class MailPayments(unittest.TestCase):
 
 class Parts(unittest.TestCase):
     # segments 2 Purchase, 3 Cash, 4 Transfer, 5 Promo, 6 Deferred
-    def parts(self, balances, last_two):
+    def parts(self, balances: list[int], last_two: int | None) -> list[tuple[int, int]]:
         ranks = [Rank(r, None) for r in (0, 0, 1999, 2499, 2199, 0)]
         if len(balances) > 6:
             ranks.append(Rank(0, last_two))
@@ -113,10 +113,10 @@ class Fees(unittest.TestCase):
         p = billed(None, "1999 2499 2199 2999 5000 100")
         a = Anchor(day_of("2024-01-06"), 5)
         for k in range(2, 11):
-            p.apply(f"roll {day_text(days.closing(a, k) + 1)}", f"bill a b{k} {k}")
+            p.apply(f"roll {day_text(days.closing_day(a, k) + 1)}", f"bill a b{k} {k}")
             minimum = p.cycles("a")[k - 1].minimum
             if k not in missed:
-                day = days.closing(a, k) + 5
+                day = days.closing_day(a, k) + 5
                 p.apply(f"roll {day_text(day)}",
                         f"payment a p{k} {day_text(day)} 600 online {minimum}")
         return p

@@ -68,8 +68,8 @@ class Penalties(unittest.TestCase):
         p = self.begun()
         a = Anchor(day_of("2024-01-06"), 5)
         for k in range(5, 12):
-            p.apply(f"roll {day_text(days.closing(a, k) + 1)}", f"bill a b{k} {k}")
-            day = day_text(days.closing(a, k) + 3)
+            p.apply(f"roll {day_text(days.closing_day(a, k) + 1)}", f"bill a b{k} {k}")
+            day = day_text(days.closing_day(a, k) + 3)
             if days.due(a, k) != missed:
                 minimum = p.cycles("a")[k - 1].minimum
                 p.apply(f"roll {day}", f"payment a p{k} {day} 600 online {minimum}")

@@ -5,7 +5,6 @@ import unittest
 from audit import days
 from audit.commands import Keeper
 from audit.days import day_of, day_text
-from audit.lines import read_line
 from audit.machine import Machine
 from audit.rows import decode, encode
 
@@ -72,8 +71,8 @@ class Replies(unittest.TestCase):
         self.assertTrue(all(r.startswith("ok") for r in replies))
         self.assertEqual(replies[-2:], ["ok 10000", "ok 10001"])
         few = Machine(post_limit=3)
-        replies = [few.apply(request_of(line)).refused for line in lines[:7]]
-        self.assertEqual([r.number if r else None for r in replies], [None] * 5 + [25, 25])
+        refused = [few.apply(request_of(line)).refused for line in lines[:7]]
+        self.assertEqual([r.number if r else None for r in refused], [None] * 5 + [25, 25])
 
     def test_words_of_commands(self) -> None:
         out, status = Session().run("now")
@@ -100,12 +99,12 @@ class Lines(unittest.TestCase):
 
 
 class KeptRows(unittest.TestCase):
-    def rows(self):
+    def rows(self) -> list[tuple[int, bytes]]:
         p = Session()
         p.apply(*FIRST_DAY)
         return p.keeper.rows
 
-    def damaged(self, rows) -> str:
+    def damaged(self, rows: list[tuple[int, bytes]]) -> str:
         p = Session(rows)
         out, status = p.run("apply")
         self.assertEqual(status, 8 if out else 0)
@@ -130,7 +129,7 @@ class KeptRows(unittest.TestCase):
                 ("charge h-1 c1 2023-12-29 purchase 1100",
                  "010503682d3102633100004d0800000000000000044c",
                  "020503682d3102633112890002044c")):
-            request = read_line(line.encode())
+            request = request_of(line)
             self.assertEqual((encode(request, 1).hex(), encode(request, 2).hex()), (one, two))
             self.assertEqual(decode(bytes.fromhex(one)), request)
             self.assertEqual(decode(bytes.fromhex(two)), request)
@@ -139,7 +138,7 @@ class KeptRows(unittest.TestCase):
                 ("index 2024-04-01 550", "021512e7020226"), ("index 2011-01-01 0", "0215000000"),
                 ("openvar h-1 o 2023-12-29 28 1449 1949 1649 2999 2500 100",
                  "021603682d31016f1289011c0205a902079d020671020bb70209c40164")):
-            request = read_line(line.encode())
+            request = request_of(line)
             self.assertEqual(encode(request, 2).hex(), two)
             self.assertEqual(decode(bytes.fromhex(two)), request)
         for none in ("", "02", "0201", "02010112a7", "020112a700", "02017efb", "03010000",
@@ -173,7 +172,7 @@ class Import(unittest.TestCase):
     def test_bad_records(self) -> None:
         p = started()
 
-        def replies(data):
+        def replies(data: bytes) -> list[str]:
             return p.text("import", data=data).splitlines()
 
         self.assertEqual(replies(self.HEADER + b"a,c1,charge,2024-01-08,purchase,1100,\n"),
@@ -205,7 +204,7 @@ class Days(unittest.TestCase):
         a = days.Anchor(day_of("2023-02-01"), 28)
         self.assertEqual(days.closing(a, 1), day_of("2023-02-28"))
         self.assertEqual(days.due(a, 1), day_of("2023-03-24"))
-        self.assertEqual(days.due(a, 1) - days.closing(a, 1), 24)
+        self.assertEqual(days.due_day(a, 1) - days.closing_day(a, 1), 24)
         b = days.Anchor(day_of("2024-01-06"), 5)
         self.assertEqual((days.closing(b, 1), days.due(b, 1)),
                          (day_of("2024-02-05"), day_of("2024-03-01")))

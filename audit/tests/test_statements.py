@@ -69,12 +69,13 @@ class TwoYears(unittest.TestCase):
         a = Anchor(day_of("2024-01-06"), 5)
         lines = []
         for k in range(1, 26):
-            charge_day = day_text(days.closing(a, k) - 26 if k == 1 else days.closing(a, k - 1) + 5)
+            charge_day = day_text(days.closing_day(a, k) - 26 if k == 1
+                                  else days.closing_day(a, k - 1) + 5)
             if k > 1:
                 lines += [f"roll {charge_day}"]
             lines += [f"charge a c{k} {charge_day} purchase 1000"]
             if k < 25:
-                lines += [f"roll {day_text(days.closing(a, k) + 1)}", f"bill a b{k} {k}"]
+                lines += [f"roll {day_text(days.closing_day(a, k) + 1)}", f"bill a b{k} {k}"]
         self.assertEqual(lines[0], "charge a c1 2024-01-10 purchase 1000")
         replies = p.apply(*lines)
         self.assertTrue(all(r.startswith("ok") for r in replies))
@@ -83,12 +84,12 @@ class TwoYears(unittest.TestCase):
         self.assertEqual(len(before), 24)
         texts = [p.text("statement", "a", str(k)) for k in range(1, 25)]
         today = day_of("2026-01-10")
-        self.assertEqual(break_days(p.book("a"), days.closing(a, 24) + 1, today),
+        self.assertEqual(break_days(p.book("a"), days.closing_day(a, 24) + 1, today),
                          {day_of("2026-01-06"), today})
         charge = replies[lines.index("charge a c2 2024-02-10 purchase 1000")].split()[1]
         self.assertTrue(p.last(f"amend a m1 {charge} 2024-02-10 2000").startswith("ok"))
         self.assertNotEqual(p.cycles("a"), before)
-        self.assertEqual(len(break_days(p.book("a"), days.closing(a, 1) + 1, today)), 94)
+        self.assertEqual(len(break_days(p.book("a"), days.closing_day(a, 1) + 1, today)), 94)
         self.assertEqual([p.text("statement", "a", str(k)) for k in range(1, 25)], texts)
         self.assertTrue(p.last(f"amend a m2 {charge} 2024-02-10 1000").startswith("ok"))
         self.assertEqual(p.cycles("a"), before)
@@ -107,8 +108,8 @@ class BreakDays(unittest.TestCase):
 class StatementText(unittest.TestCase):
     LINES = (["feerow 2011-01-02 3000 4100", "roll 2024-01-28",
               "open h-1 o 2023-12-29 28 1999 2499 2499 2999 2500 100"]
-             + [f"charge h-1 c{i} {day_text(day_of('2023-12-29') + i - 1)} purchase {1000 + 100 * i}"
-                for i in range(1, 32)]
+             + [f"charge h-1 c{i} {day_text(day_of('2023-12-29') + i - 1)} purchase "
+                f"{1000 + 100 * i}" for i in range(1, 32)]
              + ["payment h-1 p1 2024-01-15 600 online 20000",
                 "credit h-1 r1 2024-01-20 purchase 2500", "roll 2024-01-29", "bill h-1 b1 1"])
 
@@ -145,7 +146,7 @@ class StatementText(unittest.TestCase):
     def body(line: str) -> bytes:
         """The JSON body of a line."""
         words = line.split()
-        members = {"kind": words[0]}
+        members: dict[str, object] = {"kind": words[0]}
         for (name, form), word in zip(WORDS[words[0]][1], words[1:]):
             members[name] = int(word) if form == "number" else word
         return json.dumps(members, separators=(",", ":")).encode()
@@ -180,7 +181,8 @@ class StatementText(unittest.TestCase):
 class Repayment(unittest.TestCase):
     def test_two_lines(self) -> None:
         p = started()
-        p.apply("plan a pl 2024-01-10 promo 0 2024-08-05 1999", "charge a c1 2024-01-10 plan:2 10000",
+        p.apply("plan a pl 2024-01-10 promo 0 2024-08-05 1999",
+                "charge a c1 2024-01-10 plan:2 10000",
                 "roll 2024-02-06", "bill a b1 1")
         self.assertEqual(p.run("repay", "a", "1"),
                          (b"MINIMUM ONLY MONTHS 4 TOTAL 100.00\n"

@@ -3,6 +3,7 @@
 import io
 import os
 import shutil
+import signal
 import sqlite3
 import subprocess
 import time
@@ -32,6 +33,12 @@ class Way(NamedTuple):
 
 def fail(text: str) -> NoReturn:
     raise AssertionError(text)
+
+
+def was_killed(status: int) -> None:
+    """A run that ends by itself shows nothing about kills."""
+    if status != -signal.SIGKILL:
+        fail(f"the run isn't killed: it ends with {status}")
 
 
 def pipes(running: "subprocess.Popen[bytes]") -> tuple[io.RawIOBase, io.RawIOBase]:

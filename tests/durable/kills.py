@@ -22,7 +22,7 @@ from concurrent.futures import Future, ThreadPoolExecutor
 from typing import NamedTuple
 
 from ..support.program import apply, as_input, kill_after, run_to_call, start
-from .expected import WAITING, Expected, Outcome, fail, sound_rows
+from .expected import WAITING, Expected, Outcome, fail, sound_rows, was_killed
 from .posts import killed_server
 from .requests import IMPORT, LINES, OPENING
 
@@ -78,7 +78,8 @@ class Kills:
         with open(source, "rb") as given, open(replies, "wb") as sink:
             if by_call and self.calls[command]:
                 call = 1 + int(kill.after * self.calls[command])
-                run_to_call(words, call, given=given, out=sink)
+                _, status = run_to_call(words, call, given=given, out=sink)
+                was_killed(status)
             else:
                 with start(words, given=given, out=sink) as running:
                     kill_after(running, kill.after * self.expected.seconds)
@@ -126,6 +127,7 @@ class Kills:
             os.close(given)
             self._fills(running, taken)
             running.kill()
+        was_killed(running.returncode)
         with os.fdopen(taken, "rb") as written:
             replies = [line[:-1].decode() for line in written if line.endswith(b"\n")]
         outcome = self.expected.imported(kill.room, replies)

@@ -7,7 +7,7 @@ import time
 
 from ..support.program import apply
 from ..support.server import Server
-from .expected import Expected, Outcome, fail, sound_rows
+from .expected import Expected, Outcome, fail, sound_rows, was_killed
 from .requests import ACCOUNTS, BODIES, LINES, OPENING
 
 CLIENTS = 4
@@ -47,6 +47,7 @@ def answered_before(file: str, seconds: float) -> Answers:
             client.join(60)
             if client.is_alive():
                 fail("a client hangs behind a server that was killed")
+    was_killed(server.running.returncode)
     return [answer for answers in answered for answer in answers]
 
 

@@ -12,8 +12,6 @@ from tests.support.case import Case, tools_missing
 from tests.support.program import TOP
 
 FOLDERS = ("ops", "audit", "tests", "bench", "dev")
-# what is annotated throughout, and keeps to the style
-CLEAN = ("ops", "bench", "dev", "tests")
 STYLE = {
     "ruff": ["ruff", "check", "--no-cache"],
     "flake8": ["flake8", "--max-line-length", "100"],
@@ -37,9 +35,9 @@ class Python(Case):
         if len(missing) == len(STYLE):
             self.skipTest("neither ruff nor flake8 is installed: the style isn't looked at")
         tool = next(name for name in STYLE if name not in missing)
-        self.expect_clean(*STYLE[tool], *CLEAN)
+        self.expect_clean(*STYLE[tool], *FOLDERS)
 
     def test_types(self) -> None:
         if tools_missing("mypy"):
             self.skipTest("mypy isn't installed: the types aren't looked at")
-        self.expect_clean("mypy", "--cache-dir", os.devnull, "--follow-imports", "silent", *CLEAN)
+        self.expect_clean("mypy", "--cache-dir", os.devnull, "--follow-imports", "silent", *FOLDERS)
