@@ -13,23 +13,31 @@ from .common import Told, ledger
 # The steps of a night by their names in companion.night, each of which every night comes to.
 STEPS = ("save", "roll", "take_in", "put_away", "bill", "print_all", "put_tasks", "tell_money",
          "save_end", "end_report")
+
+# With the one that a night comes to which has statements to print.
+ALL = (*STEPS[:6], "keep_text", *STEPS[6:])
 PAGE = 4096
 
 
 @contextlib.contextmanager
 def before(step: str, act: Callable[[], None]) -> Iterator[list[str]]:
-    """Does something once, when a step of a night begins. Gives the step once it was reached."""
+    """Does something when a step of a night begins, and each later one. Gives those reached."""
     import companion.night
-    does = getattr(companion.night, step)
     reached: list[str] = []
 
-    def acted(*args: Any, **named: Any) -> Any:
-        if not reached:
-            reached.append(step)
-            act()
-        return does(*args, **named)
+    def acting(name: str) -> Callable[..., Any]:
+        does = getattr(companion.night, name)
 
-    with mock.patch(f"companion.night.{step}", acted):
+        def acted(*args: Any, **named: Any) -> Any:
+            if reached or name == step:
+                reached.append(name)
+                act()
+            return does(*args, **named)
+        return acted
+
+    with contextlib.ExitStack() as stack:
+        for name in ALL:
+            stack.enter_context(mock.patch(f"companion.night.{name}", acting(name)))
         yield reached
 
 
@@ -59,8 +67,8 @@ def small_disk(folder: str, size: int) -> Iterator[bool]:
 
 
 def fill(path: str) -> None:
-    """Takes all room of a disk with one file."""
-    with contextlib.suppress(OSError), open(path, "wb", buffering=0) as file:
+    """Takes all room of a disk with one file, also what was given back since."""
+    with contextlib.suppress(OSError), open(path, "ab", buffering=0) as file:
         while True:
             file.write(bytes(PAGE))
 

@@ -5,7 +5,7 @@ from unittest import mock
 
 from .common import HEADER, ledger
 from .home import Home
-from .stops import STEPS, full_at, killed_at, small_disk
+from .stops import ALL, full_at, killed_at, small_disk
 
 DAY = "2024-02-06"
 ACCOUNTS = 12
@@ -13,9 +13,6 @@ RECORDS = 30
 SIZE = 8_000_000
 OPENING = "feerow 2011-01-02 3000 4100\nroll 2024-02-05\n" + "".join(
     f"open a{n} o 2024-01-06 5 1999 2499 2199 2999 2500 100\n" for n in range(ACCOUNTS))
-
-# The steps that every night comes to, and one that this night comes to: its statements.
-ALL = (*STEPS[:6], "keep_text", *STEPS[6:])
 
 # By a server, by one pipe for what is sent, and by calls.
 WAYS: tuple[tuple[bool, tuple[str, ...]], ...] = ((False, ()), (True, ()), (False, ("--calls",)))
