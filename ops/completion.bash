@@ -31,7 +31,12 @@ _ledger() {
 _billctl() {
     local word=${COMP_WORDS[COMP_CWORD]}
     case $COMP_CWORD in
-    1) mapfile -t COMPREPLY < <(compgen -f -- "$word") ;;
+    1)
+        case $word in
+        -*) mapfile -t COMPREPLY < <(compgen -W '- --help --version' -- "$word") ;;
+        *) mapfile -t COMPREPLY < <(compgen -f -- "$word") ;;
+        esac
+        ;;
     2) mapfile -t COMPREPLY < <(compgen -W 'apply import statement restate export work demo serve repay trial' -- "$word") ;;
     *) COMPREPLY=() ;;
     esac

@@ -14,6 +14,7 @@ from companion.state import read_state
 from companion.texts import grouped
 from companion.trouble import DONE, FOUND, GUARDED, Trouble, counted, say
 
+MONTHS = 12
 TABLE = "record | column | what it has | why it isn't understood"
 
 
@@ -152,9 +153,10 @@ def table_in(sheet: Sheet, data: bytes) -> Table:
 
 @dataclass
 class Result:
-    """What a sheet gives: records, what isn't understood, and the sum with its sign."""
+    """What a sheet gives: records, what isn't understood, the sum with its sign, the newest day."""
 
     records: list[list[str]] = field(default_factory=list)
+    newest: date = date.min
     unclear: list[tuple[int, str, str, str]] = field(default_factory=list)
     signed: dict[str, int] = field(default_factory=lambda: {"plus": 0, "minus": 0})
     number: int = 0
@@ -183,6 +185,7 @@ def converted(sheet: Sheet, table: Table, day: date) -> Result:
             place = keys.setdefault((made[0], made[1]), number)
             if place != number:
                 raise Unclear("key", made[1], f"record {place} has the same key of this account")
+            found.newest = max(found.newest, date.fromisoformat(made[3]))
             require_near_day(sheet, made[3], cells.text("day"), day)
             signed = cells.signed()
             found.signed["plus" if signed >= 0 else "minus"] += signed
@@ -205,14 +208,20 @@ def require_near_day(sheet: Sheet, made: str, text: str, day: date) -> None:
                       "days and months swapped?")
 
 
-def require_whole(sheet: Sheet, table: Table, found: Result, day: date) -> None:
-    """Refuses a sheet of another time, and one whose total isn't that of its records."""
-    newest = sheet.days.get("newest_days")
-    if newest is not None and found.records:
-        last = max(date.fromisoformat(record[3]) for record in found.records)
-        if (day - last).days > newest:
-            raise refused(f"the newest day of the sheet is {last}, {(day - last).days} days before "
-                          f"{day}, and newest_days is {newest}: it is a sheet of another time")
+def require_new(sheet: Sheet, found: Result, day: date) -> None:
+    """Refuses a sheet whose newest day is too long ago: of another time, or read the wrong way."""
+    newest, last = sheet.days.get("newest_days"), found.newest
+    if newest is None or last == date.min or (day - last).days <= newest:
+        return
+    cause = "it is a sheet of another time"
+    if last.day <= MONTHS and 0 <= (day - date(last.year, last.day, last.month)).days <= newest:
+        cause = "are its days and months swapped?"
+    raise refused(f"the newest day of the sheet is {last}, {(day - last).days} days before {day}, "
+                  f"and newest_days is {newest}: {cause}")
+
+
+def require_whole(sheet: Sheet, table: Table, found: Result) -> None:
+    """Refuses a sheet whose total isn't that of its records."""
     front = sheet.settings["total"]
     if not front:
         return
@@ -245,8 +254,9 @@ def converted_sheet(sheet: Sheet, data: bytes, day: date) -> Result:
     """What a sheet gives on a day, past all that its description asks."""
     table = table_in(sheet, data)
     found = converted(sheet, table, day)
+    require_new(sheet, found, day)
     if not found.unclear:
-        require_whole(sheet, table, found, day)
+        require_whole(sheet, table, found)
     return found
 
 

@@ -121,5 +121,5 @@ def several_rates(view: View, cycle: int) -> Iterator[Finding]:
                           f"statement {cycle} shows {rate.yearly // 100}.{rate.yearly % 100:02}% "
                           f"of {rate.segment} alone, and its interest of {money(rate.interest)} "
                           "is of several rates",
-                          "send each rate with the days on which it applied; `explain` of the "
-                          "model (python3 -m audit) has them")
+                          "send each rate with the days on which it applied; `ledger explain` "
+                          "shows them")

@@ -5,6 +5,8 @@ many records wait that a commit each is slower than one more load, one `apply` t
 calls, and for inputs that the companion may read otherwise than billctl, each is a call of its own.
 """
 
+import contextlib
+
 from companion.check import require_sound
 from companion.inputs import Input, Numbers
 from companion.opening import copied, require_openable, warn_of_room
@@ -130,6 +132,11 @@ class Hand:
             self.bulk = False
         self.begin()
         return Asker(self.program, self.path, None if self.calls else self.server)
+
+    def drop(self) -> None:
+        """Lets the file go on a way out that has its own cause."""
+        with contextlib.suppress(Trouble):
+            self.close()
 
     def close(self) -> None:
         """Lets the file go."""

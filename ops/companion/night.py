@@ -217,7 +217,7 @@ def night_of(asked: Asked) -> int:
         try:
             carry_out(night)
         finally:
-            night.hand.server.end()
+            night.hand.drop()
         return FOUND if night.found else DONE
 
 

@@ -6,14 +6,14 @@ import shutil
 import tempfile
 import time
 from dataclasses import dataclass, field
+from datetime import date, timedelta
 
 from companion import locks
 from companion.backups import NAME as BACKUP
 from companion.backups import SEAL_END, join, require_same_rows, seal_beside
 from companion.check import require_sound
 from companion.days import day_of
-from companion.files import make_folder, names_in, put_text, read_text, settle
-from companion.guards import read_input
+from companion.files import free_name, make_folder, names_in, put_text, read_text, settle
 from companion.home import INBOX, LEDGER, sealed_reports
 from companion.inputs import Input
 from companion.opening import cause_of_name, log_of
@@ -21,6 +21,7 @@ from companion.reissue import NAME as STATEMENT
 from companion.seals import Seal, read_seal
 from companion.state import State, read_state
 from companion.trouble import CANNOT_OPEN, DONE, GUARDED, Trouble, counted, say
+from companion.waiting import AGAIN, bare_name, input_of
 
 REPLIES = ".replies"
 OF_REPLY = re.compile(r"ok ([0-9]+)")
@@ -106,22 +107,22 @@ def done_files(home: str) -> list[tuple[str, str]]:
 
 
 def read_done(home: str, day: str, name: str) -> tuple[Input, list[str]]:
-    """A file that was entered, and its replies. Its numbers by keys are those it was sent with."""
+    """A file that was entered, and its replies. What it names by keys has the number 0 here."""
     path = os.path.join(home, "done", day, name)
     with open(path, "rb") as file:
-        data = file.read()
-    replies = read_text(path + REPLIES).splitlines()
-    return read_input(data), replies
+        given, _ = input_of(home, name, file.read(), date.fromisoformat(day))
+    if given.keyed:
+        for record in given.records:
+            given.numbers.setdefault((record[0], record[-1]), 0)
+    return given, read_text(path + REPLIES).splitlines()
 
 
 def lines_behind(home: str, day: str, name: str, state: State) -> bool:
-    """Whether a file that was entered is behind a backup; a sheet goes by its day."""
+    """Whether a file that was entered is behind a backup; one that isn't read goes by its day."""
     try:
         given, replies = read_done(home, day, name)
     except Trouble:
-        return day > state.today.isoformat()
-    if given.keyed:
-        return day > state.today.isoformat()
+        return day >= state.today.isoformat()
     return is_behind(given, replies, state)
 
 
@@ -165,6 +166,24 @@ def tell_undone(home: str, undone: Undone) -> None:
         say(f"restore: reports/{name} sealed rows that are gone")
 
 
+def to_wait(home: str, path: str, day: str) -> None:
+    """Puts a file into the inbox, where it waits for the night of a day."""
+    folder = os.path.join(home, INBOX)
+    name = free_name(folder, f"00-again-{day}-{bare_name(os.path.basename(path))}")
+    shutil.move(path, os.path.join(folder, name))
+
+
+def hold_others(home: str, day: str) -> None:
+    """Has what waits in the inbox wait until the undone nights are gone through again."""
+    folder = os.path.join(home, INBOX)
+    found = [name for name in names_in(folder) if not name.startswith(".")
+             and AGAIN.fullmatch(name) is None and os.path.isfile(os.path.join(folder, name))]
+    for name in found:
+        to_wait(home, os.path.join(folder, name), day)
+    if found:
+        say(f"restore: {counted(len(found), 'file')} of the inbox held for the night of {day}")
+
+
 def put_back(home: str, undone: Undone, backup_path: str, stamp: str) -> None:
     """Puts the files of the undone nights into the inbox, and sets what else they made apart.
 
@@ -172,9 +191,11 @@ def put_back(home: str, undone: Undone, backup_path: str, stamp: str) -> None:
     """
     days = sorted({day for day, _ in undone.files} | {name[:10] for name in undone.reports})
     make_folder(os.path.join(home, INBOX))
+    if days:
+        hold_others(home, str(date.fromisoformat(days[-1]) + timedelta(days=1)))
     for day, name in undone.files:
         path = os.path.join(home, "done", day, name)
-        shutil.move(path, os.path.join(home, INBOX, f"00-again-{day}-{name}"))
+        to_wait(home, path, day)
         os.rename(path + REPLIES, f"{path}{REPLIES}.undone-{stamp}")
     apart = [os.path.join("reports", name) for name in undone.reports]
     apart += [os.path.join("backups", name) for name in undone.backups]

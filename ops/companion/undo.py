@@ -2,9 +2,9 @@
 
 import os
 
+from companion.days import day_of
 from companion.history import DATED, Account, read_history
 from companion.home import LEDGER, require_home
-from companion.inputs import Input
 from companion.requests import NAME, Request
 from companion.restores import OF_REPLY, REPLIES, read_done
 from companion.trouble import DONE, FOUND, GUARDED, Trouble, counted, say
@@ -16,7 +16,8 @@ def place_of(home: str, path: str) -> tuple[str, str]:
     """The day and the name of a file that was entered, of `done/DAY/NAME`."""
     real = path if os.path.exists(path) else os.path.join(home, path)
     folder, name = os.path.split(os.path.abspath(real))
-    if not os.path.isfile(real) or not os.path.isfile(real + REPLIES):
+    if (not os.path.isfile(real) or not os.path.isfile(real + REPLIES)
+            or day_of(os.path.basename(folder)) is None):
         raise Trouble(f"{path} is no file of {os.path.join(home, 'done')} with its replies beside "
                       "it", GUARDED)
     return os.path.basename(folder), name
@@ -63,7 +64,7 @@ def undo(home: str, path: str, wait: int) -> int:
     given, replies = read_done(home, day, name)
     history = read_history(os.path.join(home, LEDGER), wait)
     lines, left = [], []
-    for place, (request, reply) in enumerate(zip(requests_of(given), replies)):
+    for place, (request, reply) in enumerate(zip(given.requests(), replies)):
         if request is None or not reply.startswith("ok"):
             continue
         number = target_of(request, reply)
@@ -83,12 +84,3 @@ def undo(home: str, path: str, wait: int) -> int:
     say(f"undo: {counted(len(lines), 'amend')} for `run`, {len(left)} that can't be undone; after "
         "a bill, its statement stays, and the next one shows the correction")
     return FOUND if left else DONE
-
-
-def requests_of(given: Input) -> list[Request | None]:
-    """The request of each item. Of a record that names a key the number doesn't matter here."""
-    if given.keyed:
-        for record in given.records:
-            given.numbers.setdefault((record[0], record[-1]), 0)
-        given.made.clear()
-    return given.requests()

@@ -18,7 +18,7 @@ from companion.sheet import read_sheet
 from companion.state import State
 from companion.trouble import GUARDED, Trouble
 
-# The front of a file that `restore --again` put back: it waits for the night of its day.
+# The front of a file that `restore --again` put back or found: it waits for the night of its day.
 AGAIN = re.compile(r"00-again-([0-9]{4}-[0-9]{2}-[0-9]{2})-(.+)")
 
 
@@ -31,6 +31,12 @@ class Waiting:
     given: Input | None = None
     refusal: str = ""
     note: str = ""
+
+
+def bare_name(name: str) -> str:
+    """The name that a file came with."""
+    again = AGAIN.fullmatch(name)
+    return bare_name(again.group(2)) if again else name
 
 
 def inbox_of(home: str, day: date) -> list[str]:
@@ -53,13 +59,21 @@ def inbox_of(home: str, day: date) -> list[str]:
 
 def columns_for(home: str, name: str) -> str | None:
     """The description of columns for a file of the inbox: `columns/STEM.toml` for STEM.csv."""
-    again = AGAIN.fullmatch(name)
-    bare = again.group(2) if again else name
+    bare = bare_name(name)
     for each in names_in(os.path.join(home, "columns")):
         stem, end = os.path.splitext(each)
         if end == ".toml" and re.match(re.escape(stem) + r"($|[^A-Za-z])", bare):
             return os.path.join(home, "columns", each)
     return None
+
+
+def input_of(home: str, name: str, data: bytes, day: date) -> tuple[Input, str]:
+    """What the bytes of a file are on a day, converted where it is a bank's sheet, and a note."""
+    columns = columns_for(home, name)
+    note = ""
+    if columns is not None:
+        data, note = records_of_sheet(read_sheet(columns), data, day)
+    return guards.read_input(data), note
 
 
 def read_waiting(home: str, name: str, day: date) -> Waiting:
@@ -68,10 +82,7 @@ def read_waiting(home: str, name: str, day: date) -> Waiting:
         data = file.read()
     found = Waiting(name, len(data))
     try:
-        columns = columns_for(home, name)
-        if columns is not None:
-            data, found.note = records_of_sheet(read_sheet(columns), data, day)
-        found.given = guards.read_input(data)
+        found.given, found.note = input_of(home, name, data, day)
         if any(line.startswith("roll ") for line in found.given.lines):
             raise guards.guard("it rolls, and only the night does")
     except Trouble as trouble:

@@ -143,6 +143,51 @@ class Money(Home):
                             for one in csv.DictReader(io.StringIO(first))))
 
 
+class Late(Home):
+    """The days on which a statement begins to be late, worked out by hand: it closes on 2024-02-05,
+    and its payment is due on 2024-03-01; the sixtieth day behind that is 2024-04-30."""
+
+    def setUp(self) -> None:
+        super().setUp()
+        self.begin("feerow 2011-01-02 3000 4100\nroll 2024-01-10\n"
+                   "open anna o 2024-01-06 5 1999 2499 2199 2999 2500 100\n"
+                   "charge anna c1 2024-01-10 purchase 90000\n")
+        self.assertEqual(self.night("2024-02-06", "--far")[0], 0)
+
+    def late_on(self, day: str) -> list[list[str]]:
+        """The columns of `late` behind what is owed, after a roll to a day."""
+        ledger("run", self.file, "--far", given=f"roll {day}\n")
+        status, out, err = ledger("late", self.home)
+        self.assertEqual(status, 0, err)
+        return [[record[0], *record[2:]] for record in csv.reader(io.StringIO(out))][1:]
+
+    def test_days(self) -> None:
+        """On the due date nobody is late; of the first fee of 30.00 the minimum of 25.00 is the
+        most; the penalty rate may be given once more than sixty days have passed."""
+        found = ["anna", "1", "2024-03-01", "25.00", "0.00", "25.00"]
+        self.assertEqual(self.late_on("2024-03-01"), [])
+        self.assertEqual(self.late_on("2024-03-02"), [[*found, "1", "25.00", ""]])
+        self.assertEqual(self.late_on("2024-03-31"), [[*found, "30", "25.00", ""]])
+
+    def test_sixty_days(self) -> None:
+        """Without a second bill the first statement stays the only one that is late."""
+        found = ["anna", "1", "2024-03-01", "25.00", "0.00", "25.00"]
+        self.assertEqual(self.late_on("2024-04-30"), [[*found, "60", "25.00", ""]])
+        self.assertEqual(self.late_on("2024-05-01"), [[*found, "61", "25.00", "allowed"]])
+
+    def test_newly(self) -> None:
+        """A statement is newly late in the report of the night behind its due date, and in no
+        other one."""
+        told = []
+        for day in ("2024-03-01", "2024-03-02", "2024-03-03"):
+            self.assertEqual(self.night(day, "--far")[0], 0)
+            told += [line for line in self.text("reports", f"{day}.txt").splitlines()
+                     if line.startswith(("newly late", "  anna statement"))]
+        self.assertEqual(told, ["newly late: 0", "newly late: 1",
+                                "  anna statement 1, due 2024-03-01: 25.00 of 25.00 missing",
+                                "newly late: 0"])
+
+
 class Posts(Case):
     def test_posts(self) -> None:
         """Numbers, keys and days; cents as an amend and a found error leave them."""
@@ -192,6 +237,23 @@ class Undo(Home):
         self.assertIn("line 2: lower anna l1 2024-02-05 cash 1000: a lower can't be taken back",
                       done[2])
         self.expect(ledger("undo", self.home, "done/2024-02-05/none.csv"), 10, "is no file of")
+
+    def test_sheet(self) -> None:
+        """A bank's own sheet, and records by keys, are taken back as well."""
+        self.begin(OPENING)
+        self.put("columns/bank.toml", '[columns]\naccount = "a"\nkey = "k"\nday = "d"\n'
+                 'cents = "c"\n[always]\nplace = "purchase"\nkind = "charge"\n')
+        self.put("bank-1.csv", "a,k,d,c\nanna,c1,2024-02-05,5.00\nben,c1,2024-02-05,7.00\n")
+        self.put("desk.csv", KEYED + "anna,c2,charge,2024-02-05,cash,900,,,\n"
+                                     "anna,d1,dispute,2024-02-05,,500,,,c1\n")
+        self.assertEqual(self.night("2024-02-05")[0], 0)
+        done = ledger("undo", self.home, "done/2024-02-05/bank-1.csv")
+        self.assertEqual(done[:2], (0, "amend anna undo-2 2 2024-02-05 0\n"
+                                       "amend ben undo-2 2 2024-02-05 0\n"), done)
+        done = ledger("undo", self.home, "done/2024-02-05/desk.csv")
+        self.assertEqual(done[:2], (1, "amend anna undo-3 3 2024-02-05 0\n"))
+        self.assertIn("record 3: anna,d1,dispute,2024-02-05,,500,,,c1: a dispute can't be taken "
+                      "back", done[2])
 
 
 class Keyed(Home):

@@ -12,6 +12,7 @@ from .common import LINES, Case
 INSTALL = os.path.join(TOP, "ops", "install")
 WORDS = ("check today accounts due bills rows posts explain late tomorrow undo chain examine "
          "version run convert move statements seal backup restore night").split()
+PROGRAM_WORDS = "apply import statement restate repay export work serve trial demo".split()
 UNITS = ("billctl.service", "billctl-night.service", "billctl-night.timer",
          "billctl-alarm@.service")
 
@@ -60,6 +61,26 @@ class Installation(Case):
         self.assertEqual(done.returncode, 0, done.stderr)
         self.assertIn("opt/billctl/bin/billctl", done.stderr)
         self.assertEqual(os.listdir(self.room), [])
+
+    def test_help(self) -> None:
+        """`billctl`, from a clone and installed, answers --help with a line a word, and --version;
+        all else is the program's."""
+        root = self.at("root")
+        self.install("--root", root)
+        with open(os.path.join(root, "usr/local/bin/billctl"), encoding="ascii") as file:
+            script = self.write("billctl", file.read().replace("/opt/billctl",
+                                                               f"{root}/opt/billctl"))
+        os.chmod(script, 0o755)
+        for command in (os.path.join(TOP, "billctl"), script):
+            for word, fronts in (("--help", PROGRAM_WORDS), ("--version", ("program", "sha256"))):
+                done = subprocess.run([command, word], capture_output=True, text=True,
+                                      env=dict(os.environ, BILLCTL=PROGRAM), check=False)
+                self.assertEqual(done.returncode, 0, done.stderr)
+                for front in fronts:
+                    self.assertRegex(done.stdout, rf"(?m)^ *{front} ")
+        done = subprocess.run([script, "-", "apply"], input=LINES, capture_output=True, text=True,
+                              check=False)
+        self.assertEqual((done.returncode, done.stdout), (0, "ok\nok\nok 1\nok 2\nok\n"))
 
     def test_words(self) -> None:
         self.assertEqual(self.install("--help").returncode, 0)

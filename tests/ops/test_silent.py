@@ -126,6 +126,45 @@ class Restored(Home):
                 self.assertEqual(after[name], data, name)
         self.assertEqual(sum("undone" in name for name in after), 12)
 
+    def test_waiting(self) -> None:
+        """What waits in the inbox is for the night behind the undone ones, also where a backup is
+        restored twice; a bank's own sheet is read by its description each time."""
+        self.put("columns/bank.toml", '[columns]\naccount = "a"\nkey = "k"\nday = "d"\n'
+                 'cents = "c"\n[always]\nplace = "purchase"\nkind = "charge"\n')
+        for day in ("2024-02-06", "2024-02-07"):
+            self.put("bank.csv", f"a,k,d,c\nben,b{day[-1]},{day},1.00\n")
+            self.assertEqual(self.night(day if day[-1] == "7" else "2024-02-07")[0], 0)
+        self.put("new.csv", charge("c4", "2024-02-08", 10_000))
+        self.put(".being-written.csv", HEADER)
+        for again in ("1 file of the inbox held for the night of 2024-02-08\n", ""):
+            done = ledger("restore", self.backup, self.file, "--again")
+            self.expect(done, 0, again)
+            self.assertIn("00-again-2024-02-08-new.csv", self.names("inbox"))
+            for night in ("2024-02-06", "2024-02-07"):
+                self.assertEqual(self.night(night)[0], 0)
+        self.assertEqual(self.names("inbox"), [".being-written.csv",
+                                               "00-again-2024-02-08-new.csv"])
+        self.assertEqual(self.night("2024-02-08")[0], 0)
+        self.assertEqual(self.names("inbox"), [".being-written.csv"])
+        self.assertEqual(self.names("refused"), [])
+        posts = [line.split()[:3] for line in ledger("posts", self.file)[1].splitlines()
+                 if " charge " in line]
+        self.assertEqual([post[2] for post in posts], ["c1", "c2", "c3", "c4", "b6", "b7"])
+        self.assertEqual(ledger("chain", self.home)[0], 0)
+
+    def test_same_day(self) -> None:
+        """A sheet that a second call of one night entered is behind the backup of the first."""
+        self.put("columns/bank.toml", '[columns]\naccount = "a"\nkey = "k"\nday = "d"\n'
+                 'cents = "c"\n[always]\nplace = "purchase"\nkind = "charge"\n')
+        first = max(name for name in self.names("backups") if name.endswith(".db"))
+        self.put("bank.csv", "a,k,d,c\nben,b1,2024-02-07,1.00\n")
+        self.assertEqual(self.night("2024-02-07")[0], 0)
+        done = ledger("restore", os.path.join(self.home, "backups", first), self.file, "--again")
+        self.expect(done, 0, "done/2024-02-07/bank.csv was entered behind the backup")
+        self.assertNotIn("done/2024-02-07/cards.csv", done[2])
+        self.assertEqual(self.night("2024-02-07")[0], 0)
+        self.assertIn("charge ben b1 ", ledger("rows", self.file)[1])
+
     def test_reissue(self) -> None:
         """A bill whose statement was printed with other numbers waits until it is meant."""
         ledger("restore", self.backup, self.file, "--again")
@@ -249,6 +288,14 @@ class Sheets(Case):
         done = self.convert(self.SHEET.replace("03.02", "01.01").replace("2026,7", "2025,7"))
         self.expect(done, 1, "2 | d | 01.01.2025 | 401 days before 2026-02-06, and oldest_days is")
         self.assertEqual(done[1], "")
+        done = self.convert(self.SHEET.replace("03.02", "01.03").replace("05.02", "02.03"),
+                            "2026-04-02")
+        self.expect(done, 10, "the newest day of the sheet is 2026-03-02, 31 days before "
+                              "2026-04-02, and newest_days is 3: it is a sheet of another time")
+        done = self.convert(self.SHEET.replace("03.02", "03.01").replace("05.02", "03.02"),
+                            "2026-03-03")
+        self.expect(done, 10, "the newest day of the sheet is 2026-02-03, 28 days before "
+                              "2026-03-03, and newest_days is 3: are its days and months swapped?")
 
     def test_month_before(self) -> None:
         self.expect(self.convert(self.SHEET, "2026-03-06"), 10,

@@ -1,0 +1,83 @@
+"""A night that is killed, or whose disk is full, at each of its steps: the next one goes on."""
+
+import os
+from unittest import mock
+
+from .common import HEADER, ledger
+from .home import Home
+from .stops import ALL, full_at, killed_at, small_disk
+
+DAY = "2024-02-06"
+ACCOUNTS = 12
+RECORDS = 30
+SIZE = 8_000_000
+OPENING = "feerow 2011-01-02 3000 4100\nroll 2024-02-05\n" + "".join(
+    f"open a{n} o 2024-01-06 5 1999 2499 2199 2999 2500 100\n" for n in range(ACCOUNTS))
+
+# By a server, by one pipe for what is sent, and by calls.
+WAYS: tuple[tuple[bool, tuple[str, ...]], ...] = ((False, ()), (True, ()), (False, ("--calls",)))
+FULL = {12: "No space left on device",
+        5: "billctl ended with 5: the rows couldn't be loaded, or some couldn't be kept"}
+
+
+class Stops(Home):
+    def fresh(self, home: str) -> None:
+        """A home with a ledger on the day of its first closing, and two files in the inbox."""
+        self.home, self.file = home, os.path.join(home, "rows.db")
+        os.makedirs(os.path.join(home, "inbox"))
+        self.begin(OPENING)
+        self.put("a.csv", HEADER + "".join(
+            f"a{n % ACCOUNTS},c{n},charge,2024-02-05,purchase,{n + 1},,\n" for n in range(RECORDS)))
+        self.put("b.txt", "lower a1 l 2024-02-05 cash 2000\n")
+
+    def gone_through(self, *more: str) -> None:
+        """The night ends, with the same rows, statements, replies and books as without a stop."""
+        done = self.night(DAY, "--wait", "60", *more)
+        self.assertEqual(done[0], 0, done)
+        self.assertEqual(self.names("inbox"), [])
+        self.assertEqual(self.rows(), self.wanted_rows)
+        self.assertEqual(ledger("chain", self.home)[0], 0)
+        found = self.kept()
+        for name, data in self.wanted.items():
+            self.assertEqual(found.get(name), data, name)
+
+    def kept(self) -> dict[str, bytes]:
+        return {name: data for name, data in self.listing().items()
+                if name.split("/")[0] in ("statements", "done", "books")}
+
+    def setUp(self) -> None:
+        super().setUp()
+        self.fresh(self.at("undisturbed"))
+        self.assertEqual(self.night(DAY)[0], 0)
+        self.wanted, self.wanted_rows = self.kept(), self.rows()
+        self.assertEqual(len(self.names("statements", DAY)), ACCOUNTS + 1)
+
+    def test_kills(self) -> None:
+        for number, (bulk, more) in enumerate(WAYS):
+            with mock.patch("companion.night.is_bulk", lambda lines, rows, bulk=bulk: bulk):
+                self.fresh(self.at(f"killed{number}"))
+                for step in ALL:
+                    self.assertTrue(killed_at(step, self.home, "--day", DAY, *more), step)
+                self.gone_through(*more)
+
+    def test_full_disks(self) -> None:
+        """Each is told by what can't be written, or by the status of billctl."""
+        statuses = set()
+        disk = self.at("disk")
+        os.mkdir(disk)
+        for bulk, more in WAYS:
+            with (small_disk(disk, SIZE) as is_there,
+                  mock.patch("companion.night.is_bulk", lambda lines, rows, bulk=bulk: bulk)):
+                if not is_there:
+                    self.skipTest("this user can't mount a small disk: full disks aren't tested")
+                self.fresh(os.path.join(disk, "home"))
+                for step in ALL:
+                    reached, done = full_at(step, os.path.join(disk, "filler"), self.home, "--day",
+                                            DAY, *more)
+                    self.assertTrue(reached, (step, done))
+                    self.assertIn(done[0], FULL, (step, done))
+                    self.assertIn(FULL[done[0]], done[2], step)
+                    self.assertEqual(self.text("night.lock"), "")
+                    statuses.add(done[0])
+                self.gone_through(*more)
+        self.assertEqual(statuses, set(FULL))
