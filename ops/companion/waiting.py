@@ -2,7 +2,7 @@
 
 import os
 import re
-from dataclasses import dataclass
+from dataclasses import dataclass, field
 from datetime import date
 
 from companion import dated, guards
@@ -12,6 +12,7 @@ from companion.files import names_in
 from companion.history import numbers_in
 from companion.home import INBOX
 from companion.inputs import Input, Numbers
+from companion.notes import Notes
 from companion.opening import open_rows
 from companion.run import AFTER_SECONDS, Meant
 from companion.sheet import read_sheet
@@ -31,6 +32,7 @@ class Waiting:
     given: Input | None = None
     refusal: str = ""
     note: str = ""
+    notes: Notes = field(default_factory=dict)
 
 
 def inbox_of(home: str, day: date) -> list[str]:
@@ -70,7 +72,7 @@ def read_waiting(home: str, name: str, day: date) -> Waiting:
     try:
         columns = columns_for(home, name)
         if columns is not None:
-            data, found.note = records_of_sheet(read_sheet(columns), data, day)
+            data, found.note, found.notes = records_of_sheet(read_sheet(columns), data, day)
         found.given = guards.read_input(data)
         if any(line.startswith("roll ") for line in found.given.lines):
             raise guards.guard("it rolls, and only the night does")
