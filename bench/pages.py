@@ -3,21 +3,17 @@
 A ledger of some 188,000 rows: accounts of thirteen months, each with a promotional plan, five
 charges, a payment and a bill a month and a late credit, all closing on one day. The call that writes the statements
 of the last day in two forms with their manifest is measured with all that it starts; `repay` is
-asked for twenty of the statements, each with a load of all rows, and that is multiplied.
+asked for twenty of the statements, each with a load of all rows, and that is multiplied. The call
+wants the repository as its folder.
 """
 
 import csv
 import os
-import resource
-import subprocess
 import sys
-import time
 from collections.abc import Iterator
 from datetime import date
 
-from tests.support.program import TOP
-
-from .measure import Options, Row, measured, memory_room, stop, written
+from .measure import Options, Row, Used, measured, memory_room, stop, written
 from .streams import FEES, RATES
 
 ACCOUNTS = 2000
@@ -55,10 +51,46 @@ def month_of(month: int, accounts: int) -> Iterator[str]:
 def ledger(accounts: int) -> Iterator[str]:
     yield from (FEES, f"roll {FIRST}")
     yield from (f"open {name_of(at)} o {FIRST} 5 {RATES}" for at in range(accounts))
-    yield from (f"plan {name_of(at)} plan {FIRST} promo 0 2025-03-05 1999" for at in range(accounts))
+    yield from (f"plan {name_of(at)} plan {FIRST} promo 0 2025-03-05 1999"
+                for at in range(accounts))
     for month in range(MONTHS):
         yield f"roll {day_in(month, 28)}"
         yield from month_of(month, accounts)
         if month == MONTHS - 2:
             yield from (f"credit {name_of(at)} back {day_in(month, 10)} purchase 400"
                         for at in range(accounts))
+
+
+def require_whole(folder: str, accounts: int) -> None:
+    """Stops where the manifest isn't that of all statements in both forms."""
+    with open(os.path.join(folder, "manifest.csv"), encoding="ascii", newline="") as file:
+        total = list(csv.reader(file))[-1]
+    if total[:3] != ["total", str(accounts), str(2 * accounts)]:
+        stop(f"pages: the manifest ends with {','.join(total)}")
+
+
+def asked(program: str, file: str, accounts: int) -> list[Used]:
+    """`repay` of some of the statements, a load of all rows for each."""
+    step = max(1, accounts // SAMPLE)
+    return [measured([program, file, "repay", name_of(at), str(MONTHS)])
+            for at in range(0, accounts, step)]
+
+
+def measure(case: str, options: Options) -> Iterator[Row]:
+    program, accounts = options.programs()[0], options.size(ACCOUNTS)
+    day = day_in(MONTHS, 6)
+    with memory_room() as room:
+        lines, file, folder = (os.path.join(room, name) for name in ("lines", "rows.db", "made"))
+        rows = written(lambda: ledger(accounts), lines)
+        measured([program, file, "apply"], lines)
+        made = measured([sys.executable, "-m", "audit", "statements", file, str(day), folder,
+                         "--form", "json", "--form", "html", "--program", program])
+        require_whole(folder, accounts)
+        repaid = asked(program, file, accounts)
+    each = sum(used.computed for used in repaid) / len(repaid)
+    yield Row(f"{accounts:,} statements as JSON and HTML", made.computed, "s of a processor",
+              f"{rows:,} rows; {made.seconds:.0f} s, {made.megabytes:.0f} MB in a process at most")
+    yield Row(f"repay for each of {accounts:,}", each * accounts, "s of a processor",
+              f"{len(repaid)} asked: {each:.2f} s, "
+              f"{max(used.megabytes for used in repaid):.0f} MB")
+    yield Row("statements, of what repay takes", made.computed / (each * accounts), "part")

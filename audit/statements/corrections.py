@@ -47,4 +47,4 @@ def correction_of(bill: Bill, kept: Kept, changed: int) -> Data:
     own = kept.accepted if kept.post.day is None else kept.post.day
     return {"post": kept.number, "key": kept.post.key, "kind": kept.post.word,
             "own_day": day_text(own), "accepted": day_text(kept.accepted),
-            "target": target, "target_key": key, "changed": changed}
+            "target": target, "target_key": key, "changed": changed, "note": None}

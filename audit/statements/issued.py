@@ -23,7 +23,7 @@ _ROLL, _BILL = WORDS["roll"][0], WORDS["bill"][0]
 
 @dataclass
 class Bill:
-    """A statement as it was issued, and the account's book of that day with its closings' states."""
+    """A statement as it was issued, the account's book of that day, and its state at closings."""
 
     account: str
     cycle: int
