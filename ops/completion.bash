@@ -11,9 +11,9 @@ _ledger() {
     run) options='--help --new --far --late --dated-back --wait --program' ;;
     night) options='--help --day --far --late --dated-back --reissue --keep --calls --wait --program' ;;
     tomorrow) options='--help --day --inbox --wait --program' ;;
-    convert) options='--help --day --ledger --late --wait' ;;
+    convert) options='--help --day --ledger --late --notes --wait' ;;
     rows | seal) options='--help --since --wait' ;;
-    statements) options='--help --calls --wait --program' ;;
+    statements) options='--help --calls --form --issuer --names --notes --wait --program' ;;
     accounts) options='--help --owed --wait --program' ;;
     backup) options='--help --keep --wait --program' ;;
     restore) options='--help --again --wait --program' ;;

@@ -17,6 +17,7 @@ _WORDS = ("--headless=new", "--remote-debugging-pipe", "--disable-gpu", "--no-fi
           "--disable-dev-shm-usage", "--disable-background-networking", "--disable-extensions",
           "--disable-component-update", "--hide-scrollbars", "--lang=en-US")
 _DATE = re.compile(rb"/(CreationDate|ModDate) \(D:\d{14}[^)]*\)")
+_NODE = re.compile(rb"node\d{8}")  # a name of a part, of one length
 PRINTED = {"preferCSSPageSize": True, "printBackground": False, "generateTaggedPDF": True}
 
 
@@ -35,6 +36,12 @@ def dated(pdf: bytes, day: str) -> bytes:
         wanted = b"/%s (D:%s000000+00'00')" % (found[1], day.replace("-", "").encode())
         return wanted if len(wanted) == len(found[0]) else found[0]
     return _DATE.sub(at, pdf)
+
+
+def numbered(pdf: bytes) -> bytes:
+    """The PDF with the parts of its structure counted from 0, and not from the pages before it."""
+    places = {old: b"node%08d" % place for place, old in enumerate(sorted(set(_NODE.findall(pdf))))}
+    return _NODE.sub(lambda found: places[found[0]], pdf)
 
 
 class Browser:
@@ -127,4 +134,4 @@ class Browser:
         self.show(html)
         found = self.call("Page.printToPDF", **PRINTED)
         self.events.clear()
-        return dated(base64.b64decode(found["data"]), day)
+        return numbered(dated(base64.b64decode(found["data"]), day))

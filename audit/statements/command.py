@@ -15,12 +15,14 @@ file, the program or a file of the issuer can't be used, and why.
 """
 
 import argparse
+import ctypes
 import multiprocessing
 import os
 import shutil
+import signal
 import sys
 from collections.abc import Iterator
-from contextlib import ExitStack
+from contextlib import ExitStack, suppress
 from pathlib import Path
 
 from ..commands import Damaged
@@ -30,7 +32,7 @@ from ..lines import read_day
 from ..program import Failed
 from .browser import Browser
 from .data import data_of, json_text
-from .files import MANIFEST, Manifest, Taken, put, sync
+from .files import Manifest, Taken, manifest_path, put, sync
 from .held import Held, Parted, text_of
 from .issued import Data, Wanted, bills_of, wanted_on
 from .issuer import Issuer, WrongFile, read_issuer
@@ -41,6 +43,8 @@ BUILT = Path(__file__).resolve().parents[2] / "crates" / "billctl" / "out" / "bi
 FORMS = ("text", "json", "html", "pdf")
 ENDS = {"text": "txt", "json": "json", "html": "html", "pdf": "pdf"}
 FEW = 4  # accounts that one process makes alone
+SAID_EACH = 200  # accounts, after which it says how far it is
+PR_SET_PDEATHSIG = 1  # Linux's option of prctl for a signal when the parent is gone
 
 
 def parser() -> argparse.ArgumentParser:
@@ -73,6 +77,12 @@ def made(given: tuple[Wanted, str]) -> list[Data]:
     return found
 
 
+def end_with_caller() -> None:
+    """Has the system end this process when the one that started it is gone."""
+    with suppress(OSError, AttributeError):
+        ctypes.CDLL(None).prctl(PR_SET_PDEATHSIG, int(signal.SIGKILL))
+
+
 def all_made(file: str, day: int, program: str, jobs: int) -> Iterator[Data]:
     """The statements of the day, in the order of their accounts' first bills."""
     with copied(file) as copy:
@@ -83,8 +93,10 @@ def all_made(file: str, day: int, program: str, jobs: int) -> Iterator[Data]:
         for one in wanted:
             yield from made(one)
         return
-    with multiprocessing.get_context("fork").Pool(min(jobs, len(wanted))) as pool:
-        for found in pool.imap(made, wanted):
+    with multiprocessing.get_context("fork").Pool(min(jobs, len(wanted)), end_with_caller) as pool:
+        for count, found in enumerate(pool.imap(made, wanted), start=1):
+            if count % SAID_EACH == 0:
+                say(f"{count} of {len(wanted)}")
             yield from found
 
 
@@ -118,9 +130,11 @@ class Writer:
             print(self.folder / name)
 
     def end(self) -> None:
-        self.new += put(self.folder / MANIFEST, self.manifest.text().encode())
+        text = self.manifest.text()
+        path = manifest_path(self.folder, text)
+        self.new += put(path, text.encode())
         sync(self.folder)
-        print(self.folder / MANIFEST)
+        print(path)
 
 
 def say(text: str) -> None:
@@ -136,7 +150,7 @@ def written(given: argparse.Namespace, program: str) -> None:
         found = all_made(given.file, day_of(given.day), program, given.jobs)
         first = next(found, None)  # what can't be read is refused before the folder is made
         browser = stack.enter_context(Browser()) if "pdf" in forms else None
-        folder.mkdir(parents=True, exist_ok=True)
+        folder.mkdir(mode=0o700, parents=True, exist_ok=True)
         writer = Writer(folder, forms, issuer, browser)
         if first is not None:
             writer.take(first)

@@ -5,6 +5,7 @@ from ..days import cycle_start, day_text
 from ..fold import advance
 from ..words import Kept
 from .issued import Bill, Data
+from .quick import first_changed, set_known
 
 _LOOK_BACK = ("amend", "resolve", "return")
 
@@ -13,8 +14,9 @@ def owed_after(bill: Bill, count: int, day: int) -> int:
     """What was owed at the end of a day, by the first so many posts."""
     book = bill.book
     issued = {k: row for k, row in book.issued.items() if row.bill <= count}
-    found = advance(Book(book.anchor, book.posts[:count], issued, book.shared), day)
-    return int(found.owed())
+    found = Book(book.anchor, book.posts[:count], issued, book.shared)
+    set_known(found, bill.states, first_changed(found, book), day)
+    return int(advance(found, day).owed())
 
 
 def may_change(kept: Kept, day: int) -> bool:
@@ -45,4 +47,4 @@ def correction_of(bill: Bill, kept: Kept, changed: int) -> Data:
     own = kept.accepted if kept.post.day is None else kept.post.day
     return {"post": kept.number, "key": kept.post.key, "kind": kept.post.word,
             "own_day": day_text(own), "accepted": day_text(kept.accepted),
-            "target": target, "target_key": key, "changed": changed}
+            "target": target, "target_key": key, "changed": changed, "note": None}

@@ -7,6 +7,7 @@ from pathlib import Path
 from .issued import Data
 
 MANIFEST = "manifest.csv"
+TOTAL = "total"
 HEADER = "account,cycle,file,bytes,sha256,new_balance,minimum_payment,due_date"
 
 
@@ -29,6 +30,26 @@ def put(path: Path, data: bytes) -> bool:
         os.fsync(file.fileno())
     os.replace(part, path)
     return True
+
+
+def records_in(path: Path) -> set[str]:
+    """The records of a manifest that is there, without its header and its sums."""
+    lines = path.read_text(encoding="utf-8", errors="replace").splitlines()[1:]
+    return {line for line in lines if not line.startswith(f"{TOTAL},")}
+
+
+def manifest_path(folder: Path, text: str) -> Path:
+    """Where a manifest goes: behind those that are there with fewer of the same records.
+
+    Statements that a later call of the same day issued make a second one, manifest-2.csv.
+    """
+    path, count = folder / MANIFEST, 1
+    while path.exists() and path.read_text(encoding="utf-8", errors="replace") != text:
+        if not records_in(path) < set(text.splitlines()):
+            break
+        count += 1
+        path = folder / f"manifest-{count}.csv"
+    return path
 
 
 def sync(folder: Path) -> None:
@@ -64,6 +85,6 @@ class Manifest:
             f"{data['payment']['minimum']},{data['payment']['due'] or ''}")
 
     def text(self) -> str:
-        last = (f"total,{self.statements},{len(self.records)},{self.bytes},,{self.balances},"
+        last = (f"{TOTAL},{self.statements},{len(self.records)},{self.bytes},,{self.balances},"
                 f"{self.minimums},")
         return "".join(f"{line}\n" for line in (HEADER, *self.records, last))

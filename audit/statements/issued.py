@@ -12,7 +12,7 @@ from ..lines import read_name
 from ..rows import decode
 from ..statement import Statement
 from ..words import SHARED_WORDS, WORDS
-from .quick import Quick
+from .quick import Quick, State
 
 Kept = list[tuple[int, bytes]]
 Data = dict[str, Any]
@@ -23,7 +23,7 @@ _ROLL, _BILL = WORDS["roll"][0], WORDS["bill"][0]
 
 @dataclass
 class Bill:
-    """A statement as it was issued, and the account's book of that day."""
+    """A statement as it was issued, the account's book of that day, and its state at closings."""
 
     account: str
     cycle: int
@@ -31,6 +31,7 @@ class Bill:
     day: int
     book: Book
     statement: Statement
+    states: list[State]
 
 
 @dataclass
@@ -110,6 +111,7 @@ def bills_of(wanted: Wanted) -> list[Bill]:
     for k in wanted.cycles:
         row = account.issued[k]
         assert isinstance(row.statement, Statement)
-        found.append(Bill(wanted.account, k, row.bill, row.day,
-                          machine.books[wanted.account, k], row.statement))
+        which = wanted.account, k
+        found.append(Bill(wanted.account, k, row.bill, row.day, machine.books[which],
+                          row.statement, machine.at_bills[which]))
     return found

@@ -20,6 +20,8 @@ LINES = ("address", "payment_address", "inquiry_address")
 WORDS = ("name", "telephone", "website", "counseling_telephone", "balances_text", "errors_text",
          "payments_text", "changes_text")
 PLACES = ("name", "telephone", "website", "address", "payment_address", "inquiry_address")
+ONE_LINE = ("telephone", "counseling_telephone")
+SHORT = 24
 _PLACE = re.compile(r"\{([^{}]*)\}")
 
 
@@ -51,8 +53,11 @@ class Issuer:
         return _PLACE.sub(lambda found: self._place(found[1]), self.words[key])
 
     def text(self, key: str) -> str:
-        """A text for a page, in which nothing is markup."""
-        return words(self.word(key))
+        """A text for a page, in which nothing is markup; a short one of a line isn't broken."""
+        found = self.word(key)
+        if key in ONE_LINE and len(found) <= SHORT:
+            return f'<span class="one">{words(found)}</span>'
+        return words(found)
 
     def _place(self, key: str) -> str:
         return ", ".join(self.lines[key]) if key in self.lines else self.words[key]

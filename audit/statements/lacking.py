@@ -13,7 +13,15 @@ def with_names(data: Data, issuer: Issuer) -> Data:
     found = dict(data, addressee={"name": to.name, "lines": to.lines} if to else None)
     found["transactions"] = [dict(one, note=issuer.notes.get((account, one["key"] or "")))
                              for one in data["transactions"]]
+    found["corrections"] = [dict(one, note=note_of_correction(account, one, issuer))
+                            for one in data["corrections"]]
     return found
+
+
+def note_of_correction(account: str, one: Data, issuer: Issuer) -> str | None:
+    """The note of a late post itself, or of the post that it corrects."""
+    own = issuer.notes.get((account, one["key"]))
+    return own if own is not None else issuer.notes.get((account, one["target_key"] or ""))
 
 
 class Lacking:
@@ -28,6 +36,8 @@ class Lacking:
             self.names.append(data["account"])
         self.notes += sum(one["note"] is None and one["kind"] == "CHARGE"
                           and one["group"] == "purchases" for one in data["transactions"])
+        self.notes += sum(one["note"] is None and one["kind"] == "charge"
+                          for one in data["corrections"])
 
     def lines(self, issuer: Issuer) -> list[str]:
         """What the pages show in brackets, in words."""

@@ -40,11 +40,15 @@ def daily(billionths: int) -> str:
     return f"{billionths // 10 ** 7}.{billionths % 10 ** 7:07d}%"
 
 
-def day(text: str) -> str:
+def day_words(text: str) -> str:
     """A day for reading: the month, the day and the year."""
     found = date.fromisoformat(text)
-    shown = f"{_MONTHS[found.month - 1]} {found.day}, {found.year}"
-    return f'<time datetime="{text}">{shown}</time>'
+    return f"{_MONTHS[found.month - 1]} {found.day}, {found.year}"
+
+
+def day(text: str) -> str:
+    """A day for reading, and for machines."""
+    return f'<time datetime="{text}">{day_words(text)}</time>'
 
 
 def pairs(rows: Iterable[tuple[str, str]], last: str = "") -> str:
@@ -89,7 +93,7 @@ td.n{overflow-wrap:normal}
 .key{width:20%}.day{width:14%}.amount{width:15%}
 .small{font-size:.88em}
 .of{color:#444;font-size:.88em}
-time{white-space:nowrap}
+time,.one{white-space:nowrap}
 @media(min-width:44rem){header,.pair{grid-template-columns:1fr 1fr}}
 @media(max-width:43.99rem){
 .stack thead{position:absolute;width:1px;height:1px;overflow:hidden;clip-path:inset(50%)}
@@ -98,13 +102,14 @@ time{white-space:nowrap}
 padding:.1rem .4rem;text-align:right}
 .stack td::before,.stack th[data-as]::before{content:attr(data-as);text-align:left;color:#444;
 flex:none;max-width:45%}
+.stack .total{display:flex;justify-content:space-between}
 .stack .gone{display:none}}
-@page{size:letter;margin:.55in .6in}
+@page{size:letter;margin:.55in .6in .65in;font:8pt Arial,"Liberation Sans",sans-serif}
 @media print{
 body{font-size:8.6pt;line-height:1.28;max-width:none;padding:0}
 header,.pair{grid-template-columns:1fr 1fr}
 h1{font-size:14pt}h2{font-size:9.5pt;background:none;color:#000;border-bottom:1.5pt solid #000;
 padding:0 0 1pt;break-after:avoid}
-h3,caption{break-after:avoid}tr,.warn{break-inside:avoid}thead{display:table-header-group}
+h3{font-size:9pt}h3,caption{break-after:avoid}tr,.warn{break-inside:avoid}thead{display:table-header-group}
 th,td{padding:1pt 3pt}section{margin-bottom:7pt}}
 """

@@ -2,8 +2,10 @@
 
 from .issued import Data
 from .issuer import Issuer
-from .markup import STYLE, day, dollars, money, pairs, percent, plain, section, words
-from .tables import (CATEGORIES, calculation_of, fees_of, interest_of, transactions_of, year_of)
+from .markup import (STYLE, day, day_words, dollars, money, pairs, percent, plain, section,
+                     words)
+from .tables import (CATEGORIES, DEFERRED, calculation_of, fees_of, interest_of,
+                     transactions_of, year_of)
 
 _POLICY = "default-src 'none'; style-src 'unsafe-inline'; img-src data:"
 _SUMMARY = (("payments", "Payments"), ("other_credits", "Other credits"),
@@ -67,6 +69,8 @@ def payment_of(data: Data, issuer: Issuer) -> str:
     """What to pay, by when, and the two warnings."""
     sums, payment = data["summary"], data["payment"]
     due = day(payment["due"]) if payment["due"] else "no payment is due"
+    if payment["due"] and not payment["minimum"]:
+        due += " (no payment is due)"
     rows = [("New balance", balance_text(sums["new_balance"])),
             ("Minimum payment due", money(payment["minimum"])), ("Payment due date", due)]
     out = f'<div class="due">{pairs(rows)}</div>'
@@ -120,10 +124,20 @@ def deferred_of(data: Data) -> str:
     """What to pay in full, and by when, so that no deferred interest is charged."""
     if not data["deferred"]:
         return ""
-    said = [f"<p>{plain(one['segment'])}: pay the balance of {money(one['balance'])} in full by "
-            f"{day(one['pay_in_full_by'])}, and the interest deferred so far, "
-            f"{money(one['accrued'])}, is not charged.</p>" for one in data["deferred"]]
-    return section("deferred", "Deferred interest", "".join(said))
+    return section("deferred", "Deferred interest", "".join(
+        f"<p>{DEFERRED} <span class=\"of\">{plain(one['segment'])}</span>: "
+        f"{deferred_text(one, data['period']['closing'])}</p>" for one in data["deferred"]))
+
+
+def deferred_text(one: Data, closing: str) -> str:
+    """What to do about a plan; or, where its time ended with the cycle, what came of it."""
+    by, balance, accrued = day(one["pay_in_full_by"]), money(one["balance"]), money(one["accrued"])
+    if one["pay_in_full_by"] > closing:
+        return (f"pay the balance of {balance} in full by {by}, and the interest deferred so far, "
+                f"{accrued}, is not charged.")
+    return (f"the time to pay it in full ended on {by}. The balance at closing is {balance}. The "
+            f"interest deferred until then was {accrued}; what is charged of it stands in the "
+            "interest charge calculation.")
 
 
 def changes_of(data: Data, issuer: Issuer) -> str:
@@ -145,12 +159,13 @@ def corrections_of(data: Data) -> str:
     """The posts behind the corrections of earlier statements."""
     if not data["corrections"]:
         return ""
-    names = {"amend": "correction", "resolve": "result of a dispute", "return": "returned payment"}
+    names = {"amend": "Correction", "resolve": "Result of a dispute", "return": "Returned payment"}
     rows = []
     for one in data["corrections"]:
         of = f" of {plain(one['target_key'])}" if one["target_key"] else ""
-        rows.append((f"{names.get(one['kind'], plain(one['kind']))}{of}, reference "
-                     f"{plain(one['key'])}, dated {day(one['own_day'])}, entered "
+        note = f", {words(one['note'])}" if one["note"] is not None else ""
+        rows.append((f"{names.get(one['kind'], plain(one['kind'].capitalize()))}{of}{note}, "
+                     f"reference {plain(one['key'])}, dated {day(one['own_day'])}, entered "
                      f"{day(one['accepted'])}", money(one["changed"])))
     rows.append(("Total corrections", money(data["summary"]["earlier_corrections"])))
     return section("corrections", "Corrections of earlier statements", pairs(rows, rows[-1][0]))
@@ -169,6 +184,14 @@ def disputes_of(data: Data) -> str:
                    f"is charged on them meanwhile.</p>{pairs(rows, rows[-1][0])}")
 
 
+def footer_of(data: Data) -> str:
+    """What each printed page has at its foot: whose statement it is, and which of its pages."""
+    closing = day_words(data["period"]["closing"])
+    said = f"Account {data['account']}, statement {data['cycle']}, closed on {closing}"
+    return (f'@page{{@bottom-left{{content:"{said}"}}'
+            '@bottom-right{content:"Page " counter(page) " of " counter(pages)}}')
+
+
 def page_of(data: Data, issuer: Issuer) -> str:
     """The page of a statement."""
     title = f"Statement {data['cycle']} of account {data['account']}"
@@ -176,7 +199,8 @@ def page_of(data: Data, issuer: Issuer) -> str:
         '<!doctype html>\n<html lang="en"><head><meta charset="utf-8">'
         f'<meta http-equiv="Content-Security-Policy" content="{_POLICY}">'
         '<meta name="viewport" content="width=device-width,initial-scale=1">'
-        f'<link rel="icon" href="data:,"><title>{plain(title)}</title><style>{STYLE}</style>'
+        f'<link rel="icon" href="data:,"><title>{plain(title)}</title>'
+        f"<style>{STYLE}{footer_of(data)}</style>"
         f"</head><body>{head_of(data, issuer)}<main>",
         f'<div class="pair">{summary_of(data)}{payment_of(data, issuer)}</div>',
         deferred_of(data), changes_of(data, issuer), disputes_of(data), corrections_of(data),

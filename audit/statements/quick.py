@@ -26,13 +26,24 @@ def state_of(book: Book) -> State:
 
 
 def set_state(book: Book, state: State) -> None:
-    """A new book, whose days up to that of the state are done."""
+    """A new book, whose days up to that of the state are done.
+
+    A balance that the book doesn't know was begun by a later post, and has nothing yet.
+    """
     for name in _COPIED:
         setattr(book, name, type(state[name])(state[name]))
     for name in _BY_SEGMENT:
-        for s, one in enumerate(state[name]):
-            getattr(book, name)[s] = type(one)(one)
+        ours = getattr(book, name)
+        for s, one in enumerate(state[name][:len(ours)]):
+            ours[s] = type(one)(one)
     book.day, book.rates.penalties = state["day"], list(state["penalties"])
+
+
+def set_known(book: Book, states: list[State], before: int, to: int) -> None:
+    """A new book, whose days are done as far as a state is known before a day, and up to a day."""
+    known = [state for state in states if state["day"] < before and state["day"] <= to]
+    if known:
+        set_state(book, known[-1])
 
 
 def first_changed(old: Book, new: Book) -> int:
@@ -59,6 +70,11 @@ class Quick(Watching):
     def __init__(self) -> None:
         super().__init__()
         self.states: list[State] = []
+        self.at_bills: dict[tuple[str, int], list[State]] = {}
+
+    def issue(self, account: Account, k: int, bill: int) -> None:
+        super().issue(account, k, bill)
+        self.at_bills[account.posts[0].post.account or "", k] = list(self.states)
 
     def book(self, account: Account, day: int | None = None) -> Book:
         to = self.today if day is None else day
@@ -75,9 +91,7 @@ class Quick(Watching):
         if account.book is not None and account.known != self._lists_key(account):
             first = first_changed(account.book, new)
             self.states = [state for state in self.states if state["day"] < first]
-        known = [state for state in self.states if state["day"] <= to]
-        if known:
-            set_state(new, known[-1])
+        set_known(new, self.states, to + 1, to)
         return new
 
     def _advanced(self, book: Book, to: int) -> Book:

@@ -16,6 +16,7 @@ CATEGORIES = (("purchase", "purchases"), ("cash", "cash advances"),
 SOURCES = {"index": "variable rate", "penalty": "penalty rate", "promotion": "promotional rate",
            "deferred": "deferred interest plan", "after_plan": "rate after a plan",
            "notice": "rate of a notice", "lowered": "lowered rate", "terms": ""}
+DEFERRED = "Deferred interest balance"
 _SAID = {"PAYMENT": "Payment, thank you", "CREDIT": "Credit",
          "REFUND": "Refund of a credit balance", "RETURN": "Payment returned unpaid"}
 _CHARGED = {"cash": "Cash advance", "transfer": "Balance transfer"}
@@ -44,7 +45,7 @@ def row(cells: str, kind: str = "") -> str:
 def total(label: str, cents: int, columns: int) -> str:
     """The last row of a table."""
     return row(f'<th role="rowheader" scope="row" colspan="{columns - 1}">{label}</th>'
-               f"{cell('', money(cents))}", "sum")
+               f"{cell('', money(cents))}", "sum total")
 
 
 def said_of(one: Data) -> str:
@@ -111,7 +112,7 @@ def name_of(one: Data) -> str:
     """A balance as a cardholder knows it."""
     name = dict(CATEGORIES)[one["category"]].capitalize()
     if one["kind"] != "vintage":
-        name = "Promotional balance" if one["kind"] == "promo" else "Deferred interest balance"
+        name = "Promotional balance" if one["kind"] == "promo" else DEFERRED
     return f'{name} <span class="of">{plain(one["segment"])}</span>'
 
 
@@ -137,21 +138,33 @@ def run_row(name: str, run: Data, average: str) -> str:
 def rows_of(one: Data) -> list[str]:
     """The rates of a balance; where there are several, and their sum."""
     name, average = name_of(one), money(one["average_daily_balance"])
-    at_end = f'{name} <span class="of">{money(one["balance"])} at closing</span>'
+    at_end = f'<br><span class="of">{money(one["balance"])} at closing</span>'
     deferred = one["deferred_interest"] or []
     if len(one["rates"]) == 1 and not deferred and not one["interest_not_charged"]:
-        return [run_row(at_end, one["rates"][0], average)]
+        return [run_row(name + at_end, one["rates"][0], average)]
     rows = [run_row(name, run, "") for run in one["rates"]]
     rows += [run_row(f"{name}, deferred interest now charged", run, "") for run in deferred]
     if one["interest_not_charged"]:
         rows.append(row(cell("Type of balance", f"{name}, not charged", "")
                         + '<td class="gone" role="cell" colspan="5"></td>'
                         + cell("Interest charge", money(-one["interest_not_charged"]))))
-    rows.append(row(cell("Type of balance", f"{at_end}, all", "")
+    rows.append(row(cell("Type of balance", f"{name}, all rates{at_end}", "")
                     + '<td class="gone" role="cell" colspan="4"></td>'
                     + cell("Average daily balance", average)
                     + cell("Interest charge", money(one["interest"])), "sum"))
     return rows
+
+
+def promotion_text(one: Data) -> str:
+    """From when until when a plan's rate is, and what comes after it."""
+    plan = one["promotion"]
+    rate, after = percent(plan["rate"]), percent(plan["rate_after"])
+    time = f"from {day(plan['first'])} until {day(plan['last'])}"
+    said = (f"The rate of the {name_of(one)} is {rate} {time}; after that it is {after}."
+            if plan["kind"] == "promo" else
+            f"Interest at {rate} on the {name_of(one)} is deferred {time}; after that the rate "
+            f"is {after}.")
+    return f"<p>{said}</p>"
 
 
 def calculation_of(data: Data, issuer: Issuer) -> str:
@@ -160,11 +173,7 @@ def calculation_of(data: Data, issuer: Issuer) -> str:
              ("Daily rate", "n"), ("Sum of daily balances", "n"), ("Average daily balance", "n"),
              ("Interest charge", "n"))
     rows = [line for one in data["balances"] for line in rows_of(one)]
-    ends = [f"<p>The promotional rate of {name_of(one)} is {percent(one['promotion']['rate'])} "
-            f"from {day(one['promotion']['first'])} until "
-            f"{day(one['promotion']['last'])}; after that it is "
-            f"{percent(one['promotion']['rate_after'])}.</p>"
-            for one in data["balances"] if one["promotion"]]
+    ends = [promotion_text(one) for one in data["balances"] if one["promotion"]]
     return section("calculation", "Interest charge calculation",
                    "<p>Your annual percentage rate (APR) is the annual interest rate on your "
                    f"account.</p>{table('', heads, rows)}{''.join(ends)}"

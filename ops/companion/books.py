@@ -38,6 +38,7 @@ class Close:
     sums: Sums = field(default_factory=lambda: dict.fromkeys(KINDS, (0, 0)))
     posted: Posted = field(default_factory=dict)
     owed: dict[str, int] = field(default_factory=dict)
+    at_closings: dict[tuple[str, int], int] = field(default_factory=dict)
 
     def add(self, account: str, entries: list[Entry]) -> None:
         """Takes in the entries of an account."""

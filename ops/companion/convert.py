@@ -8,6 +8,7 @@ from datetime import date
 from companion import dated
 from companion.guards import ZIP, read_input
 from companion.inputs import HEADER
+from companion.notes import Notes, add_notes, note_of, others_in, read_notes
 from companion.requests import COLUMNS, KINDS, form_of, is_of_form
 from companion.sheet import AMOUNTS, Sheet, Unclear, cents_of, day_of, minute_of, read_sheet
 from companion.state import read_state
@@ -77,6 +78,10 @@ class Converted:
             return self.chosen(name)
         return self.text(name).strip()
 
+    def note(self) -> str:
+        """What the booking was, by the columns that say it."""
+        return note_of([self.cells[name] for name in self.sheet.note])
+
     def record(self) -> list[str]:
         """The record. Raises Unclear at the first field that isn't understood."""
         cents, kind = self.cents_and_kind()
@@ -137,7 +142,7 @@ def table_in(sheet: Sheet, data: bytes) -> Table:
     if not records:
         raise refused("the input has no header")
     table = Table([name.strip() for name in records[0]])
-    for name, column in sheet.columns.items():
+    for name, column in [*sheet.columns.items(), *(("note", name) for name in sheet.note)]:
         if table.header.count(column) != 1:
             raise refused(f"the input has {table.header.count(column)} columns {column!r}, for "
                           f"{name}; its header is: {', '.join(table.header)}")
@@ -153,9 +158,10 @@ def table_in(sheet: Sheet, data: bytes) -> Table:
 
 @dataclass
 class Result:
-    """What a sheet gives: records, what isn't understood, the sum with its sign, the newest day."""
+    """What a sheet gives: records, notes, what isn't understood, its signed sum, its newest day."""
 
     records: list[list[str]] = field(default_factory=list)
+    notes: Notes = field(default_factory=dict)
     newest: date = date.min
     unclear: list[tuple[int, str, str, str]] = field(default_factory=list)
     signed: dict[str, int] = field(default_factory=lambda: {"plus": 0, "minus": 0})
@@ -190,6 +196,8 @@ def converted(sheet: Sheet, table: Table, day: date) -> Result:
             signed = cells.signed()
             found.signed["plus" if signed >= 0 else "minus"] += signed
             found.records.append(made)
+            if text := cells.note():
+                found.notes[made[0], made[1]] = text
         except Unclear as one:
             found.unclear.append((number, sheet.column(one.column), one.text, one.why))
     return found
@@ -265,19 +273,37 @@ def table_lines(found: Result) -> list[str]:
     return [TABLE, *(" | ".join(str(cell) for cell in row) for row in found.unclear)]
 
 
-def records_of_sheet(sheet: Sheet, data: bytes, day: date) -> tuple[bytes, str]:
-    """The records of a sheet as bytes, and its control sums. Raises Trouble where it is unclear."""
+def records_of_sheet(sheet: Sheet, data: bytes, day: date) -> tuple[bytes, str, Notes]:
+    """The records of a sheet as bytes, its control sums and its notes.
+
+    Raises Trouble where it is unclear.
+    """
     found = converted_sheet(sheet, data, day)
     if found.unclear:
         raise Trouble(f"{len(found.unclear)} of {counted(found.number, 'record')} not understood: "
                       + "; ".join(table_lines(found)[1:]), GUARDED)
-    return csv_of(found.records).encode("ascii"), f"sheet: {found.note()}"
+    return csv_of(found.records).encode("ascii"), f"sheet: {found.note()}", found.notes
+
+
+def require_notes(sheet: Sheet, path: str, found: Result) -> None:
+    """Refuses notes that no column gives, and those of posts that have another text already."""
+    if not sheet.note:
+        raise refused("the description of columns has no `note`, which names the sheet's columns "
+                      "that say what a booking was")
+    others = others_in(read_notes(path), found.notes)
+    if others:
+        raise refused(f"{path} has another note of {', '.join(others[:5])}"
+                      f"{' and more' if len(others) > 5 else ''}")
 
 
 def convert(path: str, data: bytes, day: date, ledger: str | None = None, wait: int = 0,
-            late: bool = False) -> int:
-    """The word `convert`: records on standard output; or nothing, and what isn't understood."""
-    found = converted_sheet(read_sheet(path), data, day)
+            late: bool = False, notes: str | None = None) -> int:
+    """The word `convert`: records on standard output; or nothing, and what isn't understood.
+
+    With `notes` this file gets what each booking was.
+    """
+    sheet = read_sheet(path)
+    found = converted_sheet(sheet, data, day)
     if found.unclear:
         for line in table_lines(found):
             say(line)
@@ -290,6 +316,11 @@ def convert(path: str, data: bytes, day: date, ledger: str | None = None, wait: 
         texts = dated.named(given, dated.late_in(given, read_state(ledger, wait)), {})
         if texts:
             raise refused(dated.late_refusal(texts))
+    if notes is not None:
+        require_notes(sheet, notes, found)
+        add_notes(notes, found.notes)
     print(text, end="")
     say(f"convert: {found.note()}")
+    if notes is not None:
+        say(f"convert: {counted(len(found.notes), 'note')} in {notes}")
     return DONE

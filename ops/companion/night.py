@@ -6,6 +6,7 @@ from datetime import date
 
 from companion import guards
 from companion.backups import backup, keep_of, stem_of, thin
+from companion.books import Close
 from companion.files import free_name, make_folder, put_text
 from companion.hand import Hand, is_bulk
 from companion.home import (
@@ -13,7 +14,9 @@ from companion.home import (
 )
 from companion.inputs import Input
 from companion.looks import bill_lines, late_bills
+from companion.made import add_notes_of, make_pages
 from companion.opening import open_rows, require_openable
+from companion.pages import wanted_of
 from companion.reissue import held_back
 from companion.report import end_report, overdue_of, tell_money, tell_tasks
 from companion.run import AFTER_SECONDS, Meant
@@ -48,6 +51,7 @@ def take_in(night: Night, one: Waiting) -> None:
     replies = night.send(one.given, one.name)
     if one.note:
         night.tell(f"  {one.note}")
+    add_notes_of(night, one.notes)
     if os.path.getsize(night.path(INBOX, one.name)) != one.size:
         night.found = True
         night.tell(f"inbox {one.name}: it was written to meanwhile, so it stays for the next call")
@@ -84,8 +88,8 @@ def bill(night: Night) -> None:
     night.tell(f"bills: {len(lines)}{late}")
 
 
-def print_all(night: Night) -> None:
-    """The statements of the day and the open tasks."""
+def print_all(night: Night) -> Close:
+    """The statements of the day, the open tasks and the day's close."""
     folder = night.path("statements", str(night.day))
     make_folder(folder)
     wanted = night.state.issued_on(night.day)
@@ -99,7 +103,7 @@ def print_all(night: Night) -> None:
     night.tell(f"statements: {len(wanted)} in {os.path.relpath(folder, night.home)}")
     night.found = bool(overdue_of(tasks, night.day)) or night.found
     tell_tasks(tasks, night.day, night.tell)
-    tell_money(night.home, night.day, night.state, asker, night.returned, night.tell)
+    return tell_money(night.home, night.day, night.state, asker, night.returned, night.tell)
 
 
 def save(night: Night) -> None:
@@ -164,9 +168,10 @@ def carry_out(night: Night) -> None:
         say(f"night: file {place + 1} of {len(night.waiting)} of the inbox: {one.name}")
         take_in(night, one)
     bill(night)
-    print_all(night)
+    close = print_all(night)
     night.hand.close()
     whole = save_end(night)
+    make_pages(night, close.at_closings)
     last = night.before
     named = f"{last.seal.text()} (reports/{last.name})" if last else seal_text(None)
     end_report(night.part, night.path("reports", night.report_name(len(night.reports()) + 1)),
@@ -229,7 +234,7 @@ def night(asked: Asked) -> int:
     meant = Meant(asked.meant.far, late, asked.meant.dated_back)
     try:
         return night_of(Asked(asked.program, asked.home, asked.day, meant, asked.wait, asked.calls,
-                              asked.reissue, kept))
+                              asked.reissue, kept, wanted_of(asked.home)))
     except OSError as error:
         raise Trouble(f"{error.filename or asked.home}: {error.strerror}; the next call goes on "
                       "from here", OWN_FILES) from error

@@ -8,6 +8,7 @@ from companion import books
 from companion.files import put_text, read_text
 from companion.inputs import Input
 from companion.late import Late, newly_late
+from companion.pages import owed_at_closings
 from companion.state import State
 from companion.statements import TASKS, Asker
 from companion.texts import entries_of, grouped, money
@@ -76,13 +77,14 @@ def closed_accounts(state: State, asker: Asker, close: books.Close) -> list[Late
     for place, account in enumerate(state.accounts.values()):
         entries = entries_of(asker.entries(account.name))
         close.add(account.name, entries)
+        close.at_closings.update(owed_at_closings(account, close.day, entries))
         found += newly_late(asker, account, entries, close.since, state.today)
         progress.at(place + 1)
     return found
 
 
 def tell_money(home: str, day: date, state: State, asker: Asker, returned: list[str],
-               tell: Tell) -> None:
+               tell: Tell) -> books.Close:
     """What posted since the last close, who is newly late, what came back, and the ten lines."""
     close = books.begun_close(home, day)
     newly = closed_accounts(state, asker, close)
@@ -101,6 +103,7 @@ def tell_money(home: str, day: date, state: State, asker: Asker, returned: list[
     tell(f"trial up to {day}, in {path}; by account in {accounts}:")
     for line in books.trial_lines(close):
         tell(f"  {line}")
+    return close
 
 
 def end_report(part: str, to: str, last: list[str], statements: str, day: date) -> None:

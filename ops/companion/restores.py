@@ -110,7 +110,7 @@ def read_done(home: str, day: str, name: str) -> tuple[Input, list[str]]:
     """A file that was entered, and its replies. What it names by keys has the number 0 here."""
     path = os.path.join(home, "done", day, name)
     with open(path, "rb") as file:
-        given, _ = input_of(home, name, file.read(), date.fromisoformat(day))
+        given, _, _ = input_of(home, name, file.read(), date.fromisoformat(day))
     if given.keyed:
         for record in given.records:
             given.numbers.setdefault((record[0], record[-1]), 0)

@@ -6,8 +6,10 @@ import sys
 from companion import statements
 from companion.convert import convert
 from companion.move import move
+from companion.pages import FORMS, Files, Wanted, pages
 from companion.program import find_program
 from companion.run import Meant, run
+from companion.trouble import WORDS, Trouble
 from companion.words import Words, day
 
 
@@ -48,7 +50,7 @@ def add_run(words: Words) -> None:
 
 def carry_convert(asked: argparse.Namespace) -> int:
     return convert(asked.columns, sys.stdin.buffer.read(), asked.day, asked.ledger, asked.wait,
-                   asked.late)
+                   asked.late, asked.notes)
 
 
 def add_convert(words: Words) -> None:
@@ -66,6 +68,8 @@ def add_convert(words: Words) -> None:
     way.add_argument("--ledger", default=None, metavar="FILE",
                      help="refuse records that lie in a billed cycle of this ledger")
     way.add_argument("--late", action="store_true", help="such records are meant")
+    way.add_argument("--notes", default=None, metavar="NOTES.csv",
+                     help="add account, key and text of each booking, by `note` of the description")
 
 
 def add_move(words: Words) -> None:
@@ -80,17 +84,37 @@ def add_move(words: Words) -> None:
     way.add_argument("day", metavar="DAY", type=day)
 
 
+def carry_statements(asked: argparse.Namespace) -> int:
+    program, files = find_program(asked.program), Files(asked.issuer, asked.names, asked.notes)
+    if asked.form:
+        if asked.calls:
+            raise Trouble("--calls is for statements without --form", WORDS)
+        return pages(program, asked.file, asked.day, asked.folder, Wanted(asked.form, files),
+                     asked.wait)
+    if files.words():
+        raise Trouble("--issuer, --names and --notes are for --form json, html or pdf", WORDS)
+    return statements.statements(program, asked.file, asked.day, asked.folder, asked.wait,
+                                 asked.calls)
+
+
 def add_statements(words: Words) -> None:
     way = words.add(
         "statements", "the statements of a day, in files",
         "Writes each statement that was issued on DAY to DIR/ACCOUNT-CYCLE.txt, and the open\n"
         "tasks of today to DIR/work.txt. One server on loopback tells them, or a call each where\n"
-        "they are few.",
-        lambda asked: statements.statements(find_program(asked.program), asked.file, asked.day,
-                                            asked.folder, asked.wait, asked.calls), program=True)
+        "they are few.\n"
+        "With --form the independent model writes them in these forms, from one reading of the\n"
+        "rows, with DIR/manifest.csv: each number is held against billctl's before. The files of\n"
+        "the issuer are described in docs/PAGES.md. PDF needs Chromium.",
+        carry_statements, program=True)
     way.add_argument("day", metavar="DAY", type=day)
     way.add_argument("folder", metavar="DIR")
     way.add_argument("--calls", action="store_true", help="no server: a call each")
+    way.add_argument("--form", choices=FORMS, action="append", default=[],
+                     help="may be given more than once")
+    way.add_argument("--issuer", metavar="ISSUER.toml", help="the issuer's name and texts")
+    way.add_argument("--names", metavar="NAMES.csv", help="names and addresses by account")
+    way.add_argument("--notes", metavar="NOTES.csv", help="what a post was, by account and key")
 
 
 def add(words: Words) -> None:

@@ -17,6 +17,7 @@ SETTINGS: dict[str, str | int] = {
 
 # Settings that have no value where they aren't given.
 DAYS = ("newest_days", "oldest_days")
+NOTE = "note"
 SECTIONS = ("columns", "always", "kinds", "places", "channels", "accounts", "signs")
 AMOUNTS = ("debit", "credit")
 TIME = re.compile(r"([0-9]{1,2}):([0-9]{2})(?::[0-9]{2})?(?:\s*([AaPp])\.?[Mm]\.?)?")
@@ -48,6 +49,7 @@ class Sheet:
     signs: dict[str, str]
     date: re.Pattern[str]
     days: dict[str, int] = field(default_factory=dict)
+    note: list[str] = field(default_factory=list)
 
     def column(self, name: str) -> str:
         return self.columns.get(name, name)
@@ -78,8 +80,8 @@ def date_form(text: str) -> re.Pattern[str]:
 def settings_in(found: dict[str, Any]) -> dict[str, Any]:
     """The settings before the first section."""
     for key in found:
-        if key not in SETTINGS and key not in SECTIONS and key not in DAYS:
-            raise wrong(f"{key!r} is none of {', '.join([*SETTINGS, *DAYS, *SECTIONS])}")
+        if key not in (*SETTINGS, *SECTIONS, *DAYS, NOTE):
+            raise wrong(f"{key!r} is none of {', '.join([*SETTINGS, *DAYS, NOTE, *SECTIONS])}")
     settings = {key: found.get(key, value) for key, value in SETTINGS.items()}
     if any(type(settings[key]) is not type(value) for key, value in SETTINGS.items()):
         raise wrong("skip and least_digits are numbers, and the other settings before the first "
@@ -92,6 +94,14 @@ def settings_in(found: dict[str, Any]) -> dict[str, Any]:
     if settings["least_digits"] not in (1, 2):
         raise wrong("least_digits is 2, or 1 where amounts may have one digit behind the point")
     return settings
+
+
+def note_in(found: dict[str, Any]) -> list[str]:
+    """The columns of the sheet that say what a booking was."""
+    columns = found.get(NOTE, [])
+    if not isinstance(columns, list) or not all(isinstance(name, str) for name in columns):
+        raise wrong(f"{NOTE} is a list of the sheet's columns, as [\"Merchant\", \"City\"]")
+    return columns
 
 
 def require_columns(sections: dict[str, dict[str, str]]) -> None:
@@ -123,7 +133,7 @@ def sheet_of(found: dict[str, Any]) -> Sheet:
                "channel": sections["channels"], "account": sections["accounts"]}
     days = {key: found[key] for key in DAYS if key in found}
     return Sheet(settings, sections["columns"], sections["always"], choices, sections["signs"],
-                 date_form(settings["date"]), days)
+                 date_form(settings["date"]), days, note_in(found))
 
 
 def read_sheet(path: str) -> Sheet:

@@ -29,6 +29,7 @@ class Account:
     close: int
     posts: int = 0
     bills: dict[int, date] = field(default_factory=dict)
+    bill_posts: dict[int, int] = field(default_factory=dict)
     bill_keys: set[str] = field(default_factory=set)
     returns: dict[int, int] = field(default_factory=dict)
 
@@ -37,6 +38,11 @@ class Account:
         self.posts += 1
         if key.startswith(BILL_KEY):
             self.bill_keys.add(key)
+
+    def is_last(self, cycle: int) -> bool:
+        """Whether nothing but bills came behind the bill of a cycle."""
+        number = self.bill_posts[cycle]
+        return self.posts - number == sum(one > number for one in self.bill_posts.values())
 
     def closed(self, today: date) -> int:
         return closed_cycles(self.opened, self.close, today)
@@ -82,6 +88,7 @@ class State:
         if request.word == "bill":
             cycle = int(request.fields["cycle"])
             account.bills[cycle] = self.today
+            account.bill_posts[cycle] = account.posts
             self.issued.append((self.today, name, cycle))
         elif request.word == "return":
             account.returns[account.posts] = int(request.fields["target"])

@@ -11,6 +11,7 @@ from companion.backups import Keep
 from companion.hand import Hand
 from companion.home import LEDGER, Sealed
 from companion.inputs import Input
+from companion.pages import Wanted
 from companion.report import accepted_line
 from companion.run import Meant
 from companion.seals import Seal
@@ -65,6 +66,7 @@ class Asked:
     calls: bool = False
     reissue: bool = False
     keep: Keep | None = None
+    pages: Wanted | None = None
 
 
 @dataclass

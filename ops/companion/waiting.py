@@ -2,7 +2,7 @@
 
 import os
 import re
-from dataclasses import dataclass
+from dataclasses import dataclass, field
 from datetime import date
 
 from companion import dated, guards
@@ -12,6 +12,7 @@ from companion.files import names_in
 from companion.history import numbers_in
 from companion.home import INBOX
 from companion.inputs import Input, Numbers
+from companion.notes import Notes
 from companion.opening import open_rows
 from companion.run import AFTER_SECONDS, Meant
 from companion.sheet import read_sheet
@@ -31,6 +32,7 @@ class Waiting:
     given: Input | None = None
     refusal: str = ""
     note: str = ""
+    notes: Notes = field(default_factory=dict)
 
 
 def bare_name(name: str) -> str:
@@ -67,13 +69,13 @@ def columns_for(home: str, name: str) -> str | None:
     return None
 
 
-def input_of(home: str, name: str, data: bytes, day: date) -> tuple[Input, str]:
-    """What the bytes of a file are on a day, converted where it is a bank's sheet, and a note."""
+def input_of(home: str, name: str, data: bytes, day: date) -> tuple[Input, str, Notes]:
+    """What the bytes of a file are on a day; of a bank's sheet also its control sums and notes."""
     columns = columns_for(home, name)
-    note = ""
-    if columns is not None:
-        data, note = records_of_sheet(read_sheet(columns), data, day)
-    return guards.read_input(data), note
+    if columns is None:
+        return guards.read_input(data), "", {}
+    data, note, notes = records_of_sheet(read_sheet(columns), data, day)
+    return guards.read_input(data), note, notes
 
 
 def read_waiting(home: str, name: str, day: date) -> Waiting:
@@ -82,7 +84,7 @@ def read_waiting(home: str, name: str, day: date) -> Waiting:
         data = file.read()
     found = Waiting(name, len(data))
     try:
-        found.given, found.note = input_of(home, name, data, day)
+        found.given, found.note, found.notes = input_of(home, name, data, day)
         if any(line.startswith("roll ") for line in found.given.lines):
             raise guards.guard("it rolls, and only the night does")
     except Trouble as trouble:

@@ -16,6 +16,7 @@ from tests.support.program import EXAMPLES, PROGRAM, TOP, Done, apply, run
 from tests.support.rows import base_of
 
 from .issuer import NAMES, NOTES, toml
+from .schema import faults
 from .statements import shown_text
 
 DAY = "2024-03-06"
@@ -193,6 +194,36 @@ class Names(Called):
                        "within 60 days", "1-800-555-0177"):
             self.assertIn(wanted, text)
         self.assertNotIn("[", text)
+
+    def test_hostile_data(self) -> None:
+        """In the data a name and a note are as they were given, whatever is in them."""
+        for number, text in enumerate(HOSTILE):
+            self.out = Path(self.at(f"data{number}"))
+            cell = text.replace('"', '""')
+            names = self.write("names.csv", f'{NAMES}anna,"{cell}",,,,\n')
+            notes = self.write("notes.csv", f'{NOTES}anna,p,"{cell}"\n')
+            self.assert_done(self.call("--names", names, "--notes", notes), 0)
+            data = json.loads(self.files()["anna-2.json"])
+            noted = [one["note"] for one in data["transactions"] if one["key"] == "p"]
+            self.assertEqual([data["addressee"]["name"], *noted], [text] * 2)
+            self.assertEqual(faults(data), [])
+
+    def test_late_charge_has_its_note(self) -> None:
+        """A charge that is on no statement is identified among the corrections of the next one."""
+        lines = ["feerow 2011-01-02 3000 4100", "roll 2024-01-10",
+                 "open a o 2024-01-06 5 1999 2499 2199 2999 2500 100",
+                 "charge a c1 2024-01-09 purchase 5000", "roll 2024-02-06", "bill a b1 1",
+                 "charge a slip 2024-01-20 purchase 700", "amend a m 2 2024-01-09 4000",
+                 "roll 2024-03-06", "bill a b2 2"]
+        other = self.at("late.db")
+        apply(other, lines)
+        self.write("notes.csv", NOTES + "a,slip,\"Kiosk <1>, Rye\"\na,c1,\"Book Shop, Bath\"\n")
+        done = self.call("--form", "html", "--notes", self.at("notes.csv"), day=DAY, file=other)
+        self.assert_done(done, 0)
+        text = shown_text(self.files()["a-2.html"].decode())
+        self.assertIn("Charge, Kiosk <1>, Rye , reference slip, dated Jan 20, 2024", text)
+        self.assertIn("Correction of c1, Book Shop, Bath , reference m,", text)
+        self.assertNotIn(b"no note in --notes", done.err)
 
     def test_what_lacks(self) -> None:
         done = self.call("--form", "html")
