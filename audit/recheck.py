@@ -22,6 +22,7 @@ FORMS = [form.replace("OWN ", OWN).replace("TERMS", TERMS) for form in (  # by t
     "OWN day:d target cents|OWN day:d target|OWN day:d target cents|OWN day:d|OWN cents|"
     "OWN target day:d cents|OWN cycle|day:d rate|OWN TERMS").split("|")]
 CODES = {"roll": 1, "holiday": 2, "feerow": 3, "index": 21}
+BOLD = re.compile(r"^(?:- )?\*\*(.+?)\.?\*\*", re.M)
 NUMBER = re.compile(r"-?\d+(\.\d+)?%?|\d{4}-\d\d-\d\d")
 # how -> the value that the children, and behind them the constant, give
 GIVES: dict[str, Any] = {
@@ -68,23 +69,21 @@ def day_of(text: str) -> int:
     return datetime.date.fromisoformat(text).toordinal() - EPOCH
 
 
+def rules_of(text: str) -> set[str]:
+    """The names of the rules: the headings, and the bold names below each."""
+    parts = [(part.split("\n")[0].split(" (")[0], part) for part in text.split("\n## ")[1:]]
+    return {heading for heading, _ in parts} | {f"{heading} / {name}" for heading, part in parts
+                                                for name in BOLD.findall(part)}
+
+
 class Check:
     """A document, and what isn't so in it."""
-
-    def __init__(self, document: dict[str, Any], rules: str) -> None:
+    def __init__(self, document: dict[str, Any], rules: set[str]) -> None:
         self.doc, self.faults, self.bytes = document, list[str](), dict(document["rows"])
         self.rows = {seq: read(bytes.fromhex(body)) for seq, body in document["rows"]}
         self.own = [s for s, r in self.rows.items() if r.get("account") == document["account"]]
         self.nodes: dict[str, dict[str, Any]] = {}
-        self.rules, heading = set(), ""
-        for line in rules.splitlines():
-            if line.startswith("## "):
-                self.rules.add(heading := line[3:].split(" (")[0])
-            elif bold := re.match(r"(?:- )?\*\*(.+?)\.?\*\*", line):
-                self.rules.add(f"{heading} / {bold[1]}")
-
-    def value(self, n: dict[str, Any]) -> Any:
-        return day_of(n["value"]) if n["unit"] == "day" else n["value"]
+        self.rules, self.values = rules, dict[str, Any]()  # of the nodes, days as numbers
 
     def leaf(self, n: dict[str, Any], of: list[Any]) -> Any:
         how, seq, kind = n["how"], n.get("seq"), n.get("calendar")
@@ -109,24 +108,23 @@ class Check:
             return next(d for d in range(of[0], of[0] + 999) if (d + 3) % 7 < 5 and d not in closed)
         if kind == "cycle":
             return next(k for k in range(1, 2000) if month_day(of, k, 0, of[1]) >= of[2])
-        if how == "none":
-            return self.value(n)
         more = (0, 0) if kind == "closing" else (0, 24) if of[1] <= 4 else (1, -4)
         return month_day(of, n["k"], more[0], of[1] + more[1])
 
     def node(self, n: dict[str, Any]) -> None:
         if n["id"] in self.nodes:
             raise ValueError("its id is another node's too")
-        of = [self.value(self.nodes[c]) for c in n.get("of", [])]
+        of = [self.values[c] for c in n.get("of", ())]
         given = of if n.get("by") is None else [*of, n["by"]]
-        found = GIVES[n["how"]](given) if n["how"] in GIVES else self.leaf(n, of)
-        self.nodes[n["id"]] = n
-        if (found, str(found)) != (self.value(n), str(self.value(n))):
+        value, how = day_of(n["value"]) if n["unit"] == "day" else n["value"], n["how"]
+        found = GIVES[how](given) if how in GIVES else self.leaf(n, of) if how != "none" else value
+        self.nodes[n["id"]], self.values[n["id"]] = n, value
+        if found != value or type(found) is not type(value):
             raise ValueError(f"{n['value']} isn't what its children give: {found}")
         if n.get("from") in self.nodes:
-            first, last = (self.value(self.nodes[n[end]]) for end in ("from", "to"))
-            children = [self.nodes[c] for c in n.get("of", [])]
-            on = [self.value(self.nodes[c["on"]]) for c in children if "on" in c]
+            first, last = self.values[n["from"]], self.values[n["to"]]
+            children = [self.nodes[c] for c in n.get("of", ())]
+            on = [self.values[c["on"]] for c in children if "on" in c]
             runs = [(day_of(c["from"]), day_of(c["to"])) for c in children
                     if "from" in c and c["from"] not in self.nodes]
             if any(not first <= day <= last for day in on) or (runs and [
@@ -134,7 +132,7 @@ class Check:
                 raise ValueError("what counts isn't in its days, or its runs aren't all of them")
         elif "from" in n and n.get("by") not in (None, day_of(n["to"]) - day_of(n["from"]) + 1):
             raise ValueError("its days are others")
-        if any(self.nodes[w]["value"] is not True for w in n.get("why", [])):
+        if any(self.values[w] is not True for w in n.get("why", ())):
             raise ValueError("a reason isn't true")
         if "rule" in n and n["rule"] not in self.rules:
             raise ValueError(f"the rules have no {n['rule']!r}")
@@ -161,7 +159,7 @@ class Check:
                 for place, word in enumerate(words := re.split(r"[ ,]+", text)):
                     if NUMBER.fullmatch(word) and (words[0], place) != ("STATEMENT", 1):
                         n = self.nodes.get(named.pop((name, line, place), ""))
-                        if n is None or shown(self.value(n), n["unit"]) != word:
+                        if n is None or shown(self.values[n["id"]], n["unit"]) != word:
                             self.faults.append(f"{name}, line {line + 1}: {word} has no such node")
         self.faults += [f"{place} names no number" for place in named]
         found, left = set(), [number["node"] for number in self.doc["numbers"]]
@@ -169,7 +167,8 @@ class Check:
             if (name := left.pop()) in self.nodes and name not in found:
                 n = self.nodes[name]
                 found.add(name)
-                left += [*n.get("of", []), *n.get("why", []), *map(n.get, ("on", "from", "to"))]
+                left += [*n.get("of", ()), *n.get("why", ())]
+                left += [n[link] for link in ("on", "from", "to") if link in n]
         self.faults += [f"{name}: no number uses it" for name in self.nodes if name not in found]
         rows, out = {n.get("seq") for n in self.nodes.values()}, dict(self.doc["left_out"])
         self.faults += [f"row {seq}: a leaf or left out, one of both" for seq in self.own
@@ -184,10 +183,11 @@ def main() -> int:
     parser.add_argument("--statement", help="the statement as it was printed: is it this one?")
     given, rules = parser.parse_args(), Path(__file__).resolve().parent.parent / "docs/RULES.md"
     try:
-        check = Check(json.loads(Path(given.explanation).read_text()), rules.read_text())
+        check = Check(json.loads(Path(given.explanation).read_text()), rules_of(rules.read_text()))
         faults = check.all()
         faults += check.file(given.file) if given.file else []
-        if given.statement and Path(given.statement).read_text() not in check.doc["texts"].values():
+        if given.statement and Path(given.statement).read_text() not in [
+                check.doc["texts"][name] for name in check.doc["explained"]]:
             faults.append(f"{given.statement} isn't the statement that is explained")
     except (OSError, ValueError, KeyError, sqlite3.Error) as error:
         print(f"recheck: {given.explanation}: {error!r}", file=sys.stderr)

@@ -47,7 +47,7 @@ class Allocation:
         for s in sorted({segment for segment, _ in steps}):
             of = [part for segment, part in steps if segment == s]
             part = of[0] if len(of) == 1 else b.nodes.make(
-                "sum", of, f"of the {name} to {b.segments[s].name}", of[0].rule)
+                "sum", of, f"part of the {name} for {b.segments[s].name}", of[0].rule)
             entry = b.nodes.make("product", [part], f"{name} on {b.segments[s].name}", part.rule,
                                  by=-1, on=on)
             b.enter(s, entry, f"the {name}", part.rule, on)
@@ -64,11 +64,11 @@ class Allocation:
             while rest.value > 0:
                 s = next_cent([n.value for n in left], day_ranks, kind, first)
                 if s == CREDIT:
-                    part = b.nodes.make("first_of", [rest], f"of the {name} to the credit balance:"
-                                        " nothing else is owed", "no balance")
+                    part = b.nodes.make("first_of", [rest], f"part of the {name} for the credit "
+                                        "balance: nothing else is owed", "no balance")
                 else:
                     rule, why, said = self._why(kind, s, left, first, on)
-                    part = b.nodes.make("least", [rest, left[s]], f"of the {name} to "
+                    part = b.nodes.make("least", [rest, left[s]], f"part of the {name} for "
                                         f"{b.segments[s].name}: {said}", rule, why=why)
                     left[s] = b.nodes.make("difference", [left[s], part],
                                            f"left on {b.segments[s].name}", rule)

@@ -2,7 +2,7 @@
 
 import contextlib
 import tempfile
-from collections.abc import Iterator
+from collections.abc import Callable, Iterator
 from pathlib import Path
 
 from ..ledger_file import write
@@ -42,21 +42,26 @@ def held(what: str, ours: str, theirs: str) -> None:
 
 def hold(document: Document, path: str) -> None:
     """Every text of a document is the program's over the document's rows."""
+    with over(document.rows, path) as program:
+        hold_texts(document, lambda words: _told(program, words))
+
+
+def hold_texts(document: Document, tell: Callable[[list[str]], str]) -> None:
+    """Every text of a document is what the program tells, by the words of a command."""
     begun, ended = document.entries
     account, cycle = document.rows.account, str(document.head.get("cycle", ""))
-    with over(document.rows, path) as program:
-        for name, text in document.texts.items():
-            word = name.split()[0]
-            if word == "export":
-                found = export_part(_told(program, ["export", account]), begun, ended)
-            elif word == "trial":
-                told = _told(program, ["trial", "2011-01-01", document.head["day"]])
-                found = told.splitlines(keepends=True)[-1]
-            elif word == "issued":
-                found = _told(program, ["statement", account, name.split()[1]])
-            else:
-                found = _told(program, [word, account, cycle])
-            held(f"account {account}, {name}", text, found)
+    for name, text in document.texts.items():
+        word = name.split()[0]
+        if word == "export":
+            found = export_part(tell(["export", account]), begun, ended)
+        elif word == "trial":
+            told = tell(["trial", "2011-01-01", document.head["day"]])
+            found = told.splitlines(keepends=True)[-1]
+        elif word == "issued":
+            found = tell(["statement", account, name.split()[1]])
+        else:
+            found = tell([word, account, cycle])
+        held(f"account {account}, {name}", text, found)
 
 
 def hold_changes(changes: Changes, path: str) -> None:

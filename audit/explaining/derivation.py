@@ -14,6 +14,7 @@ from .issued import IssuedTexts
 from .nodes import Node, Nodes
 from .payments import Payments
 from .rates import Rates
+from .sentences import held_down, minimum_of
 
 
 @dataclass
@@ -168,9 +169,11 @@ class Derivation:
             least = make("sum", [least, late], "with what is past due", "minimum")
         node = make("least", [balance, least], f"minimum payment of cycle {k}, at most the balance",
                     "minimum")
+        node.said = minimum_of(balance, share, pct, charges, floor, late, node.value)
         if self.book.issued_cycle(k) is not None:
-            node = make("least", [node, self.issued.minimum(k)], f"minimum payment of cycle {k}, "
-                        f"no more than statement {k} shows as issued", "caps")
+            shown = self.issued.minimum(k)
+            node = make("least", [node, shown], f"minimum payment of cycle {k}, no more than "
+                        f"statement {k} shows as issued", "caps", said=held_down(k, node, shown))
         assert node.value == cycle.minimum, (k, node.value, cycle.minimum)
         return node
 
@@ -188,8 +191,10 @@ class Derivation:
         node = self.nodes.make("at_least_zero", [left], f"grace amount of cycle {k}",
                                "grace amount")
         if self.book.issued_cycle(k) is not None:
-            node = self.nodes.make("least", [node, self.issued.grace(k)], f"grace amount of cycle "
-                                   f"{k}, no more than statement {k} had as issued", "caps")
+            shown = self.issued.grace(k)
+            node = self.nodes.make("least", [node, shown], f"grace amount of cycle {k}, no more "
+                                   f"than statement {k} had as issued", "caps",
+                                   said=held_down(k, node, shown))
         assert node.value == cycle.grace_amount, (k, node.value, cycle.grace_amount)
         return node
 

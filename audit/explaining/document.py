@@ -80,6 +80,6 @@ def is_asked(word: str, number: Number) -> bool:
 
 
 def with_parts(node: Node) -> dict[str, Any]:
-    """A node with RULES' sentence where the ledger's rule and the regulation part."""
+    """A node with RULES' two sentences where the ledger's rule and the regulation part."""
     out = node_json(node)
-    return out | {"parts": PARTS[node.rule]} if node.rule in PARTS else out
+    return out | {"parts": list(PARTS[node.rule])} if node.rule in PARTS else out

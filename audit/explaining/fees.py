@@ -4,8 +4,10 @@ from typing import TYPE_CHECKING
 
 from ..days import cycle_of, day_text, due
 from ..fees import WINDOW, Fee
+from ..money import money_text
 from ..payments import has_due_payment
 from .nodes import Node
+from .sentences import fee_of, held_down
 
 if TYPE_CHECKING:
     from .derivation import Derivation
@@ -40,17 +42,32 @@ class Fees:
             of.append(self._last_asked(fee.day))
         why.append(self._only(fee))
         what = f"{name} for due date {day_text(self.all.payments.due_day(k))}"
-        node = self.nodes.make("least", of, f"amount of the {what}", "fee amount")
+        node = least = self.nodes.make("least", of, f"amount of the {what}", "fee amount")
         cap = self.book.issued_cycle(fee.cycle)
         if cap is not None:
             of = [node] + [self.all.issued.fee(fee.cycle, f) for f in cap.fees if f.due_cycle == k]
             node = self.nodes.make("least", of, f"{what}, no more than the statement issued for "
-                                   f"cycle {fee.cycle} has", "caps")
-        return self.nodes.make("first_of", [node], what, "fee when", on=day, why=why)
+                                   f"cycle {fee.cycle} has", "caps",
+                                   said=held_down(fee.cycle, node, of[-1]))
+        said = fee_of(name, self._missed(fee), least.of[0], fee.repeat, least, least.value)
+        said += f" {node.said}" if node.said else ""
+        return self.nodes.make("first_of", [node], what, "fee when", on=day, why=why, said=said)
+
+    def _missed(self, fee: Fee) -> str:
+        """What happened, in words."""
+        k = fee.due_cycle
+        due_day, asked = day_text(self.all.payments.due_day(k)), self.all.payments.asked(k)
+        if fee.kind == "late":
+            counted = self.all.payments.counted_since(k, self.facts.due(k), "met")
+            return (f"Statement {k} asked for {money_text(asked.value)} by {due_day}, and "
+                    f"{money_text(counted.value)} came in by then.")
+        paid = self.book.posts[fee.post - 1].post.target or 0
+        return (f"A payment was returned: {self.facts.post_name(paid)}. It had been credited after "
+                f"the closing of statement {k}, whose due date is {due_day}.")
 
     def _late(self, fee: Fee) -> tuple[Node, list[Node]]:
         k = fee.due_cycle
-        day = self.facts.day_after(self.facts.due(k), f"day after due date {k}")
+        day = self.facts.day_after(self.facts.due(k), f"day after the due date of statement {k}")
         counted = self.all.payments.counted_since(k, self.facts.due(k), "met")
         missed = self.nodes.make("before", [counted, self.all.payments.asked(k)],
                                  f"the minimum payment of statement {k} wasn't met by "
@@ -77,7 +94,7 @@ class Fees:
         others = [f for f in self.book.fees if f.due_cycle == fee.due_cycle
                   and (f.day, f.post) != (fee.day, fee.post)]
         count = self.nodes.make("count", [self.fee(f) for f in others],
-                                f"other fees for due date {fee.due_cycle}", "one fee")
+                                f"other fees for the due date of statement {fee.due_cycle}", "one fee")
         return self.nodes.make("equal", [count], "no other fee was charged for this due date",
                                "one fee", by=0)
 
@@ -96,5 +113,5 @@ class Fees:
         amounts = [self.facts.in_force("feerow", field, day, f"{said} amount of the fee table on "
                                        f"{day_text(day.value)}", "table")
                    for field, said in (("repeat", "repeated"), ("first", "first"))]
-        return self.nodes.make("choose", [repeat, *amounts], f"the table's amount, "
-                               f"{'repeated' if fee.repeat else 'first'}", "tier")
+        return self.nodes.make("choose", [repeat, *amounts], f"the fee table's "
+                               f"{'repeated' if fee.repeat else 'first'} amount", "tier")

@@ -3,11 +3,12 @@
 from dataclasses import dataclass, field
 from typing import TYPE_CHECKING
 
-from ..days import day_text
+from ..days import day_text, due
 from ..interest import case_of, repaid
 from ..money import CENTS_LIMIT
 from ..segments import Segment
 from .nodes import Node
+from .sentences import held_down, interest_of_days
 
 if TYPE_CHECKING:
     from .derivation import Derivation
@@ -110,8 +111,15 @@ class Interest:
                                 f"days x balance x daily rate of {segment.name}", rule,
                                 start=first, end=last, why=why)
         rounded = self.nodes.make("round_half_up", [total], f"interest of {segment.name} in cycle "
-                                  f"{k}", "rounding", "cents", by=BILLION)
+                                  f"{k}", "rounding", "cents", by=BILLION,
+                                  said=self._said(segment, k, case == "less", why))
         return Borne(rounded, self._average(segment, k, runs, first, last), runs)
+
+    def _said(self, segment: Segment, k: int, less: bool, why: list[Node]) -> str:
+        """Why a segment bears interest in cycle k; the last truth is about statement k-1 or k-2."""
+        j = k - 1 if less else k - 2
+        return interest_of_days(segment.sort == "purchase", why[-1] if why else None, j,
+                                due(self.book.anchor, j) or 0, less)
 
     def _average(self, segment: Segment, k: int, runs: list[Run], first: Node,
                  last: Node) -> Node:
@@ -169,9 +177,11 @@ class Interest:
         if not coming:
             return balance
         left = self.nodes.make("sum", [balance, later[min(coming)]],
-                               "balance less what was repaid later, up to the due date",
+                               f"balance from {day_text(day)} on less what was repaid "
+                               "after that day, up to the due date",
                                "purchases")
-        return self.nodes.make("at_least_zero", [left], "what of the balance bears interest",
+        return self.nodes.make("at_least_zero", [left], f"what of the balance from {day_text(day)} on "
+                               "bears interest",
                                "purchases")
 
     # -- limits -----------------------------------------------------------------------------
@@ -191,7 +201,7 @@ class Interest:
             shown = self.all.issued.interest(k, s)
             node = self.nodes.make("least", [node, shown], f"interest of "
                                    f"{self.book.segments[s].name}, no more than statement {k} "
-                                   "shows as issued", "caps")
+                                   "shows as issued", "caps", said=held_down(k, node, shown))
         return node
 
     # -- deferred interest ------------------------------------------------------------------

@@ -42,7 +42,7 @@ class Node:
     """A node.  `more` holds what only some kinds have: the row of a leaf, the days of a run."""
 
     __slots__ = ("value", "what", "unit", "how", "of", "by", "rule", "why", "on", "start", "end",
-                 "cycle", "more", "id", "brief")
+                 "cycle", "more", "id", "brief", "said")
 
     def __init__(self, how: str, value: Any, unit: str, what: str, of: tuple["Node", ...],
                  rule: str = "", by: int | None = None, why: tuple["Node", ...] = (),
@@ -56,6 +56,7 @@ class Node:
         self.more: dict[str, Any] = _NOTHING
         self.id = ""
         self.brief = False  # the text shows it in one line
+        self.said = ""  # why, in words
 
     def links(self) -> list["Node"]:
         """All nodes that this one names."""
@@ -84,12 +85,13 @@ class Nodes:
 
     def make(self, how: str, of: Sequence[Node], what: str, rule: str = "", unit: str = "",
              by: int | None = None, why: Iterable[Node] = (), on: Node | None = None,
-             start: Node | int | None = None, end: Node | int | None = None) -> Node:
-        """A node whose value its children give."""
+             start: Node | int | None = None, end: Node | int | None = None,
+             said: str = "") -> Node:
+        """A node whose value its children give; `said` is why, in words."""
         value = OPERATIONS[how]([n.value for n in of], by)
         node = Node(how, value, unit or unit_of(how, of), what, tuple(of), rule, by, tuple(why),
                     self.cycle)
-        node.on, node.start, node.end = on, start, end
+        node.on, node.start, node.end, node.said = on, start, end, said
         return node
 
     def leaf(self, how: str, value: Any, unit: str, what: str, rule: str = "",
@@ -125,6 +127,8 @@ def value_text(value: Any, unit: str) -> str:
         return money_text(value)
     if unit == "day":
         return day_text(value)
+    if unit == "minutes":
+        return f"{value // 60:02d}:{value % 60:02d}"
     if unit == "truth":
         return "yes" if value else "no"
     return str(value)
@@ -135,6 +139,8 @@ def node_json(node: Node) -> dict[str, Any]:
     rule, section = RULES[node.rule] if node.rule else ("", "")
     out: dict[str, Any] = {"id": node.id, "what": node.what, "unit": node.unit, "how": node.how,
                            "value": value_json(node.value, node.unit)}
+    if node.said:
+        out["said"] = node.said
     if rule:
         out["rule"] = rule
     if section:
@@ -156,17 +162,17 @@ def node_json(node: Node) -> dict[str, Any]:
 def numbered(roots: Iterable[Node]) -> list[Node]:
     """All nodes below the roots, children first, with their ids."""
     order: list[Node] = []
-    seen: set[int] = set()
+    seen: set[Node] = set()
     for root in roots:
         stack: list[tuple[Node, bool]] = [(root, False)]
         while stack:
             node, done = stack.pop()
             if done:
                 order.append(node)
-            elif id(node) not in seen:
-                seen.add(id(node))
+            elif node not in seen:
+                seen.add(node)
                 stack.append((node, True))
-                stack += [(child, False) for child in reversed(node.links())]
+                stack += [(child, False) for child in reversed(node.links()) if child not in seen]
     for place, node in enumerate(order, start=1):
         node.id = f"n{place}"
     return order

@@ -150,8 +150,9 @@ class Page:
         texts = [self._text(name) for name in document.texts
                  if not name.startswith("issued") and name != "export"]
         rules = dict.fromkeys(n.rule for n in document.nodes if n.rule in PARTS)
-        parts = "".join(f"<li>{escape(RULES[rule][0])}: {escape(PARTS[rule])}</li>"
-                        for rule in rules)
+        parts = "".join(f"<li>The ledger: {escape(PARTS[rule][0])} The regulation: "
+                        f"{escape(PARTS[rule][1] or 'has no rule on this.')} "
+                        f'<span class="s">{escape(RULES[rule][0])}</span></li>' for rule in rules)
         left = "".join(f"<li>row {seq}: {escape(why)}</li>" for seq, why in document.left_out)
         return "".join([
             '<!doctype html><html lang="en"><head><meta charset="utf-8">'

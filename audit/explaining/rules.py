@@ -65,22 +65,60 @@ RULES: dict[str, tuple[str, str]] = {
     "penalty end": ("Rates / Its end", f"{_PART}.55(b)(4)(ii)"),
 }
 
-# rule -> RULES' own sentence, where the ledger's rule and the regulation part
-PARTS: dict[str, str] = {
-    "held": "What is held is the least of the claim, the charge and the balance of its segment.",
-    "put back": "The part of a returned payment that had gone to a credit balance is put back on "
-                "the newest vintage of purchases, whatever used the credit up since.",
-    "tier": "A fee at the repeat amount doesn't begin the six cycles anew.",
-    "one fee": "One penalty fee for a due date, whatever happened.",
-    "penalty end": "A penalty rate ends with the sixth due date that was met, on every balance.",
-    "caps": "No correction raises what an issued statement charged or asked for.",
-    "business": "Mail that makes up for a closed due date is that of the next Monday to Friday "
-                "that is no loaded holiday, by 17:00; after 17:00 it counts on the next day.",
-    "notice": "The vintage of a notice begins on the 15th day after the notice, also where that "
-              "day lies in the account's first year.",
-    "plan": "A plan's six months count from the day that its line gives.",
-    "timely": "A statement counts as issued, and a penalty rate as announced, on the day on which "
-              "its line is accepted",
-    "sixty": "A payment that is credited up to the day of the `penalty`, though more than 60 days "
-             "after the due date, bars the penalty rate.",
+# rule -> the ledger's sentence and the regulation's, both as RULES has them, where the two part
+PARTS: dict[str, tuple[str, str]] = {
+    "held": (
+        "What is held is the least of the claim, the charge and the balance of its segment.",
+        "Finance and other charges that are related to the disputed amount may be withheld "
+        "with it (.13(d)(1))."),
+    "put back": (
+        "The part of a returned payment that had gone to a credit balance is put back on the "
+        "newest vintage of purchases, whatever used the credit up since.",
+        "A balance isn't to bear more than the rate that it was charged at (.55(a))."),
+    "tier": (
+        "A fee at the repeat amount doesn't begin the six cycles anew.",
+        "An earlier late payment may count also where its fee was at the repeat amount "
+        "(comment 52(b)(1)(ii)-1)."),
+    "one fee": (
+        "One penalty fee for a due date, whatever happened.",
+        "One for a single event or transaction (.52(b)(2)(ii))."),
+    "penalty end": (
+        "A penalty rate ends with the sixth due date that was met, on every balance.",
+        "It has to end after six such payments, for the balances from before the 15th day "
+        "after its notice; that may be a month later (.55(b)(4)(ii))."),
+    "caps": (
+        "No correction raises what an issued statement charged or asked for.",
+        ""),
+    "business": (
+        "Mail that makes up for a closed due date is that of the next Monday to Friday that is "
+        "no loaded holiday, by 17:00; after 17:00 it counts on the next day.",
+        "The next day is the first on which the issuer accepts or receives mail, which may be "
+        "a Saturday; and a payment of that day isn't late for any purpose (.10(d)(1))."),
+    "notice": (
+        "The vintage of a notice begins on the 15th day after the notice, also where that day "
+        "lies in the account's first year.",
+        "What is charged in the first year keeps its rate (.55(b)(3)(iii), comment 55(a)-1)."),
+    "plan": (
+        "A plan's six months count from the day that its line gives.",
+        "They count from the disclosure of the plan's terms or from its first use (comment "
+        "55(b)(1)-2)."),
+    "timely": (
+        "A statement counts as issued, and a penalty rate as announced, on the day on which "
+        "its line is accepted.",
+        "These count from mailing or delivery, or from the day on which the account can first "
+        "be used (.5(b)(2)(ii), .9(c)(2), (g), .55(b)(3)(iii))."),
+    "sixty": (
+        "A payment that is credited up to the day of the `penalty`, though more than 60 days "
+        "after the due date, bars the penalty rate.",
+        "The rate is allowed once 60 days have passed without it (.55(b)(4))."),
+    "paid": (
+        "A payment that is returned after its due date leaves the grace period as it was, and "
+        "the days from its payment to its return bear no interest on it.",
+        "Interest may be adjusted for a payment that is returned (.54(b)(2)): "
+        "`examples/official-54b-returned-payment`."),
+    "average": (
+        "A RATE line has the rate of the closing day alone, also where another one was in effect "
+        "on earlier days.",
+        "Where a rate varied, each that was in effect in the cycle is on the statement, with "
+        "the balance to which it was applied (.7(b)(4), comment -1.ii; .7(b)(5))."),
 }

@@ -1,5 +1,6 @@
 """An explanation as text: each line of the statement, and below it how its numbers came about."""
 
+import re
 import textwrap
 from collections.abc import Iterator
 
@@ -10,12 +11,25 @@ from .rules import PARTS, RULES
 
 WIDTH = 100
 VALUE = 14
+AS = {"issued": "as issued on", "recomputed": "as recomputed on"}
 MANY = 6  # months that are all shown
-_HOW = {"sum": "the sum of", "difference": "the first less the others", "least": "the least of",
-        "greatest": "the greatest of", "at_least_zero": "not below 0",
-        "choose": "as the next line says",
-        "last_of": "the last of", "count": "how many", "days_between": "the days between",
-        "equal": "equal", "at_least": "at least", "before": "less than"}
+_HOW = {"sum": "the sum of these", "difference": "the first of these less the others",
+        "least": "the least of these", "greatest": "the greatest of these",
+        "at_least_zero": "this, but not below 0", "product": "the product of these",
+        "last_of": "the last of these", "count": "how many of these there are",
+        "days_between": "the days from the first to the second"}
+# of a truth about two children: what it says, and what it says where it is false
+_COMPARED = {"equal": ("the two are equal", "the two differ"),
+             "at_least": ("the first is at least the second", "the first is less than the second"),
+             "before": ("the first is less than the second", "the first is at least the second")}
+# the same of one child and a constant
+_BOUND = {"equal": ("this is {}", "this isn't {}"),
+          "at_least": ("this is at least {}", "this is less than {}"),
+          "before": ("this is less than {}", "this is at least {}")}
+_DAYS_BOUND = {"equal": ("this is {}", "this isn't {}"),
+               "at_least": ("this is {} or later", "this is before {}"),
+               "before": ("this is before {}", "this is {} or later")}
+_POST = re.compile(r"(post \d+) \(key [^ ,)]+, entered \d{4}-\d\d-\d\d\)")
 _QUIET = ("cycle", "entries")
 
 
@@ -23,24 +37,43 @@ def how_text(node: Node) -> str:
     """How a node's value follows, in words."""
     if node.how in ("row", "in_force"):
         seq = node.more.get("seq")
-        return f"row {seq}" if seq is not None else "no row is in force"
+        return f"row {seq} of the file" if seq is not None else "no row is in force"
     if node.how == "calendar":
         return "calendar"
     if node.how == "shown":
         return f"its line {node.more['line'] + 1}"
-    if node.how == "product":
-        return "the product of" if node.by is None else (
-            "with the sign turned" if node.by == -1 else f"times {node.by}")
+    if node.how == "product" and node.by is not None and len(node.of) == 1:
+        return "with the sign turned" if node.by == -1 else f"this, times {node.by}"
+    if node.how == "product" and node.by is not None:
+        return f"the product of these, times {node.by}"
+    if node.how == "sum" and node.by is not None:
+        return f"this, with {value_text(node.by, node.unit)}"
     if node.how == "floor_divide":
-        return f"divided by {node.by}, rounded down"
+        return f"this, divided by {node.by}, rounded down"
     if node.how == "round_half_up":
-        return "rounded once, half a cent up" if node.by else "divided, rounded half up"
+        return ("this, rounded to cents, half a cent up" if node.by else
+                "the first divided by the second, half a cent rounded up")
     if node.how == "day_plus":
-        return f"{node.by} {'day' if node.by == 1 else 'days'} after"
-    if node.how in ("equal", "at_least", "before") and node.by is not None:
-        value = day_text(node.by) if node.of[0].unit == "day" else str(node.by)
-        return f"{_HOW[node.how]} {value}"
+        return f"{node.by} {'day' if node.by == 1 else 'days'} after this"
+    if node.how == "choose":
+        return "yes, so the second" if node.of[0].value else "no, so the last"
+    if node.how in _COMPARED:
+        return _truth_text(node)
+    if node.how == "count" and not node.of:
+        return "there is none"
     return _HOW.get(node.how, "")
+
+
+def _truth_text(node: Node) -> str:
+    """What is compared, as it is: also where the truth is that it isn't so."""
+    place = 0 if node.value else 1
+    if node.by is None:
+        return _COMPARED[node.how][place]
+    unit = node.of[0].unit
+    forms = _DAYS_BOUND if unit in ("day", "minutes") else _BOUND
+    bound = "none" if node.how == "equal" and unit == "count" and node.by == 0 else \
+        value_text(node.by, unit)
+    return forms[node.how][place].format(bound)
 
 
 def row_line(value: str, depth: int, what: str, section: str) -> list[str]:
@@ -53,6 +86,12 @@ def row_line(value: str, depth: int, what: str, section: str) -> list[str]:
     if section:
         first = f"{first:<{WIDTH - len(section)}}{section}"
     return [first.rstrip()] + [indent + line for line in lines[1:]]
+
+
+def paragraph(said: str, depth: int) -> list[str]:
+    """A sentence of its own, between bars."""
+    indent = " " * (VALUE + 2 + 2 * depth)
+    return [f"{indent}| {line}" for line in textwrap.wrap(said, WIDTH - len(indent) - 2)]
 
 
 def is_runs(node: Node) -> bool:
@@ -77,6 +116,7 @@ class Text:
     def __init__(self, cycle: int) -> None:
         self.cycle = cycle
         self.seen: set[int] = set()
+        self.posts: set[str] = set()  # whose key and day were written
 
     # -- a tree -----------------------------------------------------------------------------
 
@@ -84,27 +124,38 @@ class Text:
         """A node and what is below it."""
         node = self._plain(node)
         children = self._children(node, depth)
-        said = ("because " if because else "") + node.what
+        said = _POST.sub(self._post, ("because " if because else "") + node.what)
         again = id(node) in self.seen and bool(node.of or node.why)
         self.seen.add(id(node))
-        how = how_text(node.of[0] if is_named(node) else node)
+        elsewhere = bool(node.of or node.why) and not children and not node.brief and (
+            0 < node.cycle < self.cycle)
+        how = "" if elsewhere else how_text(node.of[0] if is_named(node) else node)
         if how and not (again or node.brief):
             said += f" ({how})" if not node.of or not children else f": {how}"
         if again and not node.brief:
             said += " (above)"
-        elif not children and 0 < node.cycle < self.cycle and node.of and not node.brief:
+        elif elsewhere:
             said += f" (see cycle {node.cycle})"
         section = RULES[node.rule][1] if node.rule else ""
         yield from row_line(self._value(node, because), depth, said,
                             section.removeprefix("12 CFR 1026"))
         if again or not children:
             return
+        if node.said:
+            yield from paragraph(node.said, depth + 1)
         if is_runs(node):
             yield from self._table(node, depth + 1)
         else:
             yield from self._below(node, depth + 1)
         for why in node.why:
             yield from self.tree(why, depth + 1, True)
+
+    def _post(self, name: re.Match[str]) -> str:
+        """The name of a post: with its key and its day where it is named first."""
+        if name[1] in self.posts:
+            return name[1]
+        self.posts.add(name[1])
+        return name[0]
 
     def _below(self, node: Node, depth: int) -> Iterator[str]:
         """The children; of many months the first three and the last."""
@@ -144,7 +195,7 @@ class Text:
         indent = " " * (VALUE + 2 + 2 * depth)
         with_rate = node.of[0].unit == "cents x billionths"
         head = f"{'FROM':10} {'TO':10} {'DAYS':>4} {'BALANCE':>13}"
-        yield indent + head + (f" {'RATE':>7} {'DAYS x BALANCE x DAILY RATE':>28}" if with_rate else
+        yield indent + head + (f" {'DAILY RATE':>11} {'THEIR PRODUCT':>17}" if with_rate else
                                f" {'DAYS x BALANCE':>15}")
         rates: list[Node] = []
         for run in node.of:
@@ -153,22 +204,28 @@ class Text:
             line = (f"{day_text(run.start)} {day_text(run.end)} {run.end - run.start + 1:>4} "
                     f"{value_text(days.of[0].value, 'cents'):>13} ")
             if with_rate:
-                rate = run.of[1].of[0].of[0]
-                rates += [] if rate in rates else [rate]
-                line += f"{value_text(rate.value, 'basis points'):>7} "
-                line += f"{value_text(run.value, run.unit):>28}"
+                daily = run.of[1]
+                rates += [] if daily in rates else [daily]
+                line += f"{value_text(daily.value, 'billionths'):>11} "
+                line += f"{value_text(run.value, run.unit):>17}"
             else:
                 line += f"{value_text(run.value, run.unit):>15}"
             yield indent + line
         for run in node.of:
             yield from self._less(run.of[0].of[0] if with_rate else run.of[0], depth)
-        for rate in rates:
-            yield from self.tree(rate, depth)
+        for daily in rates:
+            yield from self.tree(daily, depth)
 
     def _less(self, balance: Node, depth: int) -> Iterator[str]:
-        """What was repaid later, where a run's balance is less by it."""
-        if balance.how == "at_least_zero" and id(balance) not in self.seen:
+        """What was repaid later, where a run's balance is less by it; else the balance's name."""
+        if id(balance) in self.seen:
+            return
+        if balance.how == "at_least_zero":
             yield from self.tree(balance, depth)
+        elif balance.brief:
+            self.seen.add(id(balance))
+            yield from row_line(value_text(balance.value, balance.unit), depth,
+                                _POST.sub(self._post, balance.what), "")
 
     # -- the whole --------------------------------------------------------------------------
 
@@ -193,13 +250,18 @@ class Text:
                 yield from self.tree(number.node)
                 yield ""
 
-    def parts(self, document: Document) -> Iterator[str]:
-        """RULES' sentences on these rules, where the regulation reads otherwise."""
-        rules = dict.fromkeys(n.rule for n in document.nodes if n.rule in PARTS)
+    def parts(self, document: Document, shown: bool) -> Iterator[str]:
+        """RULES' sentences on the rules of all nodes, or of those that were shown, where the
+        regulation reads otherwise."""
+        rules = dict.fromkeys(n.rule for n in document.nodes
+                              if n.rule in PARTS and not (shown and id(n) not in self.seen))
         if rules:
-            yield "WHERE THESE RULES AND THE REGULATION PART (docs/RULES.md has both)"
+            yield "WHERE THE LEDGER'S RULES ABOVE AND THE REGULATION PART (docs/RULES.md, last part)"
             for rule in rules:
-                yield from row_line("", 0, PARTS[rule], RULES[rule][1].removeprefix("12 CFR 1026"))
+                ledger, regulation = PARTS[rule]
+                section = RULES[rule][1].removeprefix("12 CFR 1026")
+                yield from row_line("the ledger", 0, ledger, section)
+                yield from row_line("the regulation", 0, regulation or "has no rule on this.", "")
             yield ""
 
     def rows_left_out(self, document: Document) -> Iterator[str]:
@@ -213,11 +275,15 @@ def text_of(document: Document, word: str = "") -> str:
     """The text of an explanation, of one number or of all."""
     head = document.head
     text = Text(head["cycle"])
-    out = [f"HOW CYCLE {head['cycle']} OF {head['account']} WAS COMPUTED, {head['as']}",
-           f"by the rows up to {head['rows_up_to']}, of {head['today']}; sections are those of "
-           "12 CFR 1026", ""]
+    out = [f"WHERE THE NUMBERS OF CYCLE {head['cycle']} OF ACCOUNT {head['account']} COME FROM, "
+           f"{AS[head['as']]} {head['today']}", *textwrap.wrap(
+               f"By the kept rows up to number {head['rows_up_to']}. A line of the statement, and "
+               "below it each of its numbers: what it is, how it follows from the lines that are "
+               "set in below it, and at the end the section of 12 CFR 1026 (Regulation Z). A "
+               "balance is named by its kind and number, as purchase:2.",
+               WIDTH), ""]
     out += text.lines(document, word)
+    out += text.parts(document, bool(word))
     if not word:
-        out += text.parts(document)
         out += text.rows_left_out(document)
     return "\n".join(line.rstrip() for line in out).rstrip("\n") + "\n"

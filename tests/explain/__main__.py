@@ -30,10 +30,10 @@ def main() -> int:
                                      formatter_class=argparse.RawDescriptionHelpFormatter)
     parser.add_argument("--seeds", type=int, default=60)
     given = parser.parse_args()
-    ledgers: list[tuple[str, str | bytes]] = [(path.stem, path.read_bytes())
-                                              for path in sorted(EXAMPLES.glob("*.txt"))]
+    ledgers: list[tuple[str, str | bytes]] = [(f"generated {seed}", generated(seed))
+                                              for seed in range(1, given.seeds + 1)]
+    ledgers += [(path.stem, path.read_bytes()) for path in sorted(EXAMPLES.glob("*.txt"))]
     ledgers.append(("the demonstration", demonstration(20, 6)))
-    ledgers += [(f"generated {seed}", generated(seed)) for seed in range(1, given.seeds + 1)]
     suite = unittest.TestSuite(Whole(name, lines) for name, lines in ledgers)
     return 0 if unittest.TextTestRunner(verbosity=0).run(suite).wasSuccessful() else 1
 

@@ -4,8 +4,9 @@ import contextlib
 import io
 
 from audit.explaining.command import main
+from audit.explaining.rules import PARTS, RULES
 from tests.explain.common import ExplainCase
-from tests.support.program import EXAMPLES, PROGRAM
+from tests.support.program import EXAMPLES, PROGRAM, TOP
 
 FOLDER = EXAMPLES / "explained"
 CORRECTION = b"amend anna m1 4 2024-02-10 2000\n"
@@ -48,3 +49,14 @@ class Texts(ExplainCase):
         self.assertIn("INTEREST THIS PERIOD                   9.53\n", found)
         self.assertIn("9.52947540000", found)
         self.assertIn("600.00", found)
+
+    def test_parts(self) -> None:
+        """Where the ledger's rules and the regulation part, both sentences are a row of RULES."""
+        rows = [row for row in (TOP / "docs" / "RULES.md").read_text(encoding="utf-8").splitlines()
+                if row.startswith("| ")]
+        for rule, (ledger, regulation) in PARTS.items():
+            with self.subTest(rule):
+                said = ledger.split(" ", 2)[2].rstrip(".")  # behind its first words
+                row, = [row for row in rows if said in row]
+                self.assertIn(regulation.rstrip(".") or "| \u2013 |", row)
+                self.assertIn(rule, RULES)
