@@ -56,7 +56,7 @@ pub fn opening(alloc: Global, i: u32, generator: &mut Generator) -> Result<Reque
     ensures dated { IfOk result (λ r. is_dated r ≡ true) }
 {
     let account = account_name(alloc, i)?;
-    let key = name(alloc, "o")?;
+    let key = name("o");
     let terms = terms_closing(16 + generator.below(4));
     let day = date(2024, 1, 5);
     Ok(Request::Post {
