@@ -54,8 +54,6 @@ bill a b4 4
 roll 2024-06-06
 bill a b5 5
 """
-# a charge of two years ago that is corrected
-TWO_YEARS = (Path(TOP / "examples" / "two-years.txt")).read_text(encoding="utf-8")
 
 
 def remove(path: str) -> None:

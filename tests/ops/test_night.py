@@ -19,7 +19,8 @@ from audit.statement_text import statement_text
 from audit.tasks import tasks_text
 from tests.support.program import PROGRAM, TOP, Session
 
-from .common import Case, Told, ledger, start_ledger
+from .common import Told, ledger, start_ledger
+from .home import Home
 from .issuer import FIRST, HEADER, Issuer
 
 DAYS = 31
@@ -53,32 +54,7 @@ os.execv("{program}", sys.argv)
 """
 
 
-class Nights(Case):
-    def setUp(self) -> None:
-        super().setUp()
-        self.home = self.at("home")
-        os.makedirs(os.path.join(self.home, "inbox"))
-        self.file = os.path.join(self.home, "rows.db")
-
-    def put(self, name: str, text: str) -> None:
-        with open(os.path.join(self.home, "inbox", name), "w", encoding="ascii",
-                  newline="") as file:
-            file.write(text)
-
-    def night(self, day: object, *more: str) -> Told:
-        return ledger("night", self.home, "--day", str(day), *more)
-
-    def listing(self) -> dict[str, bytes]:
-        """Every file below the home, with its bytes."""
-        found = {}
-        for folder, _, names in os.walk(self.home):
-            for name in names:
-                with open(os.path.join(folder, name), "rb") as file:
-                    found[os.path.relpath(os.path.join(folder, name), self.home)] = file.read()
-        return found
-
-
-class Killed(Nights):
+class Killed(Home):
     def killed(self, day: date, name: str, *words: str) -> None:
         """The companion and billctl are killed amid many records; the next call finishes the
         night, and no record is lost or twice."""
@@ -290,7 +266,7 @@ class Month(Killed):
         self.assertEqual(found, issued.get(number, {}), day)
 
 
-class Inbox(Nights):
+class Inbox(Home):
     def setUp(self) -> None:
         super().setUp()
         self.begin("roll 2024-02-05\nopen anna o 2024-01-06 5 1999 2499 2199 2999 2500 100\n")

@@ -11,7 +11,7 @@ import sys
 from tests.support.case import Case, tools_missing
 from tests.support.program import TOP
 
-FOLDERS = ("ops", "audit", "tests", "bench", "dev")
+FOLDERS = ("ops", "audit", "tests", "bench", "dev", "docs/pictures", "examples/shards")
 STYLE = {
     "ruff": ["ruff", "check", "--no-cache"],
     "flake8": ["flake8", "--max-line-length", "100"],
