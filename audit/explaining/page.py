@@ -9,7 +9,7 @@ from .document import Document
 from .nodes import Node, value_text
 from .picture import Day, svg, table
 from .rules import PARTS, RULES
-from .text import AS, MANY, Names, how_text
+from .text import AS, MANY, Names, how_text, plain
 
 STYLE = """
 body{font:15px/1.45 system-ui,sans-serif;margin:0 auto;max-width:62rem;padding:1rem;color:#1a1a1a}
@@ -48,7 +48,7 @@ class Page:
 
     def _text(self, name: str) -> str:
         """A text as it was printed, each number a link to its tree."""
-        places = {(n.line, n.place): n.node for n in self.document.numbers if n.text == name}
+        places = {(n.line, n.place): plain(n.node) for n in self.document.numbers if n.text == name}
         out = []
         for line, text in enumerate(self.document.texts[name].splitlines()):
             parts, place = [], 0
@@ -77,6 +77,7 @@ class Page:
                 + (f' <span class="s">{escape(rule)}</span>' if rule else ""))
 
     def _tree(self, node: Node, top: bool, because: bool = False) -> Iterator[str]:
+        node = plain(node)
         if node.id in self.written:
             yield (f'<div class="leaf"><a href="#{node.id}">{self._link(node, because)}</a></div>')
             return
@@ -117,13 +118,13 @@ class Page:
         for run in node.of:
             assert isinstance(run.start, int) and isinstance(run.end, int)
             days = run.of[0] if with_rate else run
-            rate = value_text(run.of[1].of[0].of[0].value, "basis points") if with_rate else ""
+            rate = value_text(run.of[1].value, "billionths") if with_rate else ""
             cells = [day_text(run.start), day_text(run.end), str(run.end - run.start + 1),
                      value_text(days.of[0].value, "cents"), *([rate] if with_rate else []),
                      value_text(run.value, run.unit)]
             rows.append("<tr>" + "".join(f"<td>{escape(c)}</td>" for c in cells) + "</tr>")
-        names = ["from", "to", "days", "balance", *(["rate"] if with_rate else []),
-                 "days x balance" + (" x daily rate" if with_rate else "")]
+        names = ["from", "to", "days", "balance", *(["daily rate"] if with_rate else []),
+                 "their product" if with_rate else "days x balance"]
         head = "".join(f"<th>{name}</th>" for name in names)
         return (f'<div class="wide"><table><thead><tr>{head}</tr></thead><tbody>'
                 f"{''.join(rows)}</tbody></table></div>")

@@ -96,7 +96,7 @@ def _marks(scale: Scale, days: list[Day]) -> list[str]:
         if "fee" in d.marks:
             out.append(f'<path class="fee" d="M{x - 4:.1f} {floor + 19} h8 l-4 -7 z"/>')
     end = scale.x(days[-1].day + 1)
-    return [*out, _line(end, TOP, end, floor, "closing"), _label(end, TOP - 14, "closing", "end")]
+    return [*out, _line(end, TOP, end, floor, "closing"), _label(end, TOP - 17, "closing", "end")]
 
 
 def svg(days: list[Day]) -> str:

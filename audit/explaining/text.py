@@ -60,7 +60,7 @@ def how_text(node: Node) -> str:
         return "yes, so the second" if node.of[0].value else "no, so the last"
     if node.how in _COMPARED:
         return _truth_text(node)
-    if node.how == "count" and not node.of:
+    if node.how in ("count", "sum") and not node.of:
         return "there is none"
     return _HOW.get(node.how, "")
 
@@ -111,6 +111,13 @@ def is_named(node: Node) -> bool:
     return is_same(node) and node.of[0].how == "row"
 
 
+def plain(node: Node) -> Node:
+    """Without steps that only name the same value again."""
+    while is_same(node) and not is_named(node):
+        node = node.of[0]
+    return node
+
+
 class Names:
     """Names of posts: with the key and the day where a post is named first."""
 
@@ -139,7 +146,7 @@ class Text:
 
     def tree(self, node: Node, depth: int = 0, because: bool = False) -> Iterator[str]:
         """A node and what is below it."""
-        node = self._plain(node)
+        node = plain(node)
         children = self._children(node, depth)
         said = ("because " if because else "") + self.names.short(node.what)
         again = id(node) in self.seen and bool(node.of or node.why)
@@ -174,7 +181,7 @@ class Text:
             yield from self.tree(child, depth)
         if many:
             yield from row_line("..", depth, f"{len(node.of) - 4} months more", "")
-            last = self._plain(node.of[-1])
+            last = plain(node.of[-1])
             self.seen.add(id(last))
             yield from row_line(value_text(last.value, last.unit), depth, last.what, "")
 
@@ -183,12 +190,6 @@ class Text:
             return "" if because else value_text(node.value, node.unit)
         text = value_text(node.value, node.unit)
         return f"{text} days" if node.unit == "days" else text
-
-    def _plain(self, node: Node) -> Node:
-        """Without steps that only name the same value again."""
-        while is_same(node) and not is_named(node):
-            node = node.of[0]
-        return node
 
     def _children(self, node: Node, depth: int) -> bool:
         """Whether what is below is shown."""
