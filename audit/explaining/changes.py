@@ -1,5 +1,6 @@
 """What later posts did to an issued cycle."""
 
+import textwrap
 from dataclasses import dataclass, field
 from typing import Any, NamedTuple
 
@@ -13,6 +14,7 @@ from .account import NotThere, Watching
 from .derivation import Derivation
 from .facts import Rows
 from .nodes import Node, Nodes, node_json, numbered
+from .rules import PARTS
 
 _LABELS = {"PREVIOUS BALANCE": "previous", "EARLIER CORRECTIONS": "corrections",
            "FEES THIS PERIOD": "fees", "INTEREST THIS PERIOD": "interest",
@@ -37,7 +39,13 @@ class Change:
     unit: str
     before: int
     after: int
-    held: str = ""
+    would: int | None = None  # what it would be, were it not held down by the issued statement
+
+    def line(self) -> str:
+        """The number before and after, what it would be without its limit, and what it is."""
+        would = "" if self.would is None else _shown(self.would, self.unit)
+        return (f"{_shown(self.before, self.unit):>14} {_shown(self.after, self.unit):>14} "
+                f"{would:>14}  {named(self.word)}")
 
 
 @dataclass
@@ -48,7 +56,58 @@ class Step:
     key: str
     entered: int
     name: str
+    does: str
     changes: list[Change] = field(default_factory=list)
+
+
+_NAMES = {"previous": "previous balance", "corrections": "earlier corrections",
+          "fees": "fees this period", "interest": "interest this period",
+          "year-fees": "fees this year", "year-interest": "interest this year",
+          "balance": "new balance", "dispute": "in dispute", "minimum": "minimum payment",
+          "grace": "grace amount: paid in full, purchases bear no interest"}
+_OF = {"interest": "interest of", "average": "average balance of", "rate": "rate of",
+       "accrued": "interest accrued on"}
+
+
+def named(word: str) -> str:
+    """A number's word as a text has it: `average purchase:2` is the average balance of that."""
+    first, _, rest = word.partition(" ")
+    if not rest:
+        return _NAMES[word]
+    if first in _OF:
+        return f"{_OF[first]} {rest}"
+    post, _, day = rest.partition(" of ")
+    if first == "fee-late":
+        return f"late fee of {day}"
+    kind = "returned-payment fee" if first == "fee-return" else first
+    return f"{kind}, post {post}, of {day}"
+
+
+def does(book: Book, n: int) -> str:
+    """What a post does, in a sentence."""
+    post = book.posts[n - 1].post
+    day = day_text(book.corrected.effective.get(n, post.day or 0))
+    cents = money_text(post.cents or 0)
+    of = book.posts[post.target - 1].post.word if post.target else ""
+    target = f"the {of}, post {post.target}"
+    if post.word == "amend":
+        before = book.posts[(post.target or 1) - 1].post
+        return (f"It corrects {target}. That was entered as {money_text(before.cents or 0)} of "
+                f"{day_text(before.day or 0)}; it is {cents} of {day_text(post.day or 0)}.")
+    if post.word == "dispute":
+        return f"It disputes {cents} of {target}."
+    if post.word == "resolve":
+        return f"It resolves {target}: {cents} are found to be an error."
+    if post.word == "return":
+        return f"It returns {target}. The return counts from {day}."
+    if post.word == "bill":
+        return f"It issues the statement of cycle {post.cycle}."
+    amount = f" of {cents}" if post.cents else ""
+    return f"It is a {post.word}{amount} that counts from {day}."
+
+
+def _wrapped(said: str) -> list[str]:
+    return textwrap.wrap(said, 100)
 
 
 def _cents(text: str) -> int:
@@ -131,18 +190,19 @@ class Changes:
 
     def _step(self, n: int, before: dict[str, Cell], after: dict[str, Cell], book: Book) -> None:
         kept, seq = self.account.posts[n - 1], self.rows.posts[n - 1]
-        step = Step(seq, n, kept.post.key or "", kept.accepted, kept.post.word)
+        step = Step(seq, n, kept.post.key or "", kept.accepted, kept.post.word,
+                    does(book, n))
         caps = self._caps(book, n)
         for word in dict.fromkeys([*after, *before]):
             old, new = before.get(word), after.get(word)
             unit = (new or old or Cell(0, "cents", 0, 0)).unit
             pair = (old.value if old else 0, new.value if new else 0)
             if pair[0] != pair[1] or word in caps:
-                step.changes.append(Change(word, unit, *pair, caps.get(word, "")))
-        if any(c.before != c.after or c.held for c in step.changes):
+                step.changes.append(Change(word, unit, *pair, caps.get(word)))
+        if any(c.before != c.after or c.would is not None for c in step.changes):
             self.steps.append(step)
 
-    def _caps(self, book: Book, n: int) -> dict[str, str]:
+    def _caps(self, book: Book, n: int) -> dict[str, int]:
         """The numbers that the issued statement holds down, each with what it would be."""
         derivation = Derivation(self.rows.account, self.rows.upto(self.rows.posts[n - 1]),
                                 book).upto(self.k)
@@ -152,29 +212,40 @@ class Changes:
                   for s, node in cycle.posted.items()}
         for word, node in named.items():
             if node is not None and node.rule == "caps" and node.of[0].value > node.value:
-                found[word] = (f"{money_text(node.of[0].value)}, held down to what statement "
-                               f"{self.k} shows as issued")
+                found[word] = node.of[0].value
         return found
 
     # -- forms ------------------------------------------------------------------------------
 
     def text(self) -> str:
         """Each post with the numbers that it changed."""
-        out = [f"WHAT LATER POSTS DID TO CYCLE {self.k} OF {self.rows.account}, issued "
-               f"{day_text(self.row.day)}", ""]
-        for s in self.steps:
-            out.append(f"{s.name}, post {s.post} (key {s.key}, entered {day_text(s.entered)}), "
-                       f"row {s.seq}")
-            for c in s.changes:
-                change = (f"{_shown(c.before, c.unit):>14} to {_shown(c.after, c.unit):>14}"
-                          if c.before != c.after else f"{_shown(c.before, c.unit):>14} stays"
-                          + " " * 12)
-                out.append(f"{change}  {c.word}")
-                out += [f"{'':32}  it would be {c.held}"] if c.held else []
-            out.append("")
+        out = [f"WHAT LATER POSTS DID TO CYCLE {self.k} OF ACCOUNT {self.rows.account}, issued on "
+               f"{day_text(self.row.day)}"]
         if not self.steps:
-            out.append("no later post changed a number of it")
-        return "\n".join(out).rstrip("\n") + "\n"
+            return f"{out[0]}\n\nNo later post changed a number of it.\n"
+        out += [*_wrapped(
+            f"Statement {self.k} itself stays as it was issued. By all kept rows, up to number "
+            f"{self.rows.kept[-1][0]}, the cycle has other numbers. Each post that changed one is "
+            "named below, with the number before it and after it."), ""]
+        for s in self.steps:
+            out += [f"{s.name.upper()}, POST {s.post} (key {s.key}, entered {day_text(s.entered)}, "
+                    f"row {s.seq} of the file)", *_wrapped(s.does), "",
+                    f"{'BEFORE':>14} {'AFTER':>14} {'WITHOUT LIMIT':>14}  NUMBER",
+                    *(c.line().rstrip() for c in s.changes), ""]
+        return "\n".join(out + self._behind()) + "\n"
+
+    def _behind(self) -> list[str]:
+        """Why numbers stay, and where to read on."""
+        out = []
+        if any(c.would is not None for s in self.steps for c in s.changes):
+            out += _wrapped(
+                "WITHOUT LIMIT is what a number would be, were it not held down to that of "
+                f"statement {self.k} as issued. {PARTS['caps'][0]} That is the ledger's own rule "
+                "(docs/RULES.md, \"No correction raises what was issued\"); Regulation Z has no "
+                "rule on this.") + [""]
+        where = f"python3 -m audit explain FILE {self.rows.account} {self.k}"
+        return out + [f"How each number follows: {where}",
+                      f"and as it was issued:    {where} --issued"]
 
     def json(self) -> dict[str, Any]:
         """The steps, with nodes from each issued number to the one of now."""
@@ -190,8 +261,8 @@ class Changes:
                 "nodes": [node_json(node) for node in made],
                 "left_out": [[seq, "changed no number of this cycle"] for seq in self._idle()],
                 "steps": [{"row": s.seq, "post": s.post, "key": s.key,
-                           "entered": day_text(s.entered), "changes": [vars(c) for c in s.changes]}
-                          for s in self.steps]}
+                           "entered": day_text(s.entered), "does": s.does,
+                           "changes": [vars(c) for c in s.changes]} for s in self.steps]}
 
     def _idle(self) -> list[int]:
         changed = {s.seq for s in self.steps

@@ -95,7 +95,14 @@ def explained(given: argparse.Namespace, program: str) -> str:
 
 
 def json_of(document: dict[str, Any]) -> str:
-    return json.dumps(document, sort_keys=True, indent=1) + "\n"
+    """A line for each member, and of a list for each element."""
+    members = []
+    for name in sorted(document):
+        value = document[name]
+        text = (json.dumps(value, sort_keys=True) if not isinstance(value, list) or not value else
+                "[\n  " + ",\n  ".join(json.dumps(one, sort_keys=True) for one in value) + "\n ]")
+        members.append(f" {json.dumps(name)}: {text}")
+    return "{\n" + ",\n".join(members) + "\n}\n"
 
 
 def asked(words: list[str]) -> argparse.Namespace:

@@ -7,7 +7,7 @@ from ..fees import WINDOW, Fee
 from ..money import money_text
 from ..payments import has_due_payment
 from .nodes import Node
-from .sentences import fee_of, held_down
+from .sentences import amount, fee_of, held_down
 
 if TYPE_CHECKING:
     from .derivation import Derivation
@@ -60,7 +60,7 @@ class Fees:
         if fee.kind == "late":
             counted = self.all.payments.counted_since(k, self.facts.due(k), "met")
             return (f"Statement {k} asked for {money_text(asked.value)} by {due_day}, and "
-                    f"{money_text(counted.value)} came in by then.")
+                    f"{amount(counted.value)} came in by then.")
         paid = self.book.posts[fee.post - 1].post.target or 0
         return (f"A payment was returned: {self.facts.post_name(paid)}. It had been credited after "
                 f"the closing of statement {k}, whose due date is {due_day}.")
@@ -93,8 +93,8 @@ class Fees:
         """The truth that no other fee was charged for the due date."""
         others = [f for f in self.book.fees if f.due_cycle == fee.due_cycle
                   and (f.day, f.post) != (fee.day, fee.post)]
-        count = self.nodes.make("count", [self.fee(f) for f in others],
-                                f"other fees for the due date of statement {fee.due_cycle}", "one fee")
+        count = self.nodes.make("count", [self.fee(f) for f in others], "other fees for the due "
+                                f"date of statement {fee.due_cycle}", "one fee")
         return self.nodes.make("equal", [count], "no other fee was charged for this due date",
                                "one fee", by=0)
 

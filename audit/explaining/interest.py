@@ -180,8 +180,8 @@ class Interest:
                                f"balance from {day_text(day)} on less what was repaid "
                                "after that day, up to the due date",
                                "purchases")
-        return self.nodes.make("at_least_zero", [left], f"what of the balance from {day_text(day)} on "
-                               "bears interest",
+        return self.nodes.make("at_least_zero", [left], "what of the balance from "
+                               f"{day_text(day)} on bears interest",
                                "purchases")
 
     # -- limits -----------------------------------------------------------------------------

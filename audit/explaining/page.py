@@ -9,24 +9,29 @@ from .document import Document
 from .nodes import Node, value_text
 from .picture import Day, svg, table
 from .rules import PARTS, RULES
-from .text import MANY, how_text
+from .text import AS, MANY, Names, how_text, plain
 
 STYLE = """
 body{font:15px/1.45 system-ui,sans-serif;margin:0 auto;max-width:62rem;padding:1rem;color:#1a1a1a}
 h1{font-size:1.3rem}h2{font-size:1.05rem;margin-top:1.6rem}
-pre,.v{font-family:ui-monospace,monospace}pre{overflow-x:auto;font-size:clamp(9px,2.4vw,13px);padding:.6rem;
-border:1px solid #bbb}a{color:#1b4f9c}details,.leaf{margin-left:.9rem;border-left:1px solid #ccc;
+pre,.v{font-family:ui-monospace,monospace}
+pre{overflow-x:auto;font-size:13px;padding:.6rem;border:1px solid #bbb}
+a{color:#1b4f9c}details,.leaf{margin-left:.9rem;border-left:1px solid #ccc;
 padding-left:.5rem;overflow-wrap:anywhere}summary{cursor:pointer}.v{font-weight:600}
 .s{color:#555;font-size:.85em}.b{font-style:italic}.wide{overflow-x:auto}
 table{border-collapse:collapse;font-size:13px}td,th{white-space:nowrap;padding:.1rem .5rem;
-text-align:right;border-bottom:1px solid #ddd}td.said{text-align:left;white-space:normal}
+text-align:right;border-bottom:1px solid #ddd}td.said,th.said{text-align:left;white-space:normal}
+p.said{margin:.2rem 0 .2rem .9rem;padding:.2rem .5rem;background:#eef3fa}
 caption{text-align:left;padding:.3rem 0}
-svg{width:100%;max-width:48rem;height:auto;font-size:9px}.grid{stroke:#ddd}
+svg{width:100%;max-width:34rem;height:auto;font-size:11px}.grid{stroke:#ddd}
 .due{stroke:#b00020;stroke-dasharray:3 2}.closing{stroke:#333}.paid{fill:#2b7a3d;color:#2b7a3d}
 .fee{fill:#b00020;color:#b00020}.keys span{margin-right:1rem;white-space:nowrap}
 :target>summary,:target{background:#fff3c4}
+@media (max-width:40rem){pre{white-space:pre-wrap;font-size:11px}td,th{padding:.1rem .25rem}
+table{font-size:12px}details,.leaf{margin-left:.4rem;padding-left:.35rem}p.said{margin-left:.4rem}}
 @media print{body{max-width:none;padding:0;font-size:10pt}pre,.wide{overflow:visible}
-pre{white-space:pre-wrap;font-size:8pt}}
+pre{white-space:pre-wrap;font-size:8pt}h2,summary,caption,thead{break-after:avoid}
+tr,.leaf,pre,svg{break-inside:avoid}}
 """
 
 
@@ -37,12 +42,13 @@ class Page:
         self.document, self.days = document, days
         self.cycle = document.head["cycle"]
         self.written: set[str] = set()
+        self.names = Names()
 
     # -- the texts --------------------------------------------------------------------------
 
     def _text(self, name: str) -> str:
         """A text as it was printed, each number a link to its tree."""
-        places = {(n.line, n.place): n.node for n in self.document.numbers if n.text == name}
+        places = {(n.line, n.place): plain(n.node) for n in self.document.numbers if n.text == name}
         out = []
         for line, text in enumerate(self.document.texts[name].splitlines()):
             parts, place = [], 0
@@ -56,26 +62,33 @@ class Page:
 
     # -- the trees --------------------------------------------------------------------------
 
-    def _said(self, node: Node, because: bool) -> str:
-        section = RULES[node.rule][1] if node.rule else ""
+    def _said(self, node: Node, because: bool, cut: bool = False) -> str:
+        """A node in a line: its value, what it is, how it follows where that is shown below it,
+        and its rule."""
         value = "" if node.unit == "truth" and because else value_text(node.value, node.unit)
-        how = how_text(node)
+        how = "" if cut and node.of else how_text(node)
+        if cut and 0 < node.cycle < self.cycle:
+            how = f"see cycle {node.cycle}"
+        name, section = RULES[node.rule] if node.rule else ("", "")
+        rule = "; ".join(part for part in (section, name) if part)
         return (f'<span class="v">{escape(value)}</span> '
-                + ('<span class="b">because</span> ' if because else "") + escape(node.what)
-                + (f" ({escape(how)})" if how else "")
-                + (f' <span class="s">{escape(section)}; {escape(RULES[node.rule][0])}</span>'
-                   if node.rule else ""))
+                + ('<span class="b">because</span> ' if because else "")
+                + escape(self.names.short(node.what)) + (f" ({escape(how)})" if how else "")
+                + (f' <span class="s">{escape(rule)}</span>' if rule else ""))
 
     def _tree(self, node: Node, top: bool, because: bool = False) -> Iterator[str]:
+        node = plain(node)
         if node.id in self.written:
             yield (f'<div class="leaf"><a href="#{node.id}">{self._link(node, because)}</a></div>')
             return
         self.written.add(node.id)
         cut = not top and (node.brief or 0 < node.cycle < self.cycle)
         if cut or not (node.of or node.why) or node.how in ("calendar", "in_force"):
-            yield f'<div class="leaf" id="{node.id}">{self._said(node, because)}</div>'
+            yield f'<div class="leaf" id="{node.id}">{self._said(node, because, cut)}</div>'
             return
         yield f'<details open id="{node.id}"><summary>{self._said(node, because)}</summary>'
+        if node.said:
+            yield f'<p class="said">{escape(node.said)}</p>'
         if isinstance(node.of[0].start if node.of else None, int):
             yield self._runs(node)
             yield from self._tree_of_rates(node)
@@ -87,7 +100,7 @@ class Page:
 
     def _link(self, node: Node, because: bool) -> str:
         value = "because" if because else value_text(node.value, node.unit)
-        return f"{escape(value)} {escape(node.what)}"
+        return f"{escape(value)} {escape(self.names.short(node.what))}"
 
     def _below(self, node: Node) -> Iterator[str]:
         many = len(node.of) > MANY and node.rule == "repayment"
@@ -105,13 +118,13 @@ class Page:
         for run in node.of:
             assert isinstance(run.start, int) and isinstance(run.end, int)
             days = run.of[0] if with_rate else run
-            rate = value_text(run.of[1].of[0].of[0].value, "basis points") if with_rate else ""
+            rate = value_text(run.of[1].value, "billionths") if with_rate else ""
             cells = [day_text(run.start), day_text(run.end), str(run.end - run.start + 1),
                      value_text(days.of[0].value, "cents"), *([rate] if with_rate else []),
                      value_text(run.value, run.unit)]
             rows.append("<tr>" + "".join(f"<td>{escape(c)}</td>" for c in cells) + "</tr>")
-        names = ["from", "to", "days", "balance", *(["rate"] if with_rate else []),
-                 "days x balance" + (" x daily rate" if with_rate else "")]
+        names = ["from", "to", "days", "balance", *(["daily rate"] if with_rate else []),
+                 "their product" if with_rate else "days x balance"]
         head = "".join(f"<th>{name}</th>" for name in names)
         return (f'<div class="wide"><table><thead><tr>{head}</tr></thead><tbody>'
                 f"{''.join(rows)}</tbody></table></div>")
@@ -146,7 +159,8 @@ class Page:
 
     def html(self) -> str:
         head, document = self.document.head, self.document
-        title = f"Cycle {head['cycle']} of {head['account']}, {head['as']}"
+        title = (f"Cycle {head['cycle']} of account {head['account']}, {AS[head['as']]} "
+                 f"{head['today']}")
         texts = [self._text(name) for name in document.texts
                  if not name.startswith("issued") and name != "export"]
         rules = dict.fromkeys(n.rule for n in document.nodes if n.rule in PARTS)
@@ -159,8 +173,10 @@ class Page:
             '<meta name="viewport" content="width=device-width,initial-scale=1">'
             '<link rel="icon" href="data:,">'
             f"<title>{escape(title)}</title><style>{STYLE}</style></head><body>"
-            f"<h1>{escape(title)}</h1><p>By the rows up to {head['rows_up_to']}, of "
-            f"{escape(head['today'])}. Each number leads to where it comes from.</p>",
+            f"<h1>{escape(title)}</h1><p>By the kept rows up to number {head['rows_up_to']}. Each "
+            "number of the statement leads to where it comes from: what it is, and how it follows "
+            "from the lines that are set in below it. A balance is named by its kind and number, "
+            "as purchase:2. Sections are those of Regulation Z.</p>",
             *texts, svg(self.days), table(self.days), *self._trees(),
             "<h2>Where these rules and the regulation part</h2>" if parts else "",
             f"<ul>{parts}</ul>" if parts else "",

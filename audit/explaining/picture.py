@@ -8,7 +8,7 @@ from ..money import money_text
 from .derivation import Derivation
 
 WIDTH, HEIGHT = 420, 230
-LEFT, RIGHT, TOP, BOTTOM = 58, 12, 26, 34
+LEFT, RIGHT, TOP, BOTTOM = 72, 12, 30, 36
 COLOURS = ("#1b4f9c", "#b3471c", "#2b7a3d", "#7a2b86", "#8a6d00", "#00707a")
 DASHES = ("", "6 3", "2 3", "8 3 2 3", "1 2", "10 4")
 _EVENTS = {"payment": "payment", "credit": "credit", "return": "return", "fee": "fee",
@@ -96,7 +96,7 @@ def _marks(scale: Scale, days: list[Day]) -> list[str]:
         if "fee" in d.marks:
             out.append(f'<path class="fee" d="M{x - 4:.1f} {floor + 19} h8 l-4 -7 z"/>')
     end = scale.x(days[-1].day + 1)
-    return [*out, _line(end, TOP, end, floor, "closing"), _label(end, TOP - 14, "closing", "end")]
+    return [*out, _line(end, TOP, end, floor, "closing"), _label(end, TOP - 17, "closing", "end")]
 
 
 def svg(days: list[Day]) -> str:
@@ -116,20 +116,37 @@ def svg(days: list[Day]) -> str:
     keys = [f'<span style="color:{COLOURS[p % len(COLOURS)]}">'
             f'{"&#9473;" if not DASHES[p % len(DASHES)] else "&#9477;"} {escape(name)}</span>'
             for p, name in enumerate(names)]
-    keys += ['<span class="paid">&#9660; payment or credit</span>',
-             '<span class="fee">&#9650; fee</span>']
+    marks = {mark for d in days for mark in d.marks}
+    if marks & {"payment", "credit"}:
+        keys.append('<span class="paid">&#9660; payment or credit</span>')
+    if "fee" in marks:
+        keys.append('<span class="fee">&#9650; fee</span>')
     return "".join(out) + f'<p class="keys">{" ".join(keys)}</p>'
 
 
+def _alike(days: list[Day]) -> list[tuple[Day, Day]]:
+    """The first and the last of days in a row with the same balances; only on the first of them
+    something happened."""
+    found = [(days[0], days[0])]
+    for d in days[1:]:
+        first, _ = found[-1]
+        if d.events or d.balances != first.balances:
+            found.append((d, d))
+        else:
+            found[-1] = (first, d)
+    return found
+
+
 def table(days: list[Day]) -> str:
-    """The days as a table."""
+    """The days as a table; days in a row without a change are one row of it."""
     names = list(days[0].balances)
     head = "".join(f"<th>{escape(name)}</th>" for name in names)
     rows = []
-    for d in days:
-        cells = "".join(f"<td>{money_text(d.balances[name])}</td>" for name in names)
-        rows.append(f"<tr><td>{day_text(d.day)}</td>{cells}<td class=\"said\">"
-                    f"{escape('; '.join(d.events))}</td></tr>")
+    for first, last in _alike(days):
+        cells = "".join(f"<td>{money_text(first.balances[name])}</td>" for name in names)
+        rows.append(f"<tr><td>{day_text(first.day)}</td><td>{day_text(last.day)}</td>{cells}"
+                    f"<td class=\"said\">{escape('; '.join(first.events))}</td></tr>")
     return (f'<div class="wide"><table><caption>Balances at the end of each day</caption><thead>'
-            f"<tr><th>day</th>{head}<th>what happened</th></tr></thead><tbody>"
+            f'<tr><th>from</th><th>to</th>{head}<th class="said">what happened</th></tr></thead>'
+            "<tbody>"
             f"{''.join(rows)}</tbody></table></div>")

@@ -114,8 +114,7 @@ PARTS: dict[str, tuple[str, str]] = {
     "paid": (
         "A payment that is returned after its due date leaves the grace period as it was, and "
         "the days from its payment to its return bear no interest on it.",
-        "Interest may be adjusted for a payment that is returned (.54(b)(2)): "
-        "`examples/official-54b-returned-payment`."),
+        "Interest may be adjusted for a payment that is returned (.54(b)(2))."),
     "average": (
         "A RATE line has the rate of the closing day alone, also where another one was in effect "
         "on earlier days.",

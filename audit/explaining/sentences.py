@@ -13,13 +13,20 @@ def interest_of_days(purchases: bool, paid: Node | None, j: int, due: int, less:
                 "balance bears interest.")
     if paid is None or len(paid.of) < 2:
         return "Purchases bear interest on each day's balance in this cycle."
-    came, asked = (money_text(node.value) for node in paid.of[:2])
+    came, asked = (node.value for node in paid.of[:2])
     said = (f"Purchases bear no interest where statement {j} is paid in full by its due date "
-            f"{day_text(due)}. That took {asked}, and {came} came in by then.")
+            f"{day_text(due)}. That took {money_text(asked)}, and {amount(came)} came in by then.")
+    if less and came == 0:
+        return f"{said} So each day's balance bears interest."
     if less:
         return (f"{said} What was repaid by then, and not returned by the closing, bears no "
                 "interest in this cycle. The rest bears it on each day on which it is owed.")
-    return f"{said} So each day's balance bears interest, and a cycle later too."
+    return f"{said} So each day's balance bears interest in this cycle, whatever was paid since."
+
+
+def amount(cents: int) -> str:
+    """An amount in a sentence."""
+    return money_text(cents) if cents else "nothing"
 
 
 def fee_of(name: str, missed: str, table: Node, repeat: bool, least: Node, cents: int) -> str:

@@ -11,6 +11,7 @@ from .rules import PARTS, RULES
 
 WIDTH = 100
 VALUE = 14
+TABLE = 70  # the columns of a table of days
 AS = {"issued": "as issued on", "recomputed": "as recomputed on"}
 MANY = 6  # months that are all shown
 _HOW = {"sum": "the sum of these", "difference": "the first of these less the others",
@@ -59,7 +60,7 @@ def how_text(node: Node) -> str:
         return "yes, so the second" if node.of[0].value else "no, so the last"
     if node.how in _COMPARED:
         return _truth_text(node)
-    if node.how == "count" and not node.of:
+    if node.how in ("count", "sum") and not node.of:
         return "there is none"
     return _HOW.get(node.how, "")
 
@@ -110,21 +111,44 @@ def is_named(node: Node) -> bool:
     return is_same(node) and node.of[0].how == "row"
 
 
+def plain(node: Node) -> Node:
+    """Without steps that only name the same value again."""
+    while is_same(node) and not is_named(node):
+        node = node.of[0]
+    return node
+
+
+class Names:
+    """Names of posts: with the key and the day where a post is named first."""
+
+    def __init__(self) -> None:
+        self.posts: set[str] = set()
+
+    def short(self, said: str) -> str:
+        return _POST.sub(self._post, said)
+
+    def _post(self, name: re.Match[str]) -> str:
+        if name[1] in self.posts:
+            return name[1]
+        self.posts.add(name[1])
+        return name[0]
+
+
 class Text:
     """Writes the trees of a document.  What was shown in full is named again in one line."""
 
     def __init__(self, cycle: int) -> None:
         self.cycle = cycle
         self.seen: set[int] = set()
-        self.posts: set[str] = set()  # whose key and day were written
+        self.names = Names()
 
     # -- a tree -----------------------------------------------------------------------------
 
     def tree(self, node: Node, depth: int = 0, because: bool = False) -> Iterator[str]:
         """A node and what is below it."""
-        node = self._plain(node)
+        node = plain(node)
         children = self._children(node, depth)
-        said = _POST.sub(self._post, ("because " if because else "") + node.what)
+        said = ("because " if because else "") + self.names.short(node.what)
         again = id(node) in self.seen and bool(node.of or node.why)
         self.seen.add(id(node))
         elsewhere = bool(node.of or node.why) and not children and not node.brief and (
@@ -150,13 +174,6 @@ class Text:
         for why in node.why:
             yield from self.tree(why, depth + 1, True)
 
-    def _post(self, name: re.Match[str]) -> str:
-        """The name of a post: with its key and its day where it is named first."""
-        if name[1] in self.posts:
-            return name[1]
-        self.posts.add(name[1])
-        return name[0]
-
     def _below(self, node: Node, depth: int) -> Iterator[str]:
         """The children; of many months the first three and the last."""
         many = len(node.of) > MANY and node.rule == "repayment"
@@ -164,7 +181,7 @@ class Text:
             yield from self.tree(child, depth)
         if many:
             yield from row_line("..", depth, f"{len(node.of) - 4} months more", "")
-            last = self._plain(node.of[-1])
+            last = plain(node.of[-1])
             self.seen.add(id(last))
             yield from row_line(value_text(last.value, last.unit), depth, last.what, "")
 
@@ -173,12 +190,6 @@ class Text:
             return "" if because else value_text(node.value, node.unit)
         text = value_text(node.value, node.unit)
         return f"{text} days" if node.unit == "days" else text
-
-    def _plain(self, node: Node) -> Node:
-        """Without steps that only name the same value again."""
-        while is_same(node) and not is_named(node):
-            node = node.of[0]
-        return node
 
     def _children(self, node: Node, depth: int) -> bool:
         """Whether what is below is shown."""
@@ -192,7 +203,7 @@ class Text:
 
     def _table(self, node: Node, depth: int) -> Iterator[str]:
         """The runs of days of a sum."""
-        indent = " " * (VALUE + 2 + 2 * depth)
+        indent = " " * min(VALUE + 2 + 2 * depth, WIDTH - TABLE)
         with_rate = node.of[0].unit == "cents x billionths"
         head = f"{'FROM':10} {'TO':10} {'DAYS':>4} {'BALANCE':>13}"
         yield indent + head + (f" {'DAILY RATE':>11} {'THEIR PRODUCT':>17}" if with_rate else
@@ -225,7 +236,7 @@ class Text:
         elif balance.brief:
             self.seen.add(id(balance))
             yield from row_line(value_text(balance.value, balance.unit), depth,
-                                _POST.sub(self._post, balance.what), "")
+                                self.names.short(balance.what), "")
 
     # -- the whole --------------------------------------------------------------------------
 
@@ -256,7 +267,7 @@ class Text:
         rules = dict.fromkeys(n.rule for n in document.nodes
                               if n.rule in PARTS and not (shown and id(n) not in self.seen))
         if rules:
-            yield "WHERE THE LEDGER'S RULES ABOVE AND THE REGULATION PART (docs/RULES.md, last part)"
+            yield "WHERE THE LEDGER'S RULES ABOVE AND THE REGULATION PART (see docs/RULES.md)"
             for rule in rules:
                 ledger, regulation = PARTS[rule]
                 section = RULES[rule][1].removeprefix("12 CFR 1026")
