@@ -11,9 +11,9 @@ from datetime import date, timedelta
 from companion.check import cause_in, require_sound
 from companion.days import day_of
 from companion.files import make_folder, names_in, put_text, settle
-from companion.opening import copy_pair, held, require_openable
+from companion.opening import MORE_ROOM, copy_pair, held, require_openable
 from companion.seals import Seal, read_seal
-from companion.state import read_state
+from companion.state import count_and_today
 from companion.trouble import CANNOT_OPEN, DONE, GUARDED, OWN_FILES, Trouble, counted, say
 
 SEAL_END = ".seal"
@@ -33,11 +33,11 @@ def seal_beside(backup_path: str) -> Seal | None:
         return None
 
 
-def join(room: str, path: str, wait: int) -> str:
+def join(room: str, path: str, wait: int, advice: str = MORE_ROOM) -> str:
     """A copy of the file in the room, with the log's commits in it, as one file."""
     copy = os.path.join(room, "copy")
     with held(path, wait) as real:
-        copy_pair(real, copy)
+        copy_pair(real, copy, advice)
     base = sqlite3.connect(copy, isolation_level=None)
     try:
         base.execute("PRAGMA journal_mode=DELETE").fetchall()
@@ -69,9 +69,9 @@ def backup(program: str, path: str, folder: str, wait: int,
     try:
         with tempfile.TemporaryDirectory(prefix=".new-", dir=folder) as room:
             copy = join(room, path, wait)
-            state = read_state(copy)
+            rows, today = count_and_today(copy)
             found = read_seal(copy)
-            to = os.path.join(folder, name_of(path, state.today, state.rows))
+            to = os.path.join(folder, name_of(path, today, rows))
             if os.path.exists(to):
                 return to, require_same(to, found)
             if prove is None:

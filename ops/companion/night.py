@@ -30,6 +30,8 @@ from companion.waiting import Waiting, waiting
 # Connections of a server beside those that can be counted before.
 SPARE = 16
 
+GOES_ON = "the next call goes on from here"
+
 
 def put_away(night: Night, name: str, where: str, end: str, lines: list[str]) -> str:
     """Moves a file out of the inbox, and writes beside it what came of it."""
@@ -236,5 +238,9 @@ def night(asked: Asked) -> int:
         return night_of(Asked(asked.program, asked.home, asked.day, meant, asked.wait, asked.calls,
                               asked.reissue, kept, wanted_of(asked.home)))
     except OSError as error:
-        raise Trouble(f"{error.filename or asked.home}: {error.strerror}; the next call goes on "
-                      "from here", OWN_FILES) from error
+        raise Trouble(f"{error.filename or asked.home}: {error.strerror}; {GOES_ON}",
+                      OWN_FILES) from error
+    except Trouble as trouble:
+        if isinstance(trouble.__cause__, OSError):
+            trouble.message += f"; {GOES_ON}"
+        raise

@@ -28,6 +28,10 @@ FRAMES_BEGIN = 56
 # While a run keeps rows the log grows to some 4.3 MB.
 ROOM = 5_000_000
 
+# What to do where a copy can't be made in the folder for temporary files, or on a disk of its own.
+OTHER_FOLDER = "TMPDIR may name another folder"
+MORE_ROOM = "make room on this disk"
+
 TABLE = "CREATE TABLE kept (seq INTEGER PRIMARY KEY, body BLOB NOT NULL) STRICT"
 COLUMNS = [("seq", "INTEGER", 0, None, 1), ("body", "BLOB", 1, None, 0)]
 
@@ -137,15 +141,18 @@ def has_commits(real: str) -> bool:
     return os.path.exists(log) and os.path.getsize(log) > FRAMES_BEGIN
 
 
-def copy_pair(real: str, to: str) -> None:
-    """Copies a file and its log, where it has commits, under another path."""
+def copy_pair(real: str, to: str, advice: str = OTHER_FOLDER) -> None:
+    """Copies a file and its log, where it has commits, under another path.
+
+    Raises Trouble with what to do where that can't be done.
+    """
     try:
         shutil.copyfile(real, to)
         if has_commits(real):
             shutil.copyfile(real + "-wal", to + "-wal")
     except OSError as error:
-        raise Trouble(f"{to}: a copy of {real} can't be made: {error.strerror}; "
-                      "TMPDIR may name another folder", OWN_FILES) from error
+        raise Trouble(f"{to}: a copy of {real} can't be made: {error.strerror}; {advice}",
+                      OWN_FILES) from error
 
 
 @contextlib.contextmanager

@@ -16,7 +16,7 @@ from companion.days import day_of
 from companion.files import free_name, make_folder, names_in, put_text, read_text, settle
 from companion.home import INBOX, LEDGER, sealed_reports
 from companion.inputs import Input
-from companion.opening import cause_of_name, log_of
+from companion.opening import OTHER_FOLDER, cause_of_name, log_of
 from companion.reissue import NAME as STATEMENT
 from companion.seals import Seal, read_seal
 from companion.state import State, read_state
@@ -30,7 +30,7 @@ OF_REPLY = re.compile(r"ok ([0-9]+)")
 def require_backup(program: str, path: str) -> tuple[Seal, State]:
     """The seal and the state of a backup that billctl loads and whose own seal is right."""
     with tempfile.TemporaryDirectory(prefix="ledger-") as room:
-        copy = join(room, path, 0)
+        copy = join(room, path, 0, OTHER_FOLDER)
         require_sound(program, path, copy)
         found, state = read_seal(copy), read_state(copy)
     beside = seal_beside(path)

@@ -16,6 +16,9 @@ LAST_CLOSE = 28
 READ = (*SHARED, *OPENINGS, "bill", "return")
 COUNTED = frozenset(code for code, word in CODES.items() if word not in READ)
 
+# The code of a roll in a row.
+ROLL = b"\x01"
+
 # Keys that this companion gives to bills begin so.
 BILL_KEY = "bill-"
 
@@ -175,6 +178,22 @@ def fold(state: State, rows: Iterable[Row]) -> State:
 def read_state(path: str, wait: int = 0) -> State:
     """What the rows of a ledger's file come to."""
     return read_on(State(), path, wait)
+
+
+def count_and_today(path: str, wait: int = 0) -> tuple[int, date]:
+    """How many rows a file has, and its today, by a look at its rolls alone."""
+    count, roll = 0, (0, b"")
+    with open_rows(path, wait) as rows:
+        for _, body in rows:
+            count += 1
+            if body[1:2] == ROLL:
+                roll = (count, body)
+    if not roll[0]:
+        return count, FIRST_DAY
+    try:
+        return count, date.fromisoformat(decode(roll[1]).fields["day"])
+    except NoSpelling as reason:
+        raise damaged(roll[0], str(reason)) from reason
 
 
 def read_on(state: State, path: str, wait: int = 0) -> State:

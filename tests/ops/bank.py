@@ -32,6 +32,9 @@ minus = "payment"
 NOTICE = 45
 YEAR = 366
 
+# The desk refunds a credit balance so many days before the last day for it.
+NEAR = 2
+
 
 def money(cents: int) -> str:
     return f"{cents // 100}.{cents % 100:02}"
@@ -49,6 +52,7 @@ class Bank:
         self.payments: list[tuple[str, str]] = []
         self.charges: list[tuple[str, str, int]] = []
         self.disputes: list[tuple[str, str, date]] = []
+        self.refunded: set[str] = set()
         self.cash_rates: dict[str, int] = {}
 
     def opening(self) -> str:
@@ -123,6 +127,19 @@ class Bank:
         if day.day == 20 and effective >= FIRST + timedelta(days=YEAR):
             return f"notice {name} {self.key(name)} {day} purchase 2499 {effective}\n"
         return ""
+
+    def to_refund(self, tasks: str, day: date) -> list[str]:
+        """The accounts whose credit balance the desk refunds in the night of a day: those whose
+        last day for it is near."""
+        near = [line for line in tasks.splitlines() if " CREDIT " in line
+                and line[:10] <= str(day + timedelta(days=NEAR)) and line not in self.refunded]
+        self.refunded.update(near)
+        return [line.split(" ")[1] for line in near]
+
+    def refunds(self, credits: dict[str, int]) -> str:
+        """The refunds of credit balances, in cents."""
+        return "".join(f"refund {name} {self.key(name)} {cents}\n"
+                       for name, cents in credits.items())
 
     def files(self, day: date) -> dict[str, str]:
         """What comes in for the night of a day, by the names of its files."""

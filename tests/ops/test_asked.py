@@ -23,6 +23,11 @@ def model_of(path: str) -> Machine:
         return load(rows_of(copy))
 
 
+def cents(text: str) -> int:
+    """The cents of an amount with two digits."""
+    return int(text.replace(".", ""))
+
+
 def due_day(anchor: Anchor, number: int) -> int:
     """The due date of a cycle that has one."""
     day = due(anchor, number)
@@ -141,6 +146,21 @@ class Money(Home):
                          [one["debits"] for one in before])
         self.assertTrue(all(one["debits_before"] == "0.00"
                             for one in csv.DictReader(io.StringIO(first))))
+        for side in ("debits", "credits"):
+            self.assertEqual([cents(one[f"{side}_new"]) for one in records],
+                             [cents(one[side]) - cents(one[f"{side}_before"]) for one in records])
+        self.assertEqual([one["debits_new"] for one in records if one["kind"] == "fee"],
+                         ["123.00"])
+        self.by_account(day)
+
+    def by_account(self, day: str) -> None:
+        """By account: what is owed is the model's, and the three late fees are new."""
+        machine = model_of(self.file)
+        for one in csv.DictReader(io.StringIO(self.text("books", f"{day}-accounts.csv"))):
+            book = machine.book(machine.accounts[one["account"]])
+            self.assertEqual(one["owed"], money_text(book.owed()))
+            self.assertEqual(one["late_fees_new"], "41.00")
+            self.assertGreaterEqual(cents(one["late_fees"]), cents(one["late_fees_new"]))
 
 
 class Late(Home):

@@ -5,32 +5,16 @@ import os
 import random
 import re
 import signal
-import sqlite3
 import subprocess
-import sys
 from unittest import mock
 
 from tests.support.case import long
 
 from .common import HEADER, PROGRAM, ledger, start_ledger
 from .home import Home
+from .loads import ACCOUNTS, MOST, RECORDS, Counted
 
-ACCOUNTS = 1000
-RECORDS = 20_000
 DAY = "2024-02-06"
-
-# A program that writes how many rows its file has each time it is started.
-COUNTING = """#!/bin/sh
-[ -f "$1" ] && "{python}" - "$1" >>"{log}" <<'END'
-import shutil, sqlite3, sys, tempfile, os
-with tempfile.TemporaryDirectory() as room:
-    for end in ("", "-wal"):
-        if os.path.exists(sys.argv[1] + end):
-            shutil.copyfile(sys.argv[1] + end, room + "/rows.db" + end)
-    print(sqlite3.connect(room + "/rows.db").execute("SELECT count(*) FROM kept").fetchone()[0])
-END
-exec "{program}" "$@"
-"""
 
 # A program whose server can't write more than so many bytes of a file.
 NARROW = """#!/bin/sh
@@ -130,33 +114,11 @@ class Ways(Home):
 
 
 @long
-class Loads(Home):
+class Loads(Counted):
     def test_loads(self) -> None:
         """A night of 1,000 accounts with 20,000 records reads at most 1.3 times all rows."""
-        log = self.at("loads")
-        counting = self.write("counting", COUNTING.format(python=sys.executable, log=log,
-                                                          program=PROGRAM))
-        os.chmod(counting, 0o755)
-        self.begin("feerow 2011-01-02 3000 4100\nroll 2024-02-05\n" + "".join(
-            f"open a{n} o 2024-01-06 5 1999 2499 2199 2999 2500 100\n" for n in range(ACCOUNTS)))
-        self.put("cards.csv", HEADER + "".join(
-            f"a{n % ACCOUNTS},c{n},charge,2024-02-05,purchase,{100 + n % 7000},,\n"
-            for n in range(RECORDS)))
-        self.assertEqual(self.night(DAY, "--program", counting)[0], 0)
-        self.put("cards.csv", HEADER + "".join(
-            f"a{n % ACCOUNTS},d{n},charge,2024-02-06,purchase,100,,\n" for n in range(50)))
-        self.loads(log, ACCOUNTS + 2 + 1 + RECORDS + ACCOUNTS)
-        self.assertEqual(self.night("2024-02-07", "--program", counting)[0], 0)
-        self.loads(log, ACCOUNTS + 2 + 1 + RECORDS + ACCOUNTS + 1 + 50)
-
-    def loads(self, log: str, rows: int) -> None:
-        with open(log, encoding="ascii") as file:
-            read = sum(int(line) for line in file)
-        os.remove(log)
-        base = sqlite3.connect(self.file)
-        self.assertEqual(base.execute("SELECT count(*) FROM kept").fetchone()[0], rows)
-        base.close()
-        self.assertLessEqual(read / rows, 1.3)
+        for times in self.nights(ACCOUNTS, RECORDS):
+            self.assertLessEqual(times, MOST)
 
 
 class Stopped(Home):

@@ -77,6 +77,9 @@ class Stops(Home):
                     self.assertTrue(reached, (step, done))
                     self.assertIn(done[0], FULL, (step, done))
                     self.assertIn(FULL[done[0]], done[2], step)
+                    self.assertNotIn("TMPDIR", done[2])
+                    if done[0] == 12:
+                        self.assertIn("; the next call goes on from here\n", done[2])
                     self.assertEqual(self.text("night.lock"), "")
                     statuses.add(done[0])
                 self.gone_through(*more)

@@ -67,12 +67,21 @@ class Year(Home):
     def bring(self, day: date) -> None:
         for name, text in self.bank.files(day).items():
             self.put(name, text)
+        tasks = self.text("statements", str(self.days[-1]), "work.txt") if self.days else ""
+        names = self.bank.to_refund(tasks, day)
+        if names:
+            self.put(f"a-refunds-{day}.txt", self.bank.refunds(self.credits(names)))
+
+    def credits(self, names: list[str]) -> dict[str, int]:
+        """The credit balances of some accounts, in cents."""
+        lines = [line.split(" ") for line in
+                 ledger("accounts", self.file, "--owed")[1].splitlines()]
+        return {line[0]: int(line[7].replace(".", "")) for line in lines if line[0] in names}
 
     def plain(self, day: date) -> None:
         done = self.night(day)
         self.assertEqual(done[0], 0, done[2])
         self.assertEqual(self.names("inbox"), [])
-        self.assertEqual(ledger("due", self.file)[1], "")
 
     def refused(self, day: date, status: int, sentence: str, *more: str) -> None:
         done = self.night(day, *more)
@@ -235,6 +244,7 @@ class Year(Home):
         and statements."""
         done = ledger("chain", self.home)
         self.assertEqual(done[0], 0, done)
+        self.assertEqual(ledger("due", self.file)[1], "")
         posts = [line.split(" ") for line in ledger("posts", self.file)[1].splitlines()]
         kept = collections.Counter((post[0], post[2]) for post in posts
                                    if re.fullmatch("[kx][0-9]+", post[2]))
