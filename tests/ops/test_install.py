@@ -14,7 +14,7 @@ WORDS = ("check today accounts due bills rows posts explain late tomorrow undo c
          "version run convert move statements seal backup restore night").split()
 PROGRAM_WORDS = "apply import statement restate repay export work serve trial demo".split()
 UNITS = ("billctl.service", "billctl-night.service", "billctl-night.timer",
-         "billctl-alarm@.service")
+         "billctl-alarm@.service", "billctl-watch@.service", "billctl-watch@.timer")
 
 # What systemd gives a unit that is open to all is 9.6; what is wanted is 3.0 at most.
 EXPOSURE = 30
@@ -103,6 +103,19 @@ class Units(Case):
                                    f"--threshold={EXPOSURE}", path], capture_output=True,
                                   text=True, check=False)
             self.assertEqual(done.returncode, 0, done.stdout[-600:] + done.stderr)
+
+    def test_watch(self) -> None:
+        """The server's unit brings the watch, which finds what it calls where it is installed."""
+        root = self.at("root")
+        subprocess.run([INSTALL, "--root", root], capture_output=True, check=True,
+                       env=dict(os.environ, BILLCTL=PROGRAM))
+        units = os.path.join(root, "etc/systemd/system")
+        with open(os.path.join(units, "billctl.service"), encoding="ascii") as file:
+            self.assertIn("\nWants=billctl-watch@%N.timer\n", file.read())
+        with open(os.path.join(units, "billctl-watch@.service"), encoding="ascii") as file:
+            call = file.read().split("ExecStart=")[1].split()
+        self.assertEqual(call[1:3], ["%i.service", "/var/lib/billctl"])
+        self.assertTrue(os.access(root + call[0], os.X_OK), call[0])
 
 
 class Removed(Case):

@@ -19,10 +19,14 @@ CHARGE = '{"kind":"charge","account":"anna","key":"w1","day":"2024-02-06","place
 
 @unittest.skipIf(tools_missing("nginx"), "nginx isn't installed")
 class Nginx(Case):
+    """nginx before a ledger whose files may have so many bytes."""
+
+    room_left: int | None = None
+
     def setUp(self) -> None:
         super().setUp()
         self.begin(LINES)
-        self.server = Server(self.file, count=4)
+        self.server = Server(self.file, count=4, file_limit=self.room_left)
         self.addCleanup(self.server.__exit__)
         self.server.connect().close()
         self.port, self.behind = free_port(), self.server.port
@@ -32,7 +36,8 @@ class Nginx(Case):
                          ("127.0.0.1:8080", f"127.0.0.1:{self.behind}"),
                          ("/run/nginx-billctl.pid", self.at("pid")),
                          ("/run/billctl", self.at("run")),
-                         ("/var/log/nginx/billctl.log", self.at("access.log"))):
+                         ("/var/log/nginx/billctl.log", self.at("access.log")),
+                         ("/var/log/nginx/billctl-503.log", self.at("unkept.log"))):
             self.assertIn(old, text)
             text = text.replace(old, new)
         os.mkdir(self.at("run"))
@@ -64,6 +69,13 @@ class Nginx(Case):
         link.close()
         return found
 
+    def logged(self, name: str) -> list[list[str]]:
+        """Method, route and status of each line of a log."""
+        with open(self.at(name), encoding="ascii") as log:
+            return [line.split(" ")[2:5] for line in log]
+
+
+class Guards(Nginx):
     def test_guards(self) -> None:
         """What passes, and what is kept out before it costs the ledger a connection."""
         self.assertEqual(self.ask("POST", "/posts", CHARGE, Content_Type=JSON), (200, '{"ok":3}'))
@@ -84,8 +96,22 @@ class Nginx(Case):
         self.assertEqual(self.ask("GET", "/accounts/none")[0], 404)
         self.assertEqual(self.server.running.wait(60), 0, "four connections, and no more")
         self.assertEqual(self.ask("GET", "/accounts/anna")[0], 502)
-        with open(self.at("access.log"), encoding="ascii") as log:
-            lines = [line.split(" ")[2:5] for line in log]
+        lines = self.logged("access.log")
         self.assertIn(["POST", "/posts", "200"], lines)
         self.assertIn(["GET", "/accounts/anna", "200"], lines)
         self.assertNotIn("/health", {line[1] for line in lines})
+        self.assertEqual(self.logged("unkept.log"), [])
+
+
+class Unkept(Nginx):
+    # the head of a log without a commit, and no more
+    room_left = 41
+
+    def test_unkept(self) -> None:
+        """A 503 of the ledger has a line in a log of its own, and neither that of a check of
+        health nor another answer has."""
+        self.assertEqual(self.ask("GET", "/health")[0], 503)
+        self.assertEqual(self.ask("POST", "/posts", CHARGE, Content_Type=JSON),
+                         (503, '{"fault":"keeper"}'))
+        self.assertEqual(self.ask("GET", "/accounts/anna")[0], 200)
+        self.assertEqual(self.logged("unkept.log"), [["POST", "/posts", "503"]])

@@ -131,9 +131,14 @@ fn over_waiting(rt: &HostRuntime, words: &Vec<String>, keeper: SqliteKeeper) -> 
         waiting: Lent::new(&waiting),
     };
     let called = over(rt, words, reader, &waiting, &mut keeper);
-    let Ended { keeper, kept } = waiting.into_inner().end();
+    let Ended {
+        keeper,
+        writer: _,
+        kept,
+        written,
+    } = waiting.into_inner().end();
     let _ = keeper.close();
-    exit_status(called.status, called.written, kept)
+    exit_status(called.status, called.written && written, kept)
 }
 
 // Each reply is written at once, behind its row.

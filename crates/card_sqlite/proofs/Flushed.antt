@@ -1,9 +1,11 @@
 -- Rows that are kept by a flush, and those that wait for one.
 use Rattle.std.specs.Prelude.{◌≡◌, ℕ, ◌+◌, ◌==◌, ◌&&◌, Bool, true, false, List, [], ◌∷◌, ◌++◌, Option, None, Some, is_some, option_map}
-use Rattle.std.proofs.Common.{refl, sym, ap, subst, ◌∙◌, append-nil, append_assoc}
+use Rattle.std.proofs.Common.{refl, sym, ap, subst, ◌∙◌, append-nil, append_assoc, inl}
 use Rattle.std.proofs.lemmas.Bool.{eqb-true}
 use Rattle.card_ports.specs.declared.row.Row.{Row}
-use Rattle.card_ports.specs.Rows.{AddsRows, GoOn, KeepsRows, SameRowsTold, are_from, next_after, next_seq}
+use Rattle.card_sqlite.specs.declared.flush.Lost.{Lost}
+use Rattle.card_sqlite.specs.Waiting.{Held, IsBroken}
+use Rattle.card_ports.specs.Rows.{AddsRows, GoOn, KeepsRows, are_from, next_after, next_seq}
 
 -- where there are none, they are kept as they stand
 pub adds_none : (told : Option (List Row)) → AddsRows told told []
@@ -74,3 +76,7 @@ told_behind None None xs ys told = refl
 told_behind None (Some b) xs ys told = absurd (cc)
 told_behind (Some a) None xs ys told = absurd (cc)
 told_behind (Some a) (Some b) xs ys told = refl
+
+-- what was lost before leaves all as it was
+pub stays_broken : (h : Held) (l : Lost) → h.lost ≡ Some l → IsBroken h h
+stays_broken h l e = (l, e, inl refl)

@@ -1,7 +1,8 @@
 // One flush: the rows that wait are kept, and then the replies that wait are written.
-ghost use Rattle.std.specs.Prelude.{◌≡◌, [], OnOk, OnErr, IsErrOf};
+ghost use Rattle.std.specs.Prelude.{◌≡◌, [], OnOk, OnErr, IfErr, IsErrOf};
 ghost use Rattle.std.specs.Io.KnownBytes.{Appends};
 ghost use Rattle.card_ports.specs.Rows.{GoOn, KeepsRows, AddsRows, SameRowsTold};
+ghost use Rattle.card_sqlite.specs.Waiting.{IsCounted};
 
 use card_ports::{Keeper, KeeperFault, MemoryKeeper};
 use std::alloc::Global;
@@ -27,6 +28,8 @@ fn keep<K: Keeper>(
     ensures ok { OnOk result (AddsRows (K.rows keeper.old) (K.rows keeper.new) rows.old) }
     ensures err { OnErr result (KeepsRows (K.rows keeper.old) (K.rows keeper.new)) }
     ensures told { SameRowsTold (K.rows keeper.old) (K.rows keeper.new) }
+    ensures unfailed { OnOk result (K.faults keeper.new ≡ K.faults keeper.old) }
+    ensures counted { IfErr result (λ fault. IsCounted fault (K.faults keeper.old) (K.faults keeper.new)) }
     ensures none { rows.new ≡ [] }
 {
     if rows.rows().is_empty() {
@@ -58,8 +61,9 @@ pub(crate) fn flush<K: Keeper, W: Write>(
 ) -> Result<(), Lost>
     requires { GoOn (K.rows keeper.old) rows.old }
     ensures ok { OnOk result (AddsRows (K.rows keeper.old) (K.rows keeper.new) rows.old × Appends (W.contents writer.old) (W.contents writer.new) replies.old.items) }
-    ensures unkept { (fault : KeeperFault) → IsErrOf result (Lost.Rows fault) → KeepsRows (K.rows keeper.old) (K.rows keeper.new) × (writer.new ≡ writer.old) }
-    ensures unwritten { IsErrOf result Lost.Replies → AddsRows (K.rows keeper.old) (K.rows keeper.new) rows.old }
+    ensures unkept { (fault : KeeperFault) → IsErrOf result (Lost.Rows fault) → KeepsRows (K.rows keeper.old) (K.rows keeper.new) × (writer.new ≡ writer.old) × IsCounted fault (K.faults keeper.old) (K.faults keeper.new) }
+    ensures unwritten { IsErrOf result Lost.Replies → AddsRows (K.rows keeper.old) (K.rows keeper.new) rows.old × (K.faults keeper.new ≡ K.faults keeper.old) }
+    ensures unfailed { OnOk result (K.faults keeper.new ≡ K.faults keeper.old) }
     ensures told { SameRowsTold (K.rows keeper.old) (K.rows keeper.new) }
     ensures none { (rows.new ≡ []) × (replies.new.items ≡ []) }
 {

@@ -1,3 +1,6 @@
+ghost use Rattle.std.specs.Prelude.{◌≡◌};
+ghost use Rattle.card_sqlite.specs.Waiting as spec;
+
 use crate::SqliteKeeper;
 use crate::flush::{Lost, flush};
 use crate::store::counted;
@@ -13,11 +16,11 @@ const ROWS: usize = 1024;
 const REPLIES: usize = 8192;
 
 /// Rows on their way to a keeper, and replies on their way to a writer of std, which wait for one another: the rows are kept by one
-/// append, and the replies are written after it. So no reply is written whose row isn't kept. It comes before a row is taken where
-/// 1,024 wait, behind a reply where more than 8,192 bytes of them then wait, and at each `flush`. So where each reply is one `write`,
-/// between its row and the next one, rows and replies that wait are those of the same lines, and no row is kept whose reply waits for
-/// another commit. Where the rows can't be kept, the replies that waited go with them. After that no row and no reply is taken any
-/// more; where replies couldn't be written, no reply is, and rows are kept as before.
+/// append, and the replies are written after it. So no reply is written whose row isn't kept. It comes at each `flush`; before a row
+/// is taken where 1,024 wait, and behind a piece of a reply where more than 8,192 bytes of them then wait: but these two only where
+/// a line feed came last, which ends a reply. So, however a reply is cut into pieces, no row is kept by one commit whose reply waits
+/// for another, unless a `flush` asks for it. Where the rows can't be kept, the replies that waited go with them. After that no row
+/// and no reply is taken any more; where replies couldn't be written, no reply is, and rows are kept as before.
 ///
 /// Clauses see what is kept and written, where keeper and writer tell it, and what waits.
 #[derive(Drop)]
@@ -28,6 +31,17 @@ pub struct Waiting<K: Keeper + Drop, W: Write + Drop> {
     writer: W,
     replies: Vec<u8>,
     lost: Option<Lost>,
+    is_between: bool,
+}
+
+// Whether the bytes end a reply: the last is a line feed.
+fn ends_reply(bytes: &[u8]) -> bool
+    ensures { result ≡ spec.ends_reply bytes.now }
+{
+    match bytes.last() {
+        Some(byte) => *byte == b'\n',
+        None => false,
+    }
 }
 
 impl<K: Keeper + Drop, W: Write + Drop> Model for Waiting<K, W> {
@@ -36,21 +50,21 @@ impl<K: Keeper + Drop, W: Write + Drop> Model for Waiting<K, W> {
 
     ghost Value = { Held };
 
-    ghost view = { λ w. record { kept = K.rows w.keeper; waiting = w.rows; written = W.contents w.writer; replies = w.replies.items; lost = w.lost } };
+    ghost view = { λ w. record { kept = K.rows w.keeper; waiting = w.rows; written = W.contents w.writer; replies = w.replies.items; lost = w.lost; is_between = w.is_between; faults = K.faults w.keeper } };
 
     ghost invariant = { λ w. GoOn (K.rows w.keeper) w.rows };
 }
 
 impl<K: Keeper + Drop, W: Write + Drop> Waiting<K, W> {
-    ghost use Rattle.std.specs.Prelude.{◌≡◌, ◌⊎◌, None, IfOk, IfErr, IfSome, OnOk, OnErr};
-    ghost use Rattle.std.specs.Io.KnownBytes.{Keeps};
+    ghost use Rattle.std.specs.Prelude.{◌≡◌, ◌⊎◌, None, false, IfOk, IfErr, IfSome, OnOk, OnErr, IsTrue};
+    ghost use Rattle.std.specs.Io.KnownBytes.{Appends, Keeps};
     ghost use Rattle.card_ports.specs.Rows.{AddsRows, GivesRows, GoOn, KeepsRows, SameRowsTold};
-    ghost use Rattle.card_sqlite.specs.Waiting.{LostFor, Settled, WentFor, all_bytes, all_rows, fault_in, starting};
+    ghost use Rattle.card_sqlite.specs.Waiting.{HasGround, KeptAll, LostFor, PartsNone, Settled, WentFor, all_bytes, all_rows, fault_in, starting};
 
     /// Nothing waits yet. An error says that memory was wanted and isn't there.
     #[tactic(auto, using(crate::proofs::Flushed::none_goes_on))]
     pub fn new(alloc: Global, keeper: K, writer: W) -> io::Result<Waiting<K, W>>
-        ensures { IfOk result (λ w. w ≡ starting (K.rows keeper) (W.contents writer)) }
+        ensures { IfOk result (λ w. w ≡ starting (K.rows keeper) (W.contents writer) (K.faults keeper)) }
     {
         let replies = Vec::with_capacity(alloc, 2 * REPLIES)?;
         Ok(Waiting {
@@ -60,6 +74,7 @@ impl<K: Keeper + Drop, W: Write + Drop> Waiting<K, W> {
             writer,
             replies,
             lost: None,
+            is_between: true,
         })
     }
 
@@ -106,6 +121,9 @@ impl<K: Keeper + Drop, W: Write + Drop> Waiting<K, W> {
     /// when rows were lost.
     pub fn load(&mut self, alloc: Global) -> Result<Vec<Row>, KeeperFault>
         ensures given { IfOk result (λ rows. GivesRows (all_rows self.old) rows.items) }
+        ensures ok { OnOk result (KeptAll self.old self.new) }
+        ensures err { IfErr result (λ fault. LostFor fault self.old self.new ⊎ KeptAll self.old self.new) }
+        ensures ground { IfErr result (λ fault. HasGround fault self.old self.new.faults) }
     {
         let _ = self.settle();
         match self.fault() {
@@ -114,15 +132,16 @@ impl<K: Keeper + Drop, W: Write + Drop> Waiting<K, W> {
         }
     }
 
-    // Has what waits kept and written where no more rows may wait.
+    // Has what waits kept and written where no more rows may wait, and none of them waits for its reply.
     #[tactic(auto, using(crate::proofs::Flushed::told_behind))]
     fn make_room(&mut self)
         ensures told { SameRowsTold (all_rows self.old) (all_rows self.new) }
         ensures rows { fault_in self.new.lost ≡ None → KeepsRows (all_rows self.old) (all_rows self.new) }
-        ensures lost { IfSome (fault_in self.new.lost) (λ fault. KeepsRows self.old.kept self.new.kept × (self.new.written ≡ self.old.written)) }
+        ensures lost { IfSome (fault_in self.new.lost) (λ fault. LostFor fault self.old self.new) }
         ensures bytes { self.new.lost ≡ None → Keeps (all_bytes self.old) (all_bytes self.new) }
+        ensures parted { PartsNone self.old self.new self.old.is_between }
     {
-        if self.rows.rows().len() >= ROWS {
+        if self.is_between && self.rows.rows().len() >= ROWS {
             let _ = self.settle();
         }
     }
@@ -132,12 +151,17 @@ impl<K: Keeper + Drop, W: Write + Drop> Waiting<K, W> {
     fn wait(&mut self, alloc: Global, more: &[Row]) -> Result<(), KeeperFault>
         requires { GoOn (all_rows self.old) more.now }
         ensures ok { OnOk result (AddsRows (all_rows self.old) (all_rows self.new) more.now) }
-        ensures err { OnErr result (self.new ≡ self.old) }
+        ensures err { IfErr result (λ fault. (fault ≡ KeeperFault.Memory) × (self.new ≡ self.old)) }
         ensures bytes { all_bytes self.new ≡ all_bytes self.old }
         ensures lost { self.new.lost ≡ self.old.lost }
+        ensures stay { (self.new.kept ≡ self.old.kept) × (self.new.written ≡ self.old.written) }
+        ensures between { OnOk result (self.new.is_between ≡ false) }
     {
         match self.rows.append(alloc, more) {
-            Ok(()) => Ok(()),
+            Ok(()) => {
+                self.is_between = false;
+                Ok(())
+            }
             Err(fault) => Err(fault),
         }
     }
@@ -148,8 +172,10 @@ impl<K: Keeper + Drop, W: Write + Drop> Waiting<K, W> {
     pub fn append(&mut self, alloc: Global, more: &[Row]) -> Result<(), KeeperFault>
         requires { GoOn (all_rows self.old) more.now }
         ensures ok { OnOk result (AddsRows (all_rows self.old) (all_rows self.new) more.now) }
-        ensures err { IfErr result (λ fault. LostFor fault self.old self.new ⊎ KeepsRows (all_rows self.old) (all_rows self.new)) }
+        ensures err { IfErr result (λ fault. LostFor fault self.old self.new ⊎ (fault ≡ KeeperFault.Memory) × KeepsRows (all_rows self.old) (all_rows self.new)) }
         ensures bytes { self.new.lost ≡ None → Keeps (all_bytes self.old) (all_bytes self.new) }
+        ensures parted { PartsNone self.old self.new self.old.is_between }
+        ensures between { OnOk result (self.new.is_between ≡ false) }
     {
         self.make_room();
         match self.fault() {
@@ -158,50 +184,66 @@ impl<K: Keeper + Drop, W: Write + Drop> Waiting<K, W> {
         }
     }
 
-    /// Has the rows kept that still wait, and the replies written, and gives the keeper back. An error is the fault for which rows
-    /// were lost, now or before; then the keeper has the rows that it had.
-    pub fn end(self) -> Ended<K>
+    /// Has the rows kept that still wait, and the replies written, and gives keeper and writer back. An error is the fault for which
+    /// rows were lost, now or before; then the keeper has the rows that it had, and the writer the bytes. Whether all replies were
+    /// written: none was lost, now or before.
+    pub fn end(self) -> Ended<K, W>
         ensures ok { OnOk result.kept (AddsRows self.kept (K.rows result.keeper) self.waiting) }
-        ensures err { OnErr result.kept (KeepsRows self.kept (K.rows result.keeper)) }
+        ensures err { OnErr result.kept (KeepsRows self.kept (K.rows result.keeper) × (W.contents result.writer ≡ self.written)) }
+        ensures ground { IfErr result.kept (λ fault. HasGround fault self (K.faults result.keeper)) }
+        ensures written { IsTrue result.written → Appends self.written (W.contents result.writer) self.replies × (self.lost ≡ None) }
     {
         let mut last = self;
-        let _ = last.settle();
+        let written = last.settle().is_ok();
         let kept = match last.fault() {
             Some(fault) => Err(fault),
             None => Ok(()),
         };
-        let Waiting { keeper, .. } = last;
-        Ended { keeper, kept }
+        let Waiting { keeper, writer, .. } = last;
+        Ended {
+            keeper,
+            writer,
+            kept,
+            written,
+        }
     }
 }
 
-/// The keeper at the end, and whether the rows were kept that waited.
+/// Keeper and writer at the end, whether the rows were kept that waited, and whether all replies were written.
 #[derive(Drop)]
-pub struct Ended<K: Keeper + Drop> {
+pub struct Ended<K: Keeper + Drop, W: Write + Drop> {
     pub keeper: K,
+    pub writer: W,
     pub kept: Result<(), KeeperFault>,
+    pub written: bool,
 }
 
 impl<K: Keeper + Drop, W: Write + Drop> Write for Waiting<K, W> {
-    ghost use Rattle.std.specs.Prelude.{◌≡◌, IfOk, OnOk, OnErr, length};
+    ghost use Rattle.std.specs.Prelude.{◌≡◌, ◌⊎◌, IfOk, IfErr, OnOk, OnErr, length};
     ghost use Rattle.std.specs.Io.{WritesAtMost};
     ghost use Rattle.std.specs.Io.KnownBytes.{Appends};
+    ghost use Rattle.std.specs.IoError.{error_kind};
     ghost use Rattle.card_ports.specs.Rows.{KeepsRows};
-    ghost use Rattle.card_sqlite.specs.Waiting.{Settled, all_bytes, all_rows};
+    ghost use Rattle.card_sqlite.specs.Waiting.{IsBroken, PartsNone, Settled, all_bytes, all_rows, ends_reply};
 
-    // Takes the whole reply, and then has what waits kept and written where it is too much. After an error the reply is lost with
-    // those that waited, if they were lost then or before; and alone, if memory was wanted for it.
+    // Takes the whole piece, and then has what waits kept and written where it is too much and the piece ends a reply. After an error
+    // the piece is lost with what waited, if that was lost then or before; and alone, if memory was wanted for it.
+    #[tactic(auto, using(crate::proofs::Flushed::stays_broken))]
     fn write(&mut self, bytes: &[u8]) -> io::Result<usize>
         ensures bound { WritesAtMost result bytes.now }
         ensures all { IfOk result (λ n. n ≡ length bytes.now) }
         ensures taken { OnOk result (Appends (all_bytes self.old) (all_bytes self.new) bytes.now) }
         ensures rows { OnOk result (KeepsRows (all_rows self.old) (all_rows self.new)) }
+        ensures parted { PartsNone self.old self.new (ends_reply bytes.now) }
+        ensures between { OnOk result (self.new.is_between ≡ ends_reply bytes.now) }
+        ensures err { IfErr result (λ e. (error_kind e ≡ ErrorKind.OutOfMemory) × (self.new ≡ self.old) ⊎ IsBroken self.old self.new) }
     {
-        if self.lost.is_some() {
+        if let Some(_) = self.lost {
             return Err(Error::from(ErrorKind::BrokenPipe));
         }
         self.replies.extend_from_slice(bytes)?;
-        if self.replies.len() > REPLIES {
+        self.is_between = ends_reply(bytes);
+        if self.is_between && self.replies.len() > REPLIES {
             self.flush()?;
         }
         Ok(bytes.len())
@@ -209,6 +251,7 @@ impl<K: Keeper + Drop, W: Write + Drop> Write for Waiting<K, W> {
 
     fn flush(&mut self) -> io::Result<()>
         ensures ok { OnOk result (Settled self.old self.new) }
+        ensures err { OnErr result (IsBroken self.old self.new) }
     {
         match self.settle() {
             Ok(()) => Ok(()),
