@@ -11,10 +11,9 @@ from unittest import mock
 from tests.ops.common import LEDGER, LINES, Case, Told, ledger
 from tests.ops.home import OPENING, Home
 from tests.support.program import PROGRAM, TOP, run
+from companion.pages import owed_at_closings
 
 from .issuer import NAMES, NOTES, toml
-
-from companion.pages import owed_at_closings  # noqa: E402
 
 DAY = "2024-02-06"
 FORMS = ("--form", "json", "--form", "html")
