@@ -1,10 +1,10 @@
 """A night of 2,000 statements as JSON and HTML by `audit statements`, beside `repay` for each.
 
-A ledger of some 188,000 rows: accounts of thirteen months, each with a promotional plan, five
-charges, a payment and a bill a month and a late credit, all closing on one day. The call that writes the statements
-of the last day in two forms with their manifest is measured with all that it starts; `repay` is
-asked for twenty of the statements, each with a load of all rows, and that is multiplied. The call
-wants the repository as its folder.
+A ledger of some 188,000 rows: accounts of thirteen months, each with a promotional plan, a late
+credit, and five charges, a payment and a bill a month, all closing on one day. The call that writes
+the statements of the last day in two forms with their manifest is measured with all that it starts;
+`repay` is asked for twenty of the statements, each with a load of all rows, and that is multiplied.
+The call wants the repository as its folder.
 """
 
 import csv

@@ -1,4 +1,4 @@
-"""The ten statements in Chromium: what a page's console said, what is wider than it, and pictures."""
+"""The ten statements in Chromium: what the console said, what is wider than a page, pictures."""
 
 import base64
 from pathlib import Path
@@ -11,6 +11,7 @@ from audit.statements.browser import Browser
 from audit.statements.issuer import Addressee, Issuer
 from audit.statements.lacking import with_names
 from audit.statements.page import page_of
+from audit.words import Request
 
 from .issuer import LINES, TEXTS
 from .statements import all_data
@@ -29,7 +30,9 @@ TALL = "Math.ceil(document.documentElement.getBoundingClientRect().height)"
 
 def ten_pages(file: Path) -> dict[str, str]:
     """The ten pages, of a ledger that is written there without the program."""
-    requests = [read_line(line.encode()) for line in lines()]
+    requests = [request for line in lines()
+                if isinstance(request := read_line(line.encode()), Request)]
+    assert len(requests) == len(lines())
     write(file, [encode(request) for request in requests])
     names = {account: Addressee("Anna M. Cardholder", ["5 Hill Road", "Bath, ME 04530"])
              for account, _ in TEN.values()}

@@ -5,10 +5,13 @@ import os
 import subprocess
 import sys
 from pathlib import Path
+from typing import Any
+from unittest import mock
 
 from tests.ops.common import LEDGER, LINES, Case, Told, ledger
 from tests.ops.home import OPENING, Home
 from tests.support.program import PROGRAM, TOP, run
+from companion.pages import owed_at_closings
 
 from .issuer import NAMES, NOTES, toml
 
@@ -126,6 +129,15 @@ class Notes(Case):
         self.expect(done, 0, "2 notes in")
         self.assertIn("anna,c1,charge,2024-02-03,purchase,1250,,\n", done[1])
         self.assertEqual(self.notes(), KEPT)
+
+    def test_example(self) -> None:
+        folder = os.path.join(TOP, "examples", "sheet")
+        sheet = Path(folder, "bank.csv").read_bytes()
+        done = ledger("convert", os.path.join(folder, "columns.toml"), "--notes",
+                      self.at("notes.csv"), given=sheet)
+        self.assertEqual(done[0], 0, done)
+        self.assertEqual(self.notes(), "account,key,text\nanna,b-1001,Baker\n"
+                                       "ben,b-1002,Main Street; north\n")
 
     def test_again_and_more(self) -> None:
         self.convert()
@@ -247,6 +259,36 @@ class Nights(Home):
         self.put(f"statements/{DAY}/anna-1.json", "{}")
         os.remove(os.path.join(self.home, f"reports/{DAY}.txt"))
         self.expect(self.night(DAY), 1, "anna-1.json is there already with other bytes")
+
+    def test_posts_since(self) -> None:
+        """The sums of accounts with a post after their bill aren't held against the entries."""
+        self.put("inbox/bank.csv", SHEET)
+        self.assertEqual(self.night(DAY)[0], 0)
+        self.put("inbox/late.txt", "charge anna late 2024-02-01 purchase 700\n")
+        self.assertEqual(self.night(DAY, "--late")[0], 0)
+        report = self.text("reports", f"{DAY}-2.txt")
+        self.assertIn("  change of trial up to the closings of 1 statement: 3.00, the same; of 1 "
+                      "with posts since their bills it may differ\n", report)
+
+    def test_sums_that_differ(self) -> None:
+        """A cent more in the entries than in the manifest is found."""
+        def more(*given: Any) -> dict[tuple[str, int], int]:
+            return {which: cents + 1 for which, cents in owed_at_closings(*given).items()}
+
+        with mock.patch("companion.report.owed_at_closings", more):
+            done = self.night(DAY)
+        self.expect(done, 1, "not the same")
+        self.assertIn("another balance in the manifest than by trial: anna 1, ben 1", done[2])
+
+    def test_reissued(self) -> None:
+        """With --reissue pages that were sent stay, and the new ones have a folder of their own."""
+        self.assertEqual(self.night(DAY)[0], 0)
+        self.put(f"statements/{DAY}/anna-1.json", "{}")
+        os.remove(os.path.join(self.home, f"reports/{DAY}.txt"))
+        self.assertEqual(self.night(DAY, "--reissue")[0], 0)
+        self.assertEqual(self.text("statements", DAY, "anna-1.json"), "{}")
+        self.assertEqual(self.names("statements", DAY, "reissued"), [
+            "anna-1.html", "anna-1.json", "ben-1.html", "ben-1.json", "manifest.csv"])
 
     def test_settings(self) -> None:
         for text, said in (('forms = ["doc"]\n', "forms is a list of text, json, html, pdf"),
