@@ -156,13 +156,6 @@ impl Posts {
         &self.order
     }
 
-    /// Whether there is room for one more post. It takes no memory.
-    pub fn has_room(&self) -> bool
-        ensures { result ≡ self.now.has_room }
-    {
-        self.has_room
-    }
-
     /// Makes room for one more post. Where there is room already it can't fail. After want of memory the posts are as they
     /// were.
     pub fn make_room(&mut self, alloc: Global) -> Result<(), NoMemory>
