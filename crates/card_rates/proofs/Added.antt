@@ -126,15 +126,6 @@ add-next before after ks i k e is =
     ∙ (ap (λ x. before ++ x) (option-append o (added_from (suc (i + 1)) (next_segment (length before + 2) k.post) rest))
     ∙ ap (λ x. before ++ added_from (i + 1) (length before + 2) x) (sym (drop-next ks i k e)))))
 
--- at the end nothing is left to add
-pub add-none : (items : List SegmentTerms) (ks : List Kept) (i n s : ℕ) → i ≡ length ks → items ++ added_from n s (drop i ks) ≡ items
-unfolding added_from
-add-none items ks i n s e = rw e (ap (λ x. items ++ added_from n s x) (none ks) ∙ append-nil items)
-  where
-    none : (xs : List Kept) → drop (length xs) xs ≡ []
-    none [] = refl
-    none (x ∷ xs) = none xs
-
 -- the segments that may still be added
 pub few-next : (before after : List SegmentTerms) (ks : List Kept) (i : ℕ) (k : Kept) → at_number (i + 1) ks ≡ Some k
     → after ≡ before ++ cons_option (segment_of (length before + 2) (i + 1) k.post) []

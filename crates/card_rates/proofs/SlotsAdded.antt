@@ -120,12 +120,3 @@ room before whole ks i k e h few =
     let more = length-option (kept_of (i + 1) k.post) (kept_from (i + 1 + 1) (drop (i + 1) ks)) in
     let all = ap length h in
     omega (arith, long, next, more, all, few)
-
--- at the end nothing is left to add
-pub add-none : (items : List Segment) (ks : List Kept) (i n : ℕ) → i ≡ length ks → items ++ kept_from n (drop i ks) ≡ items
-unfolding kept_from
-add-none items ks i n e = rw e (ap (λ x. items ++ kept_from n x) (none ks) ∙ append-nil items)
-  where
-    none : (xs : List Kept) → drop (length xs) xs ≡ []
-    none [] = refl
-    none (x ∷ xs) = none xs
