@@ -1,17 +1,17 @@
 -- Posts that set no rates add nothing.
-use Rattle.std.proofs.Common.{◌≡◌, ℕ, zero, suc, true, false, List, [], ◌∷◌, ◌++◌, append-nil, drop, take, refl, sym, ap, ◌∙◌, Option, None}
+use Rattle.std.proofs.Common.{◌≡◌, ℕ, zero, suc, false, List, [], ◌∷◌, ◌++◌, append-nil, drop, take, refl, sym, ap, ◌∙◌, None}
 use Rattle.std.specs.Prelude.{option_map}
 use Rattle.std.specs.List.{cons_option, filter_map}
 use Rattle.card_events.specs.History.{next_segment}
 use Rattle.card_events.specs.declared.kept.Kept.{Kept}
 use Rattle.card_events.specs.declared.post.Post.{Post}
 use Rattle.card_events.specs.declared.post.Post.TheVariants as post
-use Rattle.card_model.specs.Rates.{Lowering, lowering_of}
+use Rattle.card_model.specs.Rates.{lowering_of}
 use Rattle.card_model.specs.Segments.{SegmentTerms, kept_segment, segment_of}
 use Rattle.card_model.specs.declared.segment.Segment.{Segment}
 use Rattle.card_posts.specs.Posted.{SetNoRates, sets_rates}
 use Rattle.card_rates.specs.Added.{added_from}
-use Rattle.card_rates.specs.Segments.{kept_from, kept_of}
+use Rattle.card_rates.specs.Segments.{kept_from}
 
 no-segment : (s n : ℕ) (p : Post) → sets_rates p ≡ false → segment_of s n p ≡ None
 no-segment s n (post.Plan d k r e f) h = cc
