@@ -19,3 +19,4 @@ pub mod Numbered
 pub mod Fronts
 pub mod Withdrawn
 pub mod Waiting
+pub mod Unrated

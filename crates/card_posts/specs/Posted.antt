@@ -49,6 +49,18 @@ unfoldable pub AreNumbered : ℕ → List Kept → Type 0
 AreNumbered n [] = Unit {0}
 AreNumbered n (k ∷ ks) = (k.number ≡ n) × AreNumbered (suc n) ks
 
+-- the post sets rates of the account
+abbrev pub sets_rates : Post → Bool
+sets_rates (post.Plan _ _ _ _ _) = true
+sets_rates (post.Notice _ _ _ _) = true
+sets_rates (post.Lower _ _ _) = true
+sets_rates _ = false
+
+-- none of these posts does
+unfoldable pub SetNoRates : List Kept → Type 0
+SetNoRates [] = Unit {0}
+SetNoRates (k ∷ ks) = (sets_rates k.post ≡ false) × SetNoRates ks
+
 -- the earlier post that a Return, a Dispute, a Resolve or an Amend names, and 0 for the other kinds
 abbrev pub target_of : Post → ℕ
 target_of (post.Return _ target) = target

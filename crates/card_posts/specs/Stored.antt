@@ -1,5 +1,5 @@
 -- What is stored beside the accepted posts of an account.
-use Rattle.std.specs.Prelude.{◌≡◌, ℕ, suc, ◌<◌, ◌≤◌, Bool, true, List, [], ◌∷◌, length, vec_len, vec_capacity}
+use Rattle.std.specs.Prelude.{◌≡◌, ℕ, suc, ◌<◌, ◌≤◌, Bool, true, List, [], ◌∷◌, drop, length, vec_len, vec_capacity}
 use Rattle.std.specs.Global.{Vec}
 use Rattle.card_events.specs.Billing.{IsCloseDay}
 use Rattle.card_events.specs.Range.{last_request_day}
@@ -13,7 +13,7 @@ use Rattle.card_waits.specs.Waits.{AreWaits, HasRoom as HasWaitRoom, Waits}
 use Rattle.card_posts.specs.Corrections.{corrections}
 use Rattle.card_posts.specs.Effect.{AreSmall, slots_from}
 use Rattle.card_posts.specs.Order.{in_order}
-use Rattle.card_posts.specs.Posted.{AreNumbered, IsReceived, target_of}
+use Rattle.card_posts.specs.Posted.{AreNumbered, IsReceived, SetNoRates, target_of}
 use Rattle.card_posts.specs.declared.correction.Correction.{Correction}
 use Rattle.card_posts.specs.declared.effect.Effect.{Effect}
 
@@ -62,8 +62,8 @@ pub record HaveRoom (history : Vec Kept) (index : Indexed) (waits : Waits) (late
   pub effect_room : vec_len now < vec_capacity now
   pub slot_room : vec_len slots < vec_capacity slots
 
--- what always holds of it: an account may have the history, the rest is kept beside it, and where there is said to be room, there
--- is
-abbrev pub AreStored : Anchor → Vec Kept → Indexed → Waits → Vec Correction → Vec Effect → Vec Slot → Bool → Type 0
-AreStored a history index waits later now slots has_room =
-    IsKept a history.items × IsIndex history.items index × AreWaits history.items waits × AreBeside history.items later.items now.items slots.items × (has_room ≡ true → HaveRoom history index waits later now slots)
+-- what always holds of it: an account may have the history, the rest is kept beside it, where there is said to be room there is,
+-- and no post behind so many sets rates
+abbrev pub AreStored : Anchor → Vec Kept → Indexed → Waits → Vec Correction → Vec Effect → Vec Slot → Bool → ℕ → Type 0
+AreStored a history index waits later now slots has_room rated =
+    IsKept a history.items × IsIndex history.items index × AreWaits history.items waits × AreBeside history.items later.items now.items slots.items × (has_room ≡ true → HaveRoom history index waits later now slots) × SetNoRates (drop rated history.items)

@@ -10,6 +10,7 @@ pub mod laws;
 mod make;
 mod order;
 mod posts;
+mod rated;
 mod refresh;
 
 pub use draft::Draft;

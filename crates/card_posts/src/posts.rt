@@ -5,6 +5,7 @@ use crate::enter::enter;
 use crate::foretold::first_with;
 use crate::make::{copy_history, make_room_in, one, opening, waits_of};
 use crate::order::{slot, slot_with};
+use crate::rated::rated_with;
 use card_events::{Anchor, Calendar, Day, Kept, Name, NoMemory, Post, Slot, numbered};
 use card_keys::{KeyTable, enter_key, find, rebuilt};
 use card_waits::WaitTable;
@@ -26,6 +27,8 @@ pub struct Posts {
     order: Vec<Slot>,
     anchor: Anchor,
     has_room: bool,
+    // no post behind so many sets rates
+    rated: u32,
 }
 
 impl Model for Posts {
@@ -37,7 +40,7 @@ impl Model for Posts {
 
     ghost view = { λ p. record { history = p.history.items; corrected = corrected_with 1 5 p.history.items p.effects.items; has_room = p.has_room } };
 
-    ghost invariant = { λ p. AreStored p.anchor p.history p.index p.waits p.corrections p.effects p.order p.has_room };
+    ghost invariant = { λ p. AreStored p.anchor p.history p.index p.waits p.corrections p.effects p.order p.has_room p.rated };
 }
 
 /// What became of a post: its number, and the earliest day on which the corrected list differs from what it was.
@@ -48,7 +51,7 @@ pub struct Pushed {
 }
 
 impl Posts {
-    ghost use Rattle.std.specs.Prelude.{◌≡◌, ℕ, ◌+◌, ◌<◌, ◌≤◌, ◌++◌, List, [], ◌∷◌, true, false, length, IsOk, IfOk, OnOk, OnErr, None, option_copied};
+    ghost use Rattle.std.specs.Prelude.{◌≡◌, ℕ, ◌+◌, ◌<◌, ◌≤◌, ◌++◌, List, [], ◌∷◌, true, false, drop, length, IsOk, IfOk, OnOk, OnErr, None, option_copied};
     ghost use Rattle.card_events.specs.Limits.{post_limit};
     ghost use Rattle.card_events.specs.Range.{last_request_day};
     ghost use Rattle.card_events.specs.Billing.{IsCloseDay};
@@ -59,7 +62,7 @@ impl Posts {
     ghost use Rattle.card_posts.specs.Change.{IsFirstChange};
     ghost use Rattle.card_posts.specs.Corrections.{corrects};
     ghost use Rattle.card_posts.specs.Draft.{AwaitsReturn, IsDraft, IsFirstWith};
-    ghost use Rattle.card_posts.specs.Posted.{Posted, AreBounded, AreNumbered, IsReceived, StandsFor, folding_order, opens, slot_with, target_of};
+    ghost use Rattle.card_posts.specs.Posted.{Posted, AreBounded, AreNumbered, IsReceived, SetNoRates, StandsFor, folding_order, opens, slot_with, target_of};
     ghost use Rattle.card_posts.specs.Stored.{AreTimely};
 
     /// The post that opens an account, which has number 1. Its terms close cycles on day 1 to 28 of a month. The
@@ -97,6 +100,7 @@ impl Posts {
             history,
             anchor,
             has_room: false,
+            rated: 1,
         })
     }
 
@@ -122,6 +126,14 @@ impl Posts {
         ensures { result ≡ slot_with number self.now.corrected }
     {
         slot_with(&self.effects, number)
+    }
+
+    /// So many posts behind which none sets rates: no Plan, no Notice and no Lower. It takes no memory.
+    pub fn rated(&self) -> u32
+        ensures bound { result ≤ length self.now.history }
+        ensures none { SetNoRates (drop result self.now.history) }
+    {
+        self.rated.min(self.history.len() as u32)
     }
 
     /// The number of the post with this key, the first where several have it. None comes exactly where no post has it.
@@ -154,13 +166,6 @@ impl Posts {
         ensures bounded { AreBounded result.now }
     {
         &self.order
-    }
-
-    /// Whether there is room for one more post. It takes no memory.
-    pub fn has_room(&self) -> bool
-        ensures { result ≡ self.now.has_room }
-    {
-        self.has_room
     }
 
     /// Makes room for one more post. Where there is room already it can't fail. After want of memory the posts are as they
@@ -219,6 +224,7 @@ impl Posts {
         );
         self.waits.enter(post);
         self.has_room = false;
+        self.rated = rated_with(self.rated, number, post);
         Pushed { number, from }
     }
 
@@ -331,6 +337,7 @@ impl Posts {
             order: Vec::from_slice(alloc, &self.order)?,
             anchor: self.anchor,
             has_room: false,
+            rated: self.rated,
         })
     }
 

@@ -1,5 +1,5 @@
 -- What posts add, one after the other.
-use Rattle.std.proofs.Common.{◌≡◌, ℕ, zero, suc, ◌+◌, Bool, true, false, cond, List, [], ◌∷◌, ◌++◌, length, length-append, append-nil, append_assoc, drop, take, refl, sym, ap, ◌∙◌, arith, Option, Some, None}
+use Rattle.std.proofs.Common.{◌≡◌, ℕ, zero, suc, ◌+◌, Bool, true, false, cond, List, [], ◌∷◌, ◌++◌, length, length-append, append_assoc, drop, take, refl, sym, ap, ◌∙◌, arith, Option, Some, None}
 use Rattle.std.proofs.lemmas.List.Elements.{filter_map-append}
 use Rattle.std.proofs.lemmas.List.Sums.{sum_by-drop_more}
 use Rattle.std.proofs.lemmas.Option.{get_or_from_slice_get, slice_get_within}
@@ -125,15 +125,6 @@ add-next before after ks i k e is =
     ∙ (append_assoc before (cons_option o []) (added_from (suc (i + 1)) (next_segment (length before + 2) k.post) rest)
     ∙ (ap (λ x. before ++ x) (option-append o (added_from (suc (i + 1)) (next_segment (length before + 2) k.post) rest))
     ∙ ap (λ x. before ++ added_from (i + 1) (length before + 2) x) (sym (drop-next ks i k e)))))
-
--- at the end nothing is left to add
-pub add-none : (items : List SegmentTerms) (ks : List Kept) (i n s : ℕ) → i ≡ length ks → items ++ added_from n s (drop i ks) ≡ items
-unfolding added_from
-add-none items ks i n s e = rw e (ap (λ x. items ++ added_from n s x) (none ks) ∙ append-nil items)
-  where
-    none : (xs : List Kept) → drop (length xs) xs ≡ []
-    none [] = refl
-    none (x ∷ xs) = none xs
 
 -- the segments that may still be added
 pub few-next : (before after : List SegmentTerms) (ks : List Kept) (i : ℕ) (k : Kept) → at_number (i + 1) ks ≡ Some k

@@ -11,6 +11,7 @@ pub mod Runs
 pub mod Settling
 pub mod Spans
 pub mod Unchanged
+pub mod Unrated
 pub mod Ordered
 pub mod Posts
 pub mod Turns

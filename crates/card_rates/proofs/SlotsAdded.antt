@@ -1,5 +1,5 @@
 -- The segments that posts add, one post after the other.
-use Rattle.std.proofs.Common.{◌≡◌, ℕ, suc, ◌+◌, ◌≤◌, cond, List, [], ◌∷◌, ◌++◌, length, length-append, append-nil, append_assoc, drop, map, refl, sym, ap, ◌∙◌, arith, Option, Some, None}
+use Rattle.std.proofs.Common.{◌≡◌, ℕ, suc, ◌+◌, ◌≤◌, cond, List, [], ◌∷◌, ◌++◌, length, length-append, append_assoc, drop, map, refl, sym, ap, ◌∙◌, arith, Option, Some, None}
 use Rattle.std.proofs.lemmas.List.Sums.{sum_by-cons}
 use Rattle.std.specs.Prelude.{option_map}
 use Rattle.std.specs.List.{cons_option, count_by}
@@ -120,12 +120,3 @@ room before whole ks i k e h few =
     let more = length-option (kept_of (i + 1) k.post) (kept_from (i + 1 + 1) (drop (i + 1) ks)) in
     let all = ap length h in
     omega (arith, long, next, more, all, few)
-
--- at the end nothing is left to add
-pub add-none : (items : List Segment) (ks : List Kept) (i n : ℕ) → i ≡ length ks → items ++ kept_from n (drop i ks) ≡ items
-unfolding kept_from
-add-none items ks i n e = rw e (ap (λ x. items ++ kept_from n x) (none ks) ∙ append-nil items)
-  where
-    none : (xs : List Kept) → drop (length xs) xs ≡ []
-    none [] = refl
-    none (x ∷ xs) = none xs

@@ -162,7 +162,7 @@ fn add(
     Ok(())
 }
 
-// Adds what all posts bring.
+// Adds what all posts bring. Most often the last that brings something stands far in front.
 pub fn add_all(
     segments: &mut Vec<RatedSegment>,
     caps: &mut Vec<RateCap>,
@@ -173,7 +173,7 @@ pub fn add_all(
     ensures segments { OnOk result (segments.new.items ≡ segments.old.items ++ added_from 1 (length segments.old.items + 2) posts.now.history) }
     ensures caps { OnOk result (caps.new.items ≡ caps.old.items ++ filter_map (λ k. lowering_of k.post) posts.now.history) }
 {
-    for i in 0..posts.len() {
+    for i in 0..posts.rated() {
         add(segments, caps, i + 1, &post_of(posts, i + 1).post)?;
     }
     Ok(())

@@ -77,7 +77,7 @@ fn add_all(segments: &mut Segments, posts: &Posts) -> Result<(), NoMemory>
     ensures segments { OnOk result (segments.new.segments ≡ segments.old.segments ++ kept_from 1 posts.now.history) }
     ensures unused { OnOk result (AreUnused segments.old → AreUnused segments.new) }
 {
-    for i in 0..posts.len() {
+    for i in 0..posts.rated() {
         add(segments, i + 1, &post_of(posts, i + 1).post)?;
     }
     Ok(())

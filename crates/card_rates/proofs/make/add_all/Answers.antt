@@ -1,8 +1,10 @@
-use Rattle.std.proofs.Common.{◌≡◌, ◌+◌, ◌++◌, [], length, take, append_assoc, sym, ap, ◌∙◌, arith}
+use Rattle.std.proofs.Common.{◌≡◌, ◌+◌, ◌++◌, [], length, take, drop, append_assoc, sym, ap, subst, ◌∙◌, arith}
 use Rattle.std.specs.List.{cons_option, filter_map}
 use Rattle.card_events.specs.declared.kept.Kept.{Kept}
 use Rattle.card_model.specs.Rates.{lowering_of}
-use Rattle.card_rates.proofs.Added.{add-next, add-none, few-next, lowered-next}
+use Rattle.card_posts.specs.Posted.{SetNoRates}
+use Rattle.card_rates.proofs.Added.{add-next, few-next, lowered-next}
+use Rattle.card_rates.proofs.Unrated.{added-all, lowered-all}
 use Rattle.card_rates.proofs.make.add_all.Goals as goal
 
 pub loop-i-preserved : goal.loop-i-preserved
@@ -25,9 +27,18 @@ loop-i-preserved c =
 
 pub returns-clause-segments : goal.returns-clause-segments
 returns-clause-segments c =
+    let history = c.args.posts.now.history in
     let here = c.loop-i-test.false in
     let within = c.loop-i.auto.i-end in
-    let all = c.len-i-end.ensures.value in
-    let last : c.loop-i.i ≡ length c.args.posts.now.history = omega (arith, here, within, all) in
-    sym (add-none c.loop-i.segments.items c.args.posts.now.history c.loop-i.i (c.loop-i.i + 1) (length c.loop-i.segments.items + 2) last)
-    ∙ c.loop-i.invariant.segments
+    let last : c.rated-i-end.result ≡ c.loop-i.i = omega (arith, here, within) in
+    let none = subst (λ n. SetNoRates (drop n history)) last c.rated-i-end.ensures.none in
+    sym (added-all c.loop-i.segments.items history c.loop-i.i (c.loop-i.i + 1) (length c.loop-i.segments.items + 2) none) ∙ c.loop-i.invariant.segments
+
+pub returns-clause-caps : goal.returns-clause-caps
+returns-clause-caps c =
+    let history = c.args.posts.now.history in
+    let here = c.loop-i-test.false in
+    let within = c.loop-i.auto.i-end in
+    let last : c.rated-i-end.result ≡ c.loop-i.i = omega (arith, here, within) in
+    let none = subst (λ n. SetNoRates (drop n history)) last c.rated-i-end.ensures.none in
+    c.loop-i.invariant.caps ∙ ap (λ x. c.args.caps.now.items ++ x) (lowered-all c.loop-i.i history none)

@@ -1,6 +1,8 @@
-use Rattle.std.proofs.Common.{◌+◌, ◌++◌, length-append, sym, ◌∙◌, arith}
+use Rattle.std.proofs.Common.{◌≡◌, ◌+◌, ◌++◌, drop, length-append, sym, subst, ◌∙◌, arith}
 use Rattle.card_rates.specs.Segments.{kept_from}
-use Rattle.card_rates.proofs.SlotsAdded.{add-next, add-none, room}
+use Rattle.card_posts.specs.Posted.{SetNoRates}
+use Rattle.card_rates.proofs.SlotsAdded.{add-next, room}
+use Rattle.card_rates.proofs.Unrated.{kept-all}
 use Rattle.card_rates.proofs.segments.add_all.Goals as goal
 
 pub add-requires-clause-few : goal.add-requires-clause-few
@@ -23,7 +25,9 @@ loop-i-preserved c =
 
 pub returns-clause-segments : goal.returns-clause-segments
 returns-clause-segments c =
+    let history = c.args.posts.now.history in
     let here = c.loop-i-test.false in
     let within = c.loop-i.auto.i-end in
-    let all = c.len-i-end.ensures.value in
-    sym (add-none c.loop-i.segments.segments c.args.posts.now.history c.loop-i.i (c.loop-i.i + 1) (omega (arith, here, within, all))) ∙ c.loop-i.invariant.segments
+    let last : c.rated-i-end.result ≡ c.loop-i.i = omega (arith, here, within) in
+    let none = subst (λ n. SetNoRates (drop n history)) last c.rated-i-end.ensures.none in
+    sym (kept-all c.loop-i.segments.segments history c.loop-i.i (c.loop-i.i + 1) none) ∙ c.loop-i.invariant.segments

@@ -1,7 +1,8 @@
-use Rattle.std.proofs.Common.{◌≡◌, length, arith, ap, ◌∙◌, refl}
-use Rattle.card_posts.specs.Posted.{Posted}
+use Rattle.std.proofs.Common.{◌≡◌, ◌-◌, drop, length, arith, ap, ◌∙◌, refl, sym, subst}
+use Rattle.card_posts.specs.Posted.{Posted, SetNoRates}
 use Rattle.card_posts.proofs.Noted.{corrections-length}
 use Rattle.card_posts.proofs.Withdrawn.{AreBack, lists-back, posted-back, roomy_if_any}
+use Rattle.card_posts.proofs.Unrated.{none-front}
 use Rattle.card_posts.proofs.posts.Posts.withdraw.Goals as goal
 
 pub put_back-requires-clause-room : goal.put_back-requires-clause-room
@@ -36,4 +37,5 @@ invariant_of-self c =
         effect_room = c.put_back.ensures.effect_room;
         slot_room = c.put_back.ensures.slot_room;
       },
+      subst (λ ks. SetNoRates (drop c.self.inside.rated ks)) (sym c.take_last.ensures.history) (none-front c.self.inside.rated (length c.self.inside.history.items - 1) c.self.inside.history.items c.self.invariant.5),
     )
