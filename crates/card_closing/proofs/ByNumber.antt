@@ -34,6 +34,13 @@ pub by_number-none : (amount : ℕ → ℕ) → [] ≡ by_number amount 0
 unfolding by_number
 by_number-none amount = refl
 
+-- the last of so many segments
+pub by_number-last : (amount : ℕ → ℕ) (n : ℕ) → by_number amount (suc n) ≡ by_number amount n ++ cond (eqb (amount (2 + n)) 0) [] ((2 + n, amount (2 + n)) ∷ [])
+unfolding by_number
+by_number-last amount n =
+    ap (filter_map (nonzero_of amount)) (range-last 2 n)
+    ∙ (filter_map-append (nonzero_of amount) (range_with_len 2 n) ((2 + n) ∷ []) ∙ ap (λ us. filter_map (nonzero_of amount) (range_with_len 2 n) ++ us) (of-one amount (2 + n)))
+
 pub by_number-next : (amount : ℕ → ℕ) (id x : ℕ) (xs ys : Amounts) → 2 ≤ id → xs ≡ by_number amount (id - 2) → x ≡ amount id → ys ≡ with_amount id x xs → ys ≡ by_number amount (id + 1 - 2)
 unfolding by_number
 by_number-next amount id x xs ys low h e k =

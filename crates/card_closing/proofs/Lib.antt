@@ -13,6 +13,8 @@ pub mod ByNumber
 pub mod Closed
 pub mod Loops
 pub mod OfClosing
+pub mod Charged
+pub mod Pieces
 pub mod Recorded
 pub mod Steps
 pub mod Untouched

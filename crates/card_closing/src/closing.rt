@@ -6,7 +6,7 @@ ghost use Rattle.card_segments.specs.Balances.{AreWithin};
 ghost use Rattle.card_closing.specs.Turns.{AreInStep, BeginsWith};
 
 use crate::interest::{charge_accruals, charge_interest};
-use crate::record::{averages, charged_amounts, grace_of, held, minimum_of, owed};
+use crate::record::{averages, charged, grace_of, held, minimum_of, owed};
 use crate::{Accrual, Amounts, Cycle, CycleRows, Fee, Fees, GraceCase};
 use card_events::{Cents, Day, NoMemory};
 use card_segments::{Entry, Segments};
@@ -40,21 +40,21 @@ fn record(
     segments: &Segments,
     closing: &Closing,
     issued: Option<&Cycle>,
-    done: &Amounts,
+    done: Amounts,
     rows: &[CycleRows],
     fees: &[Fee],
     count: usize,
 ) -> Result<Cycle, NoMemory>
     requires rows { length rows.now + 2 ≡ length segments.now.balances }
     requires small { AreWithin balance_limit segments.now.balances }
-    requires few { AreSmall done.now }
+    requires few { AreSmall done }
     requires terms { HasTermsInRange closing.now }
-    ensures { IfOk result (λ c. c ≡ recorded closing.now (option_copied issued.entry) done.now rows.now fees.now segments.now count) }
+    ensures { IfOk result (λ c. c ≡ recorded closing.now (option_copied issued.entry) done rows.now fees.now segments.now count) }
 {
-    let interest = charged_amounts(alloc, segments, done)?;
     let average = averages(alloc, segments, closing, rows)?;
     let fees = Fees::of_cycle(alloc, fees, closing.number)?;
-    let minimum = minimum_of(closing, issued, done, &fees, segments);
+    let minimum = minimum_of(closing, issued, &done, &fees, segments);
+    let interest = charged(alloc, segments, done)?;
     Ok(Cycle {
         number: closing.number,
         first: closing.first,
@@ -109,7 +109,7 @@ pub fn close(
         segments,
         closing,
         issued,
-        &done,
+        done,
         rows,
         fees,
         out.len(),

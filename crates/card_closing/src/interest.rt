@@ -3,7 +3,7 @@ ghost use Rattle.std.specs.Prelude.{◌≡◌, ◌+◌, ◌<◌, nat_lt, length,
 ghost use Rattle.card_model.specs.Entries.{owing};
 ghost use Rattle.card_model.specs.declared.entry.Entry.{Entry};
 ghost use Rattle.card_model.specs.declared.segment.Segment.{Segment};
-ghost use Rattle.card_closing.specs.Interest.{accrual_charge, accruals_of_all, charge_where_owed, cycle_charge, ends_in, interest_of_all, note_on};
+ghost use Rattle.card_closing.specs.Interest.{accruals_of_all, charge_where_owed, cycle_charge, ends_in, interest_of_all, note_on};
 ghost use Rattle.card_closing.specs.Turns.{AreInStep, BeginsWith, StayInStep, turn_of};
 
 use crate::fees::at_least_zero;
@@ -28,18 +28,6 @@ fn interest_of(rows: &CycleRows, purchase: &GraceCase, day: Day, segment: &Segme
     ensures { result ≡ cycle_charge purchase.now day segment.now rows.now }
 {
     interest(rows.interest_sum(case_of(purchase, segment, day))) as u64
-}
-
-// What a deferred balance accrued, where its period ends on the day.
-#[tactic(auto, unfolding(crate::specs::Interest::accrual_charge))]
-fn accrued_of(accrual: &Accrual, day: Day, segment: &Segment) -> u64
-    ensures { result ≡ accrual_charge day segment.now accrual.now }
-{
-    if ends_on(segment, day) {
-        interest(accrual.sum()) as u64
-    } else {
-        0
-    }
 }
 
 // The note of a day's interest.
@@ -86,14 +74,15 @@ fn is_owed(segments: &Segments, id: u8) -> bool
     0 < at_least_zero(segments.balance(id))
 }
 
-// What a segment is asked of its accrual: nothing where nothing is owed on it.
+// What a segment is asked of its accrual, where its period ends on the day: nothing where nothing is owed on it.
+#[tactic(auto, unfolding(crate::specs::Interest::accrual_charge))]
 fn accrued_where_owed(segments: &Segments, accrual: &Accrual, day: Day, id: u8) -> u64
     requires known { id < length segments.now.balances }
     ensures { (entries : List Entry) → AreInStep segments.now entries → (d : Segment) → result ≡ charge_where_owed day id (slice_index_or segments.now.segments id d) accrual.now entries }
 {
     let _count = segments.len();
-    if is_owed(segments, id) {
-        accrued_of(accrual, day, segments.get(id))
+    if ends_on(segments.get(id), day) && is_owed(segments, id) {
+        interest(accrual.sum()) as u64
     } else {
         0
     }

@@ -1,5 +1,5 @@
 // The record of a closed cycle.
-ghost use Rattle.std.specs.Prelude.{◌≡◌, ◌+◌, ◌-◌, ◌<◌, ◌≤◌, ◌&&◌, length, min, IfOk, pos, ◌≤ℤ◌, ◌-ℤ◌, slice_index_or, unsigned_abs, option_copied};
+ghost use Rattle.std.specs.Prelude.{◌≡◌, ◌+◌, ◌-◌, ◌<◌, ◌≤◌, ◌&&◌, true, length, min, IfOk, pos, ◌≤ℤ◌, ◌-ℤ◌, slice_index_or, unsigned_abs, option_copied};
 ghost use Rattle.card_model.specs.Limits.{balance_limit};
 ghost use Rattle.card_model.specs.Closing.{ends_after, minimum_of};
 ghost use Rattle.card_model.specs.Segments.{is_sort};
@@ -29,11 +29,7 @@ fn cents_of(done: &Amounts, segment: u8) -> u64
 }
 
 // The amounts that were charged, by segment.
-pub fn charged_amounts(
-    alloc: Global,
-    segments: &Segments,
-    done: &Amounts,
-) -> Result<Amounts, NoMemory>
+fn charged_amounts(alloc: Global, segments: &Segments, done: &Amounts) -> Result<Amounts, NoMemory>
     requires { AreSmall done.now }
     ensures { IfOk result (λ v. v ≡ by_number (λ s. amount_at s done.now) (length segments.now.balances - 2)) }
 {
@@ -42,6 +38,32 @@ pub fn charged_amounts(
         add(&mut amounts, id, cents_of(done, id))?;
     }
     Ok(amounts)
+}
+
+// Whether amounts are those of segments below one, in order of number, and none is 0.
+fn are_by_number(items: &[(u8, u64)], end: u8) -> bool
+    requires { 2 ≤ end }
+    ensures { result ≡ true → by_number (λ s. amount_at s items.now) (end - 2) ≡ items.now }
+{
+    let mut next: u32 = 2;
+    for item in items {
+        if (item.0 as u32) < next || end <= item.0 || item.1 == 0 {
+            return false;
+        }
+        next = item.0 as u32 + 1;
+    }
+    true
+}
+
+// The same, which are these themselves where each segment was charged once.
+pub fn charged(alloc: Global, segments: &Segments, done: Amounts) -> Result<Amounts, NoMemory>
+    requires { AreSmall done }
+    ensures { IfOk result (λ v. v ≡ by_number (λ s. amount_at s done) (length segments.now.balances - 2)) }
+{
+    if are_by_number(done.items(), segments.len()) {
+        return Ok(done);
+    }
+    charged_amounts(alloc, segments, &done)
 }
 
 // The average of a segment's rows.

@@ -1,5 +1,5 @@
 // Runs of equal days, and sums over their days.
-ghost use Rattle.std.specs.Prelude.{◌≡◌, ℕ, ◌+◌, ◌-◌, ◌*◌, ◌≤◌, ◌^◌, true, false, List, ◌++◌, length};
+ghost use Rattle.std.specs.Prelude.{◌≡◌, ℕ, ◌+◌, ◌-◌, ◌*◌, ◌<◌, ◌≤◌, ◌^◌, ◌&&◌, nat_le, nat_lt, true, false, List, ◌++◌, length};
 ghost use Rattle.std.specs.List.{sum_by};
 ghost use Rattle.card_events.specs.Money.{daily};
 ghost use Rattle.card_model.specs.Limits.{balance_limit};
@@ -53,7 +53,36 @@ fn lowered(balance: u64, repaid: &[Repayment], day: u32, due: Day) -> u64
     left
 }
 
-// The lowered balances of a run's days, together.
+// The sooner of a day and of the repayment's, where that is after one and counts for a due date.
+fn sooner(r: &Repayment, day: u32, next: u32, due: Day) -> u32
+    requires after { day < next }
+    ensures after { day < result }
+    ensures within { result ≤ next }
+    ensures same { (d : ℕ) → day ≤ d → d < result → (nat_lt d r.now.day && nat_le r.now.day due) ≡ (nat_lt day r.now.day && nat_le r.now.day due) }
+{
+    let on = r.day.number() as u32;
+    if day < on && on < next && r.day <= due {
+        on
+    } else {
+        next
+    }
+}
+
+// The first day after one, up to an end, from which on less is repaid later, up to a due date.
+fn next_repaid(repaid: &[Repayment], day: u32, end: u32, due: Day) -> u32
+    requires after { day < end }
+    ensures after { day < result }
+    ensures within { result ≤ end }
+    ensures same { (d : ℕ) → day ≤ d → d < result → repaid_later repaid.now d due ≡ repaid_later repaid.now day due }
+{
+    let mut next = end;
+    for r in repaid {
+        next = sooner(r, day, next, due);
+    }
+    next
+}
+
+// The lowered balances of a run's days, together: those of one day for each piece in which nothing is repaid.
 fn lowered_days(run: &Run, first: u32, due: Day, repaid: &[Repayment]) -> u64
     requires few { run.now.days ≤ 31 }
     requires balance { run.now.balance ≤ balance_limit }
@@ -61,9 +90,13 @@ fn lowered_days(run: &Run, first: u32, due: Day, repaid: &[Repayment]) -> u64
     ensures sum { result ≡ sum_by (λ (r : DayRow). r.balance - repaid_later repaid.now r.day due) (equal_days first run.now.days run.now.balance run.now.rate) }
     ensures bound { result ≤ run.now.days * balance_limit }
 {
+    let end = first + run.days;
     let mut sum = 0;
-    for i in 0..run.days {
-        sum += lowered(run.balance, repaid, first + i, due);
+    let mut day = first;
+    while day < end {
+        let next = next_repaid(repaid, day, end, due);
+        sum += (next - day) as u64 * lowered(run.balance, repaid, day, due);
+        day = next;
     }
     sum
 }

@@ -81,22 +81,26 @@ fn is_early_at(issued: &[Issued], place: usize, day: Day) -> bool
     is_before(&issued[place], day)
 }
 
-// Whether the statements in front of a place, of which there are some, were issued before a day, and the one at it wasn't.
+// Whether the statements in front of a place, of which there are some, were issued before a day, and the one at it, where there is
+// one, wasn't.
 fn is_cut(issued: &[Issued], place: usize, day: Day) -> bool
     requires { IsNonDecreasingBy (λ r. r.day) issued.now }
     ensures { result ≡ true → IsIssueCut issued.now day place }
 {
     let count = issued.len();
-    if count <= place {
+    if count < place {
         return false;
     }
     if place == 0 {
         return false;
     }
-    if is_early_at(issued, place, day) {
+    if !is_early_at(issued, place - 1, day) {
         return false;
     }
-    is_early_at(issued, place - 1, day)
+    if place == count {
+        return true;
+    }
+    !is_early_at(issued, place, day)
 }
 
 // How many statements were issued before a day, where it may be as many as before.
