@@ -25,7 +25,7 @@ pub fn opening(post: &Post) -> Anchor
     }
 }
 
-// Room for one more in a list, which most often is there.
+// Room for one more in a list, which most often is there; else it grows by half, since lists that double stand half empty.
 pub fn make_room_in<T: Drop>(list: &mut Vec<T>) -> Result<(), NoMemory>
     ensures items { list.new.items ≡ list.old.items }
     ensures room { OnOk result (vec_len list.new < vec_capacity list.new) }
@@ -33,7 +33,7 @@ pub fn make_room_in<T: Drop>(list: &mut Vec<T>) -> Result<(), NoMemory>
     if list.len() < list.capacity() {
         return Ok(());
     }
-    list.reserve(1)?;
+    list.reserve_exact(list.len() / 2 + 4)?;
     Ok(())
 }
 
