@@ -259,7 +259,7 @@ def unpaid_is_paid(doc: Doc) -> None:
 
 def not_repaid(doc: Doc) -> None:
     """What was repaid later isn't taken off a day's balance."""
-    node = first(doc, how="at_least_zero", what="what of the balance bears interest")
+    node = first(doc, how="at_least_zero", what="what of the balance from")
     node["value"] = 100_000
 
 
