@@ -23,7 +23,8 @@ def explain(program: str, words: list[str]) -> int:
     """Has the model explain with these words; what it prints is its own, and so is its status."""
     place, found = folder_of_model(), os.environ.get("PYTHONPATH")
     path = os.pathsep.join([place, found] if found else [place])
-    given = {**os.environ, "PYTHONPATH": path, "PYTHONDONTWRITEBYTECODE": "1"}
+    given = {**os.environ, "PYTHONPATH": path, "PYTHONSAFEPATH": "1",
+             "PYTHONDONTWRITEBYTECODE": "1"}
     try:
         status = subprocess.run([sys.executable, "-m", "audit", "explain", *words, "--program",
                                  program], env=given, check=False).returncode
