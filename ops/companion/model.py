@@ -29,7 +29,8 @@ def ask_model(code: str, words: list[str], tell: Callable[[str], None] | None = 
     """
     place, found = folder_of_model(code), os.environ.get("PYTHONPATH")
     path = os.pathsep.join([place, found] if found else [place])
-    given = {**os.environ, "PYTHONPATH": path, "PYTHONDONTWRITEBYTECODE": "1"}
+    given = {**os.environ, "PYTHONPATH": path, "PYTHONSAFEPATH": "1",
+             "PYTHONDONTWRITEBYTECODE": "1"}
     streams = {"stdout": subprocess.DEVNULL, "stderr": subprocess.PIPE} if tell else {}
     with start([sys.executable, "-m", "audit", *words], env=given, stdin=subprocess.DEVNULL,
                preexec_fn=ends_with_caller(), **streams) as running:

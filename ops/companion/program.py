@@ -52,8 +52,8 @@ def find_program(named: str | None = None) -> str:
     found = shutil.which("billctl")
     if found:
         return found
-    raise Trouble(f"billctl is neither built at {PLACES[-1]} nor on the PATH; "
-                  "name it with --program or BILLCTL", OWN_FILES)
+    raise Trouble(f"billctl is neither built at {PLACES[-1]} nor on the PATH: the script billctl "
+                  "of the repository builds it; or name it with --program or BILLCTL", OWN_FILES)
 
 
 def ask_of(status: int) -> str:

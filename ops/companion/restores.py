@@ -261,8 +261,8 @@ def restore(program: str, backup_path: str, path: str, wait: int, again: bool = 
         if again:
             put_back(home, undone, backup_path, time.strftime("%Y%m%d-%H%M%S"))
         else:
-            say("restore: --again puts these files back into the inbox in their order; until then "
-                "no night goes on here")
+            say("restore: --again puts these files back into the inbox in their order, and sets "
+                "these reports apart; until then no night goes on here")
     else:
         say("restore: send again what came in since; what is in the backup already gets its old "
             "number")

@@ -46,6 +46,26 @@ class Installation(Case):
         self.assertEqual((done.returncode, done.stdout), (0, "ok\nok\nok 1\nok 2\nok\n"),
                          done.stderr)
 
+    def test_model(self) -> None:
+        """The installed model compares a file, and the installed companion explains a cycle, from
+        any folder."""
+        root = self.at("root")
+        self.install("--root", root)
+        self.begin()
+        with open(os.path.join(root, "usr/local/bin/billctl-audit"), encoding="ascii") as file:
+            script = self.write("billctl-audit", file.read().replace("/opt/billctl",
+                                                                     f"{root}/opt/billctl"))
+        environment = {name: value for name, value in os.environ.items() if name != "BILLCTL"}
+        for words, told in ((["sh", script, self.file], "same: "),
+                            ([os.path.join(root, "opt/billctl/ops/ledger"), "explain", self.file,
+                              "anna", "1"], "HOW CYCLE 1 OF anna WAS COMPUTED")):
+            done = subprocess.run(words, cwd=self.room, capture_output=True, text=True,
+                                  env=environment, check=False)
+            self.assertIn(told, done.stdout, done.stderr)
+        for name in ("month/opening.txt", "moving/accounts.csv", "sheet/columns.toml"):
+            self.assertTrue(os.path.isfile(os.path.join(
+                root, "usr/local/share/doc/billctl/examples", name)), name)
+
     def test_again(self) -> None:
         """A second time changes nothing but what is installed."""
         root = self.at("root")
