@@ -90,7 +90,7 @@ td.n{overflow-wrap:normal}
 .sum th,.sum td{font-weight:700;border-top:2px solid #555}
 .due{font-size:1.05em}.due th,.due td{font-weight:700}
 .warn{border:1px solid #777;padding:.4rem .6rem;margin-top:.5rem}
-.key{width:20%}.day{width:14%}.amount{width:15%}
+.kind{width:21%}.key{width:20%}.day{width:14%}.amount{width:15%}
 .small{font-size:.88em}
 .of{color:#444;font-size:.88em}
 time,.one{white-space:nowrap}
@@ -110,6 +110,6 @@ body{font-size:8.6pt;line-height:1.28;max-width:none;padding:0}
 header,.pair{grid-template-columns:1fr 1fr}
 h1{font-size:14pt}h2{font-size:9.5pt;background:none;color:#000;border-bottom:1.5pt solid #000;
 padding:0 0 1pt;break-after:avoid}
-h3{font-size:9pt}h3,caption{break-after:avoid}tr,.warn{break-inside:avoid}thead{display:table-header-group}
+h3{font-size:9pt}h3,caption{break-after:avoid}tr,.warn,.pair{break-inside:avoid}thead{display:table-header-group}
 th,td{padding:1pt 3pt}section{margin-bottom:7pt}}
 """

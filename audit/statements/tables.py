@@ -131,7 +131,7 @@ def run_row(name: str, run: Data, average: str) -> str:
                + cell("Annual percentage rate", rate_text(run), "")
                + cell("Daily rate", daily(run["daily_rate_billionths"]))
                + cell("Sum of daily balances", money(run["balance_days"]))
-               + cell("Average daily balance", average)
+               + cell("Average daily balance", average, "n" if average else "n gone")
                + cell("Interest charge", money(run["interest"])))
 
 
@@ -169,7 +169,7 @@ def promotion_text(one: Data) -> str:
 
 def calculation_of(data: Data, issuer: Issuer) -> str:
     """Every rate that was applied, on what, and what it brought."""
-    heads = (("Type of balance", ""), ("Dates", ""), ("Annual percentage rate (APR)", ""),
+    heads = (("Type of balance", "kind"), ("Dates", ""), ("Annual percentage rate (APR)", ""),
              ("Daily rate", "n"), ("Sum of daily balances", "n"), ("Average daily balance", "n"),
              ("Interest charge", "n"))
     rows = [line for one in data["balances"] for line in rows_of(one)]
