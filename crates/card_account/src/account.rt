@@ -142,7 +142,7 @@ impl Account {
         self.replay.to_day(alloc, today, shared, steps)
     }
 
-    /// What a post comes to today, on this account. Its days are days of requests. Only for a Penalty or a Refund under a new key is
+    /// What becomes of a post today, on this account. Its days are days of requests. Only for a Penalty or a Refund under a new key is
     /// anything folded, a step taken or memory wanted, since they are judged by the book of today.
     pub fn judge<L: Ledger>(
         &mut self,
@@ -247,7 +247,7 @@ impl Account {
     /// Prepares a post that is no opening, against which there is no reason, under a new key; its days are days of requests. There is
     /// room for the post, and the Book is there that it takes the account back to. For a Bill and for what sets rates the account reaches
     /// today; else nothing is folded, and no step is taken. Its posts and issued statements stay; with the post, they are as every run
-    /// leaves them. After want of memory it is the same account too.
+    /// leaves them. If memory runs out, it is the same account too.
     pub fn prepare<L: Ledger>(
         &mut self,
         alloc: Global,

@@ -9,7 +9,7 @@ use card_fees::SharedRows;
 use std::alloc::Global;
 use std::sync::ledger::Ledger;
 
-/// Folds all these accounts to the end of today. After want of memory some have reached it and others haven't.
+/// Folds all these accounts to the end of today. If memory runs out, some have reached it and others haven't.
 pub fn reach_today<L: Ledger>(
     alloc: Global,
     accounts: &mut [Account],

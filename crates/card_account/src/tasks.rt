@@ -78,7 +78,7 @@ fn tasks_of<L: Ledger>(
 }
 
 /// The open tasks of all these accounts today, by day, account, kind and post: names are in order byte by byte (12 CFR
-/// 1026.11(a), .13(c), .59). Each account reaches today; after want of memory some have and others haven't.
+/// 1026.11(a), .13(c), .59). Each account reaches today; if memory runs out, some have and others haven't.
 pub fn work_today<L: Ledger>(
     alloc: Global,
     accounts: &mut [Account],

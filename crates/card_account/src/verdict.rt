@@ -1,6 +1,6 @@
 use card_events::Refusal;
 
-/// What a post comes to, before it is carried out.
+/// What becomes of a post, before it is carried out.
 #[derive(Clone, Copy)]
 pub enum Verdict {
     Refused(Refusal),

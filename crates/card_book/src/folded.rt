@@ -123,7 +123,7 @@ impl<'a> Folded<'a> {
         }
     }
 
-    /// What a Book and its track tell of an account: at the end of the last day folded, the whole book of each account for which
+    /// What a Book and its track show of an account: at the end of the last day folded, the whole book of each account for which
     /// they stand.
     pub fn of(book: &'a Book, track: &'a Track) -> Folded<'a>
         requires { AreFolded book.now track.now }
@@ -132,7 +132,7 @@ impl<'a> Folded<'a> {
         Folded::new(book, &track.entries, &track.cycles, &track.fees)
     }
 
-    /// What a Book tells that was taken back to the closing of a closed cycle, with the front of the track up to that closing: the
+    /// What a Book shows that was taken back to the closing of a closed cycle, with the front of the track up to that closing: the
     /// whole book of that day.
     pub fn at_closing(book: &'a Book, track: &'a Track, number: u32) -> Folded<'a>
         requires first { 1 ≤ number }

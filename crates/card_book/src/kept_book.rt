@@ -75,7 +75,7 @@ impl Book {
     ghost use Rattle.card_rates.specs.Laws.{AreQuiet};
     ghost use Rattle.card_rates.specs.Segments.{account_segments};
 
-    /// The book before the opening day. It stands beside a track without entries, cycles and fees.
+    /// The book before the opening day. It goes with a track without entries, cycles and fees.
     pub fn start(alloc: Global, inputs: &Inputs) -> Result<Book, NoMemory>
         ensures stands { IfOk result (λ b. (t : Track) → IsBlank t → StandsFor inputs.now b t) }
         ensures day { IfOk result (λ b. b.day ≡ None) }
@@ -92,7 +92,7 @@ impl Book {
 
     /// Folds to the end of a day, one step a break day and one more where the last day is none: the days before a break day are
     /// folded with it, as one row a segment. The Book is whole, and with the track it stands for the book of these
-    /// inputs; the day isn't before the last one folded or the opening day, and at most 2099-12-31. After want of memory the
+    /// inputs; the day isn't before the last one folded or the opening day, and at most 2099-12-31. If memory runs out, the
     /// Book isn't whole and is only dropped, and the track begins with what it held. No list of the track loses room.
     pub fn advance<L: Ledger>(
         &mut self,
@@ -175,7 +175,7 @@ impl Book {
 
     /// The Book at the end of the day on which a closed cycle closed, in memory of its own, by what was kept of that closing:
     /// since when there was a credit balance, and what deferred plans had accrued. Payments are counted anew from there on. It
-    /// costs what the entries behind the closing cost. It stands beside the track cut behind that cycle.
+    /// costs what the entries behind the closing cost. It goes with the track cut behind that cycle.
     pub fn rewound(
         &self,
         alloc: Global,

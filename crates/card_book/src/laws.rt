@@ -99,12 +99,12 @@ pub fn books_go_on()
     ensures { BooksGoOn }
 {}
 
-/// Where what is folded agrees up to a day and no row was issued, the account goes on from that day.
+/// Where what is folded agrees up to a day and no row was issued, the account continues from that day.
 pub fn agreement_goes_on()
     ensures { AgreementGoesOn }
 {}
 
-/// After a Bill with the row that it adds, the account goes on from each day up to the one on which it was accepted.
+/// After a Bill with the row that it adds, the account continues from each day up to the one on which it was accepted.
 pub fn bills_go_on()
     ensures { BillsGoOn }
 {}
@@ -134,7 +134,7 @@ pub fn marks_grow()
     ensures { MarksGrow }
 {}
 
-/// What was kept of each closing goes on over what is given now, where all of them came before the first change.
+/// What was kept of each closing stays right over what is given now, where all of them came before the first change.
 pub fn marks_go_on()
     ensures { MarksGoOn }
 {}

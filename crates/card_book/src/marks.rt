@@ -49,7 +49,7 @@ fn push_if_any(list: &mut Vec<Accruing>, more: &Option<Accruing>) -> Result<(), 
     Ok(())
 }
 
-/// Adds what each deferred plan that is in its period on a day has accrued, in order of number. After want of memory the list
+/// Adds what each deferred plan that is in its period on a day has accrued, in order of number. If memory runs out, the list
 /// begins with what it held.
 pub fn push_accruing(
     list: &mut Vec<Accruing>,

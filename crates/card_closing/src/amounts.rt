@@ -81,7 +81,7 @@ impl Amounts {
         sum_all(&self.items)
     }
 
-    /// One amount more, at the end. After want of memory the amounts are as they were.
+    /// One amount more, at the end. If memory runs out, the amounts are as they were.
     pub fn push(&mut self, segment: u8, cents: u64) -> Result<(), NoMemory>
         ensures ok { OnOk result (self.new ≡ self.old ++ (segment, cents) ∷ []) }
         ensures err { OnErr result (self.new ≡ self.old) }

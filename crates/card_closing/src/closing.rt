@@ -77,7 +77,7 @@ fn record(
 /// it accrued, where something is owed on it: no more than keeps it within 10^13 cents, and in all no more than the issued
 /// statement of the cycle has for the segment. The minimum payment and the grace amount are no more than those of that
 /// statement. Rows and accruals are those of the segments from number 2 on; fees of other cycles are left out.
-/// Condition: balances are the sums of the entries, at most 10^15 cents in size; they are so afterwards. After want of memory
+/// Condition: balances are the sums of the entries, at most 10^15 cents in size; they are so afterwards. If memory runs out,
 /// the list begins with the entries that it had, and the segments are of no use.
 pub fn close(
     alloc: Global,

@@ -77,7 +77,7 @@ impl CycleRows {
     }
 
     /// Adds so many days with the same balance in cents, 0 to 10^15, and the same rate. All days together are at most
-    /// 31. After want of memory the rows are as before.
+    /// 31. If memory runs out, the rows are as before.
     pub fn row(&mut self, days: u32, balance: Cents, rate: Bp) -> Result<(), NoMemory>
         requires low { pos 0 ≤ℤ balance }
         requires high { balance ≤ℤ pos balance_limit }

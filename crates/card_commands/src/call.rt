@@ -32,8 +32,8 @@ use std::mem::forget;
 /// records of CSV; each newly accepted request is kept as one row. `trial` does what `apply` does, brings all accounts to
 /// today, and writes the debits and credits of each kind of entry from one day to another behind the replies. `statement`
 /// and `restate` write the statement of an account's cycle as it was issued, and as the book of today has it, and `repay`
-/// what the balances of the issued one come to where they are repaid; `export` and `work` write the entries of an account,
-/// and the open tasks of all. `demo` writes what generated requests come to over a ledger of their own, and leaves source
+/// what it takes to repay the balances of the issued one; `export` and `work` write the entries of an account,
+/// and the open tasks of all. `demo` writes the replies to generated requests over a ledger of their own, and leaves source
 /// and keeper alone. `serve` listens on a port, answers one request of HTTP on each of so many connections, and writes a
 /// line for each when it is closed: the status of its answer, `cut` where the request ended inside or the connection failed,
 /// or `memory`.
@@ -41,7 +41,7 @@ use std::mem::forget;
 /// - 0: the input was read to its end, and no reply is `no` or `bad`; or the text was written; or all connections were attended to.
 /// - 1: at least one reply is; or the account isn't there, or its statement, and the line `none` is written.
 /// - 2: the words are no command, and the usage line is written.
-/// - 3: the source failed; 4: the sink failed; 5: the keeper failed; 6: memory was wanted and isn't there; 7: the door failed.
+/// - 3: the source failed; 4: the sink failed; 5: the keeper failed; 6: memory ran out; 7: the door failed.
 ///   Where a keeper fails that a connection wants, that connection is answered 503, and the next is attended to.
 /// - 8: the kept rows are damaged, and the line `damaged N` names the first row that is. The rows stay.
 /// - 9: 2^36 bytes were read, or 2^30 by `import`, and no end came.

@@ -12,7 +12,7 @@ use card_ports::Sink;
 use card_words::Demonstration;
 use std::alloc::Global;
 
-/// Writes what the generated requests of a demonstration come to. Their ledger is its own, so no keeper is asked.
+/// Writes the replies to the generated requests of a demonstration. Their ledger is its own, so no keeper is asked.
 pub fn demo<O: Sink>(alloc: Global, size: &Demonstration, output: &mut O) -> Ended
     ensures { let at = sink_side O.taken O.faults in
         Told (at output.old) (at output.new) (Some (demo_text size.now.start size.now.accounts size.now.cycles)) result }

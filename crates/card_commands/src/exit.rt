@@ -48,7 +48,7 @@ fn says_all_stand(status: u8) -> bool
 }
 
 /// The exit status of a run, from that of its call, whether its last replies were written, and whether the rows were kept that
-/// waited at its end. Rows that weren't kept come first (5, or 6 where memory was wanted); replies that weren't written (4) where the
+/// waited at its end. Rows that weren't kept come first (5, or 6 where memory ran out); replies that weren't written (4) where the
 /// call's status says that each stands; else it is the call's.
 pub fn exit_status(status: u8, written: bool, rows: Result<(), KeeperFault>) -> u8
     ensures { result ≡ spec.exit_status status written rows }

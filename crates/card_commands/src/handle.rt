@@ -76,7 +76,7 @@ impl Run {
     /// Handles an item: carries out its request, and writes the reply to it.
     ///
     /// `Keeper`: the keeper failed, and nothing was done. `Sink`: the sink failed; the row is kept, and a front of the reply
-    /// was written. `Memory`: memory was wanted and isn't there; either is so.
+    /// was written. `Memory`: memory ran out; either is so.
     pub fn handle<O: Sink, K: Keeper>(
         &mut self,
         alloc: Global,

@@ -16,7 +16,7 @@ pub fn completeness<I, K, D>()
     load_of_rows();
 }
 
-/// Where the bytes of the input are told, a run that read it to its end handled all of its lines, and one that was ended
+/// Where the bytes of the input are visible, a run that read it to its end handled all of its lines, and one that was ended
 /// early handled its first.
 pub fn told_input<I, K>()
     ensures all { HandledAllLines I K }

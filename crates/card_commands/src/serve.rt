@@ -115,7 +115,7 @@ fn listen_and_attend<O: Sink, K: Keeper, D: Door>(
 }
 
 /// Listens on the port, and attends to so many connections, one after the other. Each is accepted, served and closed before
-/// its line is written. A connection that fails, a keeper that fails and want of memory for an answer end that connection alone.
+/// its line is written. A connection that fails, a keeper that fails and memory that runs out for an answer end that connection alone.
 ///
 /// `Door`: the door failed to listen or to accept. `Sink`: the sink failed; `Memory`: it wanted memory, or the routes did before
 /// the door listened. Of the last line a front was written.

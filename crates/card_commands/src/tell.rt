@@ -54,7 +54,7 @@ pub fn tell<O: Sink, K: Keeper>(alloc: Global, ask: &Ask, output: &mut O, keeper
     }
 }
 
-/// Writes what the balances of a statement come to where they are repaid (12 CFR 1026.7(b)(12)), or the line `none` where what is
+/// Writes what it takes to repay the balances of a statement (12 CFR 1026.7(b)(12)), or the line `none` where what is
 /// asked of the ledger that the kept rows give is no statement that is there. Nothing is kept.
 pub fn tell_repayment<O: Sink, K: Keeper>(
     alloc: Global,

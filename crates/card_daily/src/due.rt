@@ -216,7 +216,7 @@ fn charge_late(
 /// On the day after the last cycle's due date, charges the late fee where it wasn't met (12 CFR 1026.52(b)(1)(ii)), and ends
 /// with that due date each penalty rate without an end whose six due dates were met (12 CFR 1026.55(b)(4)(ii)); on other
 /// days it does nothing. The day isn't before the opening day and at most 2099-12-31, and the days before it are folded. What the
-/// tally counted of payments and credits is right for the account's posts up to the day, and stays so, also after want of memory;
+/// tally counted of payments and credits is right for the account's posts up to the day, and stays so, also if memory runs out;
 /// state and track are then of no use, but that the track begins with what it held.
 pub fn due_day(
     inputs: &Inputs,

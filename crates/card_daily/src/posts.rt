@@ -287,7 +287,7 @@ fn end_of(slots: &[Slot], first: usize, day: Day) -> usize
 /// later where the account is sixty days late (12 CFR 1026.9(g), .55(b)(4)). The day isn't before the opening day and at most
 /// 2099-12-31; the days before it are folded, and what its due date brought. Its posts are looked for from a place on, as
 /// `place_near` does: for speed alone. What the tally counted of payments and credits is right for the account's posts up to the
-/// day, and stays so, also after want of memory; state and track are then of no use, but that the track begins with what it held.
+/// day, and stays so, also if memory runs out; state and track are then of no use, but that the track begins with what it held.
 pub fn post_day(
     alloc: Global,
     inputs: &Inputs,

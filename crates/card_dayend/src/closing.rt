@@ -224,7 +224,7 @@ fn close_cycle(
 /// Where a day is a closing, closes its cycle (12 CFR 1026.7(b), .14(b), .54): its interest is charged, its statement recorded,
 /// and the rows of the next one begin on the day after. On other days it does nothing. The day isn't before the opening day
 /// and at most 2099-12-31, and its posts and rows are folded. What the tally counted of payments and credits is right for the
-/// account's posts up to the day, and stays so, also after want of memory; state and track are then of no use, but that the track
+/// account's posts up to the day, and stays so, also if memory runs out; state and track are then of no use, but that the track
 /// begins with what it held.
 pub fn close_day(
     alloc: Global,

@@ -13,7 +13,7 @@ use std::alloc::Global;
 /// Folds a day: what its due date brings, its posts in turn, its row on each segment, and the closing where it is one. The
 /// day isn't before the opening day and at most 2099-12-31, and the days before it are folded. Its posts are looked for from a
 /// place on, for speed alone. What the tally counted of payments and credits is right for the account's posts up to the day, and
-/// stays so, also after want of memory; state and track are then of no use, but that the track begins with what it held.
+/// stays so, also if memory runs out; state and track are then of no use, but that the track begins with what it held.
 pub fn next_day(
     alloc: Global,
     inputs: &Inputs,
@@ -51,7 +51,7 @@ fn days_to(first: Day, end: Day) -> u32
 /// them. That day isn't before the first one and at most 2099-12-31, the first isn't before the opening day, the days between
 /// are no break days by the penalties begun so far, and the days before the first are folded. The posts of the last day are looked
 /// for from a place on, for speed alone. What the tally counted of payments and credits is right for the account's posts up to the
-/// last day, and stays so, also after want of memory; state and track are then of no use, but that the track begins with what it
+/// last day, and stays so, also if memory runs out; state and track are then of no use, but that the track begins with what it
 /// held.
 pub fn next_span(
     alloc: Global,

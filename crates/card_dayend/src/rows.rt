@@ -187,7 +187,7 @@ fn accrue_all(
 /// The rows of a day, up to 2099-12-31, once its posts are folded: of each segment but Credit and Held what is owed at the
 /// end of the day, in cents, with its rate in basis points under this index (12 CFR 1026.14(b)), which is kept as 0 where
 /// nothing is owed.
-/// A deferred plan in its period accrues the day (12 CFR 1026.55(b)(1), comment 55(b)(1)-3). After want of memory the rows are
+/// A deferred plan in its period accrues the day (12 CFR 1026.55(b)(1), comment 55(b)(1)-3). If memory runs out, the rows are
 /// of no use.
 pub fn row_day(index: &IndexTable, day: Day, state: &mut State) -> Result<(), NoMemory>
     requires last { day ≤ last_request_day }
@@ -209,7 +209,7 @@ pub fn row_day(index: &IndexTable, day: Day, state: &mut State) -> Result<(), No
 /// The rows of so many days that are no break days, from a first one on: of each segment but Credit and Held what is owed, in
 /// cents, with its rate in basis points (12 CFR 1026.14(b)), and what a deferred plan in its period accrues (12 CFR
 /// 1026.55(b)(1), comment 55(b)(1)-3). The rates are those of the first of these days, since the day before may be a plan's
-/// last. The day behind them is at most 2099-12-31. After want of memory the rows are of no use. It takes none for no days.
+/// last. The day behind them is at most 2099-12-31. If memory runs out, the rows are of no use. It takes none for no days.
 pub fn pass_quiet(
     index: &IndexTable,
     first: Day,

@@ -185,7 +185,7 @@ impl Desk {
         self.accounts[place].standing(post, self.today, &self.common)
     }
 
-    /// Folds all accounts to the end of today. After want of memory some have reached it and others haven't. It takes at most one step
+    /// Folds all accounts to the end of today. If memory runs out, some have reached it and others haven't. It takes at most one step
     /// more for each account than there are break days from the day last reached to today.
     pub fn reach_all<L: Ledger>(
         &mut self,
@@ -412,14 +412,14 @@ impl Desk {
         }
     }
 
-    /// One step of the machine. The request has days of requests, and the keeper's rows go on from the desk's state. A newly accepted
+    /// One step of the machine. The request has days of requests, and the keeper's rows continue the desk's state. A newly accepted
     /// request is prepared, then its row is kept, then it is carried out without memory; a refusal or a repeat changes nothing. No account but the one that the request names is touched, and the reply
     /// depends on no other. After a fault the state and the rows are as they were. It takes at most two steps more than twice the
     /// break days, before or after the request, from the first day of the cycle in which the first changed day lies, or from the day
     /// last reached where that is earlier, to today; of a request that isn't accepted, from the day last reached on. An opening and a
     /// shared request take none.
     ///
-    /// `Keeper`: the keeper failed, which alone raises its count. `Memory`: memory was wanted and isn't there.
+    /// `Keeper`: the keeper failed, which alone raises its count. `Memory`: memory ran out.
     #[tactic(auto, using(crate::proofs::Apart::apart_of_step), unfolding(crate::specs::Reached::MovesToApply, crate::specs::Recorded::AppliedStays, crate::specs::Steps::AreFewToApply))]
     pub fn apply<K: Keeper, L: Ledger>(
         &mut self,
@@ -616,8 +616,8 @@ impl Desk {
         Ok(View::Work(tasks))
     }
 
-    /// The answer to what is asked, or want of memory. The state stays; the accounts that the answer is of reach today, and after want
-    /// of memory some may have. It takes at most one step more than there are break days from the day last reached to today, none
+    /// The answer to what is asked, or that memory ran out. The state stays; the accounts that the answer is of reach today, and if memory
+    /// runs out, some may have. It takes at most one step more than there are break days from the day last reached to today, none
     /// where the account isn't there or for what was issued, and for `Work` at most the sum of these over all accounts.
     #[tactic(auto, unfolding(crate::specs::Reached::MovesToSee, crate::specs::Recorded::SeenStays, crate::specs::Views::seen, crate::specs::Steps::AreFewToSee))]
     pub fn see<L: Ledger>(

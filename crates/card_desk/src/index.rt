@@ -39,7 +39,7 @@ impl NameIndex {
         self.places.get(name).copied()
     }
 
-    /// Gives the name this number. After want of memory the index is as it was.
+    /// Gives the name this number. If memory runs out, the index is as it was.
     pub fn insert(&mut self, alloc: Global, name: &[u8], place: u32) -> Result<(), NoMemory>
         ensures ok { OnOk result (Places self.old self.new name.now (Some place)) }
         ensures err { OnErr result (self.new ≡ self.old) }

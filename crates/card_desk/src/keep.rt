@@ -8,9 +8,9 @@ use card_ports::{Keeper, KeeperFault, Row};
 use std::alloc::Global;
 use std::slice::from_ref;
 
-/// Adds the row, which goes on from those kept, at the end, or leaves the rows as they are.
+/// Adds the row, which continues those kept, at the end, or leaves the rows as they are.
 ///
-/// `Keeper`: the keeper failed, which alone raises its count. `Memory`: memory was wanted and isn't there.
+/// `Keeper`: the keeper failed, which alone raises its count. `Memory`: memory ran out.
 pub fn keep_row<K: Keeper>(alloc: Global, keeper: &mut K, row: Row) -> Result<(), Fault>
     requires { GoOn (K.rows keeper.old) (row ∷ []) }
     ensures ok { OnOk result (AddsRows (K.rows keeper.old) (K.rows keeper.new) (row ∷ [])) }

@@ -10,7 +10,7 @@ ghost use Rattle.card_desk.specs.Apart.{LooksIsolated, RequestsStandApart};
 ghost use Rattle.card_desk.specs.Kept.{AreSound, AreDamaged, IsRunOf, rows_from, rows_of, new_rows};
 
 /// The rows of what is newly accepted of requests are sound, and a run of the accepted ones alone ends in the state of the
-/// whole run. Sound rows, in either format, go on with those written for what is newly accepted after them. Sound rows are
+/// whole run. Sound rows, in either format, continue with those written for what is newly accepted after them. Sound rows are
 /// damaged nowhere: so no row that a desk wrote is ever called damaged, and a desk that is loaded from them is in the writer's
 /// state.
 pub fn load_of_rows()

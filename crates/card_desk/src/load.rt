@@ -47,7 +47,7 @@ impl Desk {
     ///
     /// `Damaged(n)`: row n, counted from 1, is the first whose number isn't n, whose body is no spelling, or whose request
     /// is refused or a repeat in its place; it never comes for rows that a desk wrote.
-    /// `Keeper`: the keeper failed, which alone raises its count. `Memory`: memory was wanted and isn't there.
+    /// `Keeper`: the keeper failed, which alone raises its count. `Memory`: memory ran out.
     pub fn load<K: Keeper, L: Ledger>(
         alloc: Global,
         keeper: &mut K,

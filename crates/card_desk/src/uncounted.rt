@@ -41,9 +41,9 @@ fn apply_counted<K: Keeper, L: Ledger>(
 }
 
 /// Carries out a request, as `Desk::apply` does: one step of the machine, and the row of a newly accepted request is kept. The
-/// request has days of requests, and the keeper's rows go on from the desk's state.
+/// request has days of requests, and the keeper's rows continue the desk's state.
 ///
-/// `Keeper`: the keeper failed, which alone raises its count. `Memory`: memory was wanted and isn't there. After either the
+/// `Keeper`: the keeper failed, which alone raises its count. `Memory`: memory ran out. After either the
 /// desk's state and the rows are as they were.
 pub fn apply<K: Keeper>(
     alloc: Global,
@@ -79,7 +79,7 @@ fn see_counted<L: Ledger>(
     desk.see(alloc, ask, &mut steps)
 }
 
-/// The answer to what is asked, as `Desk::see` gives it, or want of memory. The state stays, whatever is answered.
+/// The answer to what is asked, as `Desk::see` gives it, or that memory ran out. The state stays, whatever is answered.
 pub fn see(alloc: Global, desk: &mut Desk, ask: &Ask) -> Result<View, NoMemory>
     ensures state { desk.new.state ≡ desk.old.state }
     ensures view { IfOk result (λ view. view ≡ seen desk.old.state ask.now) }
@@ -103,7 +103,7 @@ fn show_counted<L: Ledger>(
     desk.show(alloc, account, &mut steps)
 }
 
-/// What is owed on an account today, in cents, or that it isn't there, as `Desk::show` gives it; or want of memory. The state
+/// What is owed on an account today, in cents, or that it isn't there, as `Desk::show` gives it; or that memory ran out. The state
 /// stays, whatever is answered.
 pub fn show(alloc: Global, desk: &mut Desk, account: &Name) -> Result<View, NoMemory>
     ensures state { desk.new.state ≡ desk.old.state }
@@ -134,7 +134,7 @@ fn load_counted<K: Keeper, L: Ledger>(
 /// The desk that the kept rows give, as `Desk::load` gives it. The rows stay, whatever is answered.
 ///
 /// `Damaged(n)`: row n, counted from 1, is the first whose number isn't n, whose body is no spelling, or whose request is
-/// refused or a repeat in its place. `Keeper`: the keeper failed, which alone raises its count. `Memory`: memory was wanted and
+/// refused or a repeat in its place. `Keeper`: the keeper failed, which alone raises its count. `Memory`: memory ran out and
 /// isn't there.
 pub fn load<K: Keeper>(alloc: Global, keeper: &mut K) -> Result<Desk, LoadFault>
     ensures ok { IfOk result (λ d. IsLoadedOf (K.rows keeper.old) d.state) }

@@ -16,7 +16,7 @@ pub enum Ask {
     Work,
 }
 
-/// The answer to what is asked. Cents are signed; a credit balance is told as a number of at least 0.
+/// The answer to what is asked. Cents are signed; a credit balance is given as a number of at least 0.
 #[derive(Drop)]
 pub enum View {
     /// The account isn't there.

@@ -34,7 +34,7 @@ fn compare(task: &Task, other: &Task) -> Ordering
 }
 
 /// Puts tasks in order of their days, then of their accounts' names, byte by byte, those of one day and account as they
-/// stand. After want of memory they stand as they did.
+/// stand. If memory runs out, they stand as they did.
 pub fn in_work_order(tasks: &mut Vec<Task>) -> Result<(), NoMemory>
     ensures ok { OnOk result (tasks.new.items ≡ work.in_work_order tasks.old.items) }
     ensures err { OnErr result (tasks.new.items ≡ tasks.old.items) }

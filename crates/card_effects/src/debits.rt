@@ -29,7 +29,7 @@ pub(crate) fn note_of(slot: &Slot, kind: EntryKind) -> Note
 
 /// A charge of so many cents on its effective day: it uses up the credit balance first (12 CFR 1026.11(a)), and the rest is
 /// owed on the newest vintage of its category that has begun, or on its plan. Condition: segments and rates of one account,
-/// 0 to 10^15 cents, and balances of at most 10^15 cents in size. After want of memory balances and entries are as they
+/// 0 to 10^15 cents, and balances of at most 10^15 cents in size. If memory runs out, balances and entries are as they
 /// were.
 pub fn charge(
     segments: &mut Segments,
@@ -51,7 +51,7 @@ pub fn charge(
 
 /// A refund of so many cents of a credit balance (12 CFR 1026.11(a)); what the balance no longer holds is owed on the newest
 /// purchases. Condition: segments and rates of one account, 0 to 10^15 cents, and balances of at most 10^15 cents in size.
-/// After want of memory balances and entries are as they were.
+/// If memory runs out, balances and entries are as they were.
 pub fn refund(
     segments: &mut Segments,
     rates: &RateBook,
@@ -71,7 +71,7 @@ pub fn refund(
 
 /// A penalty fee that is charged on a day (12 CFR 1026.52(b)): it is debited to the newest purchases. The number is that of
 /// the post which returned a payment, and 0 for a late fee. Condition: segments and rates of one account, a fee of 0 to
-/// 10^15 cents, and balances of at most 10^15 cents in size. After want of memory balances and entries are as they were.
+/// 10^15 cents, and balances of at most 10^15 cents in size. If memory runs out, balances and entries are as they were.
 pub fn fee(
     segments: &mut Segments,
     rates: &RateBook,

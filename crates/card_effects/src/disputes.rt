@@ -46,7 +46,7 @@ fn least(claim: Num, charge: u64, balance: Cents) -> Cents
 /// A Dispute of a charge, by the charge's number, with the amount that is claimed: it moves the least of the claim, the
 /// charge's corrected cents and the balance of the charge's segment to Held (12 CFR 1026.13(d)). The segment is that of the
 /// charge's place on its corrected day. Condition: segments and rates of the account, and balances of at most 10^15 cents in
-/// size. After want of memory balances and entries are as they were.
+/// size. If memory runs out, balances and entries are as they were.
 pub fn dispute(
     posts: &Posts,
     segments: &mut Segments,

@@ -24,7 +24,7 @@ use std::alloc::Global;
 /// A payment of so many cents on its effective day (12 CFR 1026.10, .53), and its parts, by the rates of the day under this index.
 /// The minimum part is what is left of the minimum payment, or the whole where that is less. The following closing is the one after
 /// that of the day's cycle. Condition: segments and rates of one account, 0 <= minimum part <= cents <= 10^15, and balances of at
-/// most 10^15 cents in size. After want of memory balances and entries are as they were.
+/// most 10^15 cents in size. If memory runs out, balances and entries are as they were.
 pub fn payment(
     alloc: Global,
     segments: &mut Segments,
@@ -54,7 +54,7 @@ pub fn payment(
 /// A merchant's credit of so many cents on its effective day, and its parts: first to the segments of its place, the oldest
 /// first, and then as the excess of a payment (12 CFR 1026.53), by the rates of the day under this index. The following closing is
 /// the one after that of the day's cycle. Condition: segments and rates of one account, 0 to 10^15 cents, and balances of at most
-/// 10^15 cents in size. After want of memory balances and entries are as they were.
+/// 10^15 cents in size. If memory runs out, balances and entries are as they were.
 pub fn credit(
     alloc: Global,
     segments: &mut Segments,

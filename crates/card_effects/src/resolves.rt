@@ -71,7 +71,7 @@ fn charge_named(dispute: &Option<DayPost>) -> u64
 /// again (12 CFR 1026.13(e), (f)). It uses up the credit balance first (12 CFR 1026.11(a)). What the Resolve confirmed as an
 /// error lowers the charge, and not what is put back. Condition: segments and rates of the account; entries that move at most
 /// 10^15 cents together, interest apart; Held with at least what the Dispute moved; and balances of at most 10^15 cents in
-/// size. After want of memory balances and entries are as they were.
+/// size. If memory runs out, balances and entries are as they were.
 pub fn resolve(
     posts: &Posts,
     segments: &mut Segments,

@@ -53,7 +53,7 @@ fn repay_parts(rows: &mut [CycleRows], parts: &Parts, slot: &Slot) -> Result<(),
 /// Brings the parts of a payment or a merchant's credit to the rows of the cycle, one for each segment from number 2 on:
 /// what was repaid by the due date bears no interest (12 CFR 1026.54(a)(1)). Condition: no part is of Held; rows for each
 /// part's segment, Credit apart; and together at most 10^15 cents. The clause is for posts of the cycle that aren't among
-/// the payments returned so far. After want of memory all that the post has brought is taken out, so that rows to which it
+/// the payments returned so far. If memory runs out, all that the post has brought is taken out, so that rows to which it
 /// had brought nothing are as they were.
 pub fn repay(rows: &mut [CycleRows], parts: &Parts, slot: &Slot) -> Result<(), NoMemory>
     requires on_segments { AreOnSegments (length rows.old + 2) parts.now }

@@ -14,8 +14,8 @@ use card_ports::Keeper;
 use card_wire::{Route, read_json_body};
 use std::alloc::Global;
 
-/// What a request of this route comes to, whose body was read whole. A POST is carried out, and its row kept where it is newly
-/// accepted. The keeper's rows go on from the desk's state. Where the keeper failed or memory was wanted, nothing was done.
+/// What becomes of a request of this route, whose body was read whole. A POST is carried out, and its row kept where it is newly
+/// accepted. The keeper's rows continue the desk's state. Where the keeper failed or memory ran out, nothing was done.
 pub fn answer_route<K: Keeper>(
     alloc: Global,
     desk: &mut Desk,

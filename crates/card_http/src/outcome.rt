@@ -3,7 +3,7 @@ use crate::status::Status;
 use card_events::Reply;
 use card_wire::BodyFault;
 
-/// What a request that was read whole comes to.
+/// What becomes of a request that was read whole.
 #[derive(Drop)]
 pub enum Outcome {
     /// The machine replied.
@@ -42,7 +42,7 @@ impl Outcome {
         }
     }
 
-    /// What a body comes to that gives no request.
+    /// What becomes of a body that gives no request.
     pub fn unread(fault: BodyFault) -> Outcome
         ensures { result ≡ unread fault }
     {

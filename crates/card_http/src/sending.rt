@@ -17,7 +17,7 @@ const KEEPER_FAILED: &str = "{\"fault\":\"keeper\"}";
 
 const MEMORY_WANTED: &str = "{\"fault\":\"memory\"}";
 
-/// Writes an answer: all of it, or a front where the connection failed or memory was wanted.
+/// Writes an answer: all of it, or a front where the connection failed or memory ran out.
 pub fn send_answer<C: Link>(
     alloc: Global,
     link: &mut C,
@@ -39,7 +39,7 @@ pub fn send_answer<C: Link>(
     }
 }
 
-/// Writes the answer of what a request came to.
+/// Writes the answer to a request.
 #[tactic(auto, unfolding(crate::specs::Outcomes::outcome_body, crate::specs::Outcomes::keeper_text, crate::specs::Outcomes::memory_text))]
 pub fn send_outcome<C: Link>(alloc: Global, link: &mut C, json: bool, outcome: &Outcome) -> Served
     ensures { let at = wire C.Source.left C.Sink.taken C.Source.faults in

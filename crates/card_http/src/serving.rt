@@ -24,12 +24,12 @@ const LONG_HEAD: &str = "head too large\n";
 
 /// Reads one request (RFC 9112) from a connection, carries it out, and writes the answer to it. A head has at most 8,192 bytes
 /// and 64 header lines, a body at most 16,384 bytes; no byte behind the body is read. A request is carried out only once it was
-/// read whole, and its row is kept before its answer is written. The keeper's rows go on from the desk's state.
+/// read whole, and its row is kept before its answer is written. The keeper's rows continue the desk's state.
 ///
-/// - `Answered`: the whole answer was taken. Of status 503 the keeper failed, of 507 memory was wanted; nothing was done then.
+/// - `Answered`: the whole answer was taken. Of status 503 the keeper failed, of 507 memory ran out; nothing was done then.
 /// - `Cut`: the input ended inside the request, or the connection failed. Where the request was read whole, what its answer says
 ///   was done, and a front of that was taken; else nothing was done.
-/// - `Memory`: memory was wanted for the answer. What the answer says was done, and a front of it was taken.
+/// - `Memory`: memory ran out for the answer. What the answer says was done, and a front of it was taken.
 #[tactic(auto, unfolding(crate::specs::Outcomes::long_text))]
 pub fn serve_one<K: Keeper, C: Link>(
     alloc: Global,

@@ -23,7 +23,7 @@ pub enum Status {
     LongHead,
     /// 503: the keeper failed.
     Unavailable,
-    /// 507: memory was wanted and isn't there.
+    /// 507: memory ran out.
     NoStorage,
 }
 

@@ -35,8 +35,8 @@ pub fn told_text(alloc: Global, desk: &mut Desk, ask: &Ask) -> Result<Option<Str
     }
 }
 
-/// What the balances of the statement that is asked of the desk come to where they are repaid (12 CFR 1026.7(b)(12)). The desk's
-/// state stays. None: the account or the statement isn't there, or no statement is asked for. No route tells it.
+/// What it takes to repay the balances of the statement that the desk is asked for (12 CFR 1026.7(b)(12)). The desk's
+/// state stays. None: the account or the statement isn't there, or no statement is asked for. No route gives it.
 #[tactic(auto, unfolding(crate::specs::Told::repaid))]
 pub fn repaid_text(alloc: Global, desk: &mut Desk, ask: &Ask) -> Result<Option<String>, NoMemory>
     ensures state { desk.new.state ≡ desk.old.state }

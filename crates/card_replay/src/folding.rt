@@ -80,7 +80,7 @@ fn fold_closing<L: Ledger>(
 
 /// Folds to the end of a day, closing by closing, and keeps of each closing what a Book needs to be taken back to it. A closing is
 /// a break day, so that takes no step more. The Book is whole; with the past it stands for the book of these inputs, and has the
-/// marks of all closings. The day isn't before the last one folded or the opening day, and at most 2099-12-31. After want of memory
+/// marks of all closings. The day isn't before the last one folded or the opening day, and at most 2099-12-31. If memory runs out,
 /// the Book is only dropped, and each list begins with what it held.
 pub fn fold_on<L: Ledger>(
     alloc: Global,

@@ -157,7 +157,7 @@ impl Replay {
 
     /// Folds to the end of today, which isn't before the opening day, the day last reached or a day on which a post was accepted, and is
     /// at most 2099-12-31. The posts and the issued statements stay. It takes one step a break day after the day last reached, and one more where today is later and none. The Book of the day that was last
-    /// reached is kept, where a later one is. After want of memory the day last reached is as before.
+    /// reached is kept, where a later one is. If memory runs out, the day last reached is as before.
     pub fn to_day<L: Ledger>(
         &mut self,
         alloc: Global,
@@ -379,7 +379,7 @@ impl Replay {
         self.rewound_from(alloc, key, post, today, from, shared)
     }
 
-    /// The first day that a post changes against which there is no reason, told without entering it. It takes no memory.
+    /// The first day that a post changes against which there is no reason, found without entering it. It takes no memory.
     pub fn first_change(&self, post: &Post, today: Day, shared: &SharedRows) -> Day
         requires replay { IsReplay shared.now self.now }
         requires reach { MayReach today self.now }

@@ -118,7 +118,7 @@ fn keep_moved(moves: &mut Vec<Move>)
 }
 
 /// The transactions that the entries of a cycle make up, each where its first entry stands (12 CFR 1026.7(b)(2), (b)(3),
-/// (b)(6)): one post, or one fee, with the cents of its entries of one kind. Interest and holds are none, nor is what came to
+/// (b)(6)): one post, or one fee, with the cents of its entries of one kind. Interest and holds are none, nor is what adds up to
 /// 0. The entries move at most 10^17 cents in all.
 #[tactic(auto, unfolding(card_model::specs::Sheets::moves_of))]
 pub fn moves_of(alloc: Global, entries: &[Entry]) -> Result<Vec<Move>, NoMemory>

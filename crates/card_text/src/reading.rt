@@ -41,7 +41,7 @@ impl<'a> RecordReader<'a> {
         })
     }
 
-    /// Takes away the first record that is left. None comes exactly where none is; after want of memory none is.
+    /// Takes away the first record that is left. None comes exactly where none is; if memory runs out, none is.
     pub fn next_record(&mut self, alloc: Global) -> Result<Option<ByteRecord>, NoMemory>
         ensures first { IfOk result (λ found. option_map fields_of found ≡ slice_get self.old 0) }
         ensures left { OnOk result (self.new ≡ drop 1 self.old) }

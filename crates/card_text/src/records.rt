@@ -40,7 +40,7 @@ impl<'a> Records<'a> {
         Ok(Records { records, number: 0 })
     }
 
-    /// Takes away the first item that is left. None comes exactly where none is; after want of memory none is.
+    /// Takes away the first item that is left. None comes exactly where none is; if memory runs out, none is.
     pub fn next_item(&mut self, alloc: Global) -> Result<Option<Item>, NoMemory>
         ensures item { IfOk result (λ item. item ≡ slice_get self.old 0) }
         ensures left { OnOk result (self.new ≡ drop 1 self.old) }

@@ -123,7 +123,7 @@ fn push_plan(alloc: Global, text: &mut String, told: In36) -> Result<(), NoMemor
     push_total(alloc, text, told.total)
 }
 
-/// What the balances of a statement come to where they are repaid (12 CFR 1026.7(b)(12)), in two lines, each with its line feed:
+/// What it takes to repay the balances of a statement (12 CFR 1026.7(b)(12)), in two lines, each with its line feed:
 /// the months at the minimum payment alone and what is paid in them, or that something is owed after 1,200; and the payment that
 /// repays all in 36 months with what is paid in these. The balances are what is owed at the closing, each at the rate of its line;
 /// nothing is charged anew. Amounts are in units with two digits behind a point.

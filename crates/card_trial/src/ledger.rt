@@ -66,7 +66,7 @@ impl LedgerDesk {
     ghost use Rattle.card_trial.specs.Totals.{AreSmall, AreTotals};
     ghost use Rattle.card_trial.specs.declared.side.Side.TheVariants as side;
 
-    /// Takes the desk, and enters all that is recorded of its accounts. It wants 8.6 MB; after want of memory the desk is gone.
+    /// Takes the desk, and enters all that is recorded of its accounts. It wants 8.6 MB; if memory runs out, the desk is gone.
     pub fn of(alloc: Global, desk: Desk) -> Result<LedgerDesk, NoMemory>
         ensures { IfOk result (λ l. l.desk ≡ desk) }
     {
@@ -171,8 +171,8 @@ impl LedgerDesk {
         }
     }
 
-    /// What is owed on an account today, as `Desk::show` tells it. The account reaches today, and what is recorded of it since is
-    /// entered; after want of memory it may be there or not, and the totals are those of what is recorded then.
+    /// What is owed on an account today, as `Desk::show` gives it. The account reaches today, and what is recorded of it since is
+    /// entered; if memory runs out, it may be there or not, and the totals are those of what is recorded then.
     pub fn show<L: Ledger>(
         &mut self,
         alloc: Global,
@@ -197,7 +197,7 @@ impl LedgerDesk {
         }
     }
 
-    /// Brings every account to today. After want of memory some may be there and others not.
+    /// Brings every account to today. If memory runs out, some may be there and others not.
     pub fn to_today<L: Ledger>(
         &mut self,
         alloc: Global,

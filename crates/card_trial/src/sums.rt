@@ -147,7 +147,7 @@ impl Sums {
         self.cells[place(day, kind)] -= amount as u128;
     }
 
-    /// The entries of a side are entered. All sums, and 2^63 for each entry, come to less than 2^127.
+    /// The entries of a side are entered. All sums, and 2^63 for each entry, are less than 2^127.
     pub fn put_in(&mut self, side: Side, entries: &[Entry])
         requires room { whole self.old + length entries.now * 2 ^ 63 < 2 ^ 127 }
         ensures cells { (x : ℕ) (k : EntryKind) → first_calendar_day ≤ x → x ≤ last_calendar_day → cell x k self.new ≡ cell x k self.old + sum_on side x k entries.now }
@@ -193,7 +193,7 @@ impl Sums {
         signed(self.range(from, to, kind))
     }
 
-    /// The sum of all kinds from one day to another. All sums come to at most 2^120.
+    /// The sum of all kinds from one day to another. All sums are at most 2^120.
     pub fn of_all_kinds(&self, from: Day, to: Day) -> u128
         requires { whole self.now ≤ 2 ^ 120 }
         ensures value { (side : Side) (lists : List (List Entry)) → AreSums side lists self.now → result ≡ of_all_kinds side from to lists }

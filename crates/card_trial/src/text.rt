@@ -131,7 +131,7 @@ fn trial_counted<L: Ledger>(
 
 /// The trial balance of a desk from one day to another, over all accounts, which are brought to today: a line for each kind of entry
 /// with its debits and credits, the sums of these, and debits less credits. Amounts are in units with two digits behind a point.
-/// Where `to` is before `from`, all of them are 0. It wants 8.6 MB beside the text; after want of memory the desk is gone.
+/// Where `to` is before `from`, all of them are 0. It wants 8.6 MB besides the text; if memory runs out, the desk is gone.
 pub fn trial_text(alloc: Global, desk: Desk, from: Day, to: Day) -> Result<String, NoMemory>
     ensures { IfOk result (λ text. string_bytes text ≡ spec.trial_text from to desk.state) }
 {

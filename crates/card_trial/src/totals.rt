@@ -44,7 +44,7 @@ impl Totals {
         self.credits.clear();
     }
 
-    /// Enters entries, for which there is room: all sums of a side, and 2^63 cents for each entry, come to less than 2^127.
+    /// Enters entries, for which there is room: all sums of a side, and 2^63 cents for each entry, are less than 2^127.
     pub fn put_in(&mut self, entries: &[Entry])
         requires { HaveRoom (length entries.now) self.old }
         ensures { AreEntered entries.now self.old self.new }
@@ -76,7 +76,7 @@ impl Totals {
         self.credits.between(from, to, kind)
     }
 
-    /// The debits of all kinds from one day to another, in cents. All debits and all credits come to at most 2^120 each.
+    /// The debits of all kinds from one day to another, in cents. All debits and all credits are at most 2^120 each.
     pub fn all_debits(&self, from: Day, to: Day) -> u128
         requires { AreSmall self.now }
         ensures value { (lists : List (List Entry)) → AreTotals lists self.now → result ≡ of_all_kinds Side.Debits from to lists }
@@ -85,7 +85,7 @@ impl Totals {
         self.debits.of_all_kinds(from, to)
     }
 
-    /// The credits of all kinds from one day to another, in cents. All debits and all credits come to at most 2^120 each.
+    /// The credits of all kinds from one day to another, in cents. All debits and all credits are at most 2^120 each.
     pub fn all_credits(&self, from: Day, to: Day) -> u128
         requires { AreSmall self.now }
         ensures value { (lists : List (List Entry)) → AreTotals lists self.now → result ≡ of_all_kinds Side.Credits from to lists }

@@ -25,9 +25,9 @@ pub enum Command {
     Statement(Name, Num),
     /// Writes it as the book of today has it.
     Restate(Name, Num),
-    /// Writes what its balances come to where they are repaid, as it was issued.
+    /// Writes what it takes to repay its balances, as it was issued.
     Repay(Name, Num),
-    /// Writes what generated requests come to over a ledger of their own.
+    /// Writes the replies to generated requests over a ledger of their own.
     Demo(Demonstration),
     /// Answers requests over HTTP: the port to listen on, and how many connections are attended to.
     Serve { port: u16, count: u32 },
