@@ -51,7 +51,8 @@ def measure(case: str, options: Options) -> Iterator[Row]:
     with memory_room() as room:
         if case == "cycle":
             path = ledger(room, 1, LAST)
-            for said, more in (("issued", ["--issued"]), ("recomputed", [])):
+            ways: dict[str, list[str]] = {"issued": ["--issued"], "recomputed": []}
+            for said, more in ways.items():
                 seconds = audit("explain", path, "d1", str(LAST), "--form", "json", *more)
                 yield Row(f"cycle {LAST} of {LAST}, {said}", seconds, "s of a processor",
                           f"at most {MOST_SECONDS}")

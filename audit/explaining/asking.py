@@ -53,7 +53,8 @@ def hold(document: Document, path: str) -> None:
 def _statements(document: Document, issued: list[str],
                 program: Program) -> dict[tuple[str, ...], str]:
     """Earlier statements, which one server tells sooner than a call each."""
-    account, found = document.rows.account, {}
+    account = document.rows.account
+    found: dict[tuple[str, ...], str] = {}
     with Server(program) as server:
         for name in issued:
             k = name.split()[1]
