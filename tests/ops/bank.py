@@ -32,8 +32,9 @@ minus = "payment"
 NOTICE = 45
 YEAR = 366
 
-# The desk refunds a credit balance so many days before the last day for it.
-NEAR = 2
+# The desk begins so many days before the last day for it to refund a credit balance: a payment that
+# comes in with the refund leaves another one.
+NEAR = 5
 
 
 def money(cents: int) -> str:
@@ -52,7 +53,7 @@ class Bank:
         self.payments: list[tuple[str, str]] = []
         self.charges: list[tuple[str, str, int]] = []
         self.disputes: list[tuple[str, str, date]] = []
-        self.refunded: set[str] = set()
+        self.refunded: set[tuple[str, date]] = set()
         self.cash_rates: dict[str, int] = {}
 
     def opening(self) -> str:
@@ -128,13 +129,14 @@ class Bank:
             return f"notice {name} {self.key(name)} {day} purchase 2499 {effective}\n"
         return ""
 
-    def to_refund(self, tasks: str, day: date) -> list[str]:
+    def to_refund(self, tasks: str, since: date, day: date) -> list[str]:
         """The accounts whose credit balance the desk refunds in the night of a day: those whose
-        last day for it is near."""
-        near = [line for line in tasks.splitlines() if " CREDIT " in line
-                and line[:10] <= str(day + timedelta(days=NEAR)) and line not in self.refunded]
-        self.refunded.update(near)
-        return [line.split(" ")[1] for line in near]
+        last day for it is near, by the tasks of the last night, each once."""
+        near = {line.split(" ")[1] for line in tasks.splitlines() if " CREDIT " in line
+                and line[:10] <= str(day + timedelta(days=NEAR))}
+        names = sorted(name for name in near if (name, since) not in self.refunded)
+        self.refunded.update((name, since) for name in names)
+        return names
 
     def refunds(self, credits: dict[str, int]) -> str:
         """The refunds of credit balances, in cents."""

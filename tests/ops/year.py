@@ -67,8 +67,10 @@ class Year(Home):
     def bring(self, day: date) -> None:
         for name, text in self.bank.files(day).items():
             self.put(name, text)
-        tasks = self.text("statements", str(self.days[-1]), "work.txt") if self.days else ""
-        names = self.bank.to_refund(tasks, day)
+        if not self.days:
+            return
+        tasks = self.text("statements", str(self.days[-1]), "work.txt")
+        names = self.bank.to_refund(tasks, self.days[-1], day)
         if names:
             self.put(f"a-refunds-{day}.txt", self.bank.refunds(self.credits(names)))
 
