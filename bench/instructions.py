@@ -1,11 +1,11 @@
 """Instructions of the program over streams of usual work, as valgrind's callgrind counts them.
 
 They don't depend on the day. Without valgrind it gives seconds, the least of three. The streams are
-a year of 1,000 accounts in 200,000 lines; 5,000 corrections of old posts of one account; the
-demonstration of 100 accounts and 60 cycles; ten accounts of 600 cycles; 9,990 posts of one account
-in a year with a question behind each, without and with monthly bills; 100,000 openings; 100
-accounts of 24 closed cycles; and the rows of the first, loaded from a file. A second program has to
-write the same.
+a year of 1,000 accounts in 200,000 lines; one of 1,000 that follow an index, in 80,000; 5,000
+corrections of old posts of one account; the demonstration of 100 accounts and 60 cycles; ten
+accounts of 600 cycles; 9,990 posts of one account in a year with a question behind each, without
+and with monthly bills; 100,000 openings; 100 accounts of 24 closed cycles; and the rows of the
+first, loaded from a file. A second program has to write the same.
 """
 
 import os
@@ -17,6 +17,7 @@ from .measure import unit, written
 
 STREAMS: dict[str, Callable[[], Iterator[str]] | None] = {
     "ordinary": streams.ordinary,
+    "variable": lambda: streams.ordinary(1_000, 80_000, True),
     "corrections": streams.corrections,
     "demo": None,
     "ages": streams.ages,

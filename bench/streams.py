@@ -50,15 +50,22 @@ def drawn_post(drawn: Drawn, account: str, key: str, today: datetime.date) -> st
     return f"credit {account} {key} {day} purchase {100 + drawn.next(3000)}"
 
 
-def ordinary(accounts: int = 1_000, lines: int = 200_000) -> Iterator[str]:
-    """A year of accounts, each with a bill a month, and posts that are most of them of today."""
-    drawn = Drawn(7)
+def ordinary(accounts: int = 1_000, lines: int = 200_000, variable: bool = False) -> Iterator[str]:
+    """A year of accounts, each with a bill a month, and posts that are most of them of today.
+
+    Variable accounts follow an index with a row a fortnight.
+    """
+    drawn, word = Drawn(7), "openvar" if variable else "open"
+    if variable:
+        yield "index 2011-01-02 500"
     yield from HEAD
     close, cycle, posts = [], [0] * accounts, [0] * accounts
     for i in range(accounts):
         close.append(1 + drawn.next(28))
-        yield f"open acct-{i} open {FIRST} {close[i]} {RATES}"
+        yield f"{word} acct-{i} open {FIRST} {close[i]} {RATES}"
     for number in range(1, YEAR + 1):
+        if variable and number % 15 == 0:
+            yield f"index {later(number)} {500 + number % 7 * 25}"
         yield f"roll {later(number)}"
         for i in range(accounts):
             if later(number - 1).day == close[i]:
