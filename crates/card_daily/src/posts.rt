@@ -7,7 +7,7 @@ ghost use Rattle.card_bounds.specs.Bounds.{moved};
 ghost use Rattle.card_events.specs.Billing.{IsCloseDay};
 ghost use Rattle.card_events.specs.declared.anchor.Channel.{Channel};
 ghost use Rattle.card_effects.specs.Returned.{AreReturnable, parts_of};
-ghost use Rattle.card_effects.specs.Entering.{MayMove};
+ghost use Rattle.card_effects.specs.Entering.{FollowsWhereAsked, MayMove};
 ghost use Rattle.card_events.specs.History.{CorrectedPost, anchor_of};
 ghost use Rattle.card_events.specs.declared.post.Post.TheVariants as post;
 ghost use Rattle.card_closing.specs.Rows.{Rows};
@@ -38,7 +38,7 @@ use card_closing::Cycle;
 use card_effects::{charge, credit, payment, refund, repay};
 use card_events::{Anchor, Cents, Day, NoMemory, Place, Post, Slot, closing, cycle_of};
 use card_fees::{Tally, minimum_left};
-use card_rates::{DayPost, folded_at};
+use card_rates::{DayPost, RateBook, folded_at};
 use std::alloc::Global;
 
 // The closing after that of a day's cycle.
@@ -49,6 +49,20 @@ fn following_closing(anchor: &Anchor, day: Day) -> Day
     ensures { (a : Account) → a.anchor ≡ anchor.now → result ≡ second_closing a day }
 {
     closing(*anchor, cycle_of(*anchor, day) + 1).unwrap()
+}
+
+// The same where the rates have a deferred plan, which alone reads it, else the day itself.
+fn closing_to_ask(rates: &RateBook, anchor: &Anchor, day: Day) -> Day
+    requires anchor { IsOpening anchor.now }
+    requires opened { anchor.now.opened ≤ day }
+    requires last { day ≤ last_request_day }
+    ensures { (a : Account) (seen : Seen) → a.anchor ≡ anchor.now → seen.day ≡ day → FollowsWhereAsked rates.now result a seen }
+{
+    if rates.may_accrue() {
+        following_closing(anchor, day)
+    } else {
+        day
+    }
 }
 
 // The lesser of two amounts.
@@ -152,7 +166,7 @@ fn enter_payment(
         inputs.index(),
         slot,
         lesser(slot.cents, left),
-        following_closing(&anchor, slot.day),
+        closing_to_ask(&state.rates, &anchor, slot.day),
         &mut track.entries,
     )?;
     repay(&mut state.rows, &parts, slot)?;
@@ -183,7 +197,7 @@ fn enter_credit(
         inputs.index(),
         slot,
         place,
-        following_closing(&anchor, slot.day),
+        closing_to_ask(&state.rates, &anchor, slot.day),
         &mut track.entries,
     )?;
     repay(&mut state.rows, &parts, slot)?;

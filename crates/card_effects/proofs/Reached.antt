@@ -1,25 +1,32 @@
 -- Ranks, and the holdings that they make of balances.
-use Rattle.std.proofs.Common.{◌≡◌, ℕ, suc, ◌+◌, ◌-◌, ◌<◌, ◌≤◌, Bool, true, false, cond, List, [], ◌∷◌, ◌++◌, length, drop, map, refl, sym, ap, ◌∙◌, subst, arith, eqb, ltb, get_or, Option, Some, None, ℤ, pos}
+use Rattle.std.proofs.Common.{◌≡◌, ℕ, zero, suc, ◌+◌, ◌-◌, ◌<◌, ◌≤◌, Bool, true, false, ◌||◌, cond, List, [], ◌∷◌, ◌++◌, length, drop, map, refl, sym, ap, ◌∙◌, subst, arith, eqb, ltb, get_or, Option, Some, None, ℤ, pos}
 use Rattle.std.specs.List.{All, Contains, filter, list_any}
 use Rattle.std.proofs.lemmas.Bool.{false≢true}
 use Rattle.std.proofs.lemmas.List.{drop_all, drop_more}
 use Rattle.std.proofs.lemmas.List.Elements.{All-nil, All-cons, All-head, All-tail, All-weaker, All-contains_itself}
 use Rattle.card_segments.specs.Holdings as made
 use Rattle.card_segments.specs.declared.rank.Rank.{Rank}
+use Rattle.card_events.specs.SharedRows.{IndexRow}
 use Rattle.card_events.specs.declared.post.Place.{Place}
 use Rattle.card_model.specs.Allocation.{Ascends, allocated, placed}
 use Rattle.card_model.specs.Books.{Account, Book}
 use Rattle.card_model.specs.Cycles.{Seen}
-use Rattle.card_model.specs.Effects.{holding, holdings, is_in_place, second_closing}
+use Rattle.card_model.specs.Effects.{end_by, holding, holdings, is_in_place, second_closing}
 use Rattle.card_model.specs.Entries.{at_least_zero, balance}
-use Rattle.card_model.specs.Segments.{SegmentTerms}
+use Rattle.card_model.specs.Segments.{SegmentTerms, is_sort, kept_segment}
 use Rattle.card_model.specs.declared.entry.Entry.{Entry}
 use Rattle.card_model.specs.declared.holding.Holding.{Holding}
-use Rattle.card_rates.specs.RateBooks.{AreByNumber, Rates}
+use Rattle.card_model.specs.declared.segment.Sort.TheVariants.{Deferred}
+use Rattle.card_rates.specs.RateBooks.{AreByNumber, Rates, rate_of}
+use Rattle.card_rates.specs.Settled.{has_deferred}
 use Rattle.card_rates.proofs.ByNumber.{number-below}
+use Rattle.card_effects.specs.Entering.{FollowsWhereAsked}
 use Rattle.card_effects.specs.Ranks.{rank_on, ranks_on}
 use Rattle.card_effects.specs.Standing.{StandsAt, is_added}
 use Rattle.card_effects.proofs.Empties.{allocated-full, counts, placed-full}
+
+abbrev pub the_rank : ℕ → Option ℕ → Rank
+the_rank r e = record { rate = r; last_two = e }
 
 -- ---- the list of ranks
 snoc : (xs : List Rank) (r : Rank) (ys : List Rank) → (xs ++ r ∷ []) ++ ys ≡ xs ++ r ∷ ys
@@ -35,6 +42,32 @@ rank-pushed f gs d xs new all r id low l n e h =
     ∙ (ap (λ q. xs ++ q ∷ map f (drop (id + 1 - 2) gs)) e
     ∙ (ap (λ k. xs ++ f (get_or gs (id - 2) d) ∷ map f (drop k gs)) (sym next)
     ∙ (ap (λ us. xs ++ map f us) (sym (drop_more gs (id - 2) d l)) ∙ h))))
+
+-- ---- the following closing
+or-left : (a b : Bool) → a ≡ true → (a || b) ≡ true
+or-left true b e = refl
+or-left false b e = absurd (false≢true e)
+
+or-right : (a b : Bool) → b ≡ true → (a || b) ≡ true
+or-right true b e = refl
+or-right false b e = e
+
+has-one : (gs : List SegmentTerms) (g : SegmentTerms) → Contains gs g → is_sort Deferred g.sort ≡ true → has_deferred gs ≡ true
+has-one [] g (k, l, e) s = absurd (omega arith)
+has-one (x ∷ xs) g (zero, l, e) s = or-left (is_sort Deferred x.sort) (has_deferred xs) (ap (λ (v : SegmentTerms). is_sort Deferred v.sort) e ∙ s)
+has-one (x ∷ xs) g (suc k, l, e) s = or-right (is_sort Deferred x.sort) (has_deferred xs) (has-one xs g (k, omega arith, e) s)
+
+-- only a deferred plan reads it
+end-same : (until other day : ℕ) (gs : List SegmentTerms) (g : SegmentTerms) → Contains gs g → (has_deferred gs ≡ true → until ≡ other) → end_by until day (kept_segment g) ≡ end_by other day (kept_segment g)
+end-same until other day gs g c u = by (is_sort Deferred g.sort) refl
+  where
+    by : (t : Bool) → is_sort Deferred g.sort ≡ t → end_by until day (kept_segment g) ≡ end_by other day (kept_segment g)
+    by true e = ap (λ x. end_by x day (kept_segment g)) (u (has-one gs g c e))
+    by false e = rw e refl
+
+-- so a rank doesn't depend on it where no segment is one
+rank-same : (rows : List IndexRow) (rated : Rates) (until other day : ℕ) (g : SegmentTerms) → Contains rated.segments g → (has_deferred rated.segments ≡ true → until ≡ other) → rank_on rows rated until day g ≡ rank_on rows rated other day g
+rank-same rows rated until other day g c u = ap (λ (x : Option ℕ). the_rank (rate_of rows rated day g) x) (end-same until other day rated.segments g c u)
 
 -- ---- holdings of balances and ranks
 holdings-of : (pl : List ℕ) (f : SegmentTerms → Rank) (h : SegmentTerms → Holding) (m : ℕ) (gs : List SegmentTerms) (bs : List ℤ) → AreByNumber m gs → m + length gs ≡ length bs
@@ -103,7 +136,7 @@ to-come-empty a seen b rated bs es place s =
     none z e = ap (λ (y : ℤ). ltb 0 (at_least_zero y + 0)) e
 
 same-holdings : (a : Account) (seen : Seen) (b : Book) (rated : Rates) (bs : List ℤ) (es : List Entry) (until day : ℕ) (place : Option Place) (pl : List ℕ) → AreByNumber 2 rated.segments → length rated.segments + 2 ≡ length bs
-    → StandsAt a seen b rated bs es → until ≡ second_closing a seen.day → day ≡ seen.day → AreNumbersOf place rated.segments pl → made.holdings pl bs (ranks_on seen.index rated until day) ≡ map (holding a seen b place) rated.segments
+    → StandsAt a seen b rated bs es → FollowsWhereAsked rated until a seen → day ≡ seen.day → AreNumbersOf place rated.segments pl → made.holdings pl bs (ranks_on seen.index rated until day) ≡ map (holding a seen b place) rated.segments
 same-holdings a seen b rated bs es until day place pl numbers l s u d named =
     let all = rated.segments in
     holdings-of pl (rank_on seen.index rated until day) (holding a seen b place) 2 all bs numbers (omega (arith, l)) (both all (All-contains_itself all) named)
@@ -111,7 +144,8 @@ same-holdings a seen b rated bs es until day place pl numbers l s u d named =
     one : (g : SegmentTerms) → Contains rated.segments g → list_any (λ s. eqb s g.id) pl ≡ is_in_place place g → made.holding pl g.id (get_or bs g.id (pos 0)) (rank_on seen.index rated until day g) ≡ holding a seen b place g
     one g c e =
         let below = number-below 2 rated.segments g numbers c in
-        rw (u, d, s.rates g, s.sums.each g.id (omega (arith, l, below)), e) refl
+        ap (λ (r : Rank). made.holding pl g.id (get_or bs g.id (pos 0)) r) (rank-same seen.index rated until (second_closing a seen.day) day g c u)
+        ∙ rw (d, s.rates g, s.sums.each g.id (omega (arith, l, below)), e) refl
 
     both : (gs : List SegmentTerms) → All (Contains rated.segments) gs → AreNumbersOf place gs pl → All (λ (g : SegmentTerms). made.holding pl g.id (get_or bs g.id (pos 0)) (rank_on seen.index rated until day g) ≡ holding a seen b place g) gs
     both [] c n = All-nil (λ (g : SegmentTerms). made.holding pl g.id (get_or bs g.id (pos 0)) (rank_on seen.index rated until day g) ≡ holding a seen b place g)
@@ -129,7 +163,7 @@ all-ascend a seen b rated place numbers =
     (ascending (holding a seen b place) (λ g. refl) 2 0 rated.segments numbers (omega arith), ascending-some (holding a seen b place) (λ g. refl) (is_added seen.day) 2 0 rated.segments numbers (omega arith))
 
 pub allocated-is : (a : Account) (seen : Seen) (b : Book) (rated : Rates) (bs : List ℤ) (es : List Entry) (until day minimum amount : ℕ) → AreByNumber 2 rated.segments → length rated.segments + 2 ≡ length bs → StandsAt a seen b rated bs es
-    → until ≡ second_closing a seen.day → day ≡ seen.day → allocated minimum amount (made.holdings [] bs (ranks_on seen.index rated until day)) ≡ allocated minimum amount (holdings a seen b None)
+    → FollowsWhereAsked rated until a seen → day ≡ seen.day → allocated minimum amount (made.holdings [] bs (ranks_on seen.index rated until day)) ≡ allocated minimum amount (holdings a seen b None)
 allocated-is a seen b rated bs es until day minimum amount numbers l s u d =
     let h = holding a seen b None in
     let all = rated.segments in
@@ -141,7 +175,7 @@ allocated-is a seen b rated bs es until day minimum amount numbers l s u d =
     ∙ ap (λ gs. allocated minimum amount (map h gs)) (sym s.segments))))
 
 pub placed-is : (a : Account) (seen : Seen) (b : Book) (rated : Rates) (bs : List ℤ) (es : List Entry) (until day amount : ℕ) (place : Place) (pl : List ℕ) → AreByNumber 2 rated.segments → length rated.segments + 2 ≡ length bs
-    → StandsAt a seen b rated bs es → until ≡ second_closing a seen.day → day ≡ seen.day → AreNumbersOf (Some place) rated.segments pl
+    → StandsAt a seen b rated bs es → FollowsWhereAsked rated until a seen → day ≡ seen.day → AreNumbersOf (Some place) rated.segments pl
     → placed amount (made.holdings pl bs (ranks_on seen.index rated until day)) ≡ placed amount (holdings a seen b (Some place))
 placed-is a seen b rated bs es until day amount place pl numbers l s u d named =
     let h = holding a seen b (Some place) in

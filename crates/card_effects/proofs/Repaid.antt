@@ -18,7 +18,7 @@ use Rattle.card_events.specs.declared.post.Post.TheVariants as post
 use Rattle.card_model.specs.Allocation.{allocated, placed}
 use Rattle.card_model.specs.Books.{Account, Book, note_of}
 use Rattle.card_model.specs.Cycles.{IssuedRow, Seen, last_cycle}
-use Rattle.card_model.specs.Effects.{credit_parts, effect, end_by, holdings, parts_entries, payment_parts, second_closing}
+use Rattle.card_model.specs.Effects.{credit_parts, effect, end_by, holdings, parts_entries, payment_parts}
 use Rattle.card_model.specs.Entries.{at_least_zero, balance, lowers, negated}
 use Rattle.card_model.specs.Payments.{minimum_left}
 use Rattle.card_events.specs.SharedRows.{IndexRow}
@@ -33,11 +33,12 @@ use Rattle.card_rates.specs.RateBooks.{AreByNumber, Rates}
 use Rattle.card_rates.proofs.DayLaws.{same-index}
 use Rattle.card_rates.proofs.ByNumber.{number-above, number-below}
 use Rattle.card_segments.specs.Balances.{Balances, after_entries}
+use Rattle.card_effects.specs.Entering.{FollowsWhereAsked}
 use Rattle.card_effects.specs.Places.{numbers_of}
 use Rattle.card_effects.specs.Ranks.{no_rank, rank_on, ranks_on}
 use Rattle.card_effects.specs.Standing.{IsSlotOf, StandsAt, is_added}
 use Rattle.card_effects.proofs.Named.{named}
-use Rattle.card_effects.proofs.Reached.{allocated-is, placed-is}
+use Rattle.card_effects.proofs.Reached.{allocated-is, placed-is, the_rank}
 use Rattle.card_effects.proofs.Standing.{after-entries, slot-cents, slot-day, slot-note, the_note}
 
 parts-known : (note : Note) (n : ℕ) (ps : List (ℕ × ℕ)) → AreOnSegments n ps → All (λ (e : Entry). e.segment < n) (parts_entries note ps)
@@ -94,9 +95,6 @@ taken a seen b c rated before after es new note cents ps numbers l s t grown sam
 pub all-are : (rows : List IndexRow) (rated : Rates) (until day : ℕ) (ranks : List Rank) (n : ℕ) → ranks ≡ ranks_on rows rated until day → length ranks ≡ n → length rated.segments + 2 ≡ n
 all-are rows rated until day ranks n e l = omega (arith, ap length e, l, length-map rated.segments (rank_on rows rated until day))
 
-abbrev the_rank : ℕ → Option ℕ → Rank
-the_rank r e = record { rate = r; last_two = e }
-
 -- the ranks under rows that give the day's index are those under the rows that the day sees
 pub ranks-seen : (rows : List IndexRow) (seen : Seen) (rated : Rates) (until day : ℕ) → day ≡ seen.day → index_on rows seen.day ≡ index_on seen.index seen.day → ranks_on rows rated until day ≡ ranks_on seen.index rated until day
 ranks-seen rows seen rated until day d e =
@@ -110,7 +108,7 @@ parts-are : (xs : List Entry) (n m : Note) (ps qs : List (ℕ × ℕ)) → n ≡
 parts-are xs n m ps qs e f = sym (ap (λ (u : Note). xs ++ parts_entries u ps) e ∙ ap (λ us. xs ++ parts_entries m us) f)
 
 pub payment-stands : (issued : Option IssuedRow) (a : Account) (seen : Seen) (p : CorrectedPost) (b : Book) (day minute cents : ℕ) (by : Channel) (rated : Rates) (before after : Balances) (es new : List Entry) (slot : Slot) (until x y : ℕ) (part : ℤ) (ranks : List Rank) (note : Note) (ps : List (ℕ × ℕ))
-    → AreByNumber 2 rated.segments → length ranks ≡ length before.balances → StandsAt a seen b rated before.balances es → IsSlotOf seen p slot → until ≡ second_closing a seen.day → part ≡ pos (minimum_of seen p b)
+    → AreByNumber 2 rated.segments → length ranks ≡ length before.balances → StandsAt a seen b rated before.balances es → IsSlotOf seen p slot → FollowsWhereAsked rated until a seen → part ≡ pos (minimum_of seen p b)
     → ranks ≡ ranks_on seen.index rated until slot.day → x ≡ at_least_zero part → y ≡ at_least_zero slot.cents → ps ≡ allocated x y (made.holdings [] before.balances ranks) → note ≡ the_note slot.day kind.Payment slot.number
     → AreTaken before after es new note y ps → StandsAt a seen (effect issued a seen p (post.Payment day minute by cents) b) rated after.balances new
 unfolding effect payment_parts
@@ -126,7 +124,7 @@ payment-stands issued a seen p b day minute cents by rated before after es new s
     refl
 
 pub credit-stands : (issued : Option IssuedRow) (a : Account) (seen : Seen) (p : CorrectedPost) (b : Book) (day cents : ℕ) (place : Place) (rated : Rates) (before after : Balances) (es new : List Entry) (slot : Slot) (until y : ℕ) (ranks : List Rank) (ids : List ℕ) (note : Note) (ps : List (ℕ × ℕ))
-    → AreByNumber 2 rated.segments → length ranks ≡ length before.balances → StandsAt a seen b rated before.balances es → IsSlotOf seen p slot → until ≡ second_closing a seen.day
+    → AreByNumber 2 rated.segments → length ranks ≡ length before.balances → StandsAt a seen b rated before.balances es → IsSlotOf seen p slot → FollowsWhereAsked rated until a seen
     → ranks ≡ ranks_on seen.index rated until slot.day → ids ≡ numbers_of place rated.segments → y ≡ at_least_zero slot.cents → ps ≡ placed y (made.holdings ids before.balances ranks) → note ≡ the_note slot.day kind.Credit slot.number
     → AreTaken before after es new note y ps → StandsAt a seen (effect issued a seen p (post.Credit day place cents) b) rated after.balances new
 unfolding effect credit_parts

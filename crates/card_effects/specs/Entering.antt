@@ -1,5 +1,5 @@
 -- What the calls that enter a post on its day ask, and what stands after them.
-use Rattle.std.specs.Prelude.{ℕ, ◌≡◌, List, Option, Result, OnErr, ℤ, pos, min, ◌≤ℤ◌}
+use Rattle.std.specs.Prelude.{ℕ, ◌≡◌, true, List, Option, Result, OnErr, ℤ, pos, min, ◌≤ℤ◌}
 use Rattle.card_events.specs.declared.anchor.Channel.{Channel}
 use Rattle.card_events.specs.History.{CorrectedPost}
 use Rattle.card_events.specs.SharedRows.{IndexRow}
@@ -18,6 +18,7 @@ use Rattle.card_model.specs.Rates.{index_on}
 use Rattle.card_model.specs.declared.entry.Entry.{Entry}
 use Rattle.card_model.specs.declared.fee.Fee.{Fee}
 use Rattle.card_rates.specs.RateBooks.{Rates}
+use Rattle.card_rates.specs.Settled.{has_deferred}
 use Rattle.card_segments.specs.Balances.{AreWithin, Balances}
 use Rattle.card_effects.specs.Returned.{AreOfThose}
 use Rattle.card_effects.specs.Standing.{AreRated, IsSlotOf, StandsAt}
@@ -61,14 +62,18 @@ PutsBack payment slot rated old entries new after =
     → StandsAt a seen (model.returned a seen p.number payment b) rated new.balances after
 
 -- ---- premises
--- this closing is the one after that of today's cycle, and these rows give today's index
-pub record ClosesNext (rows : List IndexRow) (closing : ℕ) (issued : Option IssuedRow) (a : Account) (seen : Seen) (p : CorrectedPost) (b : Book) : Type 0 where
-  pub following : closing ≡ second_closing a seen.day
+-- this closing is the one after that of today's cycle, or no segment of the rates is a deferred plan: nothing else reads it
+abbrev pub FollowsWhereAsked : Rates → ℕ → Account → Seen → Type 0
+FollowsWhereAsked rated closing a seen = has_deferred rated.segments ≡ true → closing ≡ second_closing a seen.day
+
+-- this closing follows where it is asked, and these rows give today's index
+pub record ClosesNext (rows : List IndexRow) (closing : ℕ) (rated : Rates) (issued : Option IssuedRow) (a : Account) (seen : Seen) (p : CorrectedPost) (b : Book) : Type 0 where
+  pub following : FollowsWhereAsked rated closing a seen
   pub index : index_on rows seen.day ≡ index_on seen.index seen.day
 
 -- so it is, and the minimum part is what is left of the minimum payment, or the whole payment where that is less
-pub record IsSplit (rows : List IndexRow) (closing : ℕ) (minimum_part : ℤ) (issued : Option IssuedRow) (a : Account) (seen : Seen) (p : CorrectedPost) (b : Book) : Type 0 where
-  pub following : closing ≡ second_closing a seen.day
+pub record IsSplit (rows : List IndexRow) (closing : ℕ) (rated : Rates) (minimum_part : ℤ) (issued : Option IssuedRow) (a : Account) (seen : Seen) (p : CorrectedPost) (b : Book) : Type 0 where
+  pub following : FollowsWhereAsked rated closing a seen
   pub index : index_on rows seen.day ≡ index_on seen.index seen.day
   pub minimum : minimum_part ≡ pos (min p.cents (minimum_left seen p (last_cycle b.cycles)))
 
@@ -81,12 +86,12 @@ pub record IsReturnOf (payment : ℕ) (charged : Option Fee) (rated : Rates) (is
 -- under these rows of the index a payment is entered so, whatever its day, its minute, its cents and its channel
 abbrev pub EntersPayment : List IndexRow → ℕ → ℤ → Slot → Rates → Balances → List Entry → Balances → List Entry → Type 0
 EntersPayment rows following minimum_part slot rated old entries new after =
-    (day minute cents : ℕ) (by : Channel) → EntersWhere (IsSplit rows following minimum_part) (post.Payment day minute by cents) slot rated old entries new after
+    (day minute cents : ℕ) (by : Channel) → EntersWhere (IsSplit rows following rated minimum_part) (post.Payment day minute by cents) slot rated old entries new after
 
 -- so is a merchant's credit on a place
 abbrev pub EntersCredit : List IndexRow → ℕ → Place → Slot → Rates → Balances → List Entry → Balances → List Entry → Type 0
 EntersCredit rows following place slot rated old entries new after =
-    (day cents : ℕ) → EntersWhere (ClosesNext rows following) (post.Credit day place cents) slot rated old entries new after
+    (day cents : ℕ) → EntersWhere (ClosesNext rows following rated) (post.Credit day place cents) slot rated old entries new after
 
 -- ---- what is left
 -- the segments stay, and after want of memory balances and entries are as they were

@@ -23,8 +23,9 @@ use std::alloc::Global;
 
 /// A payment of so many cents on its effective day (12 CFR 1026.10, .53), and its parts, by the rates of the day under this index.
 /// The minimum part is what is left of the minimum payment, or the whole where that is less. The following closing is the one after
-/// that of the day's cycle. Condition: segments and rates of one account, 0 <= minimum part <= cents <= 10^15, and balances of at
-/// most 10^15 cents in size. If memory runs out, balances and entries are as they were.
+/// that of the day's cycle; where no segment of the rates is a deferred plan, any day will do. Condition: segments and rates of one
+/// account, 0 <= minimum part <= cents <= 10^15, and balances of at most 10^15 cents in size. If memory runs out, balances and
+/// entries are as they were.
 pub fn payment(
     alloc: Global,
     segments: &mut Segments,
@@ -53,8 +54,9 @@ pub fn payment(
 
 /// A merchant's credit of so many cents on its effective day, and its parts: first to the segments of its place, the oldest
 /// first, and then as the excess of a payment (12 CFR 1026.53), by the rates of the day under this index. The following closing is
-/// the one after that of the day's cycle. Condition: segments and rates of one account, 0 to 10^15 cents, and balances of at most
-/// 10^15 cents in size. If memory runs out, balances and entries are as they were.
+/// the one after that of the day's cycle; where no segment of the rates is a deferred plan, any day will do. Condition: segments and
+/// rates of one account, 0 to 10^15 cents, and balances of at most 10^15 cents in size. If memory runs out, balances and entries
+/// are as they were.
 pub fn credit(
     alloc: Global,
     segments: &mut Segments,

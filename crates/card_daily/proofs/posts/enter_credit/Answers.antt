@@ -16,7 +16,7 @@ pub returns-clause-stands : goal.returns-clause-stands
 returns-clause-stands c on cents issued first returned rows_by p b l is h =
     let g = c.args.inputs.now in
     let day = c.args.slot.now.day in
-    let following = c.following_closing.ensures (account_in g) (sym c.anchor-anchor.ensures.value) in
+    let following = c.closing_to_ask.ensures (account_in g) (seen_in g day) (sym c.anchor-anchor.ensures.value) refl in
     let at = c.in_ok-parts.ensures.stands on cents issued (account_in g) (seen_in g day) p b h.at is (record { following = following; index = ap (λ (rows : List IndexRow). index_on rows day) c.index.ensures ∙ sym (index-up_to day day g.shared.index (omega arith)) }) in
     let new : State = record { segments = c.credit.new.segments; rates = c.args.state.now.rates; rows = with_items c.args.state.now.rows c.repay.new.rows; accruals = c.args.state.now.accruals } in
     let after : Track = record { entries = c.credit.new.out; cycles = c.args.track.now.cycles; fees = c.args.track.now.fees } in

@@ -33,7 +33,7 @@ returns-clause-stands c on minute cents by issued first returned rows_by p b un 
     let part = to_z-of_z w64 c.lesser.result (record { sfits = c.lesser.type_inv }) ∙ (lesser-is c.lesser.result _ _ p.cents _ c.lesser.ensures.value (handed c.args.slot.now.cents c.requires.asked.amount c.requires.asked.limit ∙ ap (λ (s : Slot). s.cents) is.same)
     left
     ∙ ap (λ (cs : List Cycle). pos (min p.cents (minimum_left (seen_in g day) p (last_cycle cs)))) (sym un.cycles)) in
-    let following = c.following_closing.ensures (account_in g) (sym c.anchor-anchor.ensures.value) in
+    let following = c.closing_to_ask.ensures (account_in g) (seen_in g day) (sym c.anchor-anchor.ensures.value) refl in
     let at = c.in_ok-parts.ensures.stands on minute cents by issued (account_in g) (seen_in g day) p b h.at is (record { following = following; index = ap (λ (rows : List IndexRow). index_on rows day) c.index.ensures ∙ sym (index-up_to day day g.shared.index (omega arith)); minimum = part }) in
     let new : State = record { segments = c.payment.new.segments; rates = c.args.state.now.rates; rows = with_items c.args.state.now.rows c.repay.new.rows; accruals = c.args.state.now.accruals } in
     let after : Track = record { entries = c.payment.new.out; cycles = c.args.track.now.cycles; fees = c.args.track.now.fees } in
