@@ -3,9 +3,6 @@ use Rattle.std.proofs.lemmas.Result.{on_ok_weaker}
 use Rattle.card_cases.proofs.Aged.{charge-of, dated-charge, near, six, takes-charge, whole}
 use Rattle.card_cases.proofs.desks.charge.Goals as goal
 
-pub returns-in_err-request-clause-whole : goal.returns-in_err-request-clause-whole
-returns-in_err-request-clause-whole g c = whole
-
 pub carry-requires-clause-dated : goal.carry-requires-clause-dated
 carry-requires-clause-dated g c =
     let is = charge-of c.post_of-request.result _ c.day.result c.num.result c.post_of-request.ensures refl c.day.ensures c.num.ensures in

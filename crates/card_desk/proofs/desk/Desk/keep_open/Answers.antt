@@ -134,9 +134,6 @@ open-requires-clause-sound g c =
 pub returns-in_err-row-clause-reached : goal.returns-in_err-row-clause-reached
 returns-in_err-row-clause-reached g c = failed-moves _ None _ _ _ c.from_residual.ensures.0 refl
 
-pub returns-in_err-name-clause-reached : goal.returns-in_err-name-clause-reached
-returns-in_err-name-clause-reached g c = failed-moves _ None _ _ _ c.from_residual-in_err-name.ensures.0 refl
-
 pub returns-in_err-made-clause-reached : goal.returns-in_err-made-clause-reached
 returns-in_err-made-clause-reached g c = failed-moves _ None _ _ _ c.from_residual-in_err-made.ensures.0 refl
 

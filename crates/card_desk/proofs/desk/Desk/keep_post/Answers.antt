@@ -280,10 +280,6 @@ pub returns-in_err-row-clause-most : goal.returns-in_err-row-clause-most
 returns-in_err-row-clause-most g c =
     none_to_keep c.args.self.now.state (reached_at c.args.self.now (Some c.args.at)) (outcome_in c.args.self.now.state c.args.given.now.account.now c.args.given.now.key.now c.args.given.now.post.now) c.args.steps.now
 
-pub returns-in_err-key-clause-most : goal.returns-in_err-key-clause-most
-returns-in_err-key-clause-most g c =
-    none_to_keep c.args.self.now.state (reached_at c.args.self.now (Some c.args.at)) (outcome_in c.args.self.now.state c.args.given.now.account.now c.args.given.now.key.now c.args.given.now.post.now) c.args.steps.now
-
 pub returns-in_err-change-clause-most : goal.returns-in_err-change-clause-most
 returns-in_err-change-clause-most g c =
     let d = c.self.inside in
@@ -351,9 +347,6 @@ returns-clause-most g c =
 pub returns-in_err-row-clause-reached : goal.returns-in_err-row-clause-reached
 returns-in_err-row-clause-reached g c = failed-moves _ (Some c.args.at) _ _ _ c.from_residual.ensures.0 (none-moves c.args.self.now c.args.at)
 
-pub returns-in_err-key-clause-reached : goal.returns-in_err-key-clause-reached
-returns-in_err-key-clause-reached g c = failed-moves _ (Some c.args.at) _ _ _ c.from_residual-in_err-key.ensures.0 (none-moves c.args.self.now c.args.at)
-
 pub returns-in_err-change-clause-reached : goal.returns-in_err-change-clause-reached
 returns-in_err-change-clause-reached g c =
     let d = c.self.inside in
@@ -415,9 +408,6 @@ returns-clause-reached g c =
 -- ---- what is recorded
 pub returns-in_err-row-clause-recorded : goal.returns-in_err-row-clause-recorded
 returns-in_err-row-clause-recorded g c = unchanged c.args.at c.args.self.now.recorded
-
-pub returns-in_err-key-clause-recorded : goal.returns-in_err-key-clause-recorded
-returns-in_err-key-clause-recorded g c = unchanged c.args.at c.args.self.now.recorded
 
 pub returns-in_err-change-clause-recorded : goal.returns-in_err-change-clause-recorded
 returns-in_err-change-clause-recorded g c =
