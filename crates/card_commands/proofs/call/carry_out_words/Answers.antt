@@ -23,7 +23,7 @@ returns-in-Ok g c =
     let side = sink_side g.O.Sink.taken g.O.Sink.faults c.usage.new.output in
     comes_of old (with_sink old side) None (command_of (map string_bytes c.args.words.now)) ended.Usage (c.in-None.ensures) (usage_said old side c.in-Ok.ensures.ok)
 
-pub returns-in-Err : goal.returns-in-Err-usage
+pub returns-in-Err : goal.returns-in-Err
 returns-in-Err g c =
     let at = world g.I.Source.left g.I.Source.faults g.O.Sink.taken g.O.Sink.faults g.K.Keeper.rows g.K.Keeper.faults g.D.Door.visits g.D.Door.faults in
     let old = at c.args.input.now c.args.output.now c.args.keeper.now c.args.door.now in
