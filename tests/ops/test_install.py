@@ -58,7 +58,7 @@ class Installation(Case):
         environment = {name: value for name, value in os.environ.items() if name != "BILLCTL"}
         for words, told in ((["sh", script, self.file], "same: "),
                             ([os.path.join(root, "opt/billctl/ops/ledger"), "explain", self.file,
-                              "anna", "1"], "HOW CYCLE 1 OF anna WAS COMPUTED")):
+                              "anna", "1"], "STATEMENT anna CYCLE 1")):
             done = subprocess.run(words, cwd=self.room, capture_output=True, text=True,
                                   env=environment, check=False)
             self.assertIn(told, done.stdout, done.stderr)
