@@ -13,7 +13,7 @@ ghost use Rattle.card_model.specs.CycleDays.{HasItsDays};
 ghost use Rattle.card_fees.specs.DueLaws.{issue_day, issued_fees};
 ghost use Rattle.card_model.specs.Caps.{row_for};
 ghost use Rattle.card_model.specs.Cycles.{Cycle, Seen, last_cycle};
-ghost use Rattle.card_model.specs.DueDates as model;
+ghost use Rattle.card_model.specs.Fees as model;
 ghost use Rattle.card_model.specs.Fees.{with_fee};
 ghost use Rattle.card_model.specs.Payments.{due_cycle_of};
 ghost use Rattle.card_daily.specs.Given.{IsDayOf, Tallies, opened_in, row_in, seen_in};
