@@ -29,8 +29,8 @@ class Allocation:
         if left is not None and left.value > 0:
             first = b.nodes.make("least", [cents, left], f"minimum part of the {name}",
                                  "minimum part")
-            rest = b.nodes.make("difference", [cents, first], "what is above the minimum part",
-                                "excess")
+            rest = b.nodes.make("difference", [cents, first], f"rest of the {name}, above its "
+                                "minimum part", "excess")
             amounts.append(("minimum", first))
         amounts.append(("excess", rest))
         return self._enter(self._steps(amounts, [], on, name), name, on)
@@ -46,8 +46,10 @@ class Allocation:
         b, found = self.balances, []
         for s in sorted({segment for segment, _ in steps}):
             of = [part for segment, part in steps if segment == s]
+            alone = len({segment for segment, _ in steps}) == 1
+            whole = "the whole" if alone else "all parts of the"
             part = of[0] if len(of) == 1 else b.nodes.make(
-                "sum", of, f"part of the {name} for {b.segments[s].name}", of[0].rule)
+                "sum", of, f"{whole} {name}, for {b.segments[s].name}", of[0].rule)
             entry = b.nodes.make("product", [part], f"{name} on {b.segments[s].name}", part.rule,
                                  by=-1, on=on)
             b.enter(s, entry, f"the {name}", part.rule, on)
@@ -61,15 +63,17 @@ class Allocation:
         day_ranks = ranks(b.book, on.value)
         steps: Parts = []
         for kind, rest in amounts:
+            of = ("the" if len(amounts) == 1 else "minimum part of the" if kind == "minimum" else
+                  "rest of the")
             while rest.value > 0:
                 s = next_cent([n.value for n in left], day_ranks, kind, first)
                 if s == CREDIT:
-                    part = b.nodes.make("first_of", [rest], f"part of the {name} for the credit "
-                                        "balance: nothing else is owed", "no balance")
+                    part = b.nodes.make("first_of", [rest], f"{of} {name}, for the credit balance, "
+                                        "as nothing else is owed", "no balance")
                 else:
                     rule, why, said = self._why(kind, s, left, first, on)
-                    part = b.nodes.make("least", [rest, left[s]], f"part of the {name} for "
-                                        f"{b.segments[s].name}: {said}", rule, why=why)
+                    part = b.nodes.make("least", [rest, left[s]], f"{of} {name}, for "
+                                        f"{b.segments[s].name}, {said}", rule, why=why)
                     left[s] = b.nodes.make("difference", [left[s], part],
                                            f"left on {b.segments[s].name}", rule)
                 steps.append((s, part))

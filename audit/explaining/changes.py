@@ -5,7 +5,7 @@ from dataclasses import dataclass, field
 from typing import Any, NamedTuple
 
 from ..book import Book
-from ..days import closing, day_text
+from ..days import closing, day_text, due
 from ..fold import advance
 from ..money import money_text
 from ..statement import Statement, statement_of
@@ -41,11 +41,11 @@ class Change:
     after: int
     would: int | None = None  # what it would be, were it not held down by the issued statement
 
-    def line(self) -> str:
+    def line(self, due_day: int) -> str:
         """The number before and after, what it would be without its limit, and what it is."""
-        would = "" if self.would is None else _shown(self.would, self.unit)
+        would = "-" if self.would is None else _shown(self.would, self.unit)
         return (f"{_shown(self.before, self.unit):>14} {_shown(self.after, self.unit):>14} "
-                f"{would:>14}  {named(self.word)}")
+                f"{would:>14}  {named(self.word, due_day)}{'' if self.would is None else ', held'}")
 
 
 @dataclass
@@ -64,16 +64,16 @@ _NAMES = {"previous": "previous balance", "corrections": "earlier corrections",
           "fees": "fees this period", "interest": "interest this period",
           "year-fees": "fees this year", "year-interest": "interest this year",
           "balance": "new balance", "dispute": "in dispute", "minimum": "minimum payment",
-          "grace": "grace amount: paid in full, purchases bear no interest"}
+          "grace": "grace amount: pays it in full by {}"}
 _OF = {"interest": "interest of", "average": "average balance of", "rate": "rate of",
        "accrued": "interest accrued on"}
 
 
-def named(word: str) -> str:
+def named(word: str, due_day: int) -> str:
     """A number's word as a text has it: `average purchase:2` is the average balance of that."""
     first, _, rest = word.partition(" ")
     if not rest:
-        return _NAMES[word]
+        return _NAMES[word].format(day_text(due_day))
     if first in _OF:
         return f"{_OF[first]} {rest}"
     post, _, day = rest.partition(" of ")
@@ -224,28 +224,44 @@ class Changes:
         if not self.steps:
             return f"{out[0]}\n\nNo later post changed a number of it.\n"
         out += [*_wrapped(
-            f"Statement {self.k} itself stays as it was issued. By all kept rows, up to number "
-            f"{self.rows.kept[-1][0]}, the cycle has other numbers. Each post that changed one is "
-            "named below, with the number before it and after it."), ""]
+            f"Statement {self.k} itself, as it was sent, stays as it was issued. By all rows of "
+            f"the file, up to row {self.rows.kept[-1][0]}, the cycle now has other numbers than "
+            "that statement; what is owed and later statements are made with these. Each post that "
+            "changed one is named below, with the number BEFORE it and AFTER it."), "",
+            *self._held()]
+        due_day = due(self.account.anchor, self.k) or 0
         for s in self.steps:
             out += [f"{s.name.upper()}, POST {s.post} (key {s.key}, entered {day_text(s.entered)}, "
                     f"row {s.seq} of the file)", *_wrapped(s.does), "",
-                    f"{'BEFORE':>14} {'AFTER':>14} {'WITHOUT LIMIT':>14}  NUMBER",
-                    *(c.line().rstrip() for c in s.changes), ""]
-        return "\n".join(out + self._behind()) + "\n"
-
-    def _behind(self) -> list[str]:
-        """Why numbers stay, and where to read on."""
-        out = []
-        if any(c.would is not None for s in self.steps for c in s.changes):
-            out += _wrapped(
-                "WITHOUT LIMIT is what a number would be, were it not held down to that of "
-                f"statement {self.k} as issued. {PARTS['caps'][0]} That is the ledger's own rule "
-                "(docs/RULES.md, \"No correction raises what was issued\"); Regulation Z has no "
-                "rule on this.") + [""]
+                    f"{'BEFORE':>14} {'AFTER':>14} {'IF NOT HELD':>14}  NUMBER",
+                    *(c.line(due_day).rstrip() for c in s.changes), "", *self._owed(s)]
         where = f"python3 -m audit explain FILE {self.rows.account} {self.k}"
-        return out + [f"How each number follows: {where}",
-                      f"and as it was issued:    {where} --issued"]
+        out += ["To see how each number follows:", f"    now        {where}",
+                f"    as issued  {where} --issued"]
+        return "\n".join(out) + "\n"
+
+    def _held(self) -> list[str]:
+        """Why numbers stay."""
+        if not any(c.would is not None for s in self.steps for c in s.changes):
+            return []
+        return _wrapped(
+            f"{PARTS['caps'][0]} So a number that would rise above statement {self.k} is held at "
+            "what it was there: its line ends with \"held\". IF NOT HELD is what that number alone "
+            "would be, with the others as they are under AFTER; where a number isn't held it has "
+            "\"-\". This is the ledger's own rule (docs/RULES.md, \"No correction raises what was "
+            "issued\"); Regulation Z has no rule on it.") + [""]
+
+    def _owed(self, step: Step) -> list[str]:
+        """When what the new balance rose by is asked for."""
+        more = sum(c.after - c.before for c in step.changes if c.word == "balance")
+        if more <= 0:
+            return []
+        held = any(c.would is not None for c in step.changes)
+        return _wrapped(
+            f"{'The new balance is not held: ' if held else 'By this post '}"
+            f"{money_text(more)} more is owed. The next statement that "
+            "is issued after this post shows what the post changed under EARLIER CORRECTIONS, and "
+            "its new balance and minimum payment are made with it.") + [""]
 
     def json(self) -> dict[str, Any]:
         """The steps, with nodes from each issued number to the one of now."""

@@ -6,6 +6,7 @@ from ..days import day_text
 from ..statement import Statement, restated
 from .account import NotThere, Watching
 from .derivation import Derivation
+from .differences import same_here
 from .document import Document
 from .facts import Rows
 from .numbers import StatementNumbers, export_numbers
@@ -76,6 +77,7 @@ class Cycles:
             document.add(export_numbers(derivation, "export", *document.entries))
         if not whole:
             return
+        document.same = same_here(derivation, numbers.k)
         document.close(derivation.facts.closing(numbers.k).value,
                        derivation.book.corrected.effective)
         named = {node.more["text"] for node in document.nodes if node.how == "shown"}

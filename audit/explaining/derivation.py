@@ -172,8 +172,9 @@ class Derivation:
         node.said = minimum_of(balance, share, pct, charges, floor, late, node.value)
         if self.book.issued_cycle(k) is not None:
             shown = self.issued.minimum(k)
-            node = make("least", [node, shown], f"minimum payment of cycle {k}, no more than "
-                        f"statement {k} shows as issued", "caps", said=held_down(k, node, shown))
+            node = make("least", [node, shown], f"minimum payment of cycle {k}, at most what "
+                        f"statement {k} asked for when it was issued", "caps",
+                        said=held_down(k, node, shown))
         assert node.value == cycle.minimum, (k, node.value, cycle.minimum)
         return node
 
@@ -192,8 +193,9 @@ class Derivation:
                                "grace amount")
         if self.book.issued_cycle(k) is not None:
             shown = self.issued.grace(k)
-            node = self.nodes.make("least", [node, shown], f"grace amount of cycle {k}, no more "
-                                   f"than statement {k} had as issued", "caps",
+            node = self.nodes.make("least", [node, shown], f"grace amount of cycle {k} (it "
+                                   "pays the statement in full), at most that of statement "
+                                   f"{k} when it was issued", "caps",
                                    said=held_down(k, node, shown))
         assert node.value == cycle.grace_amount, (k, node.value, cycle.grace_amount)
         return node

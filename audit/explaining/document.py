@@ -23,6 +23,7 @@ class Document:
         self.numbers: list[Number] = []
         self.nodes: list[Node] = []
         self.left_out: list[tuple[int, str]] = []
+        self.same = set[str]()  # rules whose reading by the regulation gives the same here
         self.entries = (0, 0)  # of the exported ones, from a place to another
 
     def add(self, printed: Printed) -> None:

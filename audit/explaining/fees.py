@@ -46,12 +46,20 @@ class Fees:
         cap = self.book.issued_cycle(fee.cycle)
         if cap is not None:
             of = [node] + [self.all.issued.fee(fee.cycle, f) for f in cap.fees if f.due_cycle == k]
-            node = self.nodes.make("least", of, f"{what}, no more than the statement issued for "
-                                   f"cycle {fee.cycle} has", "caps",
+            node = self.nodes.make("least", of, f"{what}, at most that of statement {fee.cycle} "
+                                   "when it was issued", "caps",
                                    said=held_down(fee.cycle, node, of[-1]))
-        said = fee_of(name, self._missed(fee), least.of[0], fee.repeat, least, least.value)
+        said = fee_of(name, self._missed(fee), least.of[0], (fee.repeat, self._window(fee)), least,
+                      least.value)
         said += f" {node.said}" if node.said else ""
         return self.nodes.make("first_of", [node], what, "fee when", on=day, why=why, said=said)
+
+    def _window(self, fee: Fee) -> str:
+        """The cycles whose fees decide between the first and the repeat amount, in words."""
+        cycle = cycle_of(self.book.anchor, fee.day)
+        if cycle > WINDOW:
+            return "this cycle or the six before"
+        return f"cycles 1 to {cycle}, all there were" if cycle > 1 else "this first cycle"
 
     def _missed(self, fee: Fee) -> str:
         """What happened, in words."""
@@ -112,6 +120,6 @@ class Fees:
                                  "came before it", "tier", by=1)
         amounts = [self.facts.in_force("feerow", field, day, f"{said} amount of the fee table on "
                                        f"{day_text(day.value)}", "table")
-                   for field, said in (("repeat", "repeated"), ("first", "first"))]
+                   for field, said in (("repeat", "repeat"), ("first", "first"))]
         return self.nodes.make("choose", [repeat, *amounts], f"the fee table's "
-                               f"{'repeated' if fee.repeat else 'first'} amount", "tier")
+                               f"{'repeat' if fee.repeat else 'first'} amount", "tier")

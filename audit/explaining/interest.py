@@ -8,7 +8,7 @@ from ..interest import case_of, repaid
 from ..money import CENTS_LIMIT
 from ..segments import Segment
 from .nodes import Node
-from .sentences import held_down, interest_of_days
+from .sentences import held_down, interest_of_days, returned_since
 
 if TYPE_CHECKING:
     from .derivation import Derivation
@@ -118,8 +118,18 @@ class Interest:
     def _said(self, segment: Segment, k: int, less: bool, why: list[Node]) -> str:
         """Why a segment bears interest in cycle k; the last truth is about statement k-1 or k-2."""
         j = k - 1 if less else k - 2
-        return interest_of_days(segment.sort == "purchase", why[-1] if why else None, j,
-                                due(self.book.anchor, j) or 0, less)
+        until = due(self.book.anchor, j) or 0
+        back = self._returned(segment.number, k, until) if less else ""
+        return interest_of_days(segment.sort == "purchase", why[-1] if why else None, j, until,
+                                less, back)
+
+    def _returned(self, s: int, k: int, until: int) -> str:
+        """The payments of a balance up to the due date that were returned by the closing."""
+        first, closing = self.facts.first(k).value, self.facts.closing(k).value
+        on = {e.post for e in self.book.of_segment[s] if first <= e.day <= until}
+        return "".join(returned_since(self.facts.post_name(p.number), p.return_effective, closing)
+                       for p in self.book.corrected.payments if p.number in on
+                       and p.return_effective is not None and p.return_effective <= closing)
 
     def _average(self, segment: Segment, k: int, runs: list[Run], first: Node,
                  last: Node) -> Node:
@@ -200,8 +210,9 @@ class Interest:
         if self.book.issued_cycle(k) is not None and node.value > 0:
             shown = self.all.issued.interest(k, s)
             node = self.nodes.make("least", [node, shown], f"interest of "
-                                   f"{self.book.segments[s].name}, no more than statement {k} "
-                                   "shows as issued", "caps", said=held_down(k, node, shown))
+                                   f"{self.book.segments[s].name}, at most what statement {k} "
+                                   "charged when it was issued", "caps",
+                                   said=held_down(k, node, shown))
         return node
 
     # -- deferred interest ------------------------------------------------------------------

@@ -123,6 +123,8 @@ def value_text(value: Any, unit: str) -> str:
     if unit == "cents x billionths":
         sign = "-" if value < 0 else ""
         return f"{sign}{abs(value) // 10 ** 11}.{abs(value) % 10 ** 11:011d}"
+    if unit == "cents x basis points":
+        return f"{value // 10 ** 6}.{value % 10 ** 6:06d}"
     if unit == "cents x days":
         return money_text(value)
     if unit == "day":

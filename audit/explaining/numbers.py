@@ -90,7 +90,7 @@ class StatementNumbers:
         self._deferred(out)
         if s.due_payment and s.cycle.minimum > 0:
             issue = self.facts.accepted(self.bill or 0)
-            fee = self.facts.in_force("feerow", "repeat", issue, "repeated amount of the fee table "
+            fee = self.facts.in_force("feerow", "repeat", issue, "repeat amount of the fee table "
                                       "on the day of issue", "warning")
             out.add("LATE PAYMENT FEE UP TO {} AND RATE UP TO {}", ("warning", fee),
                     ("warning", self.facts.term("penalty", "penalty rate of the opening")))
@@ -173,7 +173,8 @@ class StatementNumbers:
         else:
             what = self.facts.post_name(move.post)
         number = (self.facts.number(move.post) if move.post else
-                  self.nodes.none("a late fee has no post of its own", "count", "fee when"))
+                  self.nodes.none("in place of a post's number: a late fee is entered by nobody",
+                                  "count", "fee when"))
         cents = self.nodes.make("sum", of, what, "moves", on=day)
         return day, number, cents
 

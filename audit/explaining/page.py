@@ -5,11 +5,13 @@ from collections.abc import Iterator
 from html import escape
 
 from ..days import day_text
+from .differences import HEADING, ONLY, differing
 from .document import Document
+from .how import how_text, is_runs
 from .nodes import Node, value_text
 from .picture import Day, svg, table
 from .rules import PARTS, RULES
-from .text import AS, MANY, Names, how_text, plain
+from .text import AS, MANY, NAMES, Names, is_no_post, plain
 
 STYLE = """
 body{font:15px/1.45 system-ui,sans-serif;margin:0 auto;max-width:62rem;padding:1rem;color:#1a1a1a}
@@ -68,8 +70,8 @@ class Page:
         value = "" if node.unit == "truth" and because else value_text(node.value, node.unit)
         how = "" if cut and node.of else how_text(node)
         if cut and 0 < node.cycle < self.cycle:
-            how = f"see cycle {node.cycle}"
-        name, section = RULES[node.rule] if node.rule else ("", "")
+            how = f"explained with cycle {node.cycle}"
+        name, section = ("", "") if not node.rule or is_no_post(node) else RULES[node.rule]
         rule = "; ".join(part for part in (section, name) if part)
         return (f'<span class="v">{escape(value)}</span> '
                 + ('<span class="b">because</span> ' if because else "")
@@ -89,18 +91,29 @@ class Page:
         yield f'<details open id="{node.id}"><summary>{self._said(node, because)}</summary>'
         if node.said:
             yield f'<p class="said">{escape(node.said)}</p>'
-        if isinstance(node.of[0].start if node.of else None, int):
-            yield self._runs(node)
-            yield from self._tree_of_rates(node)
-        else:
-            yield from self._below(node)
         for why in node.why:
             yield from self._tree(why, False, True)
+        if is_runs(node):
+            yield self._runs(node)
+            yield from self._tree_of_rates(node)
+        elif node.how == "choose":
+            yield from self._choice(node)
+        else:
+            yield from self._below(node)
         yield "</details>"
 
     def _link(self, node: Node, because: bool) -> str:
         value = "because" if because else value_text(node.value, node.unit)
         return f"{escape(value)} {escape(self.names.short(node.what))}"
+
+    def _choice(self, node: Node) -> Iterator[str]:
+        """The question, what was taken, and what wasn't."""
+        question, *both = node.of
+        taken, other = both if question.value else reversed(both)
+        yield from self._tree(question, False)
+        yield from self._tree(taken, False)
+        yield '<p class="s">not taken:</p>'
+        yield from self._tree(other, False)
 
     def _below(self, node: Node) -> Iterator[str]:
         many = len(node.of) > MANY and node.rule == "repayment"
@@ -163,7 +176,7 @@ class Page:
                  f"{head['today']}")
         texts = [self._text(name) for name in document.texts
                  if not name.startswith("issued") and name != "export"]
-        rules = dict.fromkeys(n.rule for n in document.nodes if n.rule in PARTS)
+        rules = differing(document.nodes, document.same)
         parts = "".join(f"<li>The ledger: {escape(PARTS[rule][0])} The regulation: "
                         f"{escape(PARTS[rule][1] or 'has no rule on this.')} "
                         f'<span class="s">{escape(RULES[rule][0])}</span></li>' for rule in rules)
@@ -173,13 +186,12 @@ class Page:
             '<meta name="viewport" content="width=device-width,initial-scale=1">'
             '<link rel="icon" href="data:,">'
             f"<title>{escape(title)}</title><style>{STYLE}</style></head><body>"
-            f"<h1>{escape(title)}</h1><p>By the kept rows up to number {head['rows_up_to']}. Each "
-            "number of the statement leads to where it comes from: what it is, and how it follows "
-            "from the lines that are set in below it. A balance is named by its kind and number, "
-            "as purchase:2. Sections are those of Regulation Z.</p>",
+            f"<h1>{escape(title)}</h1><p>Made from rows 1 to {head['rows_up_to']} of the file. "
+            "Each number of the statement leads to where it comes from: what it is, and how it "
+            "follows from the lines that are set in below it. Sections are those of Regulation Z. "
+            f"{escape(NAMES)}</p>",
             *texts, svg(self.days), table(self.days), *self._trees(),
-            "<h2>Where these rules and the regulation part</h2>" if parts else "",
-            f"<ul>{parts}</ul>" if parts else "",
+            f"<h2>{HEADING}</h2><p>{escape(ONLY)}</p><ul>{parts}</ul>" if parts else "",
             "<h2>Rows of the account that no number is made of</h2>" if left else "",
             f"<ul>{left}</ul>" if left else "", "</body></html>\n"])
 

@@ -32,14 +32,17 @@ class Payments:
         if back is None:
             return self.nodes.make("first_of", [cents], f"{self.facts.post_name(n)}, credited "
                                    f"{day_text(on.value)}", "met", on=on)
-        returned = self.nodes.make("at_least", [last, self.facts.effective(back)],
-                                   f"returned by {day_text(last.value)}: "
+        gone = self.facts.effective(back)
+        returned = self.nodes.make("at_least", [last, gone],
+                                   f"returned up to {day_text(last.value)}, by the "
                                    f"{self.facts.post_name(back)}", "met")
         nothing = self.nodes.none("a returned payment counts for nothing", rule="met")
-        said = "returned, so not counted" if returned.value else "returned later"
+        end = f"the {last.what}" if last.how == "calendar" else day_text(last.value)
+        said = ("up to {}, so it counts for nothing" if returned.value else
+                "after {}, so it still counts here").format(end)
         return self.nodes.make("choose", [returned, nothing, cents],
-                               f"{self.facts.post_name(n)}, credited {day_text(on.value)}, {said}",
-                               "met", on=on)
+                               f"{self.facts.post_name(n)}, credited {day_text(on.value)}; "
+                               f"returned {day_text(gone.value)}, {said}", "met", on=on)
 
     def counted(self, first: Node, last: Node, rule: str) -> Node:
         """Payments credited on the days from first to last, less those returned by the last."""
@@ -87,12 +90,13 @@ class Payments:
         if place not in self._known:
             if has_due_payment(self.book, k):
                 self._known[place] = self.nodes.make(
-                    "first_of", [self.all.minimum(k)], f"due date {day_text(self.due_day(k))} "
-                    f"asks for the minimum payment of statement {k}", "due payment",
+                    "first_of", [self.all.minimum(k)], "asked for by "
+                    f"{day_text(self.due_day(k))}: the minimum payment of statement {k}",
+                    "due payment",
                     why=[self.timely(k)])
             else:
                 self._known[place] = self.nodes.none(
-                    f"due date {day_text(self.due_day(k))} asks for nothing", rule="due payment",
+                    f"nothing is asked for by {day_text(self.due_day(k))}", rule="due payment",
                     why=[w for w in [self.no_due_payment(k)] if w.how != "none"])
         return self._known[place]
 
@@ -137,7 +141,7 @@ class Payments:
         came = self.nodes.make("sum", of, f"paid and credited from {day_text(first.value)} to the "
                                f"due date {day_text(last.value)}", "paid")
         return self.nodes.make("at_least", [came, self.all.grace(k)],
-                               f"statement {k} was paid by its due date", "paid")
+                               f"statement {k} was paid in full by its due date", "paid")
 
     def is_paid(self, k: int) -> bool:
         node = self.paid(k)
@@ -146,8 +150,8 @@ class Payments:
     def unpaid(self, k: int) -> Node:
         """The truth that statement k wasn't paid."""
         node = self.paid(k)
-        return self.nodes.make("before", list(node.of), f"statement {k} wasn't paid by its due "
-                               f"date {day_text(self.due_day(k))}", "paid")
+        return self.nodes.make("before", list(node.of), f"statement {k} wasn't paid in full by its "
+                               f"due date {day_text(self.due_day(k))}", "paid")
 
     # -- what follows -----------------------------------------------------------------------
 

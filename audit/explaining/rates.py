@@ -70,11 +70,11 @@ class Rates:
     def daily(self, rate: Node) -> Node:
         """The daily rate of a yearly rate."""
         if id(rate) not in self._daily:
-            scaled = self.nodes.make("product", [rate], f"{value_text(rate.value, rate.unit)} in "
-                                     "billionths", "daily", "billionths", by=100_000)
+            scaled = self.nodes.make("product", [rate], f"{value_text(rate.value, rate.unit)} as a "
+                                     "fraction", "daily", "billionths", by=100_000)
             self._daily[id(rate)] = self.nodes.make(
                 "floor_divide", [scaled], f"daily rate of {value_text(rate.value, rate.unit)}: a "
-                "365th, rounded down", "daily", "billionths", by=365)
+                "365th of it, in leap years too", "daily", "billionths", by=365)
         return self._daily[id(rate)]
 
     # -- how it is made ---------------------------------------------------------------------

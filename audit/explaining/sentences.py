@@ -5,23 +5,31 @@ from ..money import money_text
 from .nodes import Node, value_text
 
 
-def interest_of_days(purchases: bool, paid: Node | None, j: int, due: int, less: bool) -> str:
+def interest_of_days(purchases: bool, paid: Node | None, j: int, due: int, less: bool,
+                     back: str) -> str:
     """Why a balance bears interest; `paid` compares what came in for statement j with what had to
-    come in, where that statement is the reason."""
+    come in, where that statement is the reason.  `back` is what of a payment that was returned."""
     if not purchases:
         return ("This balance isn't one of purchases, so it has no grace period: each day's "
                 "balance bears interest.")
     if paid is None or len(paid.of) < 2:
         return "Purchases bear interest on each day's balance in this cycle."
     came, asked = (node.value for node in paid.of[:2])
-    said = (f"Purchases bear no interest where statement {j} is paid in full by its due date "
-            f"{day_text(due)}. That took {money_text(asked)}, and {amount(came)} came in by then.")
+    said = (f"Statement {j} wasn't paid in full by its due date {day_text(due)}: {amount(came)} "
+            f"came in by then, which is less than {money_text(asked)}. So interest is charged.")
     if less and came == 0:
-        return f"{said} So each day's balance bears interest."
+        return f"{said} Each day's balance bears it."
     if less:
-        return (f"{said} What was repaid by then, and not returned by the closing, bears no "
-                "interest in this cycle. The rest bears it on each day on which it is owed.")
-    return f"{said} So each day's balance bears interest in this cycle, whatever was paid since."
+        return (f"{said} What was repaid by then bears none in this cycle. The rest bears it on "
+                f"each day on which it is owed.{back}")
+    return f"{said} Each day's balance bears it in this cycle, whatever was paid since."
+
+
+def returned_since(name: str, day: int, closing: int) -> str:
+    """What a payment costs that came in time and was returned up to the closing."""
+    return (f" But the {name}, was returned on {day_text(day)}, up to the closing "
+            f"{day_text(closing)}. So it doesn't count as repaid on the days before it came; from "
+            "its day to its return nothing is charged on it.")
 
 
 def amount(cents: int) -> str:
@@ -29,12 +37,14 @@ def amount(cents: int) -> str:
     return money_text(cents) if cents else "nothing"
 
 
-def fee_of(name: str, missed: str, table: Node, repeat: bool, least: Node, cents: int) -> str:
-    """Why a penalty fee is charged, and why it isn't higher."""
-    step = ("repeated amount: one at the first amount was charged" if repeat else
+def fee_of(name: str, missed: str, table: Node, tier: tuple[bool, str], least: Node,
+           cents: int) -> str:
+    """Why a penalty fee is charged, and why it isn't higher; `tier` is whether it is at the repeat
+    amount, and the cycles that were looked at."""
+    step = ("repeat amount: one at the first amount was charged" if tier[0] else
             "first amount: none was charged at it")
     said = (f"{missed} The fee table has {money_text(table.value)} for a {name} at the {step} in "
-            "this cycle or the six before.")
+            f"{tier[1]}.")
     bound = min(node.value for node in least.of[1:])
     if bound < table.value:
         said += (f" But no penalty fee may exceed the minimum payment that was due, "

@@ -5,76 +5,26 @@ import textwrap
 from collections.abc import Iterator
 
 from ..days import day_text
+from .differences import HEADING, ONLY, differing
 from .document import Document, is_asked
+from .how import how_text, is_runs, shown_value
 from .nodes import Node, value_text
+from .numbers import Number
 from .rules import PARTS, RULES
 
 WIDTH = 100
 VALUE = 14
 TABLE = 70  # the columns of a table of days
 AS = {"issued": "as issued on", "recomputed": "as recomputed on"}
+NAMES = ("A row is an accepted line, by its number in the file. A post is an entry of the account, "
+         "by its number there, and its key is the name that it was entered with. "
+         "purchase:2 is one of its balances (a segment): number 2, which is of purchases. How a "
+         "number is rounded is the ledger's own choice.")
+RATE_HEADS = f"{'':17} {'YEARLY':>7} {'DAILY':>12} {'AVERAGE DAILY':>14} {'INTEREST':>14}\n" \
+             f"{'':17} {'RATE':>7} {'RATE':>12} {'BALANCE':>14}"
 MANY = 6  # months that are all shown
-_HOW = {"sum": "the sum of these", "difference": "the first of these less the others",
-        "least": "the least of these", "greatest": "the greatest of these",
-        "at_least_zero": "this, but not below 0", "product": "the product of these",
-        "last_of": "the last of these", "count": "how many of these there are",
-        "days_between": "the days from the first to the second"}
-# of a truth about two children: what it says, and what it says where it is false
-_COMPARED = {"equal": ("the two are equal", "the two differ"),
-             "at_least": ("the first is at least the second", "the first is less than the second"),
-             "before": ("the first is less than the second", "the first is at least the second")}
-# the same of one child and a constant
-_BOUND = {"equal": ("this is {}", "this isn't {}"),
-          "at_least": ("this is at least {}", "this is less than {}"),
-          "before": ("this is less than {}", "this is at least {}")}
-_DAYS_BOUND = {"equal": ("this is {}", "this isn't {}"),
-               "at_least": ("this is {} or later", "this is before {}"),
-               "before": ("this is before {}", "this is {} or later")}
 _POST = re.compile(r"(post \d+) \(key [^ ,)]+, entered \d{4}-\d\d-\d\d\)")
 _QUIET = ("cycle", "entries")
-
-
-def how_text(node: Node) -> str:
-    """How a node's value follows, in words."""
-    if node.how in ("row", "in_force"):
-        seq = node.more.get("seq")
-        return f"row {seq} of the file" if seq is not None else "no row is in force"
-    if node.how == "calendar":
-        return "calendar"
-    if node.how == "shown":
-        return f"its line {node.more['line'] + 1}"
-    if node.how == "product" and node.by is not None and len(node.of) == 1:
-        return "with the sign turned" if node.by == -1 else f"this, times {node.by}"
-    if node.how == "product" and node.by is not None:
-        return f"the product of these, times {node.by}"
-    if node.how == "sum" and node.by is not None:
-        return f"this, with {value_text(node.by, node.unit)}"
-    if node.how == "floor_divide":
-        return f"this, divided by {node.by}, rounded down"
-    if node.how == "round_half_up":
-        return ("this, rounded to cents, half a cent up" if node.by else
-                "the first divided by the second, half a cent rounded up")
-    if node.how == "day_plus":
-        return f"{node.by} {'day' if node.by == 1 else 'days'} after this"
-    if node.how == "choose":
-        return "yes, so the second" if node.of[0].value else "no, so the last"
-    if node.how in _COMPARED:
-        return _truth_text(node)
-    if node.how in ("count", "sum") and not node.of:
-        return "there is none"
-    return _HOW.get(node.how, "")
-
-
-def _truth_text(node: Node) -> str:
-    """What is compared, as it is: also where the truth is that it isn't so."""
-    place = 0 if node.value else 1
-    if node.by is None:
-        return _COMPARED[node.how][place]
-    unit = node.of[0].unit
-    forms = _DAYS_BOUND if unit in ("day", "minutes") else _BOUND
-    bound = "none" if node.how == "equal" and unit == "count" and node.by == 0 else \
-        value_text(node.by, unit)
-    return forms[node.how][place].format(bound)
 
 
 def row_line(value: str, depth: int, what: str, section: str) -> list[str]:
@@ -95,11 +45,6 @@ def paragraph(said: str, depth: int) -> list[str]:
     return [f"{indent}| {line}" for line in textwrap.wrap(said, WIDTH - len(indent) - 2)]
 
 
-def is_runs(node: Node) -> bool:
-    """A sum over runs of days."""
-    return bool(node.of) and isinstance(node.of[0].start, int)
-
-
 def is_same(node: Node) -> bool:
     """A step that only names the value of its one child again."""
     return (node.how in ("first_of", "sum") and len(node.of) == 1 and not node.why
@@ -109,6 +54,11 @@ def is_same(node: Node) -> bool:
 def is_named(node: Node) -> bool:
     """A field of a row under a better name: what it is for."""
     return is_same(node) and node.of[0].how == "row"
+
+
+def is_no_post(node: Node) -> bool:
+    """The 0 in the place of a post's number, which no section speaks of."""
+    return node.how == "none" and node.unit == "count"
 
 
 def plain(node: Node) -> Node:
@@ -140,39 +90,54 @@ class Text:
     def __init__(self, cycle: int) -> None:
         self.cycle = cycle
         self.seen: set[int] = set()
+        self.in_tables: set[int] = set()  # balances that were named below a table
         self.names = Names()
 
     # -- a tree -----------------------------------------------------------------------------
 
-    def tree(self, node: Node, depth: int = 0, because: bool = False) -> Iterator[str]:
-        """A node and what is below it."""
+    def tree(self, node: Node, depth: int = 0, because: bool = False,
+             question: bool = False) -> Iterator[str]:
+        """A node and what is below it: first what had to be so, then what it is made of."""
         node = plain(node)
         children = self._children(node, depth)
         said = ("because " if because else "") + self.names.short(node.what)
         again = id(node) in self.seen and bool(node.of or node.why)
         self.seen.add(id(node))
         elsewhere = bool(node.of or node.why) and not children and not node.brief and (
-            0 < node.cycle < self.cycle)
+            node.how not in ("calendar", "in_force") and 0 < node.cycle < self.cycle)
         how = "" if elsewhere else how_text(node.of[0] if is_named(node) else node)
+        said += "?" if question else ""
         if how and not (again or node.brief):
-            said += f" ({how})" if not node.of or not children else f": {how}"
+            said += (f" ({how})" if not node.of or not children else f" {how}" if question else
+                     f": {how}")
         if again and not node.brief:
             said += " (above)"
         elif elsewhere:
-            said += f" (see cycle {node.cycle})"
-        section = RULES[node.rule][1] if node.rule else ""
+            said += f" (explained with cycle {node.cycle})"
+        section = RULES[node.rule][1] if node.rule and not is_no_post(node) else ""
         yield from row_line(self._value(node, because), depth, said,
                             section.removeprefix("12 CFR 1026"))
         if again or not children:
             return
         if node.said:
             yield from paragraph(node.said, depth + 1)
-        if is_runs(node):
-            yield from self._table(node, depth + 1)
-        else:
-            yield from self._below(node, depth + 1)
         for why in node.why:
             yield from self.tree(why, depth + 1, True)
+        if is_runs(node):
+            yield from self._table(node, depth + 1)
+        elif node.how == "choose":
+            yield from self._choice(node, depth + 1)
+        else:
+            yield from self._below(node, depth + 1)
+
+    def _choice(self, node: Node, depth: int) -> Iterator[str]:
+        """The question, what was taken, and in one line what wasn't."""
+        question, *both = node.of
+        taken, other = both if question.value else reversed(both)
+        yield from self.tree(question, depth, question=True)
+        yield from self.tree(taken, depth)
+        yield from row_line(self._value(other, False), depth,
+                            f"(not taken: {self.names.short(plain(other).what)})", "")
 
     def _below(self, node: Node, depth: int) -> Iterator[str]:
         """The children; of many months the first three and the last."""
@@ -188,8 +153,7 @@ class Text:
     def _value(self, node: Node, because: bool) -> str:
         if node.unit == "truth":
             return "" if because else value_text(node.value, node.unit)
-        text = value_text(node.value, node.unit)
-        return f"{text} days" if node.unit == "days" else text
+        return shown_value(node)
 
     def _children(self, node: Node, depth: int) -> bool:
         """Whether what is below is shown."""
@@ -203,6 +167,8 @@ class Text:
 
     def _table(self, node: Node, depth: int) -> Iterator[str]:
         """The runs of days of a sum."""
+        if isinstance(node.start, Node) and isinstance(node.end, Node):
+            yield from self._span(node.start, node.end, depth)
         indent = " " * min(VALUE + 2 + 2 * depth, WIDTH - TABLE)
         with_rate = node.of[0].unit == "cents x billionths"
         head = f"{'FROM':10} {'TO':10} {'DAYS':>4} {'BALANCE':>13}"
@@ -223,20 +189,26 @@ class Text:
                 line += f"{value_text(run.value, run.unit):>15}"
             yield indent + line
         for run in node.of:
-            yield from self._less(run.of[0].of[0] if with_rate else run.of[0], depth)
+            yield from self._less(run, run.of[0].of[0] if with_rate else run.of[0], depth)
         for daily in rates:
             yield from self.tree(daily, depth)
 
-    def _less(self, balance: Node, depth: int) -> Iterator[str]:
+    def _span(self, first: Node, last: Node, depth: int) -> Iterator[str]:
+        """The first and the last of the days that a table is of."""
+        days = f"{last.value - first.value + 1} days"
+        yield from row_line(days, depth, f"from {day_text(first.value)}, {first.what}, to "
+                            f"{day_text(last.value)}, {last.what} ({how_text(last)})", "")
+
+    def _less(self, run: Node, balance: Node, depth: int) -> Iterator[str]:
         """What was repaid later, where a run's balance is less by it; else the balance's name."""
-        if id(balance) in self.seen:
-            return
-        if balance.how == "at_least_zero":
+        if balance.how == "at_least_zero" and id(balance) not in self.seen:
             yield from self.tree(balance, depth)
-        elif balance.brief:
+        elif balance.brief and id(balance) not in self.in_tables:
+            assert isinstance(run.start, int)
             self.seen.add(id(balance))
-            yield from row_line(value_text(balance.value, balance.unit), depth,
-                                self.names.short(balance.what), "")
+            self.in_tables.add(id(balance))
+            yield from row_line(value_text(balance.value, balance.unit), depth, "from "
+                                f"{day_text(run.start)}: {self.names.short(balance.what)}", "")
 
     # -- the whole --------------------------------------------------------------------------
 
@@ -250,10 +222,13 @@ class Text:
                 wanted = [n for n in here if not word or is_asked(word, n)]
                 if word and not wanted:
                     continue
+                if line.startswith("RATE "):
+                    yield RATE_HEADS
                 yield line
                 for number in wanted:
                     if number.word not in _QUIET and number.node.more.get("field") != "number":
                         yield from self.tree(number.node)
+                yield from self._beside([n for n in here if n not in wanted])
                 yield ""
         for number in document.numbers:
             if not number.text and (not word or is_asked(word, number)):
@@ -261,13 +236,22 @@ class Text:
                 yield from self.tree(number.node)
                 yield ""
 
+    def _beside(self, numbers: list[Number]) -> Iterator[str]:
+        """The other numbers of a line, each in one line, with the word that shows its tree."""
+        for number in numbers:
+            node = plain(number.node)
+            if node.unit == "cents":
+                yield from row_line(self._value(node, False), 0, f"{self.names.short(node.what)} "
+                                    f"(explained with --number \"{number.word}\")", "")
+
     def parts(self, document: Document, shown: bool) -> Iterator[str]:
         """RULES' sentences on the rules of all nodes, or of those that were shown, where the
-        regulation reads otherwise."""
-        rules = dict.fromkeys(n.rule for n in document.nodes
-                              if n.rule in PARTS and not (shown and id(n) not in self.seen))
+        regulation reads otherwise and that can matter here."""
+        rules = differing((n for n in document.nodes if not shown or id(n) in self.seen),
+                          document.same)
         if rules:
-            yield "WHERE THE LEDGER'S RULES ABOVE AND THE REGULATION PART (see docs/RULES.md)"
+            yield HEADING.upper()
+            yield from textwrap.wrap(ONLY, WIDTH)
             for rule in rules:
                 ledger, regulation = PARTS[rule]
                 section = RULES[rule][1].removeprefix("12 CFR 1026")
@@ -288,11 +272,10 @@ def text_of(document: Document, word: str = "") -> str:
     text = Text(head["cycle"])
     out = [f"WHERE THE NUMBERS OF CYCLE {head['cycle']} OF ACCOUNT {head['account']} COME FROM, "
            f"{AS[head['as']]} {head['today']}", *textwrap.wrap(
-               f"By the kept rows up to number {head['rows_up_to']}. A line of the statement, and "
-               "below it each of its numbers: what it is, how it follows from the lines that are "
-               "set in below it, and at the end the section of 12 CFR 1026 (Regulation Z). A "
-               "balance is named by its kind and number, as purchase:2.",
-               WIDTH), ""]
+               f"Made from rows 1 to {head['rows_up_to']} of the file. Below each line of the "
+               f"statement are its numbers, each with what it is and how it follows; what it is "
+               f"made of is set in below it. At the right is the section of 12 CFR 1026 "
+               f"(Regulation Z) for the amount. {NAMES}", WIDTH), ""]
     out += text.lines(document, word)
     out += text.parts(document, bool(word))
     if not word:

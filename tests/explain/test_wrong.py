@@ -245,7 +245,7 @@ def forgotten_fee(doc: Doc) -> None:
 
 
 def repeat_is_first(doc: Doc) -> None:
-    """The repeated amount was taken, and no fee came before."""
+    """The repeat amount was taken, and no fee came before."""
     node = next(n for n in doc["nodes"] if n["how"] == "choose" and n["value"] == 4100)
     truth = next(n for n in doc["nodes"] if n["id"] == node["of"][0])
     truth["value"] = False
