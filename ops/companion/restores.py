@@ -50,7 +50,8 @@ def move_away(path: str) -> str | None:
     parts = [real + end for end in ends if os.path.lexists(real + end)]
     if not parts:
         return None
-    folder = f"{real}.before-{time.strftime('%Y%m%d-%H%M%S')}"
+    stamped = f"{os.path.basename(real)}.before-{time.strftime('%Y%m%d-%H%M%S')}"
+    folder = os.path.join(os.path.dirname(real), free_name(os.path.dirname(real), stamped))
     os.mkdir(folder, 0o700)
     for part in parts:
         shutil.move(part, folder)
