@@ -11,7 +11,7 @@ use Rattle.card_reasons.proofs.Accepted.{received}
 use Rattle.card_reasons.proofs.ReasonLemmas.{none_tail, none_head, where_none}
 use Rattle.card_daily.proofs.Naming.{names-more}
 use Rattle.card_daily.specs.Given.{NamePayments}
-use Rattle.card_events.specs.History.{anchor_of, at_number, opening_in}
+use Rattle.card_events.specs.History.{anchor_of, at_number, is_open, opening_in}
 use Rattle.card_events.specs.Keys.{with_key}
 use Rattle.card_events.specs.SharedRows.{SharedRows, shared_rows}
 use Rattle.card_events.specs.declared.kept.Kept.{Kept}
@@ -20,16 +20,16 @@ use Rattle.card_events.specs.declared.post.Post.TheVariants as post
 use Rattle.card_events.specs.declared.reply.Refusal.{Refusal}
 use Rattle.card_events.specs.declared.reply.Refusal.TheVariants as refusal
 use Rattle.card_events.specs.declared.request.Shared.{Shared}
-use Rattle.card_model.specs.Machine.{Accepts, Outcome, Refuses, Repeats, accepted, at_key, is_open, is_repeat_of, judged, kept_as, next_number, opened, outcome}
+use Rattle.card_model.specs.Machine.{Accepts, Outcome, Refuses, Repeats, accepted, at_key, is_repeat_of, judged, kept_as, next_number, opened, outcome}
 use Rattle.card_model.specs.Refusals.{Lists, Present, bad_terms, day_ahead, no_index, reason_against, reason_to_open, where_true}
-use Rattle.card_posts.specs.Posted.{IsReceived, opens}
+use Rattle.card_posts.specs.Posted.{IsReceived}
 
 -- a post that is kept, in an account that was opened on a day
 pub record IsHeld (today opened : ℕ) (k : Kept) : Type 0 where
   pub accepted : k.accepted ≤ today
   pub received : IsReceived opened k.accepted k.post
   pub opening : opening_in k.post ≤ today
-  pub first : opens k.post ≡ true → first_calendar_day ≤ opening_in k.post
+  pub first : is_open k.post ≡ true → first_calendar_day ≤ opening_in k.post
 
 -- the lists of an account
 pub record AreHeld (today : ℕ) (l : Lists) : Type 0 where
@@ -38,7 +38,7 @@ pub record AreHeld (today : ℕ) (l : Lists) : Type 0 where
   pub returns : NamePayments l.posts 1 l.posts
 
 -- ---- kinds
-no_opening : (p : Post) → is_open p ≡ false → (opening_in p ≡ 0) × (opens p ≡ false)
+no_opening : (p : Post) → is_open p ≡ false → (opening_in p ≡ 0) × (is_open p ≡ false)
 no_opening (post.Open d t) other = absurd (cc)
 no_opening (post.OpenVariable d t) other = absurd (cc)
 no_opening (post.Charge d p c) other = (refl, refl)

@@ -5,12 +5,12 @@ use Rattle.std.specs.Prelude.{if◌then◌else◌}
 use Rattle.card_account.specs.Verdicts.{refunds_no_amount, verdict_of}
 use Rattle.card_account.specs.declared.verdict.Verdict.{Verdict}
 use Rattle.card_account.specs.declared.verdict.Verdict.TheVariants as verdict
-use Rattle.card_events.specs.History.{at_number}
+use Rattle.card_events.specs.History.{at_number, is_open}
 use Rattle.card_events.specs.declared.post.Post.{Post}
 use Rattle.card_events.specs.declared.post.Post.TheVariants as post
 use Rattle.card_events.specs.declared.reply.Refusal.{Refusal}
 use Rattle.card_events.specs.declared.reply.Refusal.TheVariants as refusal
-use Rattle.card_model.specs.Machine.{Refuses, Repeats, at_key, is_open, is_repeat_of, judged}
+use Rattle.card_model.specs.Machine.{Refuses, Repeats, at_key, is_repeat_of, judged}
 use Rattle.card_model.specs.Refusals
 use Rattle.card_model.specs.Refusals.{Present, is_no_amount, reason_against}
 

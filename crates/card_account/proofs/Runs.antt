@@ -13,7 +13,7 @@ use Rattle.card_daily.proofs.Runs.{runs_keep_plans}
 use Rattle.card_daily.proofs.Turns.{runs_keep_turns}
 use Rattle.card_daily.specs.Given.{AreInTurn, ArePlanned}
 use Rattle.card_events.specs.Dated.{is_dated}
-use Rattle.card_events.specs.History.{anchor_of, opening_in, terms_in, terms_of}
+use Rattle.card_events.specs.History.{anchor_of, is_open, opening_in, terms_in, terms_of}
 use Rattle.card_events.specs.declared.kept.Kept.{Kept}
 use Rattle.card_events.specs.declared.post.Post.{Post}
 use Rattle.card_events.specs.declared.post.Post.TheVariants as post
@@ -28,7 +28,7 @@ use Rattle.card_model.specs.CycleDays.{IsOpening}
 use Rattle.card_model.specs.Machine.{Accepts, NamedAccount, Outcome, Refuses, Repeats, State, accounts_after, has_accounts, lists_of, outcome_in, run, run_from, shared_reason, start, step, with_lists, with_shared}
 use Rattle.card_model.specs.Refusals.{Lists, where_true}
 use Rattle.card_model.proofs.Accepting.{runs_are_accepted}
-use Rattle.card_posts.specs.Posted.{last_accepted, opens}
+use Rattle.card_posts.specs.Posted.{last_accepted}
 use Rattle.card_posts.specs.Stored.{AreTimely}
 use Rattle.card_rates.proofs.Runs.{runs_have_few_segments}
 use Rattle.card_rates.proofs.Dates.{runs_keep_dates}
@@ -114,7 +114,7 @@ last-held today opened [] all = omega arith
 last-held today opened (k ∷ ks) all = let one = All-head (IsHeld today opened) k ks all in omega (arith, one.accepted, last-held today opened ks (All-tail (IsHeld today opened) k ks all))
 
 -- a post with a closing day opens an account
-opens-is : (p : Post) → 1 ≤ (terms_in p).close → opens p ≡ true
+opens-is : (p : Post) → 1 ≤ (terms_in p).close → is_open p ≡ true
 opens-is (post.Open d t) low = refl
 opens-is (post.OpenVariable d t) low = refl
 opens-is (post.Charge d p c) low = absurd (omega (arith, low))

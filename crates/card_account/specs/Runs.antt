@@ -5,19 +5,19 @@ use Rattle.card_replay.specs.Replays.{given_of}
 use Rattle.card_daily.specs.Given.{IsSound}
 use Rattle.card_events.specs.Range.{first_calendar_day}
 use Rattle.card_events.specs.Dated.{is_dated}
-use Rattle.card_events.specs.History.{anchor_of, opening_in}
+use Rattle.card_events.specs.History.{anchor_of, is_open, opening_in}
 use Rattle.card_events.specs.SharedRows.{shared_rows}
 use Rattle.card_events.specs.declared.post.Post.{Post}
 use Rattle.card_events.specs.declared.request.Request.{Request}
 use Rattle.card_events.specs.declared.request.Request.TheVariants as request
 use Rattle.card_model.specs.Machine.{NamedAccount, State, run}
 use Rattle.card_model.specs.Refusals.{Lists}
-use Rattle.card_posts.specs.Posted.{last_accepted, opens}
+use Rattle.card_posts.specs.Posted.{last_accepted}
 use Rattle.card_posts.specs.Stored.{AreTimely}
 
 -- an account is opened from 2011-01-01 on
 abbrev pub IsTakenPost : Post → Type 0
-IsTakenPost p = opens p ≡ true → first_calendar_day ≤ opening_in p
+IsTakenPost p = is_open p ≡ true → first_calendar_day ≤ opening_in p
 
 -- a request with such a post, or that all accounts share
 abbrev pub IsOfPost : Request → Type 0

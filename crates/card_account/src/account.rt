@@ -1,7 +1,7 @@
 // One account.
 ghost use Rattle.std.specs.Prelude.{◌≡◌, Some, None};
 ghost use Rattle.card_events.specs.declared.reply.Refusal.{Refusal};
-ghost use Rattle.card_model.specs.Machine.{is_open};
+ghost use Rattle.card_events.specs.History.{is_open};
 
 use crate::entry_list::{EntryList, entries_today};
 use crate::judge::{reads_book, reason_by_book, reason_by_posts, refunds_no_amount};
@@ -47,11 +47,10 @@ impl Account {
     ghost use Rattle.card_account.specs.Works.{tasks_of};
     ghost use Rattle.card_daily.specs.Given.{IsSound};
     ghost use Rattle.card_events.specs.Dated.{is_dated_post};
-    ghost use Rattle.card_events.specs.History.{at_number, opening_in, terms_in};
+    ghost use Rattle.card_events.specs.History.{at_number, is_open, opening_in, terms_in};
     ghost use Rattle.card_events.specs.Keys.{with_key};
-    ghost use Rattle.card_model.specs.Machine.{accepted, at_key, is_open, is_repeat_of};
+    ghost use Rattle.card_model.specs.Machine.{accepted, at_key, is_repeat_of};
     ghost use Rattle.card_model.specs.Refusals.{book_today, reason_against};
-    ghost use Rattle.card_posts.specs.Posted.{opens};
     ghost use Rattle.card_reasons.specs.Reasons.{reads_book};
     ghost use Rattle.card_replay.specs.Changes.{FoldsIfNeeded, IsChangeOf, IsPrepared, IsReadyFor};
     ghost use Rattle.card_replay.specs.Replays.{IsToday, given_of, opened_lists, present_of};
@@ -68,7 +67,7 @@ impl Account {
         post: &Post,
         shared: &SharedRows,
     ) -> Result<Account, NoMemory>
-        requires opens { opens post.now ≡ true }
+        requires opens { is_open post.now ≡ true }
         requires close_day { IsCloseDay (terms_in post.now).close }
         requires opened { opening_in post.now ≤ today }
         requires dated { today ≤ last_request_day }
@@ -100,7 +99,7 @@ impl Account {
     /// How many of the first entries that are recorded of it stay if it takes a post today, whatever it is then taken back to: those up to
     /// the last closing before the earlier of the first day that the post changes and the day last reached. They are 0 where it takes no
     /// more posts, where the post is about a later one than there is, for a payment at a minute above 1,439, and for a payment that came in,
-    /// or an Amend that lies, before the opening day or after today. It takes no memory.
+    /// or an Amend that lies, before the opening day or after today. It doesn't allocate.
     pub fn standing(&self, post: &Post, today: Day, shared: &SharedRows) -> usize
         requires { IsAccount today shared.now self.now }
         ensures stay { AreStanding result today shared.now post.now (replay_of self.now) }
@@ -170,7 +169,7 @@ impl Account {
         }
     }
 
-    // What a post comes to whose key is new.
+    // The result of a post whose key is new.
     fn judge_new<L: Ledger>(
         &mut self,
         alloc: Global,
@@ -201,7 +200,7 @@ impl Account {
         Ok(self.judge_by_book(today, post, shared))
     }
 
-    // What a post comes to whose key is new, and for which no book is read.
+    // The result of a post whose key is new, and for which no book is read.
     fn judge_by_posts(&self, today: Day, post: &Post, shared: &SharedRows) -> Verdict
         requires dated { is_dated_post post.now ≡ true }
         requires account { IsAccount today shared.now self.now }
@@ -212,7 +211,7 @@ impl Account {
         verdict(reason_by_posts(&self.present(today, shared), post))
     }
 
-    // What a Penalty or a Refund comes to whose key is new, by the book of today.
+    // The result of a Penalty or a Refund whose key is new, by the book of today.
     fn judge_by_book(&self, today: Day, post: &Post, shared: &SharedRows) -> Verdict
         requires account { IsAccount today shared.now self.now }
         requires today { self.now.folding.reached ≡ today }
@@ -224,7 +223,7 @@ impl Account {
         verdict(reason_by_book(&self.present(today, shared), &folded, post))
     }
 
-    // What a post comes to whose key is that of the post of this number.
+    // The result of a post whose key is that of the post of this number.
     fn compare(&self, number: u32, post: &Post) -> Verdict
         ensures { result ≡ (if is_repeat_of post.now (at_number number self.now.named.lists.posts) then Verdict.Repeat number else Verdict.Refused (Refusal.KeyReused number)) }
     {
@@ -277,7 +276,7 @@ impl Account {
 
     /// Takes a post that was prepared for this account, with the statement that it issues, and answers its number. What it changes is
     /// folded when the account is next asked. The day that it has reached isn't after today, nor before the last closing before the
-    /// first day that the post changes, or the day before the opening, or before the day that it had reached. It takes no memory and
+    /// first day that the post changes, or the day before the opening, or before the day that it had reached. It doesn't allocate and
     /// can't fail.
     #[tactic(auto, unfolding(card_model::specs::Machine::accepted))]
     pub fn commit(&mut self, change: Change, shared: &SharedRows) -> u32

@@ -3,7 +3,7 @@ ghost use Rattle.std.specs.Prelude.{◌≡◌, true, false, Some};
 ghost use Rattle.card_account.specs.Verdicts.{refunds_no_amount};
 ghost use Rattle.card_events.specs.Dated.{is_dated_post};
 ghost use Rattle.card_events.specs.declared.post.Post.TheVariants as post;
-ghost use Rattle.card_model.specs.Machine.{is_open};
+ghost use Rattle.card_events.specs.History.{is_open};
 ghost use Rattle.card_model.specs.Refusals.{Present, book_today, reason_against};
 ghost use Rattle.card_reasons.specs.Reasons.{reads_book};
 

@@ -1,4 +1,4 @@
-//! One account: its posts and its issued statements, what a post comes to on it, and what is shown of it.
+//! One account: its posts and its issued statements, the result of a post on it, and what is shown of it.
 #![tactic(auto)]
 
 mod account;

@@ -4,7 +4,7 @@ use Rattle.std.specs.Option.{option_map}
 use Rattle.std.specs.Str.{bytes_eq}
 use Rattle.std.proofs.lemmas.List.{append-nil, append_assoc}
 use Rattle.std.proofs.lemmas.Slice.Eq.{bytes_eq-Decides}
-use Rattle.card_events.specs.History.{at_number}
+use Rattle.card_events.specs.History.{at_number, is_open}
 use Rattle.card_events.specs.Keys.{with_key}
 use Rattle.card_events.specs.SharedRows.{shared_rows}
 use Rattle.card_events.specs.declared.post.Post.{Post}
@@ -15,7 +15,7 @@ use Rattle.card_events.specs.declared.request.Request.{Request}
 use Rattle.card_events.specs.declared.request.Request.TheVariants as request
 use Rattle.card_events.specs.declared.request.Shared.{Shared}
 use Rattle.card_model.specs.Cycles.{IssuedRow}
-use Rattle.card_model.specs.Machine.{Accepts, NamedAccount, Outcome, Refuses, Repeats, State, accepted, accounts_after, at_key, has_accounts, is_open, is_repeat_of, issues, judged, lists_of, outcome, outcome_in, run_from, shared_reason, step, with_lists, with_shared}
+use Rattle.card_model.specs.Machine.{Accepts, NamedAccount, Outcome, Refuses, Repeats, State, accepted, accounts_after, at_key, has_accounts, is_repeat_of, issues, judged, lists_of, outcome, outcome_in, run_from, shared_reason, step, with_lists, with_shared}
 use Rattle.card_model.specs.Refusals.{Lists, Present, reason_against}
 use Rattle.card_book.specs.Laws.{IssuedRowsStay, OnlyBillsIssue, bills_on, is_bill}
 

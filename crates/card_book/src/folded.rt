@@ -180,7 +180,7 @@ impl<'a> Folded<'a> {
     }
 
     /// Whether the account is sixty days late at the end of today (12 CFR 1026.55(b)(4)): some due date lies more than 60 days
-    /// back, and the payments since its closing are below its minimum payment. This is the book of today. It takes no memory.
+    /// back, and the payments since its closing are below its minimum payment. This is the book of today. It doesn't allocate.
     #[tactic(auto, unfolding(card_model::specs::Refusals::book_today))]
     pub fn late_today(&self, now: &Present) -> bool
         requires book { self.now.book ≡ book_today now.now }

@@ -1,8 +1,8 @@
 // The accepted posts of an account, and what each of them changes.
 ghost use Rattle.std.specs.Prelude.{◌≡◌, IfOk, IfSome, OnOk, true};
 ghost use Rattle.card_events.specs.Billing.{IsCloseDay};
-ghost use Rattle.card_events.specs.History.{anchor_of, terms_in};
-ghost use Rattle.card_posts.specs.Posted.{IsReceived, StandsFor, opens, target_of};
+ghost use Rattle.card_events.specs.History.{anchor_of, is_open, terms_in};
+ghost use Rattle.card_posts.specs.Posted.{IsReceived, StandsFor, target_of};
 
 use crate::values::{day, name};
 use card_events::{Calendar, Day, Name, Post, Request, Slot};
@@ -105,7 +105,7 @@ fn push(
 }
 
 fn opens(post: &Post) -> bool
-    ensures opens { result ≡ true → opens post.now ≡ true }
+    ensures opens { result ≡ true → is_open post.now ≡ true }
     ensures close_day { result ≡ true → IsCloseDay (terms_in post.now).close }
 {
     match post {

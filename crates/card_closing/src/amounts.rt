@@ -51,7 +51,7 @@ fn sum_all(items: &[(u8, u64)]) -> u128
 }
 
 impl Amounts {
-    /// No amounts. It takes no memory.
+    /// No amounts. It doesn't allocate.
     pub fn none(alloc: Global) -> Amounts
         ensures { result ≡ [] }
     {
@@ -67,14 +67,14 @@ impl Amounts {
         &self.items
     }
 
-    /// The cents of a segment, 0 where it has none. It takes no memory.
+    /// The cents of a segment, 0 where it has none. It doesn't allocate.
     pub fn at(&self, segment: u8) -> u128
         ensures { result ≡ amount_at segment self.now }
     {
         sum_at(&self.items, segment)
     }
 
-    /// The cents of all segments together. It takes no memory.
+    /// The cents of all segments together. It doesn't allocate.
     pub fn sum(&self) -> u128
         ensures { result ≡ amounts_sum self.now }
     {

@@ -4,7 +4,7 @@ use std::alloc::Global;
 use std::marker::Model;
 
 /// A closed cycle (12 CFR 1026.7(b)): its number, first day, closing and due date; what was owed at the closing before and
-/// at this one, and what of it is in dispute (12 CFR 1026.13); the interest and the average daily balance of each segment;
+/// at this one, and the part of it that is in dispute (12 CFR 1026.13); the interest and the average daily balance of each segment;
 /// the penalty fees; the minimum payment; what has to be paid by the due date to keep the grace period (12 CFR
 /// 1026.54(a)(1)); and how many entries the account had at the end of the closing. Amounts are cents; what is held, the
 /// minimum payment and the grace amount are at least 0, and the new balance is at most 10^17 in size.

@@ -29,7 +29,7 @@ pub fn at_least_zero(cents: Cents) -> u64
     if cents < 0 { 0 } else { cents as u64 }
 }
 
-// The cents of fees together. It takes no memory.
+// The cents of fees together. It doesn't allocate.
 pub fn sum_of(fees: &[Fee]) -> u128
     ensures { result ≡ fees_sum fees.now }
 {
@@ -86,7 +86,7 @@ impl Fees {
         &self.items
     }
 
-    /// The cents of all fees together. It takes no memory.
+    /// The cents of all fees together. It doesn't allocate.
     pub fn sum(&self) -> u128
         ensures { result ≡ fees_sum self.now }
     {

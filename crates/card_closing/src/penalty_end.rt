@@ -37,7 +37,7 @@ fn dues_after(cycles: &[Cycle], day: Day) -> usize
 }
 
 /// Whether a penalty has no end yet and six due dates of the closed cycles lie after its first day: it then ends with the last
-/// of them where all six were met (12 CFR 1026.55(b)(4)(ii)). It takes no memory.
+/// of them where all six were met (12 CFR 1026.55(b)(4)(ii)). It doesn't allocate.
 pub fn awaits_end(cycles: &[Cycle], penalty: &Interval) -> bool
     ensures { result ≡ model.awaits_end cycles.now penalty.now }
 {

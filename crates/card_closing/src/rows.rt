@@ -39,7 +39,7 @@ impl CycleRows {
     ghost use Rattle.card_closing.specs.GraceLaws.{AreDaysFrom};
     ghost use Rattle.card_closing.specs.Rows.{average_of, bearing, interest_on, no_rows, with_days, with_repayment, without_post};
 
-    /// A cycle that begins on a day, without rows. It takes no memory.
+    /// A cycle that begins on a day, without rows. It doesn't allocate.
     pub fn start(alloc: Global, first: Day) -> CycleRows
         ensures { result ≡ no_rows first }
     {
@@ -50,7 +50,7 @@ impl CycleRows {
         }
     }
 
-    /// Begins a cycle on a day, without rows and repayments. It takes no memory, and keeps what they had for the next ones: for
+    /// Begins a cycle on a day, without rows and repayments. It doesn't allocate, and keeps what they had for the next ones: for
     /// speed alone, as no clause says.
     pub fn begin(&mut self, first: Day)
         ensures { self.new ≡ no_rows first }
@@ -113,7 +113,7 @@ impl CycleRows {
         Ok(())
     }
 
-    /// Takes out all repayments of a payment that was returned. It takes no memory.
+    /// Takes out all repayments of a payment that was returned. It doesn't allocate.
     pub fn unpaid(&mut self, post: u32)
         ensures { self.new ≡ without_post post self.old }
     {
@@ -133,7 +133,7 @@ impl CycleRows {
 
     /// The sum of the balances that bear interest (12 CFR 1026.54(a)(1)), each times its day's rate in units of 10^-9:
     /// none, all as they stand, or each less what was repaid on later days up to the due date. The days are the cycle's
-    /// own. It is at most 10^23 and takes no memory.
+    /// own. It is at most 10^23 and doesn't allocate.
     pub fn interest_sum(&self, case: GraceCase) -> u128
         ensures value { result ≡ interest_on case self.now }
         ensures own_days { AreDaysFrom self.now.first self.now.days }
@@ -144,7 +144,7 @@ impl CycleRows {
     }
 
     /// The average in cents of the balances that bear interest, over all days (12 CFR 1026.7(b)(5)), rounded half up;
-    /// 0 with no day. It takes no memory.
+    /// 0 with no day. It doesn't allocate.
     pub fn average(&self, case: GraceCase) -> Cents
         ensures value { result ≡ pos (average_of case self.now) }
         ensures own_days { AreDaysFrom self.now.first self.now.days }

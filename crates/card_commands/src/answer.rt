@@ -1,4 +1,4 @@
-// What an item comes to, and what is written for it.
+// The result of an item, and what is written for it.
 ghost use Rattle.std.specs.Prelude.{◌≡◌, IfOk, OnOk, OnErr};
 ghost use Rattle.std.specs.String.{string_bytes};
 ghost use Rattle.card_desk.specs.Applied as applied;

@@ -28,7 +28,7 @@ fn status_line(status: Status) -> &'static str
     }
 }
 
-// The line of a connection. It takes no memory.
+// The line of a connection. It doesn't allocate.
 #[tactic(auto, unfolding(crate::specs::Attended::line_of))]
 fn line_of(served: Served) -> &'static str
     ensures { result.now ≡ line_of served }

@@ -11,7 +11,7 @@ use Rattle.card_events.specs.Billing.{next_on}
 use Rattle.card_events.specs.Civil.{day_of_month, first_day}
 use Rattle.card_events.specs.declared.anchor.Anchor.{Anchor}
 use Rattle.card_events.proofs.Months.{first_day-from}
-use Rattle.card_events.specs.History.{anchor_of, at_number}
+use Rattle.card_events.specs.History.{anchor_of, at_number, is_open}
 use Rattle.card_events.specs.Keys.{with_key}
 use Rattle.card_events.specs.SharedRows.{shared_rows}
 use Rattle.card_events.specs.declared.kept.Kept.{Kept}
@@ -22,7 +22,7 @@ use Rattle.card_events.specs.declared.reply.Refusal.TheVariants as refusal
 use Rattle.card_events.specs.declared.request.Request.{Request}
 use Rattle.card_events.specs.declared.request.Request.TheVariants as request
 use Rattle.card_events.specs.declared.request.Shared.{Shared}
-use Rattle.card_model.specs.Machine.{Accepts, NamedAccount, Outcome, Refuses, Repeats, State, accepted, accounts_after, at_key, has_accounts, is_open, is_repeat_of, judged, kept_as, lists_of, next_number, opened, outcome, outcome_in, run_from, shared_reason, start, step, with_lists, with_shared}
+use Rattle.card_model.specs.Machine.{Accepts, NamedAccount, Outcome, Refuses, Repeats, State, accepted, accounts_after, at_key, has_accounts, is_repeat_of, judged, kept_as, lists_of, next_number, opened, outcome, outcome_in, run_from, shared_reason, start, step, with_lists, with_shared}
 use Rattle.card_model.specs.Refusals.{Lists, Present, closing_on, first_reason, plan_days, plan_end_not_closing, reason_against, reason_to_open, reasons, where_true}
 use Rattle.card_daily.specs.Given.{ArePlanned, EndsWithAClosing}
 use Rattle.card_daily.specs.Laws.{RunsKeepPlans}

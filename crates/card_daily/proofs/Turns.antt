@@ -11,7 +11,7 @@ use Rattle.std.specs.Str.{bytes_eq}
 use Rattle.card_events.specs.Billing.{closing}
 use Rattle.card_events.specs.Range.{first_calendar_day}
 use Rattle.card_events.specs.declared.anchor.Anchor.{Anchor}
-use Rattle.card_events.specs.History.{anchor_of, at_number}
+use Rattle.card_events.specs.History.{anchor_of, at_number, is_open}
 use Rattle.card_events.specs.Keys.{with_key}
 use Rattle.card_events.specs.SharedRows.{shared_rows}
 use Rattle.card_events.specs.declared.kept.Kept.{Kept}
@@ -25,7 +25,7 @@ use Rattle.card_events.specs.declared.request.Shared.{Shared}
 use Rattle.card_events.specs.declared.request.Shared.TheVariants as shared
 use Rattle.card_model.specs.Cycles.{Cycle, IssuedRow, Sheet}
 use Rattle.card_model.specs.Folds.{cycle_at, row_of_cycle}
-use Rattle.card_model.specs.Machine.{Accepts, NamedAccount, Outcome, Refuses, Repeats, State, accepted, accounts_after, at_key, has_accounts, is_open, is_repeat_of, issues, judged, kept_as, lists_of, next_number, opened, outcome, outcome_in, run_from, shared_reason, start, step, with_lists, with_shared}
+use Rattle.card_model.specs.Machine.{Accepts, NamedAccount, Outcome, Refuses, Repeats, State, accepted, accounts_after, at_key, has_accounts, is_repeat_of, issues, judged, kept_as, lists_of, next_number, opened, outcome, outcome_in, run_from, shared_reason, start, step, with_lists, with_shared}
 use Rattle.card_model.specs.Refusals.{IsBilledLater, Lists, Present, bills, book_today, not_closed, reason_against, reason_to_open, reasons, where_true}
 use Rattle.card_model.specs.Sheets.{issued_sheet_of}
 use Rattle.card_daily.proofs.Runs.{all-none, anchor-stays, first-none, more-posts}

@@ -34,7 +34,7 @@ fn owes(inputs: &Inputs, day: Day, cycle: &Cycle) -> bool
 
 /// Whether the account is sixty days late on a day (12 CFR 1026.55(b)(4)): the due date of one of these closed cycles lies more
 /// than 60 days back, and the payments since its closing are below its minimum payment. Each cycle has the calendar's days. It
-/// takes no memory.
+/// doesn't allocate.
 #[tactic(auto, unfolding(card_model::specs::Payments::sixty_days_late))]
 pub fn is_sixty_days_late(inputs: &Inputs, day: Day, cycles: &[Cycle]) -> bool
     requires closed { All (IsClosed inputs.now) cycles.now }

@@ -42,7 +42,7 @@ fn place_from(slots: &[Slot], near: usize, day: Day) -> usize
 }
 
 /// The place of a day in the order in which posts are folded, as `first_place` gives it: that of its first post or, where it has
-/// none, of the first post of a later day. It is looked for from a place on, where that isn't behind it. It takes no memory.
+/// none, of the first post of a later day. It is looked for from a place on, where that isn't behind it. It doesn't allocate.
 pub fn place_near(posts: &Posts, near: usize, day: Day) -> usize
     ensures { (holidays : List ℕ) → StandsFor holidays posts.now → result ≡ place_of day posts.now.corrected }
 {

@@ -1,4 +1,4 @@
-// The posts of a day, in turn.
+// The posts of a day, in order.
 ghost use Rattle.std.specs.Prelude.{◌≡◌, ◌+◌, ◌-◌, ◌<◌, ◌≤◌, ℕ, Bool, true, false, nat_lt, List, [], length, min, Option, OnOk, OnErr, option_copied, pos, ◌≤ℤ◌, slice_index_or, unsigned_abs};
 ghost use Rattle.card_events.specs.Limits.{post_limit};
 ghost use Rattle.card_model.specs.Limits.{balance_limit};

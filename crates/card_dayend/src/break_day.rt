@@ -131,7 +131,7 @@ fn next_issue(issued: &[Issued], near: &mut usize, first: Day, end: Day) -> Day
 /// The first break day from a day on, where it comes before the last one, and that last day otherwise. Break days are the days
 /// with a post, a closing or an issue, those after a due date, those on which a rate changes, by the penalties begun so far,
 /// and, where the opening rates follow the index, those with an index row. The first day isn't before the opening day nor
-/// after the last one, which is at most 2099-12-31. The cursor is one of this account, and stays so. It takes no memory.
+/// after the last one, which is at most 2099-12-31. The cursor is one of this account, and stays so. It doesn't allocate.
 pub fn span_end(inputs: &Inputs, rates: &RateBook, first: Day, to: Day, cursor: &mut Cursor) -> Day
     requires opened { opened_in inputs.now ≤ first }
     requires order { first ≤ to }

@@ -10,7 +10,7 @@ use card_events::{Day, NoMemory};
 use card_fees::Tally;
 use std::alloc::Global;
 
-/// Folds a day: what its due date brings, its posts in turn, its row on each segment, and the closing where it is one. The
+/// Folds a day: what its due date brings, its posts in order, its row on each segment, and the closing where it is one. The
 /// day isn't before the opening day and at most 2099-12-31, and the days before it are folded. Its posts are looked for from a
 /// place on, for speed alone. What the tally counted of payments and credits is right for the account's posts up to the day, and
 /// stays so, also if memory runs out; state and track are then of no use, but that the track begins with what it held.

@@ -33,7 +33,7 @@ impl Generator {
         Generator { x: start.get() }
     }
 
-    // Goes on to the next number.
+    // Steps to the next number.
     #[tactic(auto, unfolding(crate::specs::Generator::stepped))]
     fn step(&mut self)
         ensures { self.new ≡ stepped self.old }
@@ -41,7 +41,7 @@ impl Generator {
         self.x = self.x.wrapping_mul(FACTOR).wrapping_add(SUMMAND);
     }
 
-    /// Goes on, and gives the remainder of the upper 31 bits at a division by a number above 0.
+    /// Steps, and gives the remainder of the upper 31 bits at a division by a number above 0.
     #[tactic(auto, unfolding(crate::specs::Generator::drawn))]
     pub fn below(&mut self, limit: u32) -> u32
         requires { 0 < limit }

@@ -40,7 +40,7 @@ fn is_refusal(reply: &Reply) -> bool
     matches!(reply, Reply::Refused(_))
 }
 
-// Carries out a request, and says whether it was refused. After want of memory desk and rows are as they were.
+// Carries out a request, and says whether it was refused. If memory runs out, desk and rows are as they were.
 #[tactic(auto, using(crate::proofs::LedgerLemmas::fits_stays))]
 fn carry_out(
     alloc: Global,

@@ -1,5 +1,5 @@
 //! A demonstration: accounts that charge, pay and correct, by requests that a generator of numbers draws, over a ledger of its
-//! own, and what these requests come to.
+//! own, and the results of these requests.
 #![tactic(auto)]
 
 mod generator;

@@ -1,4 +1,4 @@
-// What a demonstration comes to.
+// A demonstration's results.
 ghost use Rattle.std.specs.Prelude.{◌≡◌, IfOk};
 ghost use Rattle.std.specs.String.{string_bytes};
 ghost use Rattle.card_demo.specs.Summary as spec;

@@ -22,7 +22,7 @@ use Rattle.card_desk.proofs.DeskLemmas.{read_at}
 use Rattle.card_reasons.proofs.SameReasons.{AreAlike, same_reason}
 use Rattle.card_desk.specs.Desks.{AreAccounts, AreSameHolidays, IsDesk, IsRun, named_all, now_at, state_of}
 use Rattle.card_events.specs.Dated.{is_dated, is_dated_post, is_dated_shared, is_request_day}
-use Rattle.card_events.specs.History.{CorrectedPost, anchor_of, at_number, corrected, is_folded, is_variable, opening_in, terms_of}
+use Rattle.card_events.specs.History.{CorrectedPost, anchor_of, at_number, corrected, is_folded, is_open, is_variable, opening_in, terms_of}
 use Rattle.card_events.specs.Keys.{with_key}
 use Rattle.card_events.specs.Names.{is_name}
 use Rattle.card_events.specs.declared.reply.Refusal.{Refusal}
@@ -42,14 +42,13 @@ use Rattle.card_daily.specs.Given.{IsSound}
 use Rattle.card_daily.specs.declared.track.Statement.{Statement}
 use Rattle.card_model.specs.Cycles.{Cycle, Seen, Sheet}
 use Rattle.card_model.specs.Folds.{book, book_after, cycle_at, row_of_cycle, rows_issued}
-use Rattle.card_model.specs.Machine.{Accepts, NamedAccount, Refuses, Repeats, State, accepted, at_key, is_open, is_repeat_of, issues, judged, kept_as, outcome_in}
+use Rattle.card_model.specs.Machine.{Accepts, NamedAccount, Refuses, Repeats, State, accepted, at_key, is_repeat_of, issues, judged, kept_as, outcome_in}
 use Rattle.card_model.specs.Refusals.{Lists, Present, book_today, reason_against}
 use Rattle.card_model.specs.Segments.{kept_segments}
 use Rattle.card_model.specs.Sheets.{issued_sheet_of, sheet_in, sheet_of}
 use Rattle.card_model.specs.Work.{present_in}
 use Rattle.card_model.specs.declared.entry.Entry.{Entry}
 use Rattle.card_model.specs.declared.segment.Segment.{Segment}
-use Rattle.card_posts.specs.Posted.{opens}
 use Rattle.card_posts.specs.Stored.{AreTimely}
 use Rattle.card_posts.proofs.Holidays.{same-corrected}
 use Rattle.card_rows.specs.Held.{are_terms, is_day, is_number, is_place, is_post, is_request, is_shared}
@@ -59,7 +58,7 @@ use Rattle.card_rates.specs.Segments.{account_segments}
 day_parts : (day : ℕ) → is_day day ≡ true → (first_calendar_day ≤ day) × (is_request_day day ≡ true)
 day_parts day is = let parts = and_parts (nat_le first_calendar_day day) (is_request_day day) is in (leb-true first_calendar_day day parts.0, parts.1)
 
-post_days : (p : Post) → is_post p ≡ true → (is_dated_post p ≡ true) × (opens p ≡ true → first_calendar_day ≤ opening_in p)
+post_days : (p : Post) → is_post p ≡ true → (is_dated_post p ≡ true) × (is_open p ≡ true → first_calendar_day ≤ opening_in p)
 unfolding is_post is_dated_post
 post_days (post.Open d t) is = let day = day_parts d (and_parts (is_day d) (are_terms t) is).0 in (day.1, λ _. day.0)
 post_days (post.OpenVariable d t) is = let day = day_parts d (and_parts (is_day d) (are_terms t) is).0 in (day.1, λ _. day.0)

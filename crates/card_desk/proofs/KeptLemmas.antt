@@ -38,7 +38,8 @@ use Rattle.card_events.specs.declared.request.Request.{Request}
 use Rattle.card_events.specs.declared.request.Request.TheVariants as request
 use Rattle.card_events.specs.declared.request.Shared.{Shared}
 use Rattle.card_events.specs.declared.request.Shared.TheVariants as shared
-use Rattle.card_model.specs.Machine.{Accepts, NamedAccount, State, accepted, has_accounts, is_open, kept_as, outcome_in, rolled, run_from, shared_reason, start, step, with_shared}
+use Rattle.card_events.specs.History.{is_open}
+use Rattle.card_model.specs.Machine.{Accepts, NamedAccount, State, accepted, has_accounts, kept_as, outcome_in, rolled, run_from, shared_reason, start, step, with_shared}
 use Rattle.card_model.specs.Refusals.{Lists, Present, where_true}
 use Rattle.card_rows.specs.Held.{is_request, is_shared}
 

@@ -3,7 +3,7 @@ use Rattle.std.proofs.Common.{◌≡◌, ℕ, ◌+◌, Bool, true, false, cond, 
 use Rattle.std.specs.Prelude.{if◌then◌else◌, nat_lt}
 use Rattle.std.specs.Str.{bytes_eq}
 use Rattle.std.proofs.lemmas.Bool.{lt-ltb, le-ltb}
-use Rattle.card_events.specs.History.{at_number}
+use Rattle.card_events.specs.History.{at_number, is_open}
 use Rattle.card_events.specs.Keys.{with_key}
 use Rattle.card_events.specs.declared.post.Post.{Post}
 use Rattle.card_events.specs.declared.reply.Refusal.{Refusal}
@@ -11,7 +11,7 @@ use Rattle.card_events.specs.declared.reply.Refusal.TheVariants as refusal
 use Rattle.card_events.specs.declared.request.Request.{Request}
 use Rattle.card_events.specs.declared.request.Request.TheVariants as request
 use Rattle.card_events.specs.declared.request.Shared.{Shared}
-use Rattle.card_model.specs.Machine.{State, NamedAccount, Outcome, Refuses, Repeats, Accepts, lists_of, with_lists, outcome, outcome_in, with_outcome, with_shared, step, is_new, accepts, at_key, judged, accepted, kept_as, is_open, is_repeat_of, opened, shared_reason, has_accounts}
+use Rattle.card_model.specs.Machine.{State, NamedAccount, Outcome, Refuses, Repeats, Accepts, lists_of, with_lists, outcome, outcome_in, with_outcome, with_shared, step, is_new, accepts, at_key, judged, accepted, kept_as, is_repeat_of, opened, shared_reason, has_accounts}
 use Rattle.card_model.specs.Refusals.{Lists, Present, reason_against, reason_to_open}
 use Rattle.card_events.specs.SharedRows.{shared_rows}
 use Rattle.card_desk.specs.Kept.{accepted_count, posts_in}

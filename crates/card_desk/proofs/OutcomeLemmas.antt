@@ -6,10 +6,10 @@ use Rattle.card_events.specs.SharedRows.{SharedRows, shared_rows}
 use Rattle.card_events.specs.declared.post.Post.{Post}
 use Rattle.card_events.specs.declared.reply.Refusal.{Refusal}
 use Rattle.card_events.specs.declared.reply.Refusal.TheVariants as refusal
-use Rattle.card_model.specs.Machine.{State, Outcome, Refuses, Repeats, Accepts, lists_of, outcome, outcome_in, at_key, judged, accepted, kept_as, is_open, is_repeat_of, opened}
+use Rattle.card_model.specs.Machine.{State, Outcome, Refuses, Repeats, Accepts, lists_of, outcome, outcome_in, at_key, judged, accepted, kept_as, is_repeat_of, opened}
 use Rattle.card_model.specs.Refusals.{Lists, Present, bad_terms, day_ahead, first_reason, no_index, reason_against, reason_to_open, where_true}
 use Rattle.card_model.specs.Work.{present_in}
-use Rattle.card_events.specs.History.{at_number}
+use Rattle.card_events.specs.History.{at_number, is_open}
 use Rattle.card_account.specs.Verdicts.{verdict_of}
 use Rattle.card_account.specs.declared.verdict.Verdict.TheVariants as verdict
 

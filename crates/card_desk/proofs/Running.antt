@@ -18,8 +18,9 @@ use Rattle.card_events.specs.declared.post.Post.{Post}
 use Rattle.card_events.specs.declared.reply.Reply.TheVariants as reply
 use Rattle.card_events.specs.declared.request.Request.TheVariants as request
 use Rattle.card_events.specs.declared.request.Shared.{Shared}
+use Rattle.card_events.specs.History.{is_open}
 use Rattle.card_model.specs.Accepted.{HasFewFees}
-use Rattle.card_model.specs.Machine.{Accepts, NamedAccount, State, accepted, is_open, outcome_in, step}
+use Rattle.card_model.specs.Machine.{Accepts, NamedAccount, State, accepted, outcome_in, step}
 use Rattle.card_model.specs.Refusals.{Lists}
 use Rattle.card_model.specs.Work.{present_in}
 use Rattle.card_reasons.proofs.SameReasons.{AreAlike}

@@ -71,12 +71,11 @@ impl Desk {
     ghost use Rattle.card_desk.specs.Desks.{IsRun, now_at};
     ghost use Rattle.card_events.specs.Billing.{IsCloseDay};
     ghost use Rattle.card_events.specs.Dated.{is_dated, is_dated_post};
-    ghost use Rattle.card_events.specs.History.{terms_in};
+    ghost use Rattle.card_events.specs.History.{is_open, terms_in};
     ghost use Rattle.card_ports.specs.Rows.{KeepsRows, SameRowsTold};
     ghost use Rattle.card_model.specs.Machine.{NamedAccount, start, lists_of, outcome_in, Accepts, accepted, at_key, shared_reason, has_accounts};
     ghost use Rattle.card_model.specs.Refusals.{book_today, reason_against, reason_to_open};
     ghost use Rattle.card_model.specs.Work.{work};
-    ghost use Rattle.card_posts.specs.Posted.{opens};
     ghost use Rattle.card_desk.specs.Apart.{IsApart};
     ghost use Rattle.card_desk.specs.Applied.{Carried, IsAsked, IsCounted};
     ghost use Rattle.card_desk.specs.Applied as applied;
@@ -176,7 +175,7 @@ impl Desk {
     /// How many of the first entries that are recorded of the account at a place stay if it takes a post today, whatever it is then taken
     /// back to: those up to the last closing before the earlier of the first day that the post changes and the day last reached. They are
     /// 0 where it takes no more posts, where the post is about a later one than there is, for a payment at a minute above 1,439, and for
-    /// a payment that came in, or an Amend that lies, before the opening day or after today. It takes no memory.
+    /// a payment that came in, or an Amend that lies, before the opening day or after today. It doesn't allocate.
     pub fn standing(&self, place: usize, post: &Post) -> usize
         requires { place < length self.now.recorded }
         ensures stay { AreStanding result place post.now self.now }
@@ -262,7 +261,7 @@ impl Desk {
         given: &Given<'_>,
     ) -> Result<Reply, Fault>
         requires request { given.now.request.now ≡ Request.Post given.now.account.now given.now.key.now given.now.post.now }
-        requires open { opens given.now.post.now ≡ true }
+        requires open { is_open given.now.post.now ≡ true }
         requires close_day { IsCloseDay (terms_in given.now.post.now).close }
         requires asked { IsAsked (K.rows keeper.old) self.old.state given.now.request.now }
         requires absent { place_from given.now.account.now 0 self.old.state.accounts ≡ None }
@@ -344,7 +343,7 @@ impl Desk {
         Ok(Reply::Accepted(number))
     }
 
-    // What a post comes to on the account at a place.
+    // The result of a post on the account at a place.
     fn judge_at<L: Ledger>(
         &mut self,
         alloc: Global,

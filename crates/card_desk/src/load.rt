@@ -16,7 +16,7 @@ use card_rows::decode;
 use std::alloc::Global;
 use std::sync::ledger::Ledger;
 
-// Keeps nothing, tells nothing and never fails: rows that are loaded aren't kept again.
+// Keeps nothing, shows nothing and never fails: rows that are loaded aren't kept again.
 #[derive(Drop)]
 struct Untold {}
 

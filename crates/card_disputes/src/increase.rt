@@ -44,7 +44,7 @@ fn has_increase_by(posts: &Posts, day: Day) -> bool
 }
 
 /// Whether a rate increase has taken effect by a day: a Notice by its effective day, or a penalty rate 45 days after its
-/// acceptance (12 CFR 1026.59(a)). The corrected list is that of the posts under some calendar. It takes no memory.
+/// acceptance (12 CFR 1026.59(a)). The corrected list is that of the posts under some calendar. It doesn't allocate.
 pub fn has_increase(posts: &Posts, day: Day) -> bool
     ensures { (holidays : List ℕ) → StandsFor holidays posts.now → result ≡ not (is_empty (increases posts.now.corrected day)) }
 {

@@ -122,7 +122,7 @@ fn notice_end(posts: &Posts, charge: u32, cycle: u32) -> Option<Day>
 
 /// The last day for a Dispute of the charge with this number: 60 days after the first statement that reflects it was issued
 /// (12 CFR 1026.13(b)(1)). None comes where no statement reflects it yet, and where no charge has the number. The posts were
-/// accepted on days of requests. The corrected list is that of the posts under some calendar. It takes no memory.
+/// accepted on days of requests. The corrected list is that of the posts under some calendar. It doesn't allocate.
 pub fn last_notice_day(posts: &Posts, anchor: &Anchor, charge: Num) -> Option<Day>
     requires posts { AreInCalendar anchor.now posts.now.history }
     ensures { (holidays : List ℕ) → StandsFor holidays posts.now → result ≡ spec.last_notice_day anchor.now posts.now.corrected charge }

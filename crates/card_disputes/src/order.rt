@@ -14,7 +14,7 @@ fn compare_days(task: &Task, other: &Task) -> Ordering
     task.by.cmp(&other.by)
 }
 
-// Puts the tasks of an account in order of their days, those of one day as they stand. After want of memory they stand as
+// Puts the tasks of an account in order of their days, those of one day as they stand. If memory runs out, they stand as
 // they did.
 pub fn by_day(tasks: &mut Vec<Task>) -> Result<(), NoMemory>
     ensures ok { OnOk result (tasks.new.items ≡ spec.by_day tasks.old.items) }

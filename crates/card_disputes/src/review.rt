@@ -99,7 +99,7 @@ fn reviewed(posts: &Posts, day: Day) -> Day
 
 /// The day by which rate increases are reviewed, as of today: six months after the later of the first increase and the last
 /// Review (12 CFR 1026.59(a), (c)). None comes where no increase has taken effect by today. The days of the posts and today
-/// are days of requests. The corrected list is that of the posts under some calendar. It takes no memory.
+/// are days of requests. The corrected list is that of the posts under some calendar. It doesn't allocate.
 pub fn review_by(posts: &Posts, today: Day) -> Option<Day>
     requires dated { ArePostsDated posts.now.history }
     requires today { today ≤ last_request_day }

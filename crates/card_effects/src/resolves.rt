@@ -47,7 +47,7 @@ fn held_sum(entries: &[Entry], post: Num) -> Cents
     sum
 }
 
-// What a Dispute moved to Held, as its entries tell it.
+// What a Dispute moved to Held, as its entries record it.
 pub fn moved_by(entries: &[Entry], dispute: Num) -> Cents
     requires { moved entries.now ≤ balance_limit }
     ensures value { result ≡ pos (moved_by dispute entries.now) }

@@ -9,7 +9,7 @@ use card_closing::CycleRows;
 use card_events::{Cents, NoMemory, Slot};
 use card_segments::Parts;
 
-/// Takes all that a payment brought out of the rows. It takes no memory.
+/// Takes all that a payment brought out of the rows. It doesn't allocate.
 pub fn unpay(rows: &mut [CycleRows], post: u32)
     ensures { rows.new ≡ map (without_post post) rows.old }
 {
@@ -35,7 +35,7 @@ fn repay_part(rows: &mut [CycleRows], segment: u8, cents: u64, slot: &Slot) -> R
     Ok(())
 }
 
-// Brings each part to the rows of its segment, up to want of memory.
+// Brings each part to the rows of its segment, until memory runs out.
 fn repay_parts(rows: &mut [CycleRows], parts: &Parts, slot: &Slot) -> Result<(), NoMemory>
     requires on_segments { AreOnSegments (length rows.old + 2) parts.now }
     requires limit { parts_sum parts.now ≤ balance_limit }

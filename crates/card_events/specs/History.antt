@@ -210,6 +210,12 @@ folded a holidays history = filter (λ p. is_folded p.post) (corrected a holiday
 abbrev pub no_terms : Terms
 no_terms = record { close = 0; purchase = 0; cash = 0; transfer = 0; penalty = 0; floor = 0; pct = 0 }
 
+-- the post opens an account
+abbrev pub is_open : Post → Bool
+is_open (post.Open _ _) = true
+is_open (post.OpenVariable _ _) = true
+is_open _ = false
+
 -- the terms that a post opens with
 abbrev pub terms_in : Post → Terms
 terms_in (post.Open _ terms) = terms

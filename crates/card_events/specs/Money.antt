@@ -1,5 +1,5 @@
 -- Rates, interest and the text of money. Numbers here have no greatest value.
-use Rattle.std.specs.Prelude.{ℕ, ◌+◌, ◌*◌, ◌/◌, ◌%◌, List, [], ◌∷◌, ◌++◌, ℤ, pos, negsuc, unsigned_abs}
+use Rattle.std.specs.Prelude.{ℕ, ◌+◌, ◌*◌, ◌/◌, ◌%◌, max, List, [], ◌∷◌, ◌++◌, ℤ, pos, negsuc, unsigned_abs}
 use Rattle.std.specs.Fmt.{decimal}
 
 -- the greatest yearly rate, in basis points
@@ -17,6 +17,11 @@ interest sum = (sum + 500_000_000) / 1_000_000_000
 -- the part of a balance that a percentage in basis points gives, rounded down
 unfoldable pub portion : ℕ → ℕ → ℕ
 portion balance pct = balance * pct / 10_000
+
+-- What a minimum payment asks of a balance and the charges on it, before what is past due: the floor, or the part that the percentage
+-- gives with the charges, where that is more
+abbrev pub floor_or_portion : ℕ → ℕ → ℕ → ℕ → ℕ
+floor_or_portion balance floor pct charges = max floor (portion balance pct + charges)
 
 -- a minus for a number below 0
 abbrev pub sign_text : ℤ → List ℕ

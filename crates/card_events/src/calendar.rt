@@ -23,7 +23,7 @@ impl Model for Calendar {
 }
 
 impl Calendar {
-    /// A calendar without holidays. It takes no memory.
+    /// A calendar without holidays. It doesn't allocate.
     #[tactic(auto, unfolding(crate::specs::Kept::AreHolidays))]
     pub fn new(alloc: Global) -> Calendar
         ensures { result ≡ [] }
@@ -33,8 +33,8 @@ impl Calendar {
         }
     }
 
-    /// Loads a holiday, which is at most 2099-12-31. A day that is there already changes nothing and takes no memory.
-    /// After want of memory the calendar is as before.
+    /// Loads a holiday, which is at most 2099-12-31. A day that is there already changes nothing and doesn't allocate.
+    /// If memory runs out, the calendar is as before.
     pub fn add(&mut self, day: Day) -> Result<(), NoMemory>
         requires { day ≤ last_request_day }
         ensures added { OnOk result (self.new ≡ with_holiday day self.old) }

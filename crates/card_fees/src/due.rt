@@ -21,7 +21,7 @@ fn falls_short(posts: &Posts, from: Day, to: Day, minimum: u64) -> bool
 
 /// Whether the payments credited after the closing of a cycle and up to its due date, without those returned by then, reach
 /// what it asks for (12 CFR 1026.5(b)(2)(ii)). It closed before its due date. The corrected list is that of the posts under
-/// some calendar. It takes no memory.
+/// some calendar. It doesn't allocate.
 #[tactic(auto, unfolding(card_model::specs::Payments::is_met))]
 pub fn met(posts: &Posts, c: &DueCycle) -> bool
     requires closed { c.now.closing < c.now.due }
@@ -37,7 +37,7 @@ pub fn met(posts: &Posts, c: &DueCycle) -> bool
 
 /// The same, with what was counted so far. It closed before its due date, which is before 2102-12-31. What the tally counted
 /// is right for these posts, and stays so; where the cycle asks for something, it holds the sum of these days from then on.
-/// The corrected list is that of the posts under some calendar. It takes no memory.
+/// The corrected list is that of the posts under some calendar. It doesn't allocate.
 #[tactic(auto, unfolding(card_model::specs::Payments::is_met))]
 pub fn met_in_time(posts: &Posts, c: &DueCycle, tally: &mut Tally) -> bool
     requires closed { c.now.closing < c.now.due }
@@ -56,7 +56,7 @@ pub fn met_in_time(posts: &Posts, c: &DueCycle, tally: &mut Tally) -> bool
 /// What is past due at a closing, in cents: what the cycle before asks for, less the payments credited after its closing and
 /// up to this one, without those returned by then, not below 0. That cycle closed before this closing, which is before
 /// 2102-12-31. What the tally counted is right for these posts, and stays so; what is counted here is kept in it. The
-/// corrected list is that of the posts under some calendar. It takes no memory.
+/// corrected list is that of the posts under some calendar. It doesn't allocate.
 pub fn past_due(posts: &Posts, c: &DueCycle, end: Day, tally: &mut Tally) -> u64
     requires closed { c.now.closing < end }
     requires in_calendar { end < last_calendar_day }
@@ -73,7 +73,7 @@ pub fn past_due(posts: &Posts, c: &DueCycle, end: Day, tally: &mut Tally) -> u64
 
 /// Whether a cycle owes what it asks for for sixty days on a day (12 CFR 1026.55(b)(4)): its due date lies more than 60 days
 /// back, and the payments with effective days after its closing and up to the day, without those returned by then, are below
-/// it. It closed before its due date. The corrected list is that of the posts under some calendar. It takes no memory.
+/// it. It closed before its due date. The corrected list is that of the posts under some calendar. It doesn't allocate.
 pub fn owes_sixty_days(posts: &Posts, c: &DueCycle, day: Day) -> bool
     requires closed { c.now.closing < c.now.due }
     ensures { (holidays : List ℕ) → StandsFor holidays posts.now → result ≡ payments.is_owed_sixty_days posts.now.corrected day c.now }

@@ -5,7 +5,7 @@ ghost use Rattle.card_model.specs.Payments.{asks};
 use card_model::DueCycle;
 
 /// What a closed cycle's due date asks for, in cents: its minimum payment, and 0 where the cycle has no due payment
-/// (12 CFR 1026.5(b)(2)(ii)). It takes no memory.
+/// (12 CFR 1026.5(b)(2)(ii)). It doesn't allocate.
 pub fn asked(c: &DueCycle) -> u64
     ensures { result ≡ asks c.now }
 {

@@ -35,7 +35,7 @@ fn is_repaid(posts: &Posts, c: &DueCycle, amount: u64, tally: &Tally) -> bool
 /// Whether the payments and the merchants' credits with effective days after a cycle's closing and up to its due date, without
 /// the payments returned by then, reach its grace amount. A statement without a due payment counts as paid (12 CFR
 /// 1026.54(a)(1)). The cycle closed before its due date, which is there. Sums that the tally holds are read off it; what it
-/// counted is right for these posts. The corrected list is that of the posts under some calendar. It takes no memory.
+/// counted is right for these posts. The corrected list is that of the posts under some calendar. It doesn't allocate.
 #[tactic(auto, unfolding(card_model::specs::Payments::is_paid))]
 pub fn paid(posts: &Posts, c: &DueCycle, tally: &Tally) -> bool
     requires known { IsInCalendar c.now }
@@ -59,7 +59,7 @@ fn paid_before(posts: &Posts, before: Option<DueCycle>, tally: &Tally) -> bool
 /// that: none does where the last statement was paid and the one before it too; where the last wasn't, what was repaid by its
 /// due date bears none; where the one before it wasn't, all bear interest. The first cycle has no cycle before it. They closed
 /// before their due dates, which are there. Sums that the tally holds are read off it; what it counted is right for these
-/// posts. The corrected list is that of the posts under some calendar. It takes no memory.
+/// posts. The corrected list is that of the posts under some calendar. It doesn't allocate.
 pub fn purchase_case(
     posts: &Posts,
     before: Option<DueCycle>,

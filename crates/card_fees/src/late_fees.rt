@@ -100,7 +100,7 @@ fn charge(table: &FeeTable, fees: &[Fee], cause: &Cause, minimum: u64, last_due:
 /// (b)(2)(ii)): the table's amount of that day, at most the minimum payment, in cents. It is at the repeat amount where a
 /// late fee at the first amount is among the fees of its cycle or of one of the six before. The fees are those charged so
 /// far. None comes exactly where the fee is 0 or one was charged for the due date before. The due date isn't before the
-/// opening day, and before 2100-12-31. It takes no memory.
+/// opening day, and before 2100-12-31. It doesn't allocate.
 pub fn late_fee(table: &FeeTable, fees: &[Fee], a: &Anchor, c: &DueCycle) -> Option<Fee>
     requires close_day { IsCloseDay a.now.close_day }
     requires opened { a.now.opened ≤ c.now.due }
@@ -121,7 +121,7 @@ pub fn late_fee(table: &FeeTable, fees: &[Fee], a: &Anchor, c: &DueCycle) -> Opt
 /// (b)(2)(i)(A), (b)(2)(ii)): the table's amount of that day, at most the minimum payment of cycle k and that of the last
 /// due date before the day, in cents. It is at the repeat amount where such a fee at the first amount is among the fees
 /// of its cycle or of one of the six before. The fees are those charged so far. None comes exactly where the fee is 0 or
-/// one was charged for the due date before. The day isn't before the opening day or after 2100-12-31. It takes no memory.
+/// one was charged for the due date before. The day isn't before the opening day or after 2100-12-31. It doesn't allocate.
 pub fn returned_fee(
     table: &FeeTable,
     fees: &[Fee],
@@ -190,7 +190,7 @@ fn lower(issued: &[Fee], fee: &Fee) -> u64
 }
 
 /// A penalty fee, at most what the issued statement of its cycle has for its due date, in cents. None comes exactly where
-/// that is 0. Without an issued statement it stays as it is. It takes no memory.
+/// that is 0. Without an issued statement it stays as it is. It doesn't allocate.
 pub fn capped_fee(issued: Option<&[Fee]>, fee: &Fee) -> Option<Fee>
     ensures { result ≡ charged_by fees_for (option_copied issued.entry) (Some fee.now) }
 {
@@ -206,7 +206,7 @@ pub fn capped_fee(issued: Option<&[Fee]>, fee: &Fee) -> Option<Fee>
 /// comes exactly where the due date was met or the fee is 0, or where one was charged for the due date before. The cycle
 /// closed before its due date, which isn't before the opening day, and before 2100-12-31. What the tally counted is right for
 /// these posts, and stays so; where the cycle asks for something, it holds the sum up to the due date from then on. The
-/// corrected list is that of the posts under some calendar. It takes no memory.
+/// corrected list is that of the posts under some calendar. It doesn't allocate.
 pub fn due_fee(
     table: &FeeTable,
     fees: &[Fee],

@@ -1,4 +1,4 @@
-//! The minimum payment, what a due date asks for and whether it was paid, and penalty fees; it hands on `card_shared` (12 CFR
+//! The minimum payment, what a due date asks for and whether it was paid, and penalty fees; it re-exports `card_shared` (12 CFR
 //! 1026.5(b)(2)(ii), .52(b), .54, .55(b)(4)).
 #![tactic(auto)]
 

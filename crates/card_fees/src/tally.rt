@@ -266,7 +266,7 @@ impl Tally {
     }
 
     /// What was paid from a day on before the post with a day and a number, from then on. The corrected list is that of the posts
-    /// under some calendar. It takes no memory.
+    /// under some calendar. It doesn't allocate.
     pub fn reach(&mut self, posts: &Posts, from: Day, day: Day, number: u32)
         ensures right { (holidays : List ℕ) (last : ℕ) → StandsFor holidays posts.now → IsBy last day number → IsTallyOf posts.now.corrected last self.old → IsTallyOf posts.now.corrected last self.new }
         ensures from { self.new.from ≡ from }
@@ -292,7 +292,7 @@ impl Tally {
     }
 
     /// What was paid from one day to another, before 2102-12-31, which it holds from then on. What it counted is right for these
-    /// posts, and stays so. The corrected list is that of the posts under some calendar. It takes no memory.
+    /// posts, and stays so. The corrected list is that of the posts under some calendar. It doesn't allocate.
     pub fn hold(&mut self, posts: &Posts, from: Day, to: Day) -> Sum
         requires { to < last_calendar_day }
         ensures right { StaysRight posts.now to self.old self.new }

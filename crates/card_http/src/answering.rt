@@ -1,4 +1,4 @@
-// What a request comes to over the ledger.
+// The outcome of a request over the ledger.
 ghost use Rattle.std.specs.Prelude.{◌≡◌, ◌⊎◌, true};
 ghost use Rattle.card_desk.specs.Kept.{Fits};
 ghost use Rattle.card_events.specs.Dated.{is_dated};

@@ -1,4 +1,4 @@
-//! One connection of HTTP/1.1 to the ledger: its request, what that comes to, and its answer; and the texts of what is asked.
+//! One connection of HTTP/1.1 to the ledger: its request, its outcome, and its answer; and the texts of what is asked.
 #![tactic(auto)]
 
 mod answer;

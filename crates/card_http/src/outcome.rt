@@ -1,4 +1,4 @@
-// What a request comes to.
+// The outcome of a request.
 use crate::status::Status;
 use card_events::Reply;
 use card_wire::BodyFault;

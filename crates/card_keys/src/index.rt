@@ -69,7 +69,7 @@ pub fn find(history: &[Kept], index: &KeyTable, key: &Name) -> Option<u32>
     found
 }
 
-/// Puts the number of the next post, which has this key, into its place. It takes no memory: there is room.
+/// Puts the number of the next post, which has this key, into its place. It doesn't allocate: there is room.
 pub fn enter_key(history: &[Kept], index: &mut KeyTable, key: &Name)
     requires few { length history.now < post_limit }
     requires index { IsIndex history.now index.old }
@@ -81,7 +81,7 @@ pub fn enter_key(history: &[Kept], index: &mut KeyTable, key: &Name)
     index.enter(bucket, history.len() as u32 + 1);
 }
 
-/// Takes the last post out again, which stood behind these. It takes no memory, and leaves room for one post.
+/// Takes the last post out again, which stood behind these. It doesn't allocate, and leaves room for one post.
 pub fn leave_key(history: &[Kept], index: &mut KeyTable, last: &Kept)
     requires index { IsIndex (history.now ++ last.now ∷ []) index.old }
     ensures index { IsIndex history.now index.new }
@@ -115,7 +115,7 @@ pub fn rebuilt(
 }
 
 /// Makes room for one post more. Where the posts are as many as the buckets, these become twice as many, in memory of their own.
-/// After want of memory the posts are found as before.
+/// If memory runs out, the posts are found as before.
 pub fn make_room(alloc: Global, history: &[Kept], index: &mut KeyTable) -> Result<(), NoMemory>
     requires few { length history.now ≤ post_limit }
     requires index { IsIndex history.now index.old }

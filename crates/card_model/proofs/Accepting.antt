@@ -8,7 +8,7 @@ use Rattle.std.proofs.lemmas.List.Sums.{sum_by-append, sum_by-cons}
 use Rattle.std.proofs.lemmas.Bool.Decides.{nat_tests}
 use Rattle.std.proofs.lemmas.List.Elements.{All-nil, All-cons, All-head, All-tail, All-push, All-weaker}
 use Rattle.std.specs.Str.{bytes_eq}
-use Rattle.card_events.specs.History.{at_number, terms_in, terms_of}
+use Rattle.card_events.specs.History.{at_number, is_open, terms_in, terms_of}
 use Rattle.card_events.specs.Keys.{with_key}
 use Rattle.card_events.specs.Limits.{post_limit}
 use Rattle.card_events.specs.SharedRows.{FeeRow, SharedRows, fee_row_of, shared_rows}
@@ -23,7 +23,7 @@ use Rattle.card_model.specs.Caps.{row_for}
 use Rattle.card_model.specs.Cycles.{Cycle, IssuedRow, Sheet}
 use Rattle.card_model.specs.Deadlines.{resolves}
 use Rattle.card_model.specs.Folds.{cycle_at, row_of_cycle}
-use Rattle.card_model.specs.Machine.{Accepts, NamedAccount, Outcome, Refuses, Repeats, State, accepted, accounts_after, at_key, has_accounts, is_open, is_repeat_of, issues, judged, kept_as, lists_of, next_number, opened, outcome, outcome_in, run, run_from, shared_reason, start, step, with_lists, with_shared}
+use Rattle.card_model.specs.Machine.{Accepts, NamedAccount, Outcome, Refuses, Repeats, State, accepted, accounts_after, at_key, has_accounts, is_repeat_of, issues, judged, kept_as, lists_of, next_number, opened, outcome, outcome_in, run, run_from, shared_reason, start, step, with_lists, with_shared}
 use Rattle.card_model.specs.Refusals.{Lists, Present, account_full, bad_terms_of, bills, book_today, day_ahead, first_reason, is_no_amount, is_out_of_range, no_index, no_open_dispute, number_from, reason_against, reason_to_open, reasons, where_true, wrong_entry}
 use Rattle.card_events.specs.declared.reply.Refusal.TheVariants as refusal
 use Rattle.card_events.specs.declared.request.Request.TheVariants as request

@@ -4,7 +4,7 @@ use Rattle.std.specs.Prelude.{is_some, not}
 use Rattle.std.specs.List.{All}
 use Rattle.std.specs.Str.{bytes_eq}
 use Rattle.std.proofs.lemmas.List.Elements.{All-nil, All-cons, All-head, All-tail, All-weaker}
-use Rattle.card_events.specs.History.{anchor_of, at_number, opens_variable}
+use Rattle.card_events.specs.History.{anchor_of, at_number, is_open, opens_variable}
 use Rattle.card_events.specs.Keys.{with_key}
 use Rattle.card_events.specs.SharedRows.{AreByDay, IndexRow, index_row_of, shared_rows}
 use Rattle.card_events.specs.declared.kept.Kept.{Kept}
@@ -18,7 +18,7 @@ use Rattle.card_events.specs.declared.request.Shared.{Shared}
 use Rattle.card_events.proofs.IndexRows.{index-is-by-day, index-more, with_more}
 use Rattle.card_model.specs.Accepted.{HasAnIndex}
 use Rattle.card_model.specs.Cycles.{IssuedRow}
-use Rattle.card_model.specs.Machine.{Accepts, NamedAccount, Outcome, Refuses, Repeats, State, accepted, accounts_after, at_key, has_accounts, is_open, is_repeat_of, judged, kept_as, lists_of, opened, outcome, outcome_in, run, run_from, shared_reason, start, step, with_lists, with_shared}
+use Rattle.card_model.specs.Machine.{Accepts, NamedAccount, Outcome, Refuses, Repeats, State, accepted, accounts_after, at_key, has_accounts, is_repeat_of, judged, kept_as, lists_of, opened, outcome, outcome_in, run, run_from, shared_reason, start, step, with_lists, with_shared}
 use Rattle.card_model.specs.Rates.{index_on}
 use Rattle.card_model.specs.Refusals.{Lists, Present, bad_terms, day_ahead, first_reason, no_index, reason_against, reason_to_open, where_true}
 use Rattle.card_model.proofs.IndexDays.{index-stays}

@@ -12,10 +12,11 @@ use Rattle.card_events.specs.declared.request.Request.{Request}
 use Rattle.card_events.specs.declared.request.Shared.{Shared}
 use Rattle.card_events.specs.declared.reply.Reply.TheVariants as reply
 use Rattle.card_model.specs.Isolated.{Isolation, NeverFull, Own, concerns, is_shared, own_of, replies_where, is_on}
-use Rattle.card_model.specs.Machine.{Accepts, NamedAccount, Outcome, Refuses, Repeats, State, has_accounts, is_open, lists_of, opened, outcome, outcome_in, reply_to, rolled, run_from, shared_reason, step, with_lists, with_outcome, with_shared}
+use Rattle.card_model.specs.Machine.{Accepts, NamedAccount, Outcome, Refuses, Repeats, State, has_accounts, lists_of, opened, outcome, outcome_in, reply_to, rolled, run_from, shared_reason, step, with_lists, with_outcome, with_shared}
 use Rattle.card_model.specs.Refusals.{Lists, bad_terms, day_ahead, first_reason, no_index, reason_to_open, where_true}
 use Rattle.card_events.specs.declared.reply.Refusal.TheVariants as refusal
 use Rattle.card_events.specs.declared.request.Request.TheVariants as request
+use Rattle.card_events.specs.History.{is_open}
 
 -- ---- names
 names-same : (n : List ℕ) → bytes_eq n n ≡ true

@@ -2,7 +2,7 @@
 use Rattle.std.specs.Prelude.{ℕ, ◌+◌, ◌-◌, Bool, false, ◌&&◌, ◌==◌, nat_lt, if◌then◌else◌, min, max, List, [], ◌∷◌, ◌++◌, length, Option, Some, None, ℤ, pos, ◌-ℤ◌}
 use Rattle.std.specs.List.{filter_map, sum_by}
 use Rattle.card_events.specs.Billing.{due_after}
-use Rattle.card_events.specs.Money.{portion}
+use Rattle.card_events.specs.Money.{floor_or_portion}
 use Rattle.card_model.specs.Books.{Account, Book, all_segments, present_cycle, with_all_entries, with_cycle, with_entries}
 use Rattle.card_model.specs.Caps.{capped_by, issued_grace, issued_interest, issued_minimum}
 use Rattle.card_model.specs.Cycles.{Amounts, Cycle, IssuedRow, Seen, amount_at, amounts_sum, last_cycle}
@@ -76,7 +76,7 @@ net_balance entries = owed entries -ℤ balance 1 entries
 
 -- of a balance above 0: the floor, or portion and charges where that is more, and what is past due, at most the balance
 abbrev pub minimum_of : ℤ → ℕ → ℕ → ℕ → ℕ → ℕ
-minimum_of (pos nb) floor pct charges past_due = min nb (max floor (portion nb pct + charges) + past_due)
+minimum_of (pos nb) floor pct charges past_due = min nb (floor_or_portion nb floor pct charges + past_due)
 minimum_of _ floor pct charges past_due = 0
 
 -- The greater of the floor and of a portion of the balance with the cycle's interest and fees, and what is past due;

@@ -3,7 +3,7 @@ use Rattle.std.specs.Prelude.{ℕ, ◌+◌, Bool, true, false, ◌&&◌, ◌||�
 use Rattle.std.specs.Str.{bytes_eq}
 use Rattle.card_events.specs.Range.{first_calendar_day}
 use Rattle.card_events.specs.Money.{rate_limit}
-use Rattle.card_events.specs.History.{at_number}
+use Rattle.card_events.specs.History.{at_number, is_open}
 use Rattle.card_events.specs.Keys.{with_key}
 use Rattle.card_events.specs.Same.{is_same_post}
 use Rattle.card_events.specs.SharedRows.{shared_rows}
@@ -82,12 +82,6 @@ accepted now key p =
 abbrev pub judged : Present → List ℕ → Post → Option Refusal → Outcome
 judged now key p (Some r) = Refuses r
 judged now key p None = Accepts (accepted now key p)
-
--- an Open or an OpenVariable
-abbrev pub is_open : Post → Bool
-is_open (post.Open _ _) = true
-is_open (post.OpenVariable _ _) = true
-is_open _ = false
 
 -- a post with the content of the one that is there
 abbrev pub is_repeat_of : Post → Option Kept → Bool

@@ -87,7 +87,7 @@ pub fn spans_are_steps()
     ensures { SpansAreSteps }
 {}
 
-/// Behind days without a break, the penalties of the book before them tell whether a day is a break day as those of every
+/// Behind days without a break, the penalties of the book before them decide whether a day is a break day as those of every
 /// later book do.
 pub fn spans_are_told()
     ensures { SpansAreTold }

@@ -9,7 +9,7 @@ pub trait Door {
     /// A connection. It is handed back to `close`.
     type Conn: Link;
 
-    /// The connections that are left and those that were closed, how many are out, and the port, where the form tells them.
+    /// The connections that are left and those that were closed, how many are out, and the port, where they are visible to clauses.
     ghost visits: { Self → Option Visits };
 
     /// How often the door failed. No other call counts, and faults of a connection aren't counted here.
@@ -28,7 +28,7 @@ pub trait Door {
         ensures err { OnErr result (visits self.new ≡ visits self.old) }
         ensures counts { IsCounted (faults self.old) (faults self.new) result };
 
-    /// Puts the connection behind those that were closed. It takes no memory and can't fail.
+    /// Puts the connection behind those that were closed. It doesn't allocate and can't fail.
     fn close(&mut self, conn: Self::Conn)
         requires out { IfSome (visits self.old) (λ v. 0 < v.out) }
         ensures closed { visits self.new ≡ option_map (closing (wire Self.Conn.Source.left Self.Conn.Sink.taken Self.Conn.Source.faults conn)) (visits self.old) }

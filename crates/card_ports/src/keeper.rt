@@ -41,9 +41,9 @@ impl<T: Drop> From<AllocFailed<T>> for KeeperFault {
     }
 }
 
-/// What keeps the rows of a ledger. Want of memory is no fault, and isn't counted.
+/// What keeps the rows of a ledger. Running out of memory is no fault, and isn't counted.
 pub trait Keeper {
-    /// The rows, where the form tells them.
+    /// The rows, where they are visible to clauses.
     ghost rows: { Self → Option (List Row) };
 
     /// How often the outside failed. No other call counts.
@@ -59,7 +59,7 @@ pub trait Keeper {
         ensures cause { IsErrOf result KeeperFault.Failed → Rose (faults self.old) (faults self.new) }
         ensures memory { IsErrOf result KeeperFault.Memory → faults self.new ≡ faults self.old };
 
-    /// Adds rows at the end: all of them, or none after a fault or want of memory. Their numbers go on from the last.
+    /// Adds rows at the end: all of them, or none after a fault or where memory ran out. Their numbers continue from the last.
     fn append(&mut self, alloc: Global, more: &[Row]) -> Result<(), KeeperFault>
         requires { GoOn (rows self.old) more.now }
         ensures ok { OnOk result (AddsRows (rows self.old) (rows self.new) more.now) }

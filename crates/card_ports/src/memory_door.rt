@@ -34,7 +34,7 @@ impl MemoryDoor {
 
     /// A door with these connections, of which none has counted a fault. Its calls that can fail, `listen` and `accept`
     /// together, fail where they are listed; `accept` also fails, and counts it, where no connection is left. It keeps a
-    /// place for each connection, so that `close` takes no memory. An error is want of memory.
+    /// place for each connection, so that `close` doesn't allocate. An error means that memory ran out.
     pub fn new(
         alloc: Global,
         links: Vec<MemoryLink>,
@@ -53,7 +53,7 @@ impl MemoryDoor {
         })
     }
 
-    /// The connections that were closed, in turn.
+    /// The connections that were closed, in order.
     pub fn closed(&self) -> &[MemoryLink]
         ensures { result.now ≡ self.now.closed }
     {

@@ -1,5 +1,5 @@
-// The adapters over std's readers and writers. A reader or writer that tells its bytes, as those in memory do, makes a source or sink
-// that tells them. The operating system's tell none.
+// The adapters over std's readers and writers. Over a reader or writer whose bytes are visible to clauses, as those in memory are, the
+// source's or sink's bytes are visible too. Those of the operating system aren't.
 ghost use Rattle.std.specs.Prelude.{◌≡◌, ◌||◌, not, true, if◌then◌else◌, is_some, None, ℕ};
 
 use crate::{Failed, Sink, SinkFault, Source};
@@ -15,8 +15,8 @@ pub struct StdSource<R: Read> {
 }
 
 impl<R: Read> StdSource<R> {
-    /// A source over the reader, with no fault counted. Whether the bytes that are left are told: only a reader that tells them may
-    /// be said to. The reads are the same.
+    /// A source over the reader, with no fault counted. `told` says that clauses see the bytes that are left, and asks for a reader whose
+    /// bytes they see. The reads are the same.
     pub fn new(reader: R, told: bool) -> StdSource<R>
         requires known { (not told || is_some (R.remaining reader)) ≡ true }
         ensures faults { result.faults ≡ 0 }
@@ -57,8 +57,8 @@ pub struct StdSink<W: Write> {
 }
 
 impl<W: Write> StdSink<W> {
-    /// A sink over the writer, with no fault counted. Whether the bytes that were taken are told: only a writer that tells them may be
-    /// said to. The writes are the same.
+    /// A sink over the writer, with no fault counted. `told` says that clauses see the bytes that were taken, and asks for a writer whose
+    /// bytes they see. The writes are the same.
     pub fn new(writer: W, told: bool) -> StdSink<W>
         requires known { (not told || is_some (W.contents writer)) ≡ true }
         ensures faults { result.faults ≡ 0 }

@@ -1,5 +1,5 @@
-// Replies that wait until more is read, so that many are written at once. Over a writer that tells its bytes they tell those and, behind
-// them, the ones that wait.
+// Replies that wait until more is read, so that many are written at once. Over a writer whose bytes clauses see, they show those and,
+// behind them, the ones that wait.
 ghost use Rattle.std.specs.Prelude.{◌≡◌, [], IfOk};
 ghost use Rattle.std.specs.Io.Buffered.{writer_contents};
 ghost use Rattle.std.specs.Io.KnownBytes.{append_known};
@@ -16,7 +16,7 @@ pub struct Replies<W: Write + Drop> {
 }
 
 impl<W: Write + Drop> Replies<W> {
-    /// No reply yet, and room for so many bytes; with 0 each reply is written at once. An error is want of memory.
+    /// No reply yet, and room for so many bytes; with 0 each reply is written at once. An error means that memory ran out.
     pub fn new(alloc: Global, writer: W, room: usize) -> io::Result<Replies<W>>
         ensures { IfOk result (λ r. writer_contents W.contents r.writer ≡ append_known (W.contents writer) []) }
     {

@@ -1,4 +1,4 @@
-// Connections over TCP: the trusted edge. They tell nothing.
+// Connections over TCP: the trusted edge. Nothing of them is visible to clauses.
 ghost use Rattle.std.specs.Prelude.{◌≡◌, None, ℕ};
 
 use crate::memory::copy_front;
@@ -27,7 +27,7 @@ const ABORTED: u32 = 1024;
 // `close` waits, so that the limit that was set before the first read mostly serves to the end.
 const TURN_MILLIS: u64 = 500;
 
-// How many turns without a byte, and interruptions by signals, one read or write goes on after: 30 seconds have sixty turns.
+// How many turns without a byte, and interruptions by signals, one read or write continues after: 30 seconds have sixty turns.
 const TURNS: u32 = 1024;
 
 // What is left until the deadline. No time left is an error, since a wait of no time would be one without end.
@@ -46,8 +46,8 @@ fn next_turn<R: Clock>(clock: &R, deadline: Instant) -> io::Result<Duration> {
     if left < turn { Ok(left) } else { Ok(turn) }
 }
 
-// Whether a read or a write goes on after this error: its turn is over, or a signal interrupted it, as when a stopped program
-// goes on.
+// Whether a read or a write continues after this error: its turn is over, or a signal interrupted it, as when a stopped program
+// continues.
 fn goes_on(kind: ErrorKind) -> bool {
     kind == ErrorKind::Interrupted || kind == ErrorKind::WouldBlock || kind == ErrorKind::TimedOut
 }
@@ -73,7 +73,7 @@ fn deadline_in<R: Clock>(clock: &R, seconds: u64) -> io::Result<Instant> {
 /// bytes, is kept here. Each error is a fault, and so is a write that takes nothing of a piece that isn't empty.
 ///
 /// A socket keeps the limit of its waits. It is half a second from before the first read on, and the same of writes; before each later
-/// one the time that is left is looked at, and the limit is set anew only where less than that is left. A wait that comes to its limit
+/// one the time that is left is looked at, and the limit is set anew only where less than that is left. A wait that reaches its limit
 /// begins again. So none goes past the deadline, and none begins behind it.
 #[derive(Drop)]
 pub struct TcpLink<'a, R: Net + Clock> {

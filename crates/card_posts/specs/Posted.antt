@@ -38,12 +38,6 @@ pub record AreBounded (slots : List Slot) : Type 0 where
   pub low : All (λ s. pos 0 ≤ℤ s.cents) slots
   pub high : All (λ s. s.cents ≤ℤ pos cents_limit) slots
 
--- the post opens an account
-abbrev pub opens : Post → Bool
-opens (post.Open _ _) = true
-opens (post.OpenVariable _ _) = true
-opens _ = false
-
 -- each post bears its place as its number, where the first of the list has number n
 unfoldable pub AreNumbered : ℕ → List Kept → Type 0
 AreNumbered n [] = Unit {0}

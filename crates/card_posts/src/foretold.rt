@@ -1,4 +1,4 @@
-// What one more post changes, told without entering it.
+// What one more post changes, found without entering it.
 ghost use Rattle.std.specs.Prelude.{◌≡◌, ◌≤◌, ◌++◌, [], ◌∷◌, length};
 ghost use Rattle.card_events.specs.Range.{last_request_day};
 ghost use Rattle.card_events.specs.History.{corrected};
@@ -16,7 +16,7 @@ use crate::refresh::after_one;
 use card_events::{Anchor, Calendar, Day, Kept, Post};
 
 // The first day on which the corrected list differs with one more post: its effective day, or the least of that and the days that
-// the post which it corrects leaves and comes to. What waits for that one never counts before it.
+// the post which it corrects leaves and moves to. What waits for that one never counts before it.
 pub fn first_with(
     history: &[Kept],
     corrections: &[Correction],

@@ -1,10 +1,9 @@
 // The lists of an account that was just opened, room in them, and copies of them.
 ghost use Rattle.std.specs.Prelude.{◌≡◌, ◌<◌, [], ◌∷◌, true, IfOk, OnOk, vec_len, vec_capacity};
 ghost use Rattle.card_events.specs.Billing.{IsCloseDay};
-ghost use Rattle.card_events.specs.History.{opening_in, terms_in};
+ghost use Rattle.card_events.specs.History.{is_open, opening_in, terms_in};
 ghost use Rattle.card_events.specs.declared.kept.Kept.{Kept};
 ghost use Rattle.card_waits.specs.Waits.{AreWaits};
-ghost use Rattle.card_posts.specs.Posted.{opens};
 
 use card_events::{Anchor, Kept, NoMemory, Post};
 use card_waits::WaitTable;
@@ -12,7 +11,7 @@ use std::alloc::Global;
 
 // What the post that opens an account says of its cycles.
 pub fn opening(post: &Post) -> Anchor
-    requires opens { opens post.now ≡ true }
+    requires opens { is_open post.now ≡ true }
     requires close_day { IsCloseDay (terms_in post.now).close }
     ensures { result ≡ record { opened = opening_in post.now; close_day = (terms_in post.now).close } }
 {
@@ -48,7 +47,7 @@ pub fn one<T: Drop>(alloc: Global, item: T) -> Result<Vec<T>, NoMemory>
 
 // The table of posts that wait, for the post that opens an account alone.
 pub fn waits_of(alloc: Global, post: &Post) -> Result<WaitTable, NoMemory>
-    requires { opens post.now ≡ true }
+    requires { is_open post.now ≡ true }
     ensures { IfOk result (λ w. (k : Kept) → k.post ≡ post.now → AreWaits (k ∷ []) w) }
 {
     let mut waits = WaitTable::new(alloc)?;

@@ -55,20 +55,20 @@ impl Posts {
     ghost use Rattle.card_events.specs.Limits.{post_limit};
     ghost use Rattle.card_events.specs.Range.{last_request_day};
     ghost use Rattle.card_events.specs.Billing.{IsCloseDay};
-    ghost use Rattle.card_events.specs.History.{anchor_of, at_number, terms_in};
+    ghost use Rattle.card_events.specs.History.{anchor_of, at_number, is_open, terms_in};
     ghost use Rattle.card_events.specs.Keys.{with_key};
     ghost use Rattle.card_events.specs.declared.kept.Kept.{Kept};
     ghost use Rattle.card_waits.specs.Waits.{first_by, if_any, waiting};
     ghost use Rattle.card_posts.specs.Change.{IsFirstChange};
     ghost use Rattle.card_posts.specs.Corrections.{corrects};
     ghost use Rattle.card_posts.specs.Draft.{AwaitsReturn, IsDraft, IsFirstWith};
-    ghost use Rattle.card_posts.specs.Posted.{Posted, AreBounded, AreNumbered, IsReceived, SetNoRates, StandsFor, folding_order, opens, slot_with, target_of};
+    ghost use Rattle.card_posts.specs.Posted.{Posted, AreBounded, AreNumbered, IsReceived, SetNoRates, StandsFor, folding_order, slot_with, target_of};
     ghost use Rattle.card_posts.specs.Stored.{AreTimely};
 
     /// The post that opens an account, which has number 1. Its terms close cycles on day 1 to 28 of a month. The
     /// corrected list is that of the post under any calendar.
     pub fn start(alloc: Global, key: &Name, accepted: Day, post: &Post) -> Result<Posts, NoMemory>
-        requires opens { opens post.now ≡ true }
+        requires opens { is_open post.now ≡ true }
         requires close_day { IsCloseDay (terms_in post.now).close }
         requires dated { accepted ≤ last_request_day }
         ensures history { IfOk result (λ posts. posts.history ≡ record { number = 1; key = key.now; accepted = accepted; post = post.now } ∷ []) }
@@ -121,14 +121,14 @@ impl Posts {
     }
 
     /// The slot of the post with this number: its effective day, and its corrected cents, 0 for kinds without cents. None comes
-    /// exactly where no post has the number. It takes no memory.
+    /// exactly where no post has the number. It doesn't allocate.
     pub fn slot(&self, number: u64) -> Option<Slot>
         ensures { result ≡ slot_with number self.now.corrected }
     {
         slot_with(&self.effects, number)
     }
 
-    /// So many posts behind which none sets rates: no Plan, no Notice and no Lower. It takes no memory.
+    /// So many posts behind which none sets rates: no Plan, no Notice and no Lower. It doesn't allocate.
     pub fn rated(&self) -> u32
         ensures bound { result ≤ length self.now.history }
         ensures none { SetNoRates (drop result self.now.history) }
@@ -168,7 +168,7 @@ impl Posts {
         &self.order
     }
 
-    /// Makes room for one more post. Where there is room already it can't fail. After want of memory the posts are as they
+    /// Makes room for one more post. Where there is room already it can't fail. If memory runs out, the posts are as they
     /// were.
     pub fn make_room(&mut self, alloc: Global) -> Result<(), NoMemory>
         ensures ok { OnOk result (self.new ≡ record self.old { has_room = true }) }
@@ -188,7 +188,7 @@ impl Posts {
         Ok(())
     }
 
-    /// One more post, with room made for it. It takes no memory and can't fail. The corrected list must be that of the
+    /// One more post, with room made for it. It doesn't allocate and can't fail. The corrected list must be that of the
     /// posts under this calendar, and is so afterwards. The post is about no later one. A payment came in by the day of
     /// acceptance, and an Amend gives no later day.
     pub fn add(&mut self, key: Name, accepted: Day, post: &Post, calendar: &Calendar) -> Pushed
@@ -229,7 +229,7 @@ impl Posts {
     }
 
     /// The first day on which the corrected list differs once this post stands behind the others, accepted on this day under any
-    /// key; told without entering it, and without memory. The corrected list must be that of the posts under this calendar. The
+    /// key; found without entering it, and without allocating. The corrected list must be that of the posts under this calendar. The
     /// post is about no later one. A payment came in by the day of acceptance, and an Amend gives no later day.
     pub fn first_change(&self, accepted: Day, post: &Post, calendar: &Calendar) -> Day
         requires few { length self.now.history < post_limit }
@@ -282,7 +282,7 @@ impl Posts {
     }
 
     /// Takes the last post back, which was entered for a while. The posts are as they were before it, with room for one more.
-    /// It takes no memory and can't fail.
+    /// It doesn't allocate and can't fail.
     pub fn withdraw(&mut self, draft: Draft)
         requires draft { AwaitsReturn self.old draft }
         ensures { (kept : Kept) (before : Posted) → IsDraft kept before self.old draft → self.new ≡ before }
@@ -297,7 +297,7 @@ impl Posts {
         self.has_room = true;
     }
 
-    /// One more post: `make_room` and `add`. Where there is room already it can't fail. After want of memory the posts are
+    /// One more post: `make_room` and `add`. Where there is room already it can't fail. If memory runs out, the posts are
     /// as they were.
     pub fn push(
         &mut self,

@@ -101,7 +101,7 @@ impl RateBook {
         })
     }
 
-    /// A penalty begins on a day (12 CFR 1026.55(b)(4)). After want of memory the rates are as they were.
+    /// A penalty begins on a day (12 CFR 1026.55(b)(4)). If memory runs out, the rates are as they were.
     pub fn begin_penalty(&mut self, begins: Day) -> Result<(), NoMemory>
         ensures ok { OnOk result (self.new ≡ with_penalties (self.old.penalties ++ record { begins = begins; last = None } ∷ []) self.old) }
         ensures err { OnErr result (self.new ≡ self.old) }
@@ -120,21 +120,21 @@ impl RateBook {
         self.penalties[which].last = Some(last);
     }
 
-    /// The segments but Credit and Held, by number. It takes no memory.
+    /// The segments except Credit and Held, by number. It doesn't allocate.
     pub fn segments(&self) -> &[RatedSegment]
         ensures { result.now ≡ self.now.segments }
     {
         &self.segments
     }
 
-    /// The rate of penalties by the account's terms, in basis points (12 CFR 1026.55(b)(4)). It takes no memory.
+    /// The rate of penalties by the account's terms, in basis points (12 CFR 1026.55(b)(4)). It doesn't allocate.
     pub fn penalty_rate(&self) -> Bp
         ensures { result ≡ self.now.penalty }
     {
         self.penalty_rate
     }
 
-    /// The penalties that began, in the order of their beginnings. It takes no memory.
+    /// The penalties that began, in the order of their beginnings. It doesn't allocate.
     pub fn penalties(&self) -> &[Interval]
         ensures { result.now ≡ self.now.penalties }
     {
@@ -182,7 +182,7 @@ impl RateBook {
         RateBook::raised_by(alloc, posts, Vec::from_slice(alloc, &self.penalties)?)
     }
 
-    /// The rate of a segment on a day under this index, in basis points (12 CFR 1026.55(b)(1) to (b)(4)). It takes no memory.
+    /// The rate of a segment on a day under this index, in basis points (12 CFR 1026.55(b)(1) to (b)(4)). It doesn't allocate.
     /// Credit and Held bear 0. The segment is there.
     pub fn rate_on(&self, index: &IndexTable, segment: u8, day: Day) -> Bp
         requires there { segment < length self.now.segments + 2 }
@@ -192,7 +192,7 @@ impl RateBook {
         self.rate_by(&self.of_day(index, day), index, segment, day)
     }
 
-    /// What the rates of all segments on a day share, under this index. It takes no memory.
+    /// What the rates of all segments on a day share, under this index. It doesn't allocate.
     pub fn of_day(&self, index: &IndexTable, day: Day) -> DayIndex
         ensures { IsOfDay index.now self.now day result }
     {
@@ -202,7 +202,7 @@ impl RateBook {
         }
     }
 
-    /// The same rate as `rate_on`, where what the rates of the day share was read before (`of_day`). It takes no memory. The
+    /// The same rate as `rate_on`, where what the rates of the day share was read before (`of_day`). It doesn't allocate. The
     /// segment is there.
     pub fn rate_by(&self, of_day: &DayIndex, index: &IndexTable, segment: u8, day: Day) -> Bp
         requires read { IsOfDay index.now self.now day of_day.now }
@@ -216,7 +216,7 @@ impl RateBook {
         }
     }
 
-    /// Whether there is a deferred plan, so that interest may accrue (12 CFR 1026.55(b)(1)). It takes no memory.
+    /// Whether there is a deferred plan, so that interest may accrue (12 CFR 1026.55(b)(1)). It doesn't allocate.
     pub fn may_accrue(&self) -> bool
         ensures { result ≡ has_deferred self.now.segments }
     {
@@ -224,7 +224,7 @@ impl RateBook {
     }
 
     /// The rate in basis points at which a deferred plan accrues interest on a day of its period, and None for any other
-    /// segment and day. It takes no memory. The segment is there.
+    /// segment and day. It doesn't allocate. The segment is there.
     pub fn accrual_on(&self, segment: u8, day: Day) -> Option<Bp>
         requires there { segment < length self.now.segments + 2 }
         ensures rate { (g : SegmentTerms) → Contains self.now.segments g → g.id ≡ segment → result ≡ accrual_rate day g }
@@ -246,7 +246,7 @@ impl RateBook {
     /// The first day from one on, and before an end, on which a plan ends, a vintage, its rate or a penalty begins, or that
     /// comes after a penalty's last (12 CFR 1026.55(b)); the end where there is none. Over the days before it no rate changes
     /// but on the day after a plan's end or, where the opening rates follow the index, on that of an index row (`next_index`). It
-    /// takes no memory.
+    /// doesn't allocate.
     pub fn next_change(&self, first: Day, end: Day) -> Day
         requires { first ≤ end }
         ensures { IsNext (changes self.now) first end result }
@@ -259,7 +259,7 @@ impl RateBook {
     }
 
     /// The first day from one on, before an end and after the opening day, that has an index row, where the opening rates follow
-    /// the index; the end where there is none (12 CFR 1026.55(b)(2)). It takes no memory.
+    /// the index; the end where there is none (12 CFR 1026.55(b)(2)). It doesn't allocate.
     pub fn next_index(&self, index: &IndexTable, opened: Day, first: Day, end: Day) -> Day
         requires { first ≤ end }
         ensures { IsNext (index_changes opened index.now self.now) first end result }

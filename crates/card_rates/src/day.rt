@@ -1,4 +1,4 @@
-// The posts of a day, in turn.
+// The posts of a day, in order.
 ghost use Rattle.std.specs.Prelude.{◌≡◌, ℕ, List, nat_lt, slice_get};
 ghost use Rattle.card_events.specs.History as history;
 ghost use Rattle.card_posts.specs.Order.{IsAscending};
@@ -47,7 +47,7 @@ fn count_before(slots: &[Slot], day: Day) -> usize
 }
 
 /// The place of a day in the order in which posts are folded: that of its first post or, where it has none, of the first
-/// post of a later day. Places count from 0. It takes no memory.
+/// post of a later day. Places count from 0. It doesn't allocate.
 pub fn first_place(posts: &Posts, day: Day) -> usize
     ensures place { (holidays : List ℕ) → StandsFor holidays posts.now → result ≡ place_of day posts.now.corrected }
 {
@@ -83,7 +83,7 @@ fn only_folded(found: Option<DayPost>) -> Option<DayPost>
 }
 
 /// The post at a place, where the fold of its day reads its kind, and None otherwise. From the place of a day on stand the
-/// posts of that day, by number. It takes no memory.
+/// posts of that day, by number. It doesn't allocate.
 pub fn folded_at(posts: &Posts, place: usize) -> Option<DayPost>
     ensures { IsFoldedAt place posts.now result }
 {

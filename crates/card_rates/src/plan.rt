@@ -28,7 +28,7 @@ fn first_plan(segments: &Segments, post: Num, today: Day) -> u8
 }
 
 /// The number of the segment of the plan that the post of this number began, as the fold of a day sees it; where no post up
-/// to that day began a plan under this number, that of the opening Purchase vintage. It takes no memory.
+/// to that day began a plan under this number, that of the opening Purchase vintage. It doesn't allocate.
 pub fn plan_segment(segments: &Segments, post: Num, today: Day) -> u8
     ensures { OfSeenSegments today segments.now.segments (λ all. result ≡ model.plan_segment post all) }
 {

@@ -1,8 +1,7 @@
 // Why an opening isn't accepted.
 ghost use Rattle.std.specs.Prelude.{◌≡◌, ◌<◌, true, not, None, nat_lt, nat_le, is_some, [], ◌∷◌};
 ghost use Rattle.card_events.specs.Billing.{IsCloseDay};
-ghost use Rattle.card_events.specs.History.{terms_in};
-ghost use Rattle.card_model.specs.Machine.{is_open};
+ghost use Rattle.card_events.specs.History.{is_open, terms_in};
 ghost use Rattle.card_model.specs.Rates.{index_on};
 ghost use Rattle.card_model.specs.Refusals.{bad_terms_of, first_reason, reason_to_open, where_true};
 
@@ -36,7 +35,7 @@ fn bad_term(terms: &Terms) -> Option<Refusal>
 
 /// Why the opening of an account isn't accepted today, where so many accounts exist: terms out of their ranges, a day ahead, no
 /// index on the day where the rates follow it (12 CFR 1026.55(b)(2)), or a full ledger. `BadTerms` gives the place of the first
-/// bad term, from 1. None where it is accepted. It takes no memory.
+/// bad term, from 1. None where it is accepted. It doesn't allocate.
 #[tactic(auto, unfolding(card_model::specs::Refusals::reason_to_open, card_model::specs::Refusals::no_index))]
 pub fn open_reason(today: Day, accounts: usize, shared: &SharedRows, post: &Post) -> Option<Refusal>
     requires opens { is_open post.now ≡ true }

@@ -2,7 +2,7 @@
 use Rattle.std.proofs.Common.{◌≡◌, ℕ, ◌+◌, ◌-◌, ◌≤◌, ◌⊎◌, inl, inr, Bool, true, false, List, [], ◌∷◌, sym, ap, ◌∙◌, subst, arith, Option, Some, None}
 use Rattle.std.specs.Prelude.{IfSome}
 use Rattle.card_events.specs.Range.{last_request_day}
-use Rattle.card_events.specs.History.{CorrectedPost, anchor_of, corrected, opening_in}
+use Rattle.card_events.specs.History.{CorrectedPost, anchor_of, corrected, is_open, opening_in}
 use Rattle.card_events.specs.SharedRows.{SharedRows}
 use Rattle.card_events.specs.declared.post.Post.{Post}
 use Rattle.card_events.specs.declared.post.Post.TheVariants as post
@@ -12,7 +12,7 @@ use Rattle.card_model.specs.Machine.{kept_as}
 use Rattle.card_model.proofs.Spans.{spans_are_steps}
 use Rattle.card_model.specs.Refusals.{Lists, book_today}
 use Rattle.card_posts.specs.Draft.{IsFirstWith}
-use Rattle.card_posts.specs.Posted.{IsReceived, Posted, last_accepted, opens}
+use Rattle.card_posts.specs.Posted.{IsReceived, Posted, last_accepted}
 use Rattle.card_posts.specs.Stored.{AreTimely}
 use Rattle.card_daily.specs.Given.{Given, IsSound, book_on, opened_in}
 use Rattle.card_book.specs.Stands.{Summary, breaks_of, steps_over}
@@ -138,7 +138,7 @@ with-eve g today b p o stood h = record { day = h.day; whole = h.whole; stands =
 
 -- ---- an account that was just opened
 -- its post asks for no day by which it came
-comes-anyway : (opened today : ℕ) (p : Post) → opens p ≡ true → IsReceived opened today p
+comes-anyway : (opened today : ℕ) (p : Post) → is_open p ≡ true → IsReceived opened today p
 comes-anyway opened today (post.Open d t) o = tt
 comes-anyway opened today (post.OpenVariable d t) o = tt
 comes-anyway opened today (post.Payment d m y c) o = let no : false ≡ true = o in absurd (cc)
@@ -158,7 +158,7 @@ comes-anyway opened today (post.AskRefund d) o = tt
 comes-anyway opened today (post.Refund c) o = tt
 comes-anyway opened today (post.Bill c) o = tt
 
-first-timely : (opened today : ℕ) (key : List ℕ) (p : Post) → opens p ≡ true → today ≤ last_request_day → AreTimely opened (kept_as 1 key today p ∷ [])
+first-timely : (opened today : ℕ) (key : List ℕ) (p : Post) → is_open p ≡ true → today ≤ last_request_day → AreTimely opened (kept_as 1 key today p ∷ [])
 unfolding AreTimely
 first-timely opened today key p o l = (record { dated = l; received = comes-anyway opened today p o }, tt)
 
@@ -180,7 +180,7 @@ begun g opened b p same some none empty = record {
 pub begun-before : (opened : ℕ) (b : Option Summary) → 1 ≤ opened → b ≡ None → day_reached opened (day_of b) + 1 ≡ opened
 begun-before opened b some none = let same : day_reached opened (day_of b) ≡ opened - 1 = ap (λ o. day_reached opened (day_of o)) none in omega (arith, some, same)
 
-pub started : (shared : SharedRows) (key : List ℕ) (today : ℕ) (p : Post) (cs : List CorrectedPost) (room : Bool) (f : Folding) → opens p ≡ true → opening_in p ≤ today → today ≤ last_request_day
+pub started : (shared : SharedRows) (key : List ℕ) (today : ℕ) (p : Post) (cs : List CorrectedPost) (room : Bool) (f : Folding) → is_open p ≡ true → opening_in p ≤ today → today ≤ last_request_day
     → IsSound (given_of (opened_lists key today p) shared) → cs ≡ corrected (anchor_of (kept_as 1 key today p ∷ [])) shared.holidays (kept_as 1 key today p ∷ []) → f.reached + 1 ≡ opening_in p
     → IsFolding (given_of (opened_lists key today p) shared) f → IsReplay shared (record { lists = opened_lists key today p; corrected = cs; has_room = room; folding = f })
 started shared key today p cs room f o opened l sound is reached folding = record {

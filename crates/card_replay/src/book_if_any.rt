@@ -28,7 +28,7 @@ impl BookIfAny {
     ghost use Rattle.card_book.specs.Stands.{IsRequestDay, StandsFor};
     ghost use Rattle.card_replay.specs.Replays.{IsWhole, Stands, day_of};
 
-    /// None. It takes no memory.
+    /// None. It doesn't allocate.
     pub fn none() -> BookIfAny
         ensures { result ≡ None }
     {

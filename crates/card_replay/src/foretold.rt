@@ -1,4 +1,4 @@
-// What may be told of a post before it is judged.
+// What is known of a post before it is judged.
 ghost use Rattle.std.specs.Prelude.{◌≡◌, ◌≤◌, true, false, min};
 ghost use Rattle.card_posts.specs.Posted as posted;
 

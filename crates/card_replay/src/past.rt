@@ -26,7 +26,7 @@ pub struct Ends {
     pub accrued: usize,
 }
 
-/// Nothing recorded. It takes no memory.
+/// Nothing recorded. It doesn't allocate.
 pub fn nothing(alloc: Global) -> Past
     ensures { IsEmpty result }
 {
@@ -109,7 +109,7 @@ pub fn ends_at(past: &Past, cycle: u32) -> Ends
     }
 }
 
-/// Drops what lies behind these ends. It takes no memory.
+/// Drops what lies behind these ends. It doesn't allocate.
 pub fn cut(past: &mut Past, ends: &Ends)
     ensures { IsFront ends.now past.old past.new }
 {

@@ -43,7 +43,7 @@ pub struct Replay {
 
 impl Model for Replay {
     ghost use Rattle.std.specs.Prelude.{◌≡◌, ◌<◌, true, vec_len, vec_capacity};
-    ghost use Rattle.card_events.specs.History.{anchor_of};
+    ghost use Rattle.card_events.specs.History.{anchor_of, is_open};
     ghost use Rattle.card_replay.specs.Replays.{Replay, day_of, day_reached};
 
     ghost Value = { Replay };
@@ -53,7 +53,7 @@ impl Model for Replay {
     ghost invariant = { λ r. r.has_room ≡ true → (r.posts.has_room ≡ true) × (vec_len r.issued < vec_capacity r.issued) };
 }
 
-// Folds a copy of a Book, or, where there is none, the one before the opening day, to the end of today. After want of memory the past
+// Folds a copy of a Book, or, where there is none, the one before the opening day, to the end of today. If memory runs out, the past
 // begins with what it held.
 fn folded_on<L: Ledger>(
     alloc: Global,
@@ -75,7 +75,7 @@ fn folded_on<L: Ledger>(
     Ok(kept)
 }
 
-// The same; after want of memory the past is as it was.
+// The same; if memory runs out, the past is as it was.
 fn reach<L: Ledger>(
     alloc: Global,
     inputs: &Inputs,
@@ -108,13 +108,12 @@ impl Replay {
     ghost use Rattle.card_events.specs.Dated.{is_dated_post};
     ghost use Rattle.card_events.specs.History.{anchor_of, opening_in, terms_in};
     ghost use Rattle.card_events.specs.Keys.{with_key};
-    ghost use Rattle.card_model.specs.Machine.{accepted, is_open, issues};
+    ghost use Rattle.card_model.specs.Machine.{accepted, issues};
     ghost use Rattle.card_model.specs.Folds.{cycle_at};
     ghost use Rattle.std.specs.Option.{option_map};
     ghost use Rattle.card_book.specs.Statements.{statement_on};
     ghost use Rattle.card_model.specs.Refusals.{book_today, reason_against};
     ghost use Rattle.card_model.specs.Deadlines.{credit_since};
-    ghost use Rattle.card_posts.specs.Posted.{opens};
     ghost use Rattle.card_rates.specs.Segments.{account_segments};
     ghost use Rattle.card_daily.specs.Given.{IsSound};
     ghost use Rattle.card_book.specs.GoingOn as rates;
@@ -134,7 +133,7 @@ impl Replay {
         post: &Post,
         _shared: &SharedRows,
     ) -> Result<Replay, NoMemory>
-        requires opens { opens post.now ≡ true }
+        requires opens { is_open post.now ≡ true }
         requires close_day { IsCloseDay (terms_in post.now).close }
         requires opened { opening_in post.now ≤ today }
         requires dated { today ≤ last_request_day }
@@ -379,7 +378,7 @@ impl Replay {
         self.rewound_from(alloc, key, post, today, from, shared)
     }
 
-    /// The first day that a post changes against which there is no reason, found without entering it. It takes no memory.
+    /// The first day that a post changes against which there is no reason, found without entering it. It doesn't allocate.
     pub fn first_change(&self, post: &Post, today: Day, shared: &SharedRows) -> Day
         requires replay { IsReplay shared.now self.now }
         requires reach { MayReach today self.now }
@@ -437,7 +436,7 @@ impl Replay {
     }
 
     /// Takes a post that was prepared for this account, and answers its number. Where it changes a day up to the one last reached, the
-    /// account is taken back to a day before that, and folded on when it is next asked. It takes no memory and can't fail.
+    /// account is taken back to a day before that, and folded on when it is next asked. It doesn't allocate and can't fail.
     pub fn commit(&mut self, change: Change, shared: &SharedRows) -> u32
         requires prepared { IsPrepared shared.now change self.old }
         ensures committed { IsCommitted shared.now change self.old self.new }
@@ -483,7 +482,7 @@ impl Replay {
         &self.past.track.entries
     }
 
-    // The first day that a post changes, told without entering it. None comes where the account takes no more posts, or where the post
+    // The first day that a post changes, found without entering it. None comes where the account takes no more posts, or where the post
     // would be refused by what it names or gives.
     fn foretold(&self, post: &Post, today: Day, shared: &SharedRows) -> Option<Day>
         requires replay { IsReplay shared.now self.now }
@@ -502,7 +501,7 @@ impl Replay {
     /// How many of the first entries that are recorded stay if the account takes a post today, whatever it is then taken back to: those up
     /// to the last closing before the earlier of the first day that the post changes and the day last reached. They are 0 where the account
     /// takes no more posts, where the post is about a later one than there is, for a payment at a minute above 1,439, and for a payment
-    /// that came in, or an Amend that lies, before the opening day or after today. It takes no memory.
+    /// that came in, or an Amend that lies, before the opening day or after today. It doesn't allocate.
     pub fn standing(&self, post: &Post, today: Day, shared: &SharedRows) -> usize
         requires replay { IsReplay shared.now self.now }
         requires reach { MayReach today self.now }

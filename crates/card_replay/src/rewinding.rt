@@ -156,7 +156,7 @@ fn with_rates(
     })
 }
 
-// Back before the opening day, where there is no Book. It takes no memory.
+// Back before the opening day, where there is no Book. It doesn't allocate.
 fn at_beginning() -> TakenBack
     ensures { IsAtBeginning result }
 {

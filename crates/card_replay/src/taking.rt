@@ -8,7 +8,7 @@ use crate::change::TakenBack;
 use crate::eve::Eve;
 use crate::past::{Past, cut};
 
-// Takes a Book and its past back to an earlier day; the eve is dropped. It takes no memory.
+// Takes a Book and its past back to an earlier day; the eve is dropped. It doesn't allocate.
 fn take(book: &mut BookIfAny, past: &mut Past, eve: &mut Option<Eve>, rewound: TakenBack)
     ensures { (opened : ℕ) → HasRewound opened rewound (record { reached = day_reached opened (day_of book.old); book = book.old; past = past.old; eve = eve.old }) (record { reached = day_reached opened (day_of book.new); book = book.new; past = past.new; eve = eve.new }) }
 {
@@ -18,7 +18,7 @@ fn take(book: &mut BookIfAny, past: &mut Past, eve: &mut Option<Eve>, rewound: T
 }
 
 /// Takes a Book and its past back to an earlier day, or before the opening, where a post asks for it; the eve is dropped. Else all stays.
-/// It takes no memory.
+/// It doesn't allocate.
 pub fn take_if_any(
     book: &mut BookIfAny,
     past: &mut Past,

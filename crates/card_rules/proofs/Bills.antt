@@ -9,7 +9,7 @@ use Rattle.std.proofs.lemmas.List.Folds.{list_any-append}
 use Rattle.card_events.specs.SharedRows.{SharedRows}
 use Rattle.card_events.specs.Billing.{IsCloseDay, closing, closings_among, cycle_of, next_on}
 use Rattle.card_events.specs.Civil.{date_of, day_at, day_of_month}
-use Rattle.card_events.specs.History.{anchor_of}
+use Rattle.card_events.specs.History.{anchor_of, is_open}
 use Rattle.card_events.specs.Range.{last_calendar_day, last_request_day}
 use Rattle.card_events.specs.declared.anchor.Anchor.{Anchor}
 use Rattle.card_events.specs.declared.kept.Kept.{Kept}
@@ -22,7 +22,7 @@ use Rattle.card_events.proofs.Dates.{date_of-has}
 use Rattle.card_events.proofs.Months.{IsCivil, dated, length_bounds, next_civil, next_on-here, next_on-over}
 use Rattle.card_model.specs.Cycles.{Cycle, Sheet}
 use Rattle.card_model.specs.Folds.{cycle_at, row_of_cycle}
-use Rattle.card_model.specs.Machine.{NamedAccount, accepted, is_open, issues, kept_as, next_number, run}
+use Rattle.card_model.specs.Machine.{NamedAccount, accepted, issues, kept_as, next_number, run}
 use Rattle.card_model.specs.Refusals.{Lists, Present, anchor_now, bills, book_today, is_out_of_range, not_closed, reason_against, reason_to_open, reasons}
 use Rattle.card_model.specs.Sheets.{issued_sheet_of}
 use Rattle.card_model.proofs.Calendar.{cycles_are_of_the_calendar}

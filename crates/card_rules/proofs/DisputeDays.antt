@@ -7,7 +7,7 @@ use Rattle.std.proofs.lemmas.List.Elements.{All-weaker}
 use Rattle.std.specs.List.{Contains, cons_option, find}
 use Rattle.std.specs.Option.{option_map}
 use Rattle.card_events.specs.Billing.{IsCloseDay, closing, cycle_of}
-use Rattle.card_events.specs.History.{CorrectedPost, anchor_of, corrected, corrected_from, corrected_post, next_segment}
+use Rattle.card_events.specs.History.{CorrectedPost, anchor_of, corrected, corrected_from, corrected_post, is_open, next_segment}
 use Rattle.card_events.specs.Range.{last_calendar_day}
 use Rattle.card_events.specs.SharedRows.{SharedRows}
 use Rattle.card_events.specs.declared.anchor.Anchor.{Anchor}
@@ -19,7 +19,7 @@ use Rattle.card_model.specs.Cycles.{Cycle, IssuedRow, Sheet}
 use Rattle.card_model.specs.Deadlines.{bills_from, last_notice_day, notice_end, notice_end_of, reflects}
 use Rattle.card_model.specs.Effects.{charge_at, is_charge}
 use Rattle.card_model.specs.Folds.{cycle_at, row_of_cycle}
-use Rattle.card_model.specs.Machine.{NamedAccount, accepted, is_open, issues, kept_as, next_number, run}
+use Rattle.card_model.specs.Machine.{NamedAccount, accepted, issues, kept_as, next_number, run}
 use Rattle.card_model.specs.Refusals.{Lists, Present, anchor_now, book_today, reason_against, reason_to_open}
 use Rattle.card_model.specs.Sheets.{issued_sheet_of}
 use Rattle.card_rules.proofs.Bills.{HasIssued, NoReason, accepts-bills, bill-closed, no-reason, opens-bills}

@@ -3,7 +3,7 @@ use Rattle.std.proofs.Common.{◌≡◌, ℕ, ◌≤◌, ◌<◌, ◌⊎◌, inl
 use Rattle.std.proofs.lemmas.Bool.Decides.{nat_tests}
 use Rattle.std.proofs.lemmas.List.Elements.{All-nil, All-cons, All-contains, All-push}
 use Rattle.std.specs.List.{All, Contains}
-use Rattle.card_events.specs.History.{anchor_of, opening_in}
+use Rattle.card_events.specs.History.{anchor_of, is_open, opening_in}
 use Rattle.card_events.specs.Later.{year_after}
 use Rattle.card_events.specs.SharedRows.{SharedRows}
 use Rattle.card_events.specs.declared.kept.Kept.{Kept}
@@ -12,7 +12,7 @@ use Rattle.card_events.specs.declared.post.Post.TheVariants as post
 use Rattle.card_events.specs.declared.reply.Refusal.TheVariants as refusal
 use Rattle.card_model.specs.Cycles.{IssuedRow}
 use Rattle.card_model.specs.Folds.{book}
-use Rattle.card_model.specs.Machine.{accepted, is_open, kept_as, next_number}
+use Rattle.card_model.specs.Machine.{accepted, kept_as, next_number}
 use Rattle.card_model.specs.Refusals.{Lists, Present, anchor_now, first_year, reason_against, reason_to_open, reasons}
 use Rattle.card_model.specs.Segments.{SegmentTerms}
 use Rattle.card_rates.proofs.DayLaws.{segments_of_a_day}

@@ -3,7 +3,7 @@ use Rattle.std.proofs.Common.{◌≡◌, ℕ, zero, suc, ◌+◌, ◌≤◌, Boo
 use Rattle.std.proofs.lemmas.Bool.Decides.{nat_tests}
 use Rattle.std.proofs.lemmas.List.Elements.{All-nil, All-cons, All-contains, All-push, All-tail}
 use Rattle.std.specs.List.{Contains, cons_option}
-use Rattle.card_events.specs.History.{anchor_of, next_segment, terms_of}
+use Rattle.card_events.specs.History.{anchor_of, is_open, next_segment, terms_of}
 use Rattle.card_events.specs.Later.{six_months_after}
 use Rattle.card_events.specs.SharedRows.{SharedRows}
 use Rattle.card_events.specs.declared.kept.Kept.{Kept}
@@ -14,7 +14,7 @@ use Rattle.card_events.specs.declared.post.Post.TheVariants as post
 use Rattle.card_events.specs.declared.reply.Refusal.TheVariants as refusal
 use Rattle.card_model.specs.Cycles.{IssuedRow}
 use Rattle.card_model.specs.Folds.{book}
-use Rattle.card_model.specs.Machine.{accepted, is_open, kept_as, next_number}
+use Rattle.card_model.specs.Machine.{accepted, kept_as, next_number}
 use Rattle.card_model.specs.Refusals.{Lists, Present, plan_too_short, reason_against, reason_to_open, reasons}
 use Rattle.card_model.specs.Segments.{SegmentTerms, is_over, is_plan, is_sort, opening_vintages, segment_of, sort_of_category, sort_of_plan}
 use Rattle.card_model.specs.declared.segment.Sort.TheVariants as sort

@@ -8,7 +8,7 @@ pub fn put_back_undoes_take()
     ensures { PutBackUndoesTake }
 {}
 
-/// Where each balance is the sum of its segment's entries, the parts that a payment's entries tell are put back as the
+/// Where each balance is the sum of its segment's entries, the parts that a payment's entries record are put back as the
 /// ledger puts those entries back.
 pub fn put_back_is_of_entries()
     ensures { PutBackIsOfEntries }

@@ -51,7 +51,7 @@ fn lesser(a: Cents, b: Cents) -> Cents
     if a < b { a } else { b }
 }
 
-// What of an amount goes beyond another.
+// The part of an amount that exceeds another.
 fn beyond(a: Cents, b: Cents) -> Cents
     requires a { pos 0 ≤ℤ a }
     requires b { pos 0 ≤ℤ b }

@@ -52,7 +52,7 @@ fn segment_back(newest: u8, segment: u8) -> u8
 }
 
 /// Takes each part off its segment. Condition: no part is of Held; each part of a segment other than Credit is at most its
-/// balance; together they are at most 10^15 cents; and balances are at most 9 * 10^15 cents in size. After want of memory
+/// balance; together they are at most 10^15 cents; and balances are at most 9 * 10^15 cents in size. If memory runs out,
 /// balances and entries are as they were.
 pub fn take(
     s: &mut Segments,
@@ -83,7 +83,7 @@ pub fn take(
 /// Puts the parts of a returned payment back by debits, in order of segment number. Credit's part comes first: it uses up
 /// the credit balance, and what that no longer holds is owed on the newest Purchase vintage. Condition: no part is of
 /// Held; newest is no Credit and not Held; the parts are together at most 10^15 cents; and balances are at most 9 * 10^15
-/// cents in size. After want of memory balances and entries are as they were.
+/// cents in size. If memory runs out, balances and entries are as they were.
 pub fn put_back(
     s: &mut Segments,
     parts: &Parts,

@@ -44,7 +44,7 @@ fn size(cents: Cents) -> u64
     if cents < 0 { cents.unsigned_abs() } else { 0 }
 }
 
-// Adds the part that an entry tells, where it is one of the payment.
+// Adds the part that an entry records, where it is one of the payment.
 fn add_entry(list: &mut SmallVec<(u8, u64), 4>, payment: u32, entry: &Entry) -> Result<(), NoMemory>
     ensures { OnOk result (list.new.items ≡ list.old.items ++ parts_in (filter (is_part_of payment) (entry.now ∷ []))) }
 {
@@ -81,7 +81,7 @@ impl Parts {
         Parts { items }
     }
 
-    /// The parts of a payment, as its entries among these tell them. Condition: its entries are in order of segment number,
+    /// The parts of a payment, as its entries among these record them. Condition: its entries are in order of segment number,
     /// each segment once.
     pub fn of_payment(alloc: Global, entries: &[Entry], payment: u32) -> Result<Parts, NoMemory>
         requires { Ascend 0 (parts_in (filter (is_part_of payment) entries.now)) }

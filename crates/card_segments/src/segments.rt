@@ -73,7 +73,7 @@ impl Segments {
         })
     }
 
-    /// One more segment, with nothing owed on it, and its number. At most 63 may be there. After want of memory the
+    /// One more segment, with nothing owed on it, and its number. At most 63 may be there. If memory runs out, the
     /// segments are as they were.
     pub fn add(&mut self, segment: Segment) -> Result<u8, NoMemory>
         requires few { length self.old.segments < 64 }
@@ -124,7 +124,7 @@ impl Segments {
     }
 
     /// Owes more on a segment. Credit is raised towards 0 first, and the segment by the rest. Condition: a segment other
-    /// than Credit and Held, 0 to 10^15 cents, and balances of at most 10^16 cents in size. After want of memory balances
+    /// than Credit and Held, 0 to 10^15 cents, and balances of at most 10^16 cents in size. If memory runs out, balances
     /// and entries are as they were; where the list has room for two more entries it can't fail.
     pub fn debit(
         &mut self,
@@ -150,7 +150,7 @@ impl Segments {
     }
 
     /// Owes less on a segment, or, on Credit, holds more of the consumer's. Condition: Credit, or a segment with a balance
-    /// of at least so many cents; 0 to 10^15 cents; and balances of at most 10^16 cents in size. After want of memory
+    /// of at least so many cents; 0 to 10^15 cents; and balances of at most 10^16 cents in size. If memory runs out,
     /// balances and entries are as they were; where the list has room for one more entry it can't fail.
     pub fn credit(
         &mut self,
@@ -177,7 +177,7 @@ impl Segments {
 
     /// Moves cents of a segment to Held (12 CFR 1026.13(d)). The segment's entry stands first. Condition: a segment other
     /// than Credit and Held with a balance of at least so many cents; 0 to 10^15 cents; and balances of at most 10^16 cents
-    /// in size. After want of memory balances and entries are as they were; where the list has room for two more entries it can't fail.
+    /// in size. If memory runs out, balances and entries are as they were; where the list has room for two more entries it can't fail.
     pub fn hold(
         &mut self,
         id: u8,
@@ -203,7 +203,7 @@ impl Segments {
     }
 
     /// Moves cents out of Held, and debits a segment with them. Condition: a segment other than Credit and Held; Held with
-    /// at least so many cents; 0 to 10^15 cents; and balances of at most 10^16 cents in size. After want of memory balances
+    /// at least so many cents; 0 to 10^15 cents; and balances of at most 10^16 cents in size. If memory runs out, balances
     /// and entries are as they were; where the list has room for three more entries it can't fail.
     pub fn release(
         &mut self,

@@ -74,7 +74,7 @@ impl IndexTable {
     ghost use Rattle.card_events.specs.SharedRows.{AreByDay, with_index};
     ghost use Rattle.card_model.specs.Rates.{index_on};
 
-    /// A table without a row. It takes no memory.
+    /// A table without a row. It doesn't allocate.
     #[tactic(auto, unfolding(card_events::specs::SharedRows::AreByDay))]
     pub fn new(alloc: Global) -> IndexTable
         ensures { result ≡ [] }
@@ -84,7 +84,7 @@ impl IndexTable {
         }
     }
 
-    /// One more row. One for a day that is there takes its place. After want of memory the table is as it was.
+    /// One more row. One for a day that is there takes its place. If memory runs out, the table is as it was.
     pub fn add(&mut self, day: Day, rate: Bp) -> Result<(), NoMemory>
         ensures ok { OnOk result (self.new ≡ with_index (record { day = day; rate = rate }) self.old) }
         ensures err { OnErr result (self.new ≡ self.old) }
@@ -100,7 +100,7 @@ impl IndexTable {
     }
 
     /// The index of a day: that of the row with the greatest day up to it. None comes exactly where no row's day is at or
-    /// before it. It takes no memory.
+    /// before it. It doesn't allocate.
     pub fn on(&self, day: Day) -> Option<Bp>
         ensures { result ≡ index_on self.now day }
     {
@@ -111,7 +111,7 @@ impl IndexTable {
         Some(self.rows[count - 1].rate)
     }
 
-    /// The first day from this one on that has a row. It takes no memory.
+    /// The first day from this one on that has a row. It doesn't allocate.
     pub fn from(&self, day: Day) -> Option<Day>
         ensures found { result ≡ option_map (λ r. r.day) (find (λ r. nat_le day r.day) self.now) }
         ensures by_day { AreByDay 0 self.now }

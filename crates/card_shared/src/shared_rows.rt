@@ -29,7 +29,7 @@ impl SharedRows {
     ghost use Rattle.card_events.specs.Money.{rate_limit};
     ghost use Rattle.card_events.specs.SharedRows.{with_index};
 
-    /// No holiday, no amounts, and no index. It takes no memory.
+    /// No holiday, no amounts, and no index. It doesn't allocate.
     pub fn new(alloc: Global) -> SharedRows
         ensures { result ≡ record { holidays = []; fees = []; index = [] } }
     {

@@ -77,7 +77,7 @@ impl FeeTable {
         }
     }
 
-    /// One more row: the first and the repeat amount from a day on, each 0 to 100,000 cents. After want of memory the
+    /// One more row: the first and the repeat amount from a day on, each 0 to 100,000 cents. If memory runs out, the
     /// table is as it was.
     pub fn add(&mut self, day: Day, first: Cents, repeat: Cents) -> Result<(), NoMemory>
         requires first_low { pos 0 ≤ℤ first }

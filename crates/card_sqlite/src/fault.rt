@@ -4,7 +4,7 @@ ghost use Rattle.card_sqlite.specs.Faults as spec;
 use card_ports::KeeperFault;
 use sqlite::{Error, ErrorCode};
 
-// Only want of memory is `Memory`.
+// Only running out of memory is `Memory`.
 pub(crate) fn fault_of(error: Error) -> KeeperFault
     ensures { result ≡ spec.fault_of error }
 {

@@ -16,8 +16,8 @@ type Store<D> = StoreKeeper<FileStore<D>>;
 
 type Made<S> = Result<Option<Connection<S>>, Error>;
 
-/// Rows in the table `kept` of a SQLite file, which is opened at the first call. It tells no rows: what a file held before it was
-/// opened isn't known. Each call is one of a `StoreKeeper` over the file, whose clauses say what it gives and leaves.
+/// Rows in the table `kept` of a SQLite file, which is opened at the first call. Clauses don't see its rows: what a file held before it
+/// was opened isn't known. Each call is one of a `StoreKeeper` over the file, whose clauses say what it gives and leaves.
 ///
 /// Beside the faults of a `StoreKeeper`, `Failed`, which is counted, comes where the file can't be opened: its folder isn't
 /// there, it may not be read and written, another process has it for five seconds, or it is no sound SQLite database. The file

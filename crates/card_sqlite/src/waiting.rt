@@ -22,7 +22,7 @@ const REPLIES: usize = 8192;
 /// for another, unless a `flush` asks for it. Where the rows can't be kept, the replies that waited go with them. After that no row
 /// and no reply is taken any more; where replies couldn't be written, no reply is, and rows are kept as before.
 ///
-/// Clauses see what is kept and written, where keeper and writer tell it, and what waits.
+/// Clauses see what is kept and written, where it is visible in keeper and writer, and what waits.
 #[derive(Drop)]
 pub struct Waiting<K: Keeper + Drop, W: Write + Drop> {
     alloc: Global,
@@ -263,7 +263,7 @@ impl<K: Keeper + Drop, W: Write + Drop> Write for Waiting<K, W> {
 impl<W: Write + Drop> Waiting<SqliteKeeper, W> {
     ghost use Rattle.std.specs.Prelude.{◌≡◌, None};
 
-    // A keeper over a file tells no rows.
+    // The rows of a keeper over a file aren't visible to clauses.
     fn tells_none(&self)
         ensures { self.now.kept ≡ None }
     {

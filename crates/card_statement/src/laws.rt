@@ -19,7 +19,7 @@ pub fn lines_are_of_the_book()
     ensures { LinesAreOfTheBook }
 {}
 
-/// A cycle that is closed in the book of some day stands in the book of its closing, at its number; it goes on from what was
+/// A cycle that is closed in the book of some day stands in the book of its closing, at its number; it continues from what was
 /// owed at the closing before; and what its entries move together is at most 10^17 cents, within the limits on posts.
 pub fn cycles_stand_at_closing()
     ensures { CyclesStandAtClosing }

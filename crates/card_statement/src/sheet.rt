@@ -4,7 +4,7 @@ use card_events::{Bp, Cents, NoMemory};
 use std::alloc::Global;
 use std::marker::Model;
 
-/// What a statement shows in addition to its cycle (12 CFR 1026.7(b)), in cents but for the rates. `previous` is the new balance of
+/// What a statement shows in addition to its cycle (12 CFR 1026.7(b)), in cents except for the rates. `previous` is the new balance of
 /// the statement before, and `corrections` what changed in it since. `fees_year` and `interest_year` are the sums of the
 /// calendar year to date (12 CFR 1026.7(b)(6)(iii), (ii)). `due_payment` is whether it was issued at least 21 days before its due
 /// date (12 CFR 1026.5(b)(2)(ii)); `late_up_to` is the greatest late fee, and `penalty` the rate after late payments (12 CFR

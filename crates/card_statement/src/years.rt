@@ -62,7 +62,7 @@ fn interest_in(cycle: &Cycle, year: &Year, closing: Day) -> u128
 }
 
 /// The cents of the penalty fees of the cycles that closed in the calendar year of a closing (12 CFR 1026.7(b)(6)(iii)). Those
-/// of each cycle are at most 10^17. It takes no memory.
+/// of each cycle are at most 10^17. It doesn't allocate.
 pub fn fees_year(cycles: &[Cycle], closing: Day) -> u128
     requires small { All (λ d. fees_sum d.fees ≤ 10 ^ 17) cycles.now }
     ensures { result ≡ year_sum (λ d. fees_sum d.fees) closing cycles.now }
@@ -76,7 +76,7 @@ pub fn fees_year(cycles: &[Cycle], closing: Day) -> u128
 }
 
 /// The cents of the interest of the cycles that closed in the calendar year of a closing (12 CFR 1026.7(b)(6)(ii)). Those of
-/// each cycle are at most 10^17. It takes no memory.
+/// each cycle are at most 10^17. It doesn't allocate.
 pub fn interest_year(cycles: &[Cycle], closing: Day) -> u128
     requires small { All (λ d. amounts_sum d.interest ≤ 10 ^ 17) cycles.now }
     ensures { result ≡ year_sum (λ d. amounts_sum d.interest) closing cycles.now }

@@ -1,4 +1,4 @@
-// What the balances of a statement come to where they are repaid, as text.
+// How the balances of a statement are repaid, as text.
 ghost use Rattle.std.specs.Prelude.{◌≡◌, ◌==◌, ◌++◌, ◌≤◌, find, length, map, IfOk, OnOk};
 ghost use Rattle.std.specs.Option.{option_copied};
 ghost use Rattle.std.specs.String.{string_bytes};

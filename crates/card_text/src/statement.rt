@@ -289,7 +289,7 @@ fn push_year(alloc: Global, text: &mut String, sheet: &Sheet) -> Result<(), NoMe
     push_interest_year(alloc, text, sheet)
 }
 
-// What is owed, and what of it is in dispute.
+// What is owed, and the part of it that is in dispute.
 #[tactic(auto, using(card_lines::proofs::TextRules::texts), unfolding(crate::specs::Statements::owed_lines))]
 fn push_owed(alloc: Global, text: &mut String, cycle: &Cycle) -> Result<(), NoMemory>
     ensures { OnOk result (string_bytes text.new ≡ string_bytes text.old ++ spec.owed_lines cycle.now) }

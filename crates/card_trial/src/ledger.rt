@@ -27,7 +27,7 @@ impl Model for LedgerDesk {
     ghost invariant = { λ l. AreTotals l.desk.recorded l.totals };
 }
 
-// The entries but for so many of the first.
+// The entries except so many of the first.
 fn behind(entries: &[Entry], count: usize) -> &[Entry]
     requires { count ≤ length entries.now }
     ensures { result.now ≡ drop count entries.now }

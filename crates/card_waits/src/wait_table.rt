@@ -84,7 +84,7 @@ impl WaitTable {
         })
     }
 
-    /// Makes room for one post more. After want of memory the table says the same.
+    /// Makes room for one post more. If memory runs out, the table says the same.
     pub fn make_room(&mut self) -> Result<(), NoMemory>
         ensures waits { (history : List Kept) → AreWaits history self.old → AreWaits history self.new }
         ensures room { OnOk result (HasRoom self.new) }
@@ -106,7 +106,7 @@ impl WaitTable {
         })
     }
 
-    /// One more post, which waits for an earlier one or for none. It takes no memory: there is room.
+    /// One more post, which waits for an earlier one or for none. It doesn't allocate: there is room.
     pub fn enter(&mut self, post: &Post)
         requires few { length self.old.by < post_limit }
         requires earlier { awaited post.now ≤ length self.old.by }
@@ -119,7 +119,7 @@ impl WaitTable {
         replace(&mut self.by, awaited(post), 0, number);
     }
 
-    /// Takes the last post out again, which stood behind these. It takes no memory, and leaves room for one post.
+    /// Takes the last post out again, which stood behind these. It doesn't allocate, and leaves room for one post.
     pub fn leave(&mut self, history: &[Kept], last: &Kept)
         requires few { length history.now < post_limit }
         requires waits { AreWaits (history.now ++ last.now ∷ []) self.old }

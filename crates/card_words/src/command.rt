@@ -181,7 +181,7 @@ fn command_of_numbers(word: &str, start: &str, accounts: &str, cycles: &str) -> 
     }
 }
 
-/// The command that the words are, if they are one. It takes no memory.
+/// The command that the words are, if they are one. It doesn't allocate.
 pub fn command_of(words: &[String]) -> Option<Command>
     ensures { result ≡ spec.command_of (map string_bytes words.now) }
 {
