@@ -40,9 +40,13 @@ is_sort sort.Promo sort.Promo = true
 is_sort sort.Deferred sort.Deferred = true
 is_sort _ _ = false
 
--- a plan, of either kind
+-- the sort of a plan, of either kind
+abbrev pub is_plan_sort : Sort → Bool
+is_plan_sort s = is_sort sort.Promo s || is_sort sort.Deferred s
+
+-- a plan
 abbrev pub is_plan : SegmentTerms → Bool
-is_plan g = is_sort sort.Promo g.sort || is_sort sort.Deferred g.sort
+is_plan g = is_plan_sort g.sort
 
 -- the sort of a category's vintages
 abbrev pub sort_of_category : Category → Sort
@@ -120,7 +124,7 @@ abbrev pub is_kept_of : Place → Segment → Bool
 is_kept_of place.Purchase s = is_sort sort.Purchase s.sort
 is_kept_of place.Cash s = is_sort sort.Cash s.sort
 is_kept_of place.Transfer s = is_sort sort.Transfer s.sort
-is_kept_of (place.Plan n) s = (s.post == n) && (is_sort sort.Promo s.sort || is_sort sort.Deferred s.sort)
+is_kept_of (place.Plan n) s = (s.post == n) && is_plan_sort s.sort
 
 -- the same of a segment with its terms
 abbrev pub is_of_place : Place → SegmentTerms → Bool

@@ -1,5 +1,5 @@
 -- The segments that posts add, as the ledger keeps them, and the segment of a plan among them.
-use Rattle.std.specs.Prelude.{ℕ, suc, ◌≡◌, true, Bool, ◌&&◌, ◌||◌, ◌==◌, nat_le, if◌then◌else◌, List, [], ◌∷◌, Option, length, option_map, pos, replicate}
+use Rattle.std.specs.Prelude.{ℕ, suc, ◌≡◌, true, Bool, ◌&&◌, ◌==◌, nat_le, if◌then◌else◌, List, [], ◌∷◌, Option, length, option_map, pos, replicate}
 use Rattle.std.specs.List.{All, cons_option}
 use Rattle.card_events.specs.Dated.{is_dated_post}
 use Rattle.card_events.specs.History.{anchor_of, corrected, terms_of}
@@ -7,9 +7,8 @@ use Rattle.card_events.specs.SharedRows.{SharedRows}
 use Rattle.card_events.specs.declared.kept.Kept.{Kept}
 use Rattle.card_events.specs.declared.post.Post.{Post}
 use Rattle.card_model.specs.Cycles.{IssuedRow}
-use Rattle.card_model.specs.Segments.{SegmentTerms, is_sort, kept_segment, kept_segments, segment_of}
+use Rattle.card_model.specs.Segments.{SegmentTerms, is_plan_sort, kept_segment, kept_segments, segment_of}
 use Rattle.card_model.specs.declared.segment.Segment.{Segment}
-use Rattle.card_model.specs.declared.segment.Sort.TheVariants as sort
 use Rattle.card_rates.specs.Laws.{segments_on}
 use Rattle.card_rates.specs.RateBooks.{Rates, rates_of}
 use Rattle.card_segments.specs.Balances.{Balances}
@@ -37,7 +36,7 @@ ArePostsDated history = All (λ k. is_dated_post k.post ≡ true) history
 
 -- the plan that a post began, by a day
 abbrev pub is_plan_of : ℕ → ℕ → Segment → Bool
-is_plan_of post today s = (s.post == post) && (is_sort sort.Promo s.sort || is_sort sort.Deferred s.sort) && nat_le s.begins today
+is_plan_of post today s = (s.post == post) && is_plan_sort s.sort && nat_le s.begins today
 
 -- the number of the first such segment, where the first of these has number n; else that of the opening Purchase vintage
 unfoldable pub plan_from : ℕ → ℕ → ℕ → List Segment → ℕ
