@@ -4,6 +4,7 @@ use Rattle.std.specs.List.{All, filter, filter_map, find, cons_option}
 use Rattle.std.proofs.lemmas.List.Elements.{All-nil, All-cons, All-head, All-tail, All-append, All-map}
 use Rattle.std.specs.Prelude.{min}
 use Rattle.std.specs.Option.{option_or}
+use Rattle.card_bounds.proofs.OnSegments.{Holds, IsPart, paid-there, parts-there, takes-there}
 use Rattle.card_events.specs.Civil.{day_of_month}
 use Rattle.card_events.specs.History.{CorrectedPost}
 use Rattle.card_events.specs.declared.post.Place.{Place}
@@ -65,13 +66,6 @@ of-holds q note s x c h = All-append q (lowers note s x) (raises note 1 x) (of-e
 of-releases : (q : Entry → Type 0) (note : Note) (s x credit : ℕ) → OnSegment q note 0 → OnSegment q note 1 → OnSegment q note s → All q (releases note s x credit)
 of-releases q note s x credit c held h = All-append q (lowers note 1 x) (debit note s x credit) (of-entry q note 1 (negated x) held) (of-debit q note s x credit c h)
 
--- ---- parts
-abbrev Holds : (ℕ → Type 0) → Holding → Type 0
-Holds p h = p h.id
-
-abbrev IsPart : (ℕ → Type 0) → ℕ × ℕ → Type 0
-IsPart p x = p x.0
-
 of-parts : (p : ℕ → Type 0) (q : Entry → Type 0) (note : Note) (xs : List (ℕ × ℕ)) → ((s : ℕ) → p s → OnSegment q note s) → All (IsPart p) xs → All q (parts_entries note xs)
 of-parts p q note [] f h = All-nil q
 of-parts p q note (x ∷ xs) f h = All-append q (lowers note x.0 x.1) (parts_entries note xs) (of-entry q note x.0 (negated x.1) (f x.0 (All-head (IsPart p) x xs h))) (of-parts p q note xs f (All-tail (IsPart p) x xs h))
@@ -85,29 +79,10 @@ paid_at-there p id n (h ∷ hs) a = All-cons (Holds p) (cond (eqb h.id id) (paid
     by true m = m
     by false m = m
 
-takes-there : (p : ℕ → Type 0) (n : ℕ) (s : Paying) (o : Option Holding) → All (Holds p) s.left → All (Holds p) (takes n s o).left
-takes-there p n s None a = a
-takes-there p n s (Some h) a = paid_at-there p h.id n s.left a
-
 pay-there : (p : ℕ → Type 0) (rule : List Holding → Option Holding) (n : ℕ) (s : Paying) → All (Holds p) s.left → All (Holds p) (pay rule n s).left
 unfolding pay
 pay-there p rule zero s a = a
 pay-there p rule (suc n) s a = pay-there p rule n (takes 1 s (rule s.left)) (takes-there p 1 s (rule s.left) a)
-
-paid-there : (p : ℕ → Type 0) (hs : List Holding) → All (Holds p) hs → All (IsPart p) (filter_map part_of hs)
-paid-there p [] a = All-nil (IsPart p)
-paid-there p (h ∷ hs) a = by (eqb h.paid 0) (All-head (Holds p) h hs a) (paid-there p hs (All-tail (Holds p) h hs a))
-  where
-    by : (t : Bool) → p h.id → All (IsPart p) (filter_map part_of hs) → All (IsPart p) (cons_option (cond t None (Some (h.id, h.paid))) (filter_map part_of hs))
-    by true m r = r
-    by false m r = All-cons (IsPart p) (h.id, h.paid) (filter_map part_of hs) m r
-
-parts-there : (p : ℕ → Type 0) (s : Paying) → p 0 → All (Holds p) s.left → All (IsPart p) (parts s)
-parts-there p s c a = by (eqb s.credit 0)
-  where
-    by : (t : Bool) → All (IsPart p) (cond t (filter_map part_of s.left) ((0, s.credit) ∷ filter_map part_of s.left))
-    by true = paid-there p s.left a
-    by false = All-cons (IsPart p) (0, s.credit) (filter_map part_of s.left) c (paid-there p s.left a)
 
 payment-there : (p : ℕ → Type 0) (q : Entry → Type 0) (a : Account) (seen : Seen) (s : CorrectedPost) (b : Book) → Adds p q a seen → All (IsPart p) (payment_parts a seen s b)
 unfolding payment_parts
@@ -165,7 +140,7 @@ put_back-there p q note new (x ∷ xs) es f c n a h =
     by true m = n
     by false m = m
 
-and-right : (x y : Bool) → x && y ≡ true → y ≡ true
+pub and-right : (x y : Bool) → x && y ≡ true → y ≡ true
 and-right true y e = e
 and-right false y e = cc
 

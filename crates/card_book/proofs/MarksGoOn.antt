@@ -25,7 +25,7 @@ use Rattle.card_book.specs.declared.marks.Accruing.{Accruing}
 
 -- ---- lists by segment
 -- what is kept of a segment stands at its place
-placed : (f : SegmentTerms → Accrued) (ts : List SegmentTerms) (t : SegmentTerms) → AreByNumber 2 ts → Contains ts t → get_or (map f ts) (t.id - 2) nothing_accrued ≡ f t
+pub placed : (f : SegmentTerms → Accrued) (ts : List SegmentTerms) (t : SegmentTerms) → AreByNumber 2 ts → Contains ts t → get_or (map f ts) (t.id - 2) nothing_accrued ≡ f t
 placed f ts t numbered there =
     let low = number-above 2 ts t numbered there in
     let high = number-below 2 ts t numbered there in

@@ -75,7 +75,7 @@ mark-by g k c s xs ys same h = record {
 }
 
 -- ---- the order of what has accrued
-all-pass : (k : ℕ) (xs : List Accruing) → All (λ (a : Accruing). a.cycle ≤ k) xs → accrued_to k xs ≡ xs
+pub all-pass : (k : ℕ) (xs : List Accruing) → All (λ (a : Accruing). a.cycle ≤ k) xs → accrued_to k xs ≡ xs
 all-pass k [] h = refl
 all-pass k (x ∷ xs) h =
     let low = All-head (λ (a : Accruing). a.cycle ≤ k) x xs h in

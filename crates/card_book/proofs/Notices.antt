@@ -31,7 +31,7 @@ use Rattle.card_rates.proofs.DayLaws.{segments_of_a_day}
 use Rattle.card_rates.specs.RateBooks.{rates_of}
 use Rattle.card_book.specs.Compliance.{NoticesKeepEarlierRates, rate_among, without}
 use Rattle.card_bounds.specs.Places.{segments_by}
-use Rattle.card_book.proofs.EveryEntry.{Adds, is_other, of_every_entry}
+use Rattle.card_book.proofs.EveryEntry.{Adds, and-right, is_other, of_every_entry}
 
 -- ---- the vintage that a notice adds
 abbrev vintage : CorrectedPost → ℕ → ℕ → ℕ → Category → SegmentTerms
@@ -165,10 +165,6 @@ find-tells test v D (g ∷ gs) two h e = by (find-tells test v D gs two (All-tai
     by : (id_of (find test gs) ≡ v → D) → (t : Bool) → test g ≡ t → id_of (cond t (Some g) (find test gs)) ≡ v → D
     by r true i e = All-head (Tells test v D) g gs h i e
     by r false i e = r e
-
-and-right : (x y : Bool) → x && y ≡ true → y ≡ true
-and-right true y e = e
-and-right false y e = cc
 
 begun-tells : (s : Sort) (day : ℕ) (v : SegmentTerms) (gs : List SegmentTerms) → All (IsOnly v) gs
     → All (Tells (λ (g : SegmentTerms). is_sort s g.sort && leb g.begins day) v.id (v.begins ≤ day)) gs

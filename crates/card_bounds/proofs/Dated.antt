@@ -154,7 +154,7 @@ and-true : (t : Bool) → (t && true) ≡ t
 and-true true = refl
 and-true false = refl
 
-and-false : (t : Bool) → (t && false) ≡ false
+pub and-false : (t : Bool) → (t && false) ≡ false
 and-false true = refl
 and-false false = refl
 

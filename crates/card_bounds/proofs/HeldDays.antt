@@ -89,11 +89,11 @@ today-ahead a shared history issued opened n es few h =
     }
 
 -- a front of them
-all-front : (p : CorrectedPost → Type 0) (xs ys : List CorrectedPost) → All p (xs ++ ys) → All p xs
+pub all-front : (p : CorrectedPost → Type 0) (xs ys : List CorrectedPost) → All p (xs ++ ys) → All p xs
 all-front p [] ys h = All-nil p
 all-front p (x ∷ xs) ys h = All-cons p x xs (All-head p x (xs ++ ys) h) (all-front p xs ys (All-tail p x (xs ++ ys) h))
 
-numbers-front : (low : ℕ) (xs ys : List CorrectedPost) → Numbers low (xs ++ ys) → Numbers low xs
+pub numbers-front : (low : ℕ) (xs ys : List CorrectedPost) → Numbers low (xs ++ ys) → Numbers low xs
 numbers-front low [] ys h = tt
 numbers-front low (x ∷ xs) ys h = (h.0, numbers-front (suc x.number) xs ys h.1)
 

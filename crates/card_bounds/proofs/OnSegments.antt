@@ -102,10 +102,10 @@ on-releases : (p : ℕ → Type 0) (note : Note) (s x credit : ℕ) → p 0 → 
 on-releases p note s x credit c held h = All-append (On p) (lowers note 1 x) (debit note s x credit) (on-entry p note 1 (negated x) held) (on-debit p note s x credit c h)
 
 -- ---- parts
-abbrev Holds : (ℕ → Type 0) → Holding → Type 0
+abbrev pub Holds : (ℕ → Type 0) → Holding → Type 0
 Holds p h = p h.id
 
-abbrev IsPart : (ℕ → Type 0) → ℕ × ℕ → Type 0
+abbrev pub IsPart : (ℕ → Type 0) → ℕ × ℕ → Type 0
 IsPart p x = p x.0
 
 on-parts : (p : ℕ → Type 0) (note : Note) (xs : List (ℕ × ℕ)) → All (IsPart p) xs → All (On p) (parts_entries note xs)
@@ -121,7 +121,7 @@ paid_at-there p id n (h ∷ hs) a = All-cons (Holds p) (cond (eqb h.id id) (paid
     by true m = m
     by false m = m
 
-takes-there : (p : ℕ → Type 0) (n : ℕ) (s : Paying) (o : Option Holding) → All (Holds p) s.left → All (Holds p) (takes n s o).left
+pub takes-there : (p : ℕ → Type 0) (n : ℕ) (s : Paying) (o : Option Holding) → All (Holds p) s.left → All (Holds p) (takes n s o).left
 takes-there p n s None a = a
 takes-there p n s (Some h) a = paid_at-there p h.id n s.left a
 
@@ -130,7 +130,7 @@ unfolding pay
 pay-there p rule zero s a = a
 pay-there p rule (suc n) s a = pay-there p rule n (takes 1 s (rule s.left)) (takes-there p 1 s (rule s.left) a)
 
-paid-there : (p : ℕ → Type 0) (hs : List Holding) → All (Holds p) hs → All (IsPart p) (filter_map part_of hs)
+pub paid-there : (p : ℕ → Type 0) (hs : List Holding) → All (Holds p) hs → All (IsPart p) (filter_map part_of hs)
 paid-there p [] a = All-nil (IsPart p)
 paid-there p (h ∷ hs) a = by (eqb h.paid 0) (All-head (Holds p) h hs a) (paid-there p hs (All-tail (Holds p) h hs a))
   where
@@ -138,7 +138,7 @@ paid-there p (h ∷ hs) a = by (eqb h.paid 0) (All-head (Holds p) h hs a) (paid-
     by true m r = r
     by false m r = All-cons (IsPart p) (h.id, h.paid) (filter_map part_of hs) m r
 
-parts-there : (p : ℕ → Type 0) (s : Paying) → p 0 → All (Holds p) s.left → All (IsPart p) (parts s)
+pub parts-there : (p : ℕ → Type 0) (s : Paying) → p 0 → All (Holds p) s.left → All (IsPart p) (parts s)
 parts-there p s c a = by (eqb s.credit 0)
   where
     by : (t : Bool) → All (IsPart p) (cond t (filter_map part_of s.left) ((0, s.credit) ∷ filter_map part_of s.left))

@@ -5,6 +5,7 @@ use Rattle.std.specs.Prelude.{min}
 use Rattle.std.proofs.lemmas.Bool.{eqb-true, ne_eqb}
 use Rattle.std.proofs.lemmas.List.{append-nil}
 use Rattle.std.proofs.lemmas.List.Elements.{All-append, All-cons, All-contains_itself, All-filter, All-head, All-nil, All-tail, All-weaker, filter-append, filter_passes}
+use Rattle.card_bounds.proofs.HeldDays.{all-front, numbers-front}
 use Rattle.card_bounds.specs.Reached.{IsOfItsPost, PaymentsReach, Rise, sizes}
 use Rattle.card_bounds.proofs.Owned.{Clean, paid_by}
 use Rattle.card_bounds.proofs.Owned.{sizes as owned_sizes}
@@ -48,7 +49,7 @@ record Reaches (posts : List CorrectedPost) (es : List Entry) : Type 0 where
   rise : (n : ℕ) → Rise 0 (filter (is_part_of n) es)
 
 -- ---- entries more
-no-part : (t : Bool) → (t && false) ≡ false
+pub no-part : (t : Bool) → (t && false) ≡ false
 no-part true = refl
 no-part false = refl
 
@@ -125,7 +126,7 @@ parts-rise s a = by (eqb s.credit 0) (holdings-rise 2 s.left a)
     by true r = rise-later 0 2 (filter_map part_of s.left) (omega arith) r
     by false r = (omega arith, rise-later 1 2 (filter_map part_of s.left) (omega arith) r)
 
-takes-ascends : (low : ℕ) (s : Paying) (o : Option Holding) → Ascends low s.left → Ascends low (takes 1 s o).left
+pub takes-ascends : (low : ℕ) (s : Paying) (o : Option Holding) → Ascends low s.left → Ascends low (takes 1 s o).left
 takes-ascends low s None a = a
 takes-ascends low s (Some h) a = paid_at-ascends h.id 1 low s.left a
 
@@ -309,15 +310,6 @@ interest-reaches posts issued seen amount (g ∷ gs) p h =
 close-reaches : (posts : List CorrectedPost) (issued : Option IssuedRow) (a : Account) (seen : Seen) (b : Book) → Reaches posts b.entries → Reaches posts (close issued a seen b).entries
 unfolding close closing_interest
 close-reaches posts issued a seen b h = interest-reaches posts issued seen _ _ _ (interest-reaches posts issued seen _ _ (record { amounts = []; book = b }) h)
-
--- ---- a day
-all-front : (p : CorrectedPost → Type 0) (xs ys : List CorrectedPost) → All p (xs ++ ys) → All p xs
-all-front p [] ys h = All-nil p
-all-front p (x ∷ xs) ys h = All-cons p x xs (All-head p x (xs ++ ys) h) (all-front p xs ys (All-tail p x (xs ++ ys) h))
-
-numbers-front : (low : ℕ) (xs ys : List CorrectedPost) → Numbers low (xs ++ ys) → Numbers low xs
-numbers-front low [] ys h = tt
-numbers-front low (x ∷ xs) ys h = (h.0, numbers-front (suc x.number) xs ys h.1)
 
 ahead-front : (posts xs ys : List CorrectedPost) (es : List Entry) → AreAhead posts (xs ++ ys) es → AreAhead posts xs es
 ahead-front posts xs ys es h = record {

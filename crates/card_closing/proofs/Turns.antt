@@ -20,6 +20,7 @@ use Rattle.card_model.specs.declared.grace.GraceCase.TheVariants as case
 use Rattle.card_model.proofs.EntryFacts.{all-debit}
 use Rattle.card_model.proofs.Posted.{sum_of-append}
 use Rattle.card_closing.proofs.Days.{same_sums}
+use Rattle.card_rates.proofs.LaterPosts.{and_false}
 
 pub sum_of-none : (p : Entry → Bool) (es : List Entry) → All (λ e. p e ≡ false) es → sum_of p es ≡ pos 0
 sum_of-none p [] h = refl
@@ -27,10 +28,6 @@ sum_of-none p (e ∷ es) h = rw (All-head (λ e. p e ≡ false) e es h, sum_of-n
 
 sum_of-more : (p : Entry → Bool) (es fs : List Entry) → All (λ e. p e ≡ false) fs → sum_of p (es ++ fs) ≡ sum_of p es
 sum_of-more p es fs h = omega (arith, ints, sum_of-append p es fs, sum_of-none p fs h)
-
-and_false : (b : Bool) → (b && false) ≡ false
-and_false true = refl
-and_false false = refl
 
 -- an entry of interest on a day
 pub record IsInterestOn (on : ℕ) (e : Entry) : Type 0 where

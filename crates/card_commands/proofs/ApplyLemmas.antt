@@ -2,6 +2,7 @@
 use Rattle.std.proofs.Common.{◌≡◌, ℕ, zero, suc, ◌+◌, ◌-◌, ◌≤◌, Bool, true, false, ◌||◌, eqb, ◌⊎◌, List, [], ◌∷◌, ◌++◌, length, map, take, drop, get_or, refl, ap, sym, ◌∙◌, subst, arith, append_assoc, append-nil, length-append, take-append-drop, inl, inr}
 use Rattle.std.proofs.lemmas.List.{map-append, length-map, take-append-le, take_more}
 use Rattle.std.proofs.lemmas.Bool.{ne_eqb}
+use Rattle.card_desk.proofs.MapLemmas.{by_test}
 use Rattle.card_model.specs.Machine.{State}
 use Rattle.card_ports.specs.Bytes.{IsFront}
 use Rattle.card_lines.specs.declared.line.Line.{Line}
@@ -166,10 +167,6 @@ pub all_first : (items : List Item) → AreFirst items items
 all_first items = ([], sym (append-nil items))
 
 -- ---- the last line that was handled
-
-by_test : (b : Bool) → (b ≡ true) ⊎ (b ≡ false)
-by_test true = inl refl
-by_test false = inr refl
 
 -- a byte ends at most one line
 cut_one : (u : List ℕ) (b : ℕ) → length (cut u (b ∷ [])) ≤ 1

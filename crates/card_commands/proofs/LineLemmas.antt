@@ -2,6 +2,7 @@
 use Rattle.std.proofs.Common.{◌≡◌, ℕ, ◌+◌, ◌<◌, ◌≤◌, Bool, true, false, ◌||◌, eqb, ltb, cond, ◌⊎◌, List, [], ◌∷◌, ◌++◌, length, map, take, refl, ap, sym, ◌∙◌, arith, append_assoc, append-nil, length-append, inl, inr}
 use Rattle.std.proofs.lemmas.Bool.{ltb-true, ltb-false, lt-ltb}
 use Rattle.std.proofs.lemmas.List.{take_all, take-append-le, length-take}
+use Rattle.card_desk.proofs.MapLemmas.{by_test}
 use Rattle.card_lines.specs.Lines.{line_of}
 use Rattle.card_commands.specs.Input.{first_part, other_parts, ended, unended, ended_line, last_line}
 use Rattle.card_commands.specs.Feed.{Progress, feed, next_item, longer_line, line_done, feed_text, line_text, feed_rows, line_kept, feed_all, text_all, rows_all}
@@ -19,10 +20,6 @@ cut u (b ∷ bs) = cond (eqb b 10) (u ∷ cut [] bs) (cut (u ++ b ∷ []) bs)
 abbrev pub left_over : List ℕ → List ℕ → List ℕ
 left_over u [] = u
 left_over u (b ∷ bs) = cond (eqb b 10) (left_over [] bs) (left_over (u ++ b ∷ []) bs)
-
-by_test : (b : Bool) → (b ≡ true) ⊎ (b ≡ false)
-by_test true = inl refl
-by_test false = inr refl
 
 pub cut_is : (u bs : List ℕ) → ended (u ++ first_part bs) (other_parts bs) ≡ cut u bs
 cut_is u [] = refl

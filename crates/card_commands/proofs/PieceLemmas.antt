@@ -3,6 +3,7 @@ use Rattle.std.proofs.Common.{◌≡◌, ℕ, suc, ◌+◌, ◌-◌, ◌<◌, �
 use Rattle.std.proofs.lemmas.Bool.{ltb-true, ltb-false, lt-ltb, ne_eqb, eq-eqb}
 use Rattle.std.proofs.lemmas.List.{take_all, take_rest, length-take, length-drop, length-take-le, get_or-take, get_or_default}
 use Rattle.std.proofs.Math.Seq.{take-add}
+use Rattle.card_desk.proofs.MapLemmas.{by_test}
 use Rattle.card_desk.specs.Kept.{Fits}
 use Rattle.card_commands.specs.Feed.{Run, Progress, next_item, longer_line, kept_of, HasNoLineFeed, feed, feed_all, text_all, rows_all}
 use Rattle.card_commands.specs.Input.{ended_line}
@@ -22,10 +23,6 @@ use Rattle.memchr.specs.Find.{Nowhere, Passes, is_byte}
 abbrev longer : List ℕ → List ℕ → List ℕ
 longer line [] = line
 longer line (b ∷ bs) = longer (longer_line line b) bs
-
-by_test : (b : Bool) → (b ≡ true) ⊎ (b ≡ false)
-by_test true = inl refl
-by_test false = inr refl
 
 longer_full : (line : List ℕ) (b : ℕ) → ltb 512 (length line) ≡ true → longer_line line b ≡ line
 longer_full line b t = rw t refl

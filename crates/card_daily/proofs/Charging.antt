@@ -100,7 +100,7 @@ returned-low : (issued : Option IssuedRow) (seen : Seen) (b : Book) (c : Option 
 returned-low issued seen b None f e = cc
 returned-low issued seen b (Some c) f e = charged-low issued (fee_for seen b.cycles b.fees (present_cycle b) kind.Returned c) f e
 
-high-of : (z : ℤ) → at_least_zero z ≤ 100000 → z ≤ℤ pos balance_limit
+pub high-of : (z : ℤ) → at_least_zero z ≤ 100000 → z ≤ℤ pos balance_limit
 high-of (pos n) h = omega (arith, ints)
 high-of (negsuc n) h = omega (arith, ints)
 

@@ -1,8 +1,11 @@
 -- The day after a due date: the book with its late fee.
 use Rattle.std.proofs.lemmas.Int.{ints}
 use Rattle.card_closing.specs.Accruals.{Accrued, nothing_accrued}
+use Rattle.card_daily.proofs.Charging.{high-of}
+use Rattle.card_model.proofs.Caps.{fee-cycles}
 use Rattle.card_model.specs.Limits.{balance_limit}
 use Rattle.card_model.specs.declared.fee.FeeKind.TheVariants as fee
+use Rattle.card_rates.proofs.Penalties.{fee-penalties}
 use Rattle.card_rates.specs.RateBooks.{Rates, rates_of}
 use Rattle.std.proofs.Common.{◌≡◌, negsuc, get_or, ℕ, zero, suc, ◌+◌, ◌-◌, ◌≤◌, Bool, true, false, cond, List, [], ◌∷◌, map, length, take, refl, sym, ap, ◌∙◌, subst, arith, eqb, Option, Some, None, ℤ, pos}
 use Rattle.std.specs.List.{All, Contains}
@@ -36,11 +39,6 @@ use Rattle.card_daily.specs.Penalties.{cured_on}
 use Rattle.card_daily.specs.Stands.{AreAmid, AreBefore, StandFor, amid, before, first_in, returned_by, rows_amid, rows_through}
 use Rattle.card_daily.specs.declared.state.State.{State}
 use Rattle.card_daily.specs.declared.track.Track.{Track}
-
--- ---- the book
-fee-penalties : (a : Account) (seen : Seen) (n : ℕ) (o : Option Fee) (b : Book) → (with_fee a seen n o b).penalties ≡ b.penalties
-fee-penalties a seen n None b = refl
-fee-penalties a seen n (Some f) b = refl
 
 due-is : (issued : Option IssuedRow) (a : Account) (seen : Seen) (b : Book) (c : Option Cycle)
     → on_due issued a seen b c ≡ with_penalties (cured_on seen b.cycles c b.penalties) (with_fee a seen 0 (fee_after issued seen b c) b)
@@ -83,10 +81,6 @@ late-sign issued seen b c g e = by (met seen c) e
     by true e = cc
     by false e = charged-sign issued (fee_for seen b.cycles b.fees (present_cycle b) fee.Late c) g e
 
-high-of : (z : ℤ) → at_least_zero z ≤ 100000 → z ≤ℤ pos balance_limit
-high-of (pos n) h = omega (arith, ints)
-high-of (negsuc n) h = omega (arith, ints)
-
 after-few : (issued : Option IssuedRow) (seen : Seen) (b : Book) (c : Option Cycle) (f : Fee) → Limits seen → fee_after issued seen b c ≡ Some f → IsFewCents f
 after-few issued seen b None f l e = cc
 after-few issued seen b (Some c) f l e = by (eqb seen.day (c.due + 1)) e
@@ -122,11 +116,6 @@ rows-begin g day o t =
     let earlier : ℕ → Bool = λ (n : ℕ). is_returned (seen_in g (day - 1)).posts (day - 1) n in
     ap (λ r. with_repaid r (rows_through g first (day - 1) b t))
     (same-brought t.id first (returned_by g day []) earlier (returned-start g day) b'.entries ∙ fee-others earlier (account_in g) (seen_in g day) 0 b o t.id first)
-
--- ---- state and track
-fee-cycles : (a : Account) (seen : Seen) (n : ℕ) (o : Option Fee) (b : Book) → (with_fee a seen n o b).cycles ≡ b.cycles
-fee-cycles a seen n None b = refl
-fee-cycles a seen n (Some f) b = refl
 
 -- what a charged fee changes
 pub record IsWithFee (g : Given) (day : ℕ) (o : Option Fee) (s new : State) (t after : Track) : Type 0 where

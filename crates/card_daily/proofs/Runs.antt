@@ -22,23 +22,11 @@ use Rattle.card_events.specs.declared.reply.Refusal.TheVariants as refusal
 use Rattle.card_events.specs.declared.request.Request.{Request}
 use Rattle.card_events.specs.declared.request.Request.TheVariants as request
 use Rattle.card_events.specs.declared.request.Shared.{Shared}
+use Rattle.card_model.proofs.Accepting.{AllNone, all-none, first-none}
 use Rattle.card_model.specs.Machine.{Accepts, NamedAccount, Outcome, Refuses, Repeats, State, accepted, accounts_after, at_key, has_accounts, is_repeat_of, judged, kept_as, lists_of, next_number, opened, outcome, outcome_in, run_from, shared_reason, start, step, with_lists, with_shared}
 use Rattle.card_model.specs.Refusals.{Lists, Present, closing_on, first_reason, plan_days, plan_end_not_closing, reason_against, reason_to_open, reasons, where_true}
 use Rattle.card_daily.specs.Given.{ArePlanned, EndsWithAClosing}
 use Rattle.card_daily.specs.Laws.{RunsKeepPlans}
-
--- ---- no reason stands
-pub first-none : (r : Option Refusal) (rs : List (Option Refusal)) → first_reason (r ∷ rs) ≡ None → (r ≡ None) × (first_reason rs ≡ None)
-first-none None rs h = (refl, h)
-first-none (Some x) rs h = cc
-
-abbrev pub AllNone : List (Option Refusal) → Type 0
-AllNone [] = Unit {0}
-AllNone (r ∷ rs) = (r ≡ None) × AllNone rs
-
-pub all-none : (rs : List (Option Refusal)) → first_reason rs ≡ None → AllNone rs
-all-none [] h = tt
-all-none (r ∷ rs) h = let parts = first-none r rs h in (parts.0, all-none rs parts.1)
 
 where-not : (b : Bool) (r : Refusal) → where_true (not b) r ≡ None → b ≡ true
 where-not true r h = refl

@@ -8,6 +8,7 @@ use Rattle.std.specs.List.{All}
 use Rattle.std.specs.List.Sorted.{IsNonDecreasingBy}
 use Rattle.std.specs.Prelude.{nat_le, nat_lt, ◌+◌, ◌&&◌}
 use Rattle.std.specs.Str.{bytes_eq}
+use Rattle.card_model.proofs.Accepting.{all-none, first-none}
 use Rattle.card_events.specs.Billing.{closing}
 use Rattle.card_events.specs.Range.{first_calendar_day}
 use Rattle.card_events.specs.declared.anchor.Anchor.{Anchor}
@@ -28,7 +29,7 @@ use Rattle.card_model.specs.Folds.{cycle_at, row_of_cycle}
 use Rattle.card_model.specs.Machine.{Accepts, NamedAccount, Outcome, Refuses, Repeats, State, accepted, accounts_after, at_key, has_accounts, is_repeat_of, issues, judged, kept_as, lists_of, next_number, opened, outcome, outcome_in, run_from, shared_reason, start, step, with_lists, with_shared}
 use Rattle.card_model.specs.Refusals.{IsBilledLater, Lists, Present, bills, book_today, not_closed, reason_against, reason_to_open, reasons, where_true}
 use Rattle.card_model.specs.Sheets.{issued_sheet_of}
-use Rattle.card_daily.proofs.Runs.{all-none, anchor-stays, first-none, more-posts}
+use Rattle.card_daily.proofs.Runs.{anchor-stays, more-posts}
 use Rattle.card_daily.specs.Given.{AreInTurn}
 use Rattle.card_daily.specs.Laws.{RunsKeepTurns}
 

@@ -2,15 +2,12 @@
 use Rattle.std.proofs.Common.{◌≡◌, ℕ, Bool, true, false, ◌||◌, List, [], ◌∷◌, ℤ, refl, ap, ◌∙◌}
 use Rattle.std.specs.List.{list_any}
 use Rattle.card_closing.specs.Accruals.{Accrued}
+use Rattle.card_model.proofs.Accepting.{or-false}
 use Rattle.card_model.specs.Rates.{accrual_rate}
 use Rattle.card_model.specs.Segments.{SegmentTerms, is_deferred_on, is_sort}
 use Rattle.card_model.specs.declared.segment.Sort.TheVariants.{Deferred}
 use Rattle.card_rates.specs.Settled.{has_deferred}
 use Rattle.card_dayend.specs.Rows.{each_with, owed_on, with_accrual_at}
-
-or-false : (a b : Bool) → (a || b) ≡ false → (a ≡ false) × (b ≡ false)
-or-false true b h = cc
-or-false false b h = (refl, h)
 
 -- without deferred plans none is in its period
 pub none-accrues-on : (day : ℕ) (ts : List SegmentTerms) → has_deferred ts ≡ false → list_any (is_deferred_on day) ts ≡ false

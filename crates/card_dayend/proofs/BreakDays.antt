@@ -17,11 +17,13 @@ use Rattle.card_events.specs.SharedRows.{IndexRow}
 use Rattle.card_events.specs.declared.kept.Kept.{Kept}
 use Rattle.card_events.specs.declared.kept.Slot.{Slot}
 use Rattle.card_fees.proofs.Days.{due-later}
+use Rattle.card_model.proofs.Accepting.{or-false}
 use Rattle.card_model.proofs.Calendar.{is-anchor}
 use Rattle.card_model.specs.Breaks.{breaks_penalty, breaks_segment, is_break}
 use Rattle.card_model.specs.declared.segment.Interval.{Interval}
 use Rattle.card_posts.specs.Change.{on}
 use Rattle.card_posts.specs.Posted.{folding_order}
+use Rattle.card_rates.proofs.Unchanged.{and-parts}
 use Rattle.card_rates.specs.Next.{IsNext, changes, index_changes}
 use Rattle.card_rates.specs.RateBooks.{Rates, rates_of}
 use Rattle.card_rates.proofs.Nearest.{next-both, next-never, next-same}
@@ -33,10 +35,6 @@ use Rattle.card_daily.proofs.Cycles.{closing-within}
 use Rattle.card_daily.proofs.Following.{due-most}
 use Rattle.card_daily.specs.Given.{Given}
 use Rattle.card_dayend.specs.Spans.{IsCycleOf, breaks_by, closes, follows_due, has_issue, has_post}
-
-or-false : (a b : Bool) → (a || b) ≡ false → (a ≡ false) × (b ≡ false)
-or-false true b h = cc
-or-false false b h = (refl, h)
 
 -- ---- a kind that has one day at most before the end
 -- where a day passes exactly if it is this one
@@ -207,10 +205,6 @@ closing-small a number day h =
 
 closed : (a : Anchor) (number first : ℕ) → IsCycleOf a number first → ClosingLaws a number
 closed a number first h = let small = closing-small a number first h in let last = h.last in closing_laws a (is-anchor a h.opening) number h.numbered (omega (arith, small, last))
-
-and-parts : (s t : Bool) → (s && t) ≡ true → (s ≡ true) × (t ≡ true)
-and-parts true t e = (refl, e)
-and-parts false t e = cc
 
 pub closing-next : (a : Anchor) (number first end day : ℕ) → IsCycleOf a number first → IsNext (λ x. eqb (closing a number) x) first end day → IsNext (closes a) first end day
 closing-next a number first end day h k =

@@ -6,17 +6,13 @@ use Rattle.std.proofs.lemmas.Bool.{cases_lt, eq-eqb, eqb-true, ne_eqb}
 use Rattle.std.proofs.lemmas.List.{get_or_default}
 use Rattle.card_model.specs.Cycles.{IssuedRow}
 use Rattle.card_rates.specs.Next.{IsNext}
-use Rattle.card_rates.proofs.Nearest.{next-never}
+use Rattle.card_rates.proofs.Nearest.{next-never, or-right}
 use Rattle.card_dayend.proofs.BreakDays.{next-within}
 use Rattle.card_dayend.specs.Spans.{IsIssueCut, has_issue}
 
 none-at : {X : Type 0} (p : X → Bool) (xs : List X) → ((k : ℕ) (d : X) → k < length xs → p (get_or xs k d) ≡ false) → list_any p xs ≡ false
 none-at p [] h = refl
 none-at p (x ∷ xs) h = rw (h 0 x (omega arith), none-at p xs (λ k d l. h (suc k) d (omega (arith, l)))) refl
-
-or-right : (s t : Bool) → t ≡ true → (s || t) ≡ true
-or-right true t e = refl
-or-right false t e = e
 
 some-at : {X : Type 0} (p : X → Bool) (xs : List X) (k : ℕ) (d : X) → k < length xs → p (get_or xs k d) ≡ true → list_any p xs ≡ true
 some-at p [] k d l e = absurd (omega (arith, l))

@@ -16,6 +16,7 @@ use Rattle.card_closing.specs.Accruals.{Accrued, accrued_in, nothing_accrued}
 use Rattle.card_closing.specs.BookRows.{day_row, rate_of, repayments, rows_of}
 use Rattle.card_closing.specs.Growth.{with_repaid}
 use Rattle.card_closing.specs.Rows.{Rows, row_of, with_days}
+use Rattle.card_model.proofs.Accepting.{or-false}
 use Rattle.card_model.specs.Books.{Account, Book, empty_book, rate_in}
 use Rattle.card_model.specs.Breaks.{breaks_penalty, breaks_segment, is_break}
 use Rattle.card_model.specs.Closing.{first_day_of}
@@ -74,11 +75,6 @@ quiet-book g penalties first (suc days) open' l q =
     let e : first + suc days ≡ first + days + 1 = omega arith in
     ap (before g) e
     ∙ (quiet-day g penalties (first + days) open' (omega arith) (q days (omega arith)) ∙ quiet-book g penalties first days open' (omega arith) (λ i m. q i (omega arith)))
-
--- ---- no post
-or-false : (a b : Bool) → (a || b) ≡ false → (a ≡ false) × (b ≡ false)
-or-false true b h = cc
-or-false false b h = (refl, h)
 
 none-filtered : {X : Type 0} (p : X → Bool) (xs : List X) → list_any p xs ≡ false → filter p xs ≡ []
 none-filtered p [] h = refl

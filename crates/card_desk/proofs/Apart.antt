@@ -9,6 +9,7 @@ use Rattle.card_events.specs.declared.reply.Refusal.{Refusal}
 use Rattle.card_events.specs.declared.request.Request.{Request}
 use Rattle.card_events.specs.declared.request.Request.TheVariants as request
 use Rattle.card_events.specs.declared.request.Shared.{Shared}
+use Rattle.card_model.proofs.Isolation.{names-equal}
 use Rattle.card_ports.specs.declared.row.Row.{Row}
 use Rattle.card_model.specs.Isolated.{Own, own_of}
 use Rattle.card_model.specs.Machine.{Accepts, NamedAccount, Outcome, Refuses, Repeats, State, accounts_after, has_accounts, lists_of, outcome_in, reply_to, shared_reason, step, with_lists, with_shared}
@@ -17,16 +18,6 @@ use Rattle.card_model.specs.Work.{present_in}
 use Rattle.card_desk.specs.Applied.{Steps}
 use Rattle.card_desk.specs.Apart.{IsApart, LooksAlike, RequestsStandApart, lists_after}
 use Rattle.card_desk.specs.Views.{issued, restated, seen, shown}
-
-names-equal : (a b : List ℕ) → bytes_eq a b ≡ true → a ≡ b
-names-equal [] [] e = refl
-names-equal [] (y ∷ ys) e = cc
-names-equal (x ∷ xs) [] e = cc
-names-equal (x ∷ xs) (y ∷ ys) e = by (eqb x y) refl e (names-equal xs ys)
-  where
-    by : (t : Bool) → eqb x y ≡ t → t && bytes_eq xs ys ≡ true → (bytes_eq xs ys ≡ true → xs ≡ ys) → x ∷ xs ≡ y ∷ ys
-    by true f e h = let head : x ≡ y = eqb-true x y f in let tail : xs ≡ ys = h e in cc
-    by false f e h = cc
 
 other-lists : (name other : List ℕ) (l : Lists) (xs : List NamedAccount) → bytes_eq other name ≡ false → lists_of name (with_lists other l xs) ≡ lists_of name xs
 unfolding lists_of with_lists

@@ -109,7 +109,7 @@ all_running s ran =
     subst (λ (t : State). All (λ (x : NamedAccount). AreRunning t x.lists) t.accounts) (sym ran.state_is) (runs_may_be_folded ran.requests (all_taken ran.requests ran.taken))
 
 -- the account at a place
-running_at : (s : State) (accounts : List OpenAccount) (i : ℕ) (d : OpenAccount) → i < length accounts → All (λ (x : NamedAccount). AreRunning s x.lists) (named_all accounts) → AreRunning s (get_or accounts i d).named.lists
+pub running_at : (s : State) (accounts : List OpenAccount) (i : ℕ) (d : OpenAccount) → i < length accounts → All (λ (x : NamedAccount). AreRunning s x.lists) (named_all accounts) → AreRunning s (get_or accounts i d).named.lists
 running_at s accounts i d low all =
     let long : length (named_all accounts) ≡ length accounts = length-map accounts (λ (x : OpenAccount). x.named) in
     subst (λ (x : NamedAccount). AreRunning s x.lists) (get_or-map (λ (x : OpenAccount). x.named) accounts i d d.named low)

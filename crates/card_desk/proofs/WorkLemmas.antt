@@ -6,7 +6,7 @@ use Rattle.std.specs.List.{All, flat_map}
 use Rattle.card_account.specs.Accounts.{AreTold, IsAccount, OpenAccount}
 use Rattle.card_account.specs.Runs.{AreRunning}
 use Rattle.card_account.specs.Works.{tasks_of, work_of}
-use Rattle.card_desk.proofs.FoldLemmas.{all_running, same_book}
+use Rattle.card_desk.proofs.FoldLemmas.{all_running, running_at, same_book}
 use Rattle.card_desk.specs.Applied.{are_short}
 use Rattle.card_desk.specs.Desks.{AreAccounts, IsDesk, IsRun, named_all, state_of}
 use Rattle.card_desk.specs.Kept.{accepted_count}
@@ -65,13 +65,6 @@ worked_desk places common count today rows xs ys desk told =
       counted = desk.counted ∙ ap (λ (l : List NamedAccount). accepted_count (state l)) (sym all);
       ran = subst (λ (l : List NamedAccount). IsRun (state l)) (sym all) desk.ran;
     }
-
--- ---- the tasks of one account
-running_at : (s : State) (accounts : List OpenAccount) (i : ℕ) (d : OpenAccount) → i < length accounts → All (λ (x : NamedAccount). AreRunning s x.lists) (named_all accounts) → AreRunning s (get_or accounts i d).named.lists
-running_at s accounts i d low all =
-    let long : length (named_all accounts) ≡ length accounts = length-map accounts (λ (x : OpenAccount). x.named) in
-    subst (λ (x : NamedAccount). AreRunning s x.lists) (get_or-map (λ (x : OpenAccount). x.named) accounts i d d.named low)
-    (All-get_or (λ (x : NamedAccount). AreRunning s x.lists) (named_all accounts) i d.named (omega (arith, low, long)) all)
 
 same_tasks : (places : List (List ℕ × ℕ)) (common : SharedRows) (count today : ℕ) (rows : List Shared) (accounts : List OpenAccount) (i : ℕ) (d : OpenAccount)
     → IsDesk places common count today rows accounts → i < length accounts

@@ -4,7 +4,7 @@ ghost use Rattle.card_events.specs.Range.{last_reckoned_day, last_request_day};
 ghost use Rattle.card_events.specs.Billing.{IsCloseDay, closing, cycle_of};
 ghost use Rattle.card_model.specs.Deadlines as spec;
 
-use card_events::{Anchor, Calendar, Day, closing, cycle_of, next_business};
+use card_events::{Anchor, Calendar, Day, LOWER_DAYS, closing, cycle_of, next_business};
 
 /// The last day for the acknowledgement of a Dispute of this day: 30 days after it (12 CFR 1026.13(c)(1)). The day is a day
 /// of requests.
@@ -21,7 +21,7 @@ pub fn lower_by(day: Day) -> Day
     requires { day ≤ last_request_day }
     ensures { result ≡ spec.lower_by day }
 {
-    day.plus(45)
+    day.plus(LOWER_DAYS)
 }
 
 // The cycle that holds a day, the first for days before the opening.

@@ -13,7 +13,7 @@ ghost use Rattle.card_posts.specs.Posted.{StandsFor, last_accepted};
 ghost use Rattle.card_rates.specs.Segments.{ArePostsDated};
 
 use crate::deadline::cycle_on;
-use card_events::{Anchor, Day, Kept, Num, Post};
+use card_events::{Anchor, DISPUTE_DAYS, Day, Kept, Num, Post};
 use card_posts::Posts;
 
 /// The post with a number. None comes exactly where no post has it.
@@ -102,7 +102,7 @@ fn notice_end_of(posts: &Posts, number: u32) -> Option<Day>
     ensures { result ≡ option_map (λ k. k.accepted + 60) (at_number number posts.now.history) }
 {
     match posts.get(number) {
-        Some(kept) => Some(kept.accepted.plus(60)),
+        Some(kept) => Some(kept.accepted.plus(DISPUTE_DAYS)),
         None => None,
     }
 }

@@ -5,6 +5,7 @@ use Rattle.std.specs.Option.{option_or}
 use Rattle.std.proofs.lemmas.Bool.{false≢true, eqb-true}
 use Rattle.std.proofs.lemmas.Bool.Decides.{nat_tests}
 use Rattle.std.proofs.lemmas.List.Elements.{All-nil, All-cons, All-head, All-tail, All-weaker}
+use Rattle.card_bounds.proofs.Reached.{takes-ascends}
 use Rattle.card_model.specs.Allocation.{Ascends, Paying, all_pass, allocated, best, choose, excess_rule, higher_rate, is_last_two, lower_rate, minimum_rule, never, paid_at, paid_on, part_of, parts, pay, place_rule, placed, sooner_end, takes, untouched}
 use Rattle.card_model.specs.declared.holding.Holding.{Holding}
 use Rattle.card_model.proofs.Signs.{excess-chooses, minimum-chooses, place-chooses}
@@ -90,10 +91,6 @@ takes-full low s None a c = refl
 takes-full low s (Some h) a c =
     let found = c h refl in
     ap (λ (us : List Holding). record { left = us; credit = s.credit }) (paid-full h.id s.left (alone low s.left h a found.0 found.1))
-
-takes-ascends : (low : ℕ) (s : Paying) (o : Option Holding) → Ascends low s.left → Ascends low (takes 1 s o).left
-takes-ascends low s None a = a
-takes-ascends low s (Some h) a = paid_at-ascends h.id 1 low s.left a
 
 -- ---- an amount
 pay-ascends : (rule : List Holding → Option Holding) (n low : ℕ) (s : Paying) → Ascends low s.left → Ascends low (pay rule n s).left

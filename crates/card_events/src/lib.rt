@@ -30,7 +30,10 @@ pub use credit::credit_day;
 pub use day::Day;
 pub use kept::{Kept, Slot, numbered};
 pub use later::{six_months_after, year_after};
-pub use limits::{ACCOUNT_LIMIT, AMOUNT_LIMIT, NOTICE_DAYS, POST_LIMIT, RATE_LIMIT};
+pub use limits::{
+    ACCOUNT_LIMIT, AMOUNT_LIMIT, DISPUTE_DAYS, LATE_DAYS, LOWER_DAYS, NOTICE_DAYS, POST_LIMIT,
+    RATE_LIMIT, STATEMENT_DAYS,
+};
 pub use memory::NoMemory;
 pub use money::Money;
 pub use name::{Name, is_name};

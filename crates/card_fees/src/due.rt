@@ -9,7 +9,7 @@ use crate::DueCycle;
 use crate::counting::counted_up_to;
 use crate::due_cycle::{asked, left_of};
 use crate::tally::Tally;
-use card_events::Day;
+use card_events::{Day, LATE_DAYS};
 use card_posts::Posts;
 
 // whether the payments of some days are below a minimum payment
@@ -78,5 +78,5 @@ pub fn owes_sixty_days(posts: &Posts, c: &DueCycle, day: Day) -> bool
     requires closed { c.now.closing < c.now.due }
     ensures { (holidays : List ℕ) → StandsFor holidays posts.now → result ≡ payments.is_owed_sixty_days posts.now.corrected day c.now }
 {
-    c.due.number() + 60 < day.number() && falls_short(posts, c.closing.next(), day, asked(c))
+    c.due.number() + LATE_DAYS < day.number() && falls_short(posts, c.closing.next(), day, asked(c))
 }

@@ -45,7 +45,7 @@ field_dated : (n : ℕ) (fs : List (List ℕ)) → IfOk (field day_of n fs) (λ 
 field_dated n [] = tt
 field_dated n (f ∷ fs) = formed_dated n fs (day_of f) (of_dated f)
 
-bound : {A B : Type 0} (Q : A → Type 0) (P : B → Type 0) (r : Result A ℕ) (k : A → Result B ℕ) → IfOk r Q → ((x : A) → Q x → IfOk (k x) P) → IfOk (r >>= k) P
+pub bound : {A B : Type 0} (Q : A → Type 0) (P : B → Type 0) (r : Result A ℕ) (k : A → Result B ℕ) → IfOk r Q → ((x : A) → Q x → IfOk (k x) P) → IfOk (r >>= k) P
 bound Q P (Ok x) k q h = h x q
 bound Q P (Err n) k q h = tt
 

@@ -36,27 +36,27 @@ use Rattle.card_model.proofs.Issue.{row_for-append}
 
 -- ---- no reason stands
 -- what comes first is none where nothing comes
-first-none : (r : Option Refusal) (rs : List (Option Refusal)) → first_reason (r ∷ rs) ≡ None → (r ≡ None) × (first_reason rs ≡ None)
+pub first-none : (r : Option Refusal) (rs : List (Option Refusal)) → first_reason (r ∷ rs) ≡ None → (r ≡ None) × (first_reason rs ≡ None)
 first-none None rs h = (refl, h)
 first-none (Some x) rs h = cc
 
-abbrev AllNone : List (Option Refusal) → Type 0
+abbrev pub AllNone : List (Option Refusal) → Type 0
 AllNone [] = Unit {0}
 AllNone (r ∷ rs) = (r ≡ None) × AllNone rs
 
-all-none : (rs : List (Option Refusal)) → first_reason rs ≡ None → AllNone rs
+pub all-none : (rs : List (Option Refusal)) → first_reason rs ≡ None → AllNone rs
 all-none [] h = tt
 all-none (r ∷ rs) h = let parts = first-none r rs h in (parts.0, all-none rs parts.1)
 
-where-false : (b : Bool) (r : Refusal) → where_true b r ≡ None → b ≡ false
+pub where-false : (b : Bool) (r : Refusal) → where_true b r ≡ None → b ≡ false
 where-false true r h = cc
 where-false false r h = refl
 
-or-false : (a b : Bool) → (a || b) ≡ false → (a ≡ false) × (b ≡ false)
+pub or-false : (a b : Bool) → (a || b) ≡ false → (a ≡ false) × (b ≡ false)
 or-false true b h = cc
 or-false false b h = (refl, h)
 
-mapped-none : {A B : Type 0} (f : A → B) (o : Option A) → option_map f o ≡ None → o ≡ None
+pub mapped-none : {A B : Type 0} (f : A → B) (o : Option A) → option_map f o ≡ None → o ≡ None
 mapped-none f None h = refl
 mapped-none f (Some x) h = cc
 

@@ -104,7 +104,7 @@ unfolding after_posts
 posts-cycles issued a seen [] b = refl
 posts-cycles issued a seen (s ∷ ss) b = posts-cycles issued a seen ss (effect issued a seen s s.post b) ∙ effect-cycles issued a seen s s.post b
 
-fee-cycles : (a : Account) (seen : Seen) (n : ℕ) (o : Option Fee) (b : Book) → (with_fee a seen n o b).cycles ≡ b.cycles
+pub fee-cycles : (a : Account) (seen : Seen) (n : ℕ) (o : Option Fee) (b : Book) → (with_fee a seen n o b).cycles ≡ b.cycles
 fee-cycles a seen n None b = refl
 fee-cycles a seen n (Some f) b = refl
 

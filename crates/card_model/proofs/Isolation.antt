@@ -23,7 +23,7 @@ names-same : (n : List ℕ) → bytes_eq n n ≡ true
 names-same [] = refl
 names-same (x ∷ xs) = rw (eq-eqb x x refl) (names-same xs)
 
-names-equal : (a b : List ℕ) → bytes_eq a b ≡ true → a ≡ b
+pub names-equal : (a b : List ℕ) → bytes_eq a b ≡ true → a ≡ b
 names-equal [] [] e = refl
 names-equal [] (y ∷ ys) e = cc
 names-equal (x ∷ xs) [] e = cc

@@ -308,7 +308,7 @@ fees_in-wide k (f ∷ fs) =
     here : f.cycle ≡ k → fee_cents f ≤ fees_for f.due_cycle (fees_in k (f ∷ fs))
     here e = rw (eq-eqb f.cycle k e) (first_so (fee_cents f) (fees_for f.due_cycle (fees_in k fs)) _ (front f.due_cycle ∙ rw (eq-eqb f.due_cycle f.due_cycle refl) refl))
 
-all-at : (P : Cycle → Type 0) (cs : List Cycle) (i : ℕ) (c : Cycle) → All P cs → slice_get cs i ≡ Some c → P c
+pub all-at : (P : Cycle → Type 0) (cs : List Cycle) (i : ℕ) (c : Cycle) → All P cs → slice_get cs i ≡ Some c → P c
 all-at P [] i c h e = cc
 all-at P (x ∷ cs) zero c h e = let same : x ≡ c = cc in subst P same (All-head P x cs h)
 all-at P (x ∷ cs) (suc i) c h e = all-at P cs i c (All-tail P x cs h) e

@@ -23,7 +23,7 @@ abbrev pub parts_sum : List (ℕ × ℕ) → ℕ
 parts_sum [] = 0
 parts_sum (p ∷ ps) = p.1 + parts_sum ps
 
-abbrev paid_sum : List Holding → ℕ
+abbrev pub paid_sum : List Holding → ℕ
 paid_sum [] = 0
 paid_sum (h ∷ hs) = h.paid + paid_sum hs
 

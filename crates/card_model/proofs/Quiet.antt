@@ -11,6 +11,7 @@ use Rattle.card_events.specs.declared.anchor.Anchor.{Anchor}
 use Rattle.card_events.specs.History.{CorrectedPost, anchor_of, corrected, folded, is_folded}
 use Rattle.card_events.specs.SharedRows.{IndexRow, SharedRows}
 use Rattle.card_events.specs.declared.kept.Kept.{Kept}
+use Rattle.card_model.proofs.Accepting.{or-false}
 use Rattle.card_model.specs.Books.{Account, Book, account_of, present_cycle}
 use Rattle.card_model.specs.Breaks.{breaks_penalty, breaks_segment, is_break}
 use Rattle.card_model.specs.Caps.{row_for}
@@ -25,10 +26,6 @@ use Rattle.card_model.specs.Segments.{segments}
 use Rattle.card_model.specs.declared.segment.Interval.{Interval}
 use Rattle.card_events.proofs.DueLaws.{is_due-due}
 use Rattle.card_model.proofs.Calendar.{HaveTheirDays, fold-days, is-anchor}
-
-or-false : (a b : Bool) → (a || b) ≡ false → (a ≡ false) × (b ≡ false)
-or-false true b h = cc
-or-false false b h = (refl, h)
 
 -- ---- posts
 none-filtered : {X : Type 0} (q : X → Bool) (xs : List X) → list_any q xs ≡ false → filter q xs ≡ []

@@ -32,15 +32,15 @@ use Rattle.card_model.specs.declared.holding.Holding.{Holding}
 abbrev pub without_index : Seen → Seen
 without_index seen = record { day = seen.day; posts = seen.posts; fees = seen.fees; index = []; issued = seen.issued }
 
-sum-agree : {A : Type 0} (f g : A → ℕ) → ((x : A) → f x ≡ g x) → (xs : List A) → sum_by f xs ≡ sum_by g xs
+pub sum-agree : {A : Type 0} (f g : A → ℕ) → ((x : A) → f x ≡ g x) → (xs : List A) → sum_by f xs ≡ sum_by g xs
 sum-agree f g h [] = refl
 sum-agree f g h (x ∷ xs) = sum_by-cons f x xs ∙ (rw (h x, sum-agree f g h xs) (sym (sum_by-cons g x xs)))
 
-map-agree : {A B : Type 0} (f g : A → B) → ((x : A) → f x ≡ g x) → (xs : List A) → map f xs ≡ map g xs
+pub map-agree : {A B : Type 0} (f g : A → B) → ((x : A) → f x ≡ g x) → (xs : List A) → map f xs ≡ map g xs
 map-agree f g h [] = refl
 map-agree f g h (x ∷ xs) = rw (h x, map-agree f g h xs) refl
 
-filter_map-agree : {A B : Type 0} (f g : A → Option B) → ((x : A) → f x ≡ g x) → (xs : List A) → filter_map f xs ≡ filter_map g xs
+pub filter_map-agree : {A B : Type 0} (f g : A → Option B) → ((x : A) → f x ≡ g x) → (xs : List A) → filter_map f xs ≡ filter_map g xs
 filter_map-agree f g h [] = refl
 filter_map-agree f g h (x ∷ xs) = rw (h x, filter_map-agree f g h xs) refl
 

@@ -33,7 +33,7 @@ quiet-filter {A} {B} p f h (x ∷ xs) = by (p x) refl (quiet-filter p f h xs)
     by true e ih = ap (cons_option (f x)) ih
     by false e ih = rw (h x e) ih
 
-no-segment : (s n : ℕ) (p : Post) → is_folded p ≡ false → segment_of s n p ≡ None
+pub no-segment : (s n : ℕ) (p : Post) → is_folded p ≡ false → segment_of s n p ≡ None
 no-segment s n (post.Plan d k r e f) h = cc
 no-segment s n (post.Notice d c r e) h = cc
 no-segment s n (post.Open d t) h = refl

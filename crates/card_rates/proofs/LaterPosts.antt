@@ -57,7 +57,7 @@ pub corrected-dated : (a : Anchor) (holidays : List ℕ) (history : List Kept) �
 corrected-dated a holidays history = posts-dated a holidays history 1 5 history
 
 -- ---- tests
-and_false : (b : Bool) → (b && false) ≡ false
+pub and_false : (b : Bool) → (b && false) ≡ false
 and_false true = refl
 and_false false = refl
 

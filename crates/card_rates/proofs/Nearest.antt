@@ -25,7 +25,7 @@ neither s t e f = rw (e, f) refl
 or-left : (s t : Bool) → s ≡ true → (s || t) ≡ true
 or-left s t e = rw e refl
 
-or-right : (s t : Bool) → t ≡ true → (s || t) ≡ true
+pub or-right : (s t : Bool) → t ≡ true → (s || t) ≡ true
 or-right true t e = refl
 or-right false t e = e
 

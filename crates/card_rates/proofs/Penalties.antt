@@ -38,7 +38,7 @@ unfolding starts
 cured-starts x f e [] = refl
 cured-starts x f e (i ∷ is) = ap (λ o. cons_option o (filter_map (start_of x) (map f is))) (e i) ∙ ap (cons_option (start_of x i)) (cured-starts x f e is)
 
-fee-penalties : (a : Account) (seen : Seen) (n : ℕ) (o : Option Fee) (b : Book) → (with_fee a seen n o b).penalties ≡ b.penalties
+pub fee-penalties : (a : Account) (seen : Seen) (n : ℕ) (o : Option Fee) (b : Book) → (with_fee a seen n o b).penalties ≡ b.penalties
 fee-penalties a seen n None b = refl
 fee-penalties a seen n (Some f) b = refl
 

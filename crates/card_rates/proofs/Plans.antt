@@ -16,6 +16,7 @@ use Rattle.card_model.specs.Cycles.{IssuedRow}
 use Rattle.card_model.specs.Segments.{SegmentTerms, id_of, is_plan, kept_segment, opening_vintage, plan_segment, segment_of, segments, unbilled}
 use Rattle.card_model.specs.declared.segment.Segment.{Segment}
 use Rattle.card_model.specs.declared.segment.Sort.TheVariants as sort
+use Rattle.card_rates.proofs.DayLaws.{no-segment}
 use Rattle.card_rates.specs.Laws.{segments_on}
 use Rattle.card_rates.specs.RateBooks.{AreByNumber}
 use Rattle.card_rates.proofs.Added as rates
@@ -68,26 +69,6 @@ by-number n today place (g ∷ gs) h = by (begun n today g) (by-number n today (
 -- ---- what the fold of a day sees
 abbrev added : CorrectedPost → Option SegmentTerms
 added p = segment_of p.segment p.number p.post
-
-no-segment : (s n : ℕ) (p : Post) → is_folded p ≡ false → segment_of s n p ≡ None
-no-segment s n (post.Plan d k r e f) h = cc
-no-segment s n (post.Notice d c r e) h = cc
-no-segment s n (post.Open d t) h = refl
-no-segment s n (post.OpenVariable d t) h = refl
-no-segment s n (post.Charge d p c) h = refl
-no-segment s n (post.Credit d p c) h = refl
-no-segment s n (post.Payment d m y c) h = refl
-no-segment s n (post.Return d t) h = refl
-no-segment s n (post.Lower d c r) h = refl
-no-segment s n post.Penalty h = refl
-no-segment s n (post.Review d f) h = refl
-no-segment s n (post.Dispute d t c) h = refl
-no-segment s n (post.Ack d t) h = refl
-no-segment s n (post.Resolve d t c) h = refl
-no-segment s n (post.AskRefund d) h = refl
-no-segment s n (post.Refund c) h = refl
-no-segment s n (post.Amend t d c) h = refl
-no-segment s n (post.Bill c) h = refl
 
 abbrev begins_of : Option SegmentTerms → ℕ
 begins_of None = 0

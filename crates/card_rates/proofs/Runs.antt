@@ -16,27 +16,11 @@ use Rattle.card_events.specs.declared.reply.Refusal.TheVariants as refusal
 use Rattle.card_events.specs.declared.request.Request.{Request}
 use Rattle.card_events.specs.declared.request.Request.TheVariants as request
 use Rattle.card_events.specs.declared.request.Shared.{Shared}
+use Rattle.card_model.proofs.Accepting.{AllNone, all-none, first-none, where-false}
 use Rattle.card_model.specs.Machine.{Accepts, NamedAccount, Outcome, Refuses, Repeats, State, accepted, accounts_after, at_key, has_accounts, is_repeat_of, judged, kept_as, lists_of, next_number, opened, outcome, outcome_in, run_from, shared_reason, start, step, with_lists, with_shared}
 use Rattle.card_model.specs.Refusals.{Lists, Present, first_reason, reason_against, reason_to_open, reasons, where_true}
 use Rattle.card_rates.specs.Laws.{RunsHaveFewSegments}
 use Rattle.card_model.specs.Accepted.{HasFewSegments}
-
--- ---- no reason stands
-first-none : (r : Option Refusal) (rs : List (Option Refusal)) → first_reason (r ∷ rs) ≡ None → (r ≡ None) × (first_reason rs ≡ None)
-first-none None rs h = (refl, h)
-first-none (Some x) rs h = cc
-
-abbrev AllNone : List (Option Refusal) → Type 0
-AllNone [] = Unit {0}
-AllNone (r ∷ rs) = (r ≡ None) × AllNone rs
-
-all-none : (rs : List (Option Refusal)) → first_reason rs ≡ None → AllNone rs
-all-none [] h = tt
-all-none (r ∷ rs) h = let parts = first-none r rs h in (parts.0, all-none rs parts.1)
-
-where-false : (b : Bool) (r : Refusal) → where_true b r ≡ None → b ≡ false
-where-false true r h = cc
-where-false false r h = refl
 
 not-full : (now : Present) (p : Post) → reason_against now p ≡ None → (adds_segment p && leb 64 (5 + count_by (λ k. adds_segment k.post) now.lists.posts)) ≡ false
 unfolding reason_against

@@ -11,6 +11,7 @@ use Rattle.card_events.specs.Civil.{day_of_month}
 use Rattle.card_events.specs.History.{CorrectedPost, anchor_of, corrected, is_variable, terms_of}
 use Rattle.card_events.specs.SharedRows.{IndexRow, SharedRows}
 use Rattle.card_events.specs.declared.kept.Kept.{Kept}
+use Rattle.card_model.proofs.Accepting.{or-false}
 use Rattle.card_model.specs.Books.{Account, account_of}
 use Rattle.card_model.specs.Breaks.{breaks_penalty, breaks_segment, is_break, is_day_after, is_on}
 use Rattle.card_model.specs.Cycles.{IssuedRow}
@@ -128,11 +129,6 @@ rate-next index penalty x g posts all is h c q =
     ap (λ t. cond (is_plan g && t) 0 (cond (is_plan g && not (is_over g.ends (suc x))) (period_rate g) late)) early
     ∙ (ap (λ t. cond (is_plan g && ltb x g.begins) 0 (cond (is_plan g && not t) (period_rate g) late)) over
     ∙ ap (λ r. cond (is_plan g && ltb x g.begins) 0 (cond (is_plan g && not (is_over g.ends x)) (period_rate g) r)) whole)
-
--- ---- break days
-or-false : (a b : Bool) → (a || b) ≡ false → (a ≡ false) × (b ≡ false)
-or-false true b h = cc
-or-false false b h = (refl, h)
 
 other : (m n : ℕ) → eqb m n ≡ false → m ≡ n → ⊥
 other m n h e = grind (arith, nat_tests)

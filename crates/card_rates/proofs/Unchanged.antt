@@ -12,7 +12,7 @@ use Rattle.card_model.specs.declared.segment.Sort.TheVariants as sort
 use Rattle.card_rates.specs.RateBooks.{AreByNumber, Rates, rate_of}
 use Rattle.card_rates.proofs.OneMore.{capped-none, raised-none}
 
-and-parts : (s t : Bool) → (s && t) ≡ true → (s ≡ true) × (t ≡ true)
+pub and-parts : (s t : Bool) → (s && t) ≡ true → (s ≡ true) × (t ≡ true)
 and-parts true t e = (refl, e)
 and-parts false t e = cc
 

@@ -6,6 +6,7 @@ use Rattle.std.proofs.lemmas.Bool.{and_right, cases_lt, eqb-false, eqb-true}
 use Rattle.std.proofs.lemmas.Bool.Decides.{nat_tests}
 use Rattle.std.proofs.lemmas.List.{get_or-map}
 use Rattle.std.proofs.lemmas.List.Elements.{All-cons, All-contains, All-filter, All-head, All-nil, All-tail}
+use Rattle.card_book.proofs.MarksGoOn.{placed}
 use Rattle.card_dayend.proofs.RowsOfADay.{deferred-by}
 use Rattle.card_closing.proofs.Accruing.{accrual_of_a_book}
 use Rattle.card_closing.specs.Accruals.{Accrued, nothing_accrued}
@@ -134,12 +135,6 @@ kept-days limit day k s accruals ts h = by (find-kept (accrues_on day) k s accru
     by (inr (none, passes)) =
         let kept = kept_of k accruals (filter (accrues_on day) ts) in
         subst (λ (a : Accrued). a.days ≤ limit) (accrued-none k s kept none) (omega arith)
-
-placed : (f : SegmentTerms → Accrued) (ts : List SegmentTerms) (t : SegmentTerms) → AreByNumber 2 ts → Contains ts t → get_or (map f ts) (t.id - 2) nothing_accrued ≡ f t
-placed f ts t numbered there =
-    let low = number-above 2 ts t numbered there in
-    let high = number-below 2 ts t numbered there in
-    get_or-map f ts (t.id - 2) t nothing_accrued (omega (arith, low, high)) ∙ ap f (at-place 2 ts t t numbered there)
 
 have-kept : (g : Given) (day k : ℕ) (b : Book) (accruals : List Accrued) (ts : List SegmentTerms) → AreByNumber 2 ts → HaveAccrued g day b ts accruals
     → HaveAccrued g day b ts (accrued_by k (kept_of k accruals (filter (accrues_on day) ts)) ts)

@@ -7,6 +7,7 @@ use Rattle.std.proofs.lemmas.Bool.{and_left, cases_lt, leb-false, leb-true, ne_e
 use Rattle.std.proofs.lemmas.Bool.Decides.{nat_tests}
 use Rattle.std.proofs.lemmas.List.{length-take-le, take-take, take_all}
 use Rattle.std.proofs.lemmas.List.Elements.{All-filter, All-head, All-tail, All-weaker, filter_passes}
+use Rattle.card_book.proofs.MarksGrow.{all-pass}
 use Rattle.card_closing.specs.Accruals.{nothing_accrued}
 use Rattle.card_model.specs.Cycles.{Cycle}
 use Rattle.card_model.specs.Folds.{cycle_at}
@@ -66,13 +67,6 @@ mark-early g j k c s kept l h = record {
 all-early : (k : ℕ) (kept : List Accruing) → All (λ (a : Accruing). a.cycle ≤ k) (accrued_to k kept)
 all-early k kept =
     All-weaker (λ (a : Accruing). nat_le a.cycle k ≡ true) (λ (a : Accruing). a.cycle ≤ k) (λ a e. leb-true a.cycle k e) (accrued_to k kept) (filter_passes (λ (a : Accruing). nat_le a.cycle k) kept)
-
-all-pass : (k : ℕ) (xs : List Accruing) → All (λ (a : Accruing). a.cycle ≤ k) xs → accrued_to k xs ≡ xs
-all-pass k [] h = refl
-all-pass k (x ∷ xs) h =
-    let low = All-head (λ (a : Accruing). a.cycle ≤ k) x xs h in
-    let here : nat_le x.cycle k ≡ true = grind (arith, nat_tests) in
-    rw here (ap (λ l. x ∷ l) (all-pass k xs (All-tail (λ (a : Accruing). a.cycle ≤ k) x xs h)))
 
 ordered-front : (k : ℕ) (kept : List Accruing) → ((j : ℕ) → take (length (accrued_to j kept)) kept ≡ accrued_to j kept)
     → (j : ℕ) → take (length (accrued_to j (accrued_to k kept))) (accrued_to k kept) ≡ accrued_to j (accrued_to k kept)

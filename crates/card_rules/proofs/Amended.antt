@@ -4,13 +4,14 @@ use Rattle.std.specs.Prelude.{map, max, slice_get}
 use Rattle.std.specs.List.{filter, sum_by}
 use Rattle.std.specs.Option.{option_or}
 use Rattle.std.proofs.lemmas.List.Sums.{sum_by-cons}
+use Rattle.card_model.proofs.Unindexed.{sum-agree}
 use Rattle.card_events.specs.Business.{credit_day, is_mail}
 use Rattle.card_events.specs.declared.anchor.Anchor.{Anchor}
 use Rattle.card_events.specs.History.{CorrectedPost, adds_segment, amend_of, amended_cents, amended_day, anchor_of, at_number, cents_of, charge_day, confirmed, confirms, corrected, corrected_from, corrected_post, dispute_day, dispute_names, disputes, effective_day, folded, is_folded, is_variable, last_amend, next_segment, opening_in, opens_variable, payment_day, terms_in, terms_of}
 use Rattle.card_events.specs.declared.kept.Kept.{Kept}
 use Rattle.card_events.specs.declared.post.Post.{Post}
 use Rattle.card_events.specs.declared.post.Post.TheVariants as post
-use Rattle.card_rules.proofs.CorrectedFacts.{corrected_facts_are_enough, filter-plain, sum-agree}
+use Rattle.card_rules.proofs.CorrectedFacts.{corrected_facts_are_enough, filter-plain}
 use Rattle.card_rules.specs.CorrectedFacts.{AmendedAsEntered, entered_with, plain, plainly, with_facts}
 
 -- ---- what stays of a post

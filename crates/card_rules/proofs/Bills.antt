@@ -6,6 +6,7 @@ use Rattle.std.proofs.lemmas.Bool.Decides.{nat_tests}
 use Rattle.std.proofs.lemmas.List.{length-append}
 use Rattle.std.proofs.lemmas.List.Elements.{All-weaker}
 use Rattle.std.proofs.lemmas.List.Folds.{list_any-append}
+use Rattle.card_model.proofs.Accepting.{all-none, where-false}
 use Rattle.card_events.specs.SharedRows.{SharedRows}
 use Rattle.card_events.specs.Billing.{IsCloseDay, closing, closings_among, cycle_of, next_on}
 use Rattle.card_events.specs.Civil.{date_of, day_at, day_of_month}
@@ -27,7 +28,7 @@ use Rattle.card_model.specs.Refusals.{Lists, Present, anchor_now, bills, book_to
 use Rattle.card_model.specs.Sheets.{issued_sheet_of}
 use Rattle.card_model.proofs.Calendar.{cycles_are_of_the_calendar}
 use Rattle.card_rules.proofs.EveryRun.{of_every_run}
-use Rattle.card_rules.proofs.Reasons.{all-none, none-first, where-false}
+use Rattle.card_rules.proofs.Reasons.{none-first}
 use Rattle.card_rules.specs.Bills.{BillsIssue, is_billed, is_issued}
 
 -- ---- a closing lies on its day of the month

@@ -14,6 +14,7 @@ use Rattle.card_events.specs.declared.post.Place.{Place}
 use Rattle.card_events.specs.declared.post.Post.{Post}
 use Rattle.card_events.specs.declared.post.Post.TheVariants as post
 use Rattle.card_model.proofs.Past.{same_books}
+use Rattle.card_model.proofs.Unindexed.{filter_map-agree, map-agree, sum-agree}
 use Rattle.card_model.specs.Allocation.{allocated, placed}
 use Rattle.card_model.specs.Books.{Account, Book, account_of, all_segments, note_of, present_cycle, rate_in, with_all_entries, with_cycle, with_entries, with_penalties}
 use Rattle.card_model.specs.Caps.{row_for}
@@ -42,19 +43,6 @@ use Rattle.card_rules.specs.CorrectedFacts.{CorrectedFactsAreEnough, SayTheSame,
 -- what may be seen, plainly
 abbrev plain-seen : Seen → Seen
 plain-seen seen = record { day = seen.day; posts = map plainly seen.posts; fees = seen.fees; index = seen.index; issued = seen.issued }
-
--- ---- lists
-pub sum-agree : {A : Type 0} (f g : A → ℕ) → ((x : A) → f x ≡ g x) → (xs : List A) → sum_by f xs ≡ sum_by g xs
-sum-agree f g h [] = refl
-sum-agree f g h (x ∷ xs) = sum_by-cons f x xs ∙ (rw (h x, sum-agree f g h xs) (sym (sum_by-cons g x xs)))
-
-map-agree : {A B : Type 0} (f g : A → B) → ((x : A) → f x ≡ g x) → (xs : List A) → map f xs ≡ map g xs
-map-agree f g h [] = refl
-map-agree f g h (x ∷ xs) = rw (h x, map-agree f g h xs) refl
-
-filter_map-agree : {A B : Type 0} (f g : A → Option B) → ((x : A) → f x ≡ g x) → (xs : List A) → filter_map f xs ≡ filter_map g xs
-filter_map-agree f g h [] = refl
-filter_map-agree f g h (x ∷ xs) = rw (h x, filter_map-agree f g h xs) refl
 
 all-agree : {A : Type 0} (f g : A → Bool) → ((x : A) → f x ≡ g x) → (xs : List A) → list_all f xs ≡ list_all g xs
 all-agree f g h [] = refl

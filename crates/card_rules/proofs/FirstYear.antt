@@ -3,6 +3,7 @@ use Rattle.std.proofs.Common.{◌≡◌, ℕ, ◌≤◌, ◌<◌, ◌⊎◌, inl
 use Rattle.std.proofs.lemmas.Bool.Decides.{nat_tests}
 use Rattle.std.proofs.lemmas.List.Elements.{All-nil, All-cons, All-contains, All-push}
 use Rattle.std.specs.List.{All, Contains}
+use Rattle.card_model.proofs.Accepting.{all-none, where-false}
 use Rattle.card_events.specs.History.{anchor_of, is_open, opening_in}
 use Rattle.card_events.specs.Later.{year_after}
 use Rattle.card_events.specs.SharedRows.{SharedRows}
@@ -19,7 +20,6 @@ use Rattle.card_rates.proofs.DayLaws.{segments_of_a_day}
 use Rattle.card_rates.specs.Laws.{segments_on}
 use Rattle.card_rules.proofs.Announced.{given-by}
 use Rattle.card_rules.proofs.EveryRun.{of_every_run}
-use Rattle.card_rules.proofs.Reasons.{all-none, where-false}
 use Rattle.card_rules.proofs.Rises.{rates_rise_by_exceptions_alone}
 use Rattle.card_rules.specs.FirstYear.{FirstYearKeepsItsRates, IsAfterFirstYear, KeepsFirstYear}
 use Rattle.card_rules.specs.Notices.{AreNotices}

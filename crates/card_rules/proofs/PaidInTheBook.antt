@@ -4,6 +4,8 @@ use Rattle.std.proofs.lemmas.Bool.Decides.{nat_tests}
 use Rattle.std.proofs.lemmas.Int.{ints}
 use Rattle.std.proofs.lemmas.List.Sums.{sum_by-cons}
 use Rattle.std.specs.List.{filter, sum_by}
+use Rattle.card_model.proofs.Unindexed.{sum-agree}
+use Rattle.card_bounds.proofs.Reached.{no-part}
 use Rattle.card_events.specs.Civil.{day_of_month}
 use Rattle.card_events.specs.History.{CorrectedPost, anchor_of, corrected, folded, is_folded}
 use Rattle.card_events.specs.SharedRows.{SharedRows}
@@ -31,14 +33,9 @@ use Rattle.card_model.specs.declared.fee.Fee.{Fee}
 use Rattle.card_model.specs.declared.segment.Sort.TheVariants as sort
 use Rattle.card_rates.specs.Laws.{seen_in}
 use Rattle.card_rules.proofs.ClosingAmounts.{sum_of-more}
-use Rattle.card_rules.proofs.CorrectedFacts.{sum-agree}
 use Rattle.card_rules.proofs.WholePayments.{ascend, payment-whole}
 use Rattle.card_rules.specs.PaidInTheBook.{PaymentsAreInTheBook}
 use Rattle.card_rules.specs.WholePayments.{all_parts}
-
-no-part : (t : Bool) → (t && false) ≡ false
-no-part true = refl
-no-part false = refl
 
 -- ---- entries of other kinds
 IsOther : ℕ → Entry → Type 0

@@ -3,6 +3,7 @@ use Rattle.std.proofs.Common.{◌≡◌, ℕ, zero, suc, ◌+◌, ◌≤◌, Boo
 use Rattle.std.proofs.lemmas.Bool.Decides.{nat_tests}
 use Rattle.std.proofs.lemmas.List.Elements.{All-nil, All-cons, All-contains, All-push, All-tail}
 use Rattle.std.specs.List.{Contains, cons_option}
+use Rattle.card_model.proofs.Accepting.{all-none, where-false}
 use Rattle.card_events.specs.History.{anchor_of, is_open, next_segment, terms_of}
 use Rattle.card_events.specs.Later.{six_months_after}
 use Rattle.card_events.specs.SharedRows.{SharedRows}
@@ -23,9 +24,9 @@ use Rattle.card_rates.proofs.DayLaws.{rates_later, segments_of_a_day}
 use Rattle.card_rates.specs.Added.{added_from}
 use Rattle.card_rates.specs.Laws.{segments_on}
 use Rattle.card_rates.specs.RateBooks.{rates_of}
+use Rattle.card_rules.proofs.Announced.{not-both}
 use Rattle.card_rules.proofs.EveryRun.{of_every_run}
 use Rattle.card_rules.proofs.Months.{six-months}
-use Rattle.card_rules.proofs.Reasons.{all-none, where-false}
 use Rattle.card_rules.proofs.Rises.{is-high, rate-lasting}
 use Rattle.card_rules.specs.Months.{months_after}
 use Rattle.card_rules.specs.PlanMonths.{LastsSixMonths, PlansLast, PlansLastSixMonths}
@@ -98,10 +99,6 @@ no-plan : (c : Category) → (is_sort sort.Promo (sort_of_category c) || is_sort
 no-plan category.Purchase = refl
 no-plan category.Cash = refl
 no-plan category.Transfer = refl
-
-not-both : (b : Bool) → b ≡ true → b ≡ false → ⊥
-not-both true e f = cc
-not-both false e f = cc
 
 made : (s n : ℕ) (p : Post) (g : SegmentTerms) → LastsSixMonths p → segment_of s n p ≡ Some g → is_plan g ≡ true → HasSixMonths g
 made s n (post.Plan day k rate end after) g l e plan =

@@ -26,6 +26,7 @@ use Rattle.card_model.specs.Folds.{book, book_after, day_after}
 use Rattle.card_model.specs.Payments.{counted, has_due_payment, is_timely, met, owes_sixty_days, sixty_days_late}
 use Rattle.card_model.specs.declared.fee.Fee.{Fee}
 use Rattle.card_model.specs.declared.segment.Interval.{Interval}
+use Rattle.card_rates.proofs.Unchanged.{and-parts}
 use Rattle.card_rules.proofs.PenaltyFees.{any-kept}
 use Rattle.card_rules.proofs.Waits.{IsOfItsDay, IsPostOf, days-are, of-day}
 use Rattle.card_rules.specs.SixtyDays.{IsOfSixtyDays, PenaltiesAreOfSixtyDays}
@@ -35,10 +36,6 @@ low-is n m e = grind (arith, nat_tests)
 
 less-is : (n m : ℕ) → ltb n m ≡ true → n < m
 less-is n m e = grind (arith, nat_tests)
-
-and-parts : (s t : Bool) → (s && t) ≡ true → (s ≡ true) × (t ≡ true)
-and-parts true t e = (refl, e)
-and-parts false t e = cc
 
 three-parts : (p h : Bool) (n minimum : ℕ) → (p && ltb n (cond h minimum 0)) ≡ true → (p ≡ true) × (h ≡ true) × (ltb n minimum ≡ true)
 three-parts true true n minimum e = (refl, refl, e)

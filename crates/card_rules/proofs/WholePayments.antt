@@ -9,7 +9,7 @@ use Rattle.card_events.specs.History.{CorrectedPost, anchor_of, corrected, folde
 use Rattle.card_events.specs.SharedRows.{SharedRows}
 use Rattle.card_events.specs.declared.kept.Kept.{Kept}
 use Rattle.card_events.specs.declared.post.Place.{Place}
-use Rattle.card_model.proofs.PartsSum.{SegmentsAscend, holdings-ascend, rises-filter, segments-ascend, slots-rise}
+use Rattle.card_model.proofs.PartsSum.{SegmentsAscend, holdings-ascend, paid_sum, rises-filter, segments-ascend, slots-rise}
 use Rattle.card_model.proofs.WholeParts.{paid_at-ascends, paid_at-other}
 use Rattle.card_model.specs.Allocation.{Ascends, Paying, all_pass, allocated, best, excess_rule, lower_rate, minimum_rule, never, paid_at, part_of, parts, pay, place_rule, placed, takes, untouched}
 use Rattle.card_model.specs.Books.{Account, Book, account_of, all_segments}
@@ -21,11 +21,6 @@ use Rattle.card_model.specs.declared.holding.Holding.{Holding}
 use Rattle.card_rates.specs.Laws.{seen_in}
 use Rattle.card_rules.proofs.Excess.{best-chosen, excess-rule}
 use Rattle.card_rules.specs.WholePayments.{PaymentsAreEnteredWhole, all_parts}
-
--- ---- what was paid on all
-abbrev paid_sum : List Holding → ℕ
-paid_sum [] = 0
-paid_sum (h ∷ hs) = h.paid + paid_sum hs
 
 above : (low : ℕ) (hs : List Holding) (h : Holding) → Ascends low hs → Contains hs h → low ≤ h.id
 above low [] h a (k, l, e) = absurd (omega arith)

@@ -6,6 +6,7 @@ use Rattle.std.proofs.lemmas.Int.{ints}
 use Rattle.std.proofs.lemmas.List.{drop_all}
 use Rattle.std.proofs.lemmas.Bool.{eqb-true, ne_eqb}
 use Rattle.std.proofs.lemmas.List.Elements.{All-nil, All-cons, All-head, All-tail, All-weaker}
+use Rattle.card_model.proofs.PartsSum.{paid_sum}
 use Rattle.card_model.specs.Allocation.{Ascends, Paying, allocated, excess_rule, minimum_rule, paid_at, part_of, parts, pay, place_rule, placed, takes, untouched}
 use Rattle.card_model.specs.Entries.{at_least_zero}
 use Rattle.card_model.specs.declared.holding.Holding.{Holding}
@@ -15,11 +16,6 @@ use Rattle.card_segments.specs.Holdings.{holdings, holdings_from}
 use Rattle.card_segments.specs.Parts.{AreCovered, AreOnSegments, AreParts, Ascend, IsOnSegment, parts_sum}
 use Rattle.card_segments.specs.declared.rank.Rank.{Rank}
 use Rattle.card_segments.proofs.HoldingLists.{holdings-ascend}
-
--- ---- sums
-abbrev paid_sum : List Holding → ℕ
-paid_sum [] = 0
-paid_sum (h ∷ hs) = h.paid + paid_sum hs
 
 abbrev total_of : Paying → ℕ
 total_of s = s.credit + paid_sum s.left

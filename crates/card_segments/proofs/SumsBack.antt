@@ -29,7 +29,7 @@ sum-more a id es i e s m d l is p q r =
     joins a b c s m d t p q r u = omega (arith, ints, p, q, r, u)
 
 -- ---- how large it is on the way
-cents-within : (z : ℤ) → FitsSigned w64 z → IsWithin (2 ^ 63) z
+pub cents-within : (z : ℤ) → FitsSigned w64 z → IsWithin (2 ^ 63) z
 cents-within (pos n) fits = (omega (arith, ints), omega (arith, ints, fits.sfits))
 cents-within (negsuc n) fits = (omega (arith, ints, fits.sfits), omega (arith, ints))
 

@@ -6,6 +6,7 @@ use Rattle.std.proofs.lemmas.Int.{ints}
 use Rattle.std.proofs.lemmas.Bool.{eqb-true, ne_eqb}
 use Rattle.std.proofs.lemmas.List.{ext_get_or}
 use Rattle.std.proofs.lemmas.List.Elements.{All-nil, All-cons, All-head, All-tail, All-append}
+use Rattle.card_model.proofs.Signs.{parts_at}
 use Rattle.card_model.specs.Effects.{parts_entries}
 use Rattle.card_model.specs.Entries.{at_least_zero, balance, credit_in, debit, lowers, negated, posted}
 use Rattle.card_model.specs.declared.entry.Entry.{Entry}
@@ -14,11 +15,6 @@ use Rattle.card_model.proofs.EntryFacts.{balance-append, balance-debit}
 use Rattle.card_model.proofs.Posted.{balance-entry_of, debit-known, entry_of-known, get_or-posted, length-posted}
 use Rattle.card_segments.specs.Balances.{HaveSigns}
 use Rattle.card_segments.specs.Parts.{AreCovered, AreOnSegments, AreParts, AreSettled, Ascend, IsOnSegment, back_entries, segment_back}
-
--- the cents of the parts on a segment
-abbrev parts_at : ℕ → List (ℕ × ℕ) → ℕ
-parts_at s [] = 0
-parts_at s (p ∷ ps) = cond (eqb p.0 s) p.1 0 + parts_at s ps
 
 -- ---- entries are on segments that are there
 abbrev On : ℕ → Entry → Type 0

@@ -73,7 +73,7 @@ unfolding next_after
 after_both n [] more = refl
 after_both n (x ∷ rows) more = after_both (x.seq + 1) rows more
 
-both : (a b : Bool) → (a && b) ≡ true → (a ≡ true) × (b ≡ true)
+pub both : (a b : Bool) → (a && b) ≡ true → (a ≡ true) × (b ≡ true)
 both true b e = (refl, e)
 both false b e = absurd cc
 

@@ -25,6 +25,7 @@ use Rattle.sqlite.specs.Effect.{Database}
 use Rattle.sqlite.specs.Values.{IsInt}
 use Rattle.card_ports.specs.declared.row.Row.{Row}
 use Rattle.card_ports.specs.declared.keeper.KeeperFault.{KeeperFault}
+use Rattle.card_sqlite.proofs.Order.{both}
 use Rattle.card_sqlite.specs.Kept.{no_schema, kept_schema, shown, row_in, by_seq, IsFor, AreKept, Keeps, KeepsAll, Extends}
 use Rattle.card_sqlite.specs.Told.{IsShown, same_code, same_schema, is_for, rows_in, told}
 use Rattle.card_ports.specs.Rows.{next_seq, are_from, GoOn, KeepsRows, AddsRows, GivesRows, SameRowsTold}
@@ -32,10 +33,6 @@ use Rattle.sqlite_trees.specs.declared.store.Store.{Ghosts}
 use Rattle.sqlite_trees.proofs.Doubt.{no_doubt}
 use Rattle.sqlite.specs.State.{State, HasCleanDisk, IsLive}
 use Rattle.sqlite.specs.Held.{Held, state}
-
-both : (a b : Bool) → (a && b) ≡ true → (a ≡ true) × (b ≡ true)
-both true b e = (refl, e)
-both false b e = absurd cc
 
 same_means : (g h : Gv) → same_code g h ≡ true → g ≡ h
 same_means gnil gnil e = refl

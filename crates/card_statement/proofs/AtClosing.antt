@@ -6,6 +6,7 @@ use Rattle.std.proofs.lemmas.List.Elements.{All-head, All-tail}
 use Rattle.std.proofs.lemmas.List.Sums.{sum_by-cons}
 use Rattle.card_bounds.specs.Bounds.{moved, moves, most_interest, most_moved}
 use Rattle.card_bounds.proofs.CycleAmounts.{amounts_small}
+use Rattle.card_model.proofs.Issue.{all-at}
 use Rattle.card_model.specs.Closing.{previous_of}
 use Rattle.card_model.specs.Cycles.{Cycle, amounts_sum}
 use Rattle.card_model.specs.Entries.{is_kind}
@@ -40,12 +41,6 @@ unfolding moved
 drop-moved zero es = omega arith
 drop-moved (suc n) [] = omega arith
 drop-moved (suc n) (e ∷ es) = let a = sum_by-cons moves e es in let h = drop-moved n es in omega (arith, a, h)
-
--- ---- a place in a list
-all-at : (P : Cycle → Type 0) (cs : List Cycle) (i : ℕ) (c : Cycle) → All P cs → slice_get cs i ≡ Some c → P c
-all-at P [] i c h e = cc
-all-at P (x ∷ cs) zero c h e = let same : x ≡ c = cc in subst P same (All-head P x cs h)
-all-at P (x ∷ cs) (suc i) c h e = all-at P cs i c (All-tail P x cs h) e
 
 -- ---- the law
 little : (all m i limit : ℕ) → all ≡ m + i → m ≤ limit → limit ≤ 500_000_000_000_000 → i ≤ most_interest → all ≤ 10 ^ 17

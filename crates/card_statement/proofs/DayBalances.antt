@@ -8,6 +8,7 @@ use Rattle.std.proofs.lemmas.List.Elements.{All-head, All-tail, filter-append}
 use Rattle.card_model.proofs.Posted.{sum_of-append}
 use Rattle.card_model.specs.Entries.{at_least_zero, balance}
 use Rattle.card_model.specs.declared.entry.Entry.{Entry}
+use Rattle.card_segments.proofs.SumsBack.{cents-within}
 use Rattle.card_segments.specs.Balances.{IsWithin}
 use Rattle.card_statement.specs.Lines.{entries_on, is_owed_on, was_owed}
 use Rattle.card_statement.specs.Standing.{is_owed_after, is_owed_then, moved_after}
@@ -17,11 +18,6 @@ use mir.Syntax.{w128}
 -- ---- how large sums are
 pub less-within : (m k : ℕ) (y z : ℤ) → IsWithin m y → IsWithin k z → IsWithin (m + k) (y -ℤ z)
 less-within m k y z h g = (let a = h.0 in let b = g.1 in omega (arith, ints), let a = h.1 in let b = g.0 in omega (arith, ints))
-
--- a number of 64 bits
-pub cents-within : (z : ℤ) → FitsSigned w64 z → IsWithin (2 ^ 63) z
-cents-within (pos n) fits = (omega (arith, ints), omega (arith, ints, fits.sfits))
-cents-within (negsuc n) fits = (omega (arith, ints, fits.sfits), omega (arith, ints))
 
 -- one of 128
 pub fits-wide : (n : ℕ) (z : ℤ) → n < 2 ^ 127 → IsWithin n z → FitsSigned w128 z

@@ -4,6 +4,7 @@ use Rattle.std.proofs.lemmas.Bool.{cases_lt, lt-leb}
 use Rattle.std.proofs.lemmas.Bool.Decides.{nat_tests}
 use Rattle.std.specs.Prelude.{nat_le}
 use Rattle.std.proofs.lemmas.List.Sums.{sum_by_more}
+use Rattle.card_bounds.proofs.Dated.{and-false}
 use Rattle.card_events.specs.Civil.{date_of, day_at, days_of_months, month_length}
 use Rattle.card_events.proofs.DateFacts.{after_first, before_year}
 use Rattle.card_events.proofs.Dates.{HasDate, date_of-has, month_more}
@@ -60,10 +61,6 @@ before_it m y h l =
     let out : nat_le (day_at y 1 1) m ≡ false = lt-leb _ _ (omega (arith, h.number, early)) in
     let differ : eqb (date_of m).year y ≡ false = ne_eqb _ _ (λ e. omega (arith, e, l)) in
     rw (out, differ) refl
-
-and-false : (t : Bool) → (t && false) ≡ false
-and-false true = refl
-and-false false = refl
 
 after_it : (m y : ℕ) → HasDate m (date_of m) → 1970 ≤ y → y ≤ 2400 → y < (date_of m).year → InItsYear m y
 after_it m y h low high l =

@@ -9,7 +9,7 @@ ghost use Rattle.card_segments.specs.Balances.{IsWithin};
 ghost use Rattle.card_model.specs.Sheets as spec;
 
 use card_closing::Cycle;
-use card_events::{Cents, Day};
+use card_events::{Cents, Day, STATEMENT_DAYS};
 use card_fees::FeeTable;
 use card_model::Entry;
 
@@ -126,5 +126,5 @@ pub fn late_up_to(table: &FeeTable, issue: Day) -> Cents
 pub fn has_due_payment(issue: Day, due: Day) -> bool
     ensures { result ≡ nat_le (issue + 21) due }
 {
-    issue.number() + 21 <= due.number()
+    issue.number() + STATEMENT_DAYS <= due.number()
 }

@@ -5,7 +5,7 @@ use Rattle.card_events.specs.declared.post.Post.{Post}
 use Rattle.card_events.specs.declared.request.Request.{Request}
 use Rattle.card_lines.specs.Fields.{◌>>=◌, formed}
 use Rattle.card_lines.specs.Forms.{name_of, number_of, day_of, place_of, channel_of}
-use Rattle.card_lines.proofs.DatedLemmas.{on_day, skip}
+use Rattle.card_lines.proofs.DatedLemmas.{bound, on_day, skip}
 use Rattle.csv.specs.Records.{field_at}
 use Rattle.card_text.specs.declared.item.Item.{Item}
 use Rattle.card_text.specs.declared.kind.RecordKind.{RecordKind}
@@ -30,10 +30,6 @@ form_dated P n (Some f) k h = subst (λ r. IfOk r P) (same_read (day_of f) n k) 
 -- the column of a day, and then the rest
 on_day_column : {B : Type 0} (P : B → Type 0) (n : ℕ) (fs : List (List ℕ)) (k : ℕ → Result B ℕ) → ((d : ℕ) → IsDated d → IfOk (k d) P) → IfOk (column day_of n fs >>= k) P
 on_day_column P n fs k h = form_dated P n (field_at fs (n - 1)) k h
-
-bound : {A B : Type 0} (Q : A → Type 0) (P : B → Type 0) (r : Result A ℕ) (k : A → Result B ℕ) → IfOk r Q → ((x : A) → Q x → IfOk (k x) P) → IfOk (r >>= k) P
-bound Q P (Ok x) k q h = h x q
-bound Q P (Err n) k q h = tt
 
 abbrev IsDatedMovement : Movement → Type 0
 IsDatedMovement m = IsDated m.day

@@ -1,7 +1,8 @@
 use Rattle.std.proofs.Common.{◌≡◌, ◌+◌, ◌-◌, ◌^◌, arith, refl, sym, ap, ◌∙◌, subst, ℤ, ◌-ℤ◌, FitsSigned, to_z, of_z, w64}
 use Rattle.std.proofs.lemmas.Int.{to_z-of_z}
+use Rattle.card_segments.proofs.SumsBack.{cents-within}
 use Rattle.card_segments.specs.Balances.{IsWithin}
-use Rattle.card_statement.proofs.DayBalances.{cents-within, fits-wide, less-within}
+use Rattle.card_statement.proofs.DayBalances.{fits-wide, less-within}
 use mir.Syntax.{w128}
 use Rattle.card_statement.proofs.standing.less.Goals as goal
 

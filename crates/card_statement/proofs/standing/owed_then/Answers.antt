@@ -1,7 +1,8 @@
 use Rattle.std.proofs.Common.{◌≡◌, length, ◌+◌, ◌*◌, ◌<◌, ◌^◌, rules, to_z, of_z, w64, ℤ, ◌-ℤ◌, subst, sym, ap, ◌∙◌, FitsSigned}
 use Rattle.std.proofs.lemmas.Int.{to_z-of_z}
+use Rattle.card_segments.proofs.SumsBack.{cents-within}
 use Rattle.card_segments.specs.Balances.{IsWithin}
-use Rattle.card_statement.proofs.DayBalances.{begins, cents-within, goes-on, one-further, room}
+use Rattle.card_statement.proofs.DayBalances.{begins, goes-on, one-further, room}
 use Rattle.card_statement.proofs.standing.owed_then.Goals as goal
 use mir.Syntax.{w128}
 
