@@ -27,6 +27,7 @@ pub fn issued_of(
 fn as_issued(alloc: Global, row: &Issued) -> Result<Statement, NoMemory>
     ensures { IfOk result (λ s. s ≡ statement_of row.now) }
 {
+    // From its row and not computed again: what was issued stays.
     Ok(Statement {
         cycle: row.statement.cycle.copy(alloc)?,
         issue: row.day,

@@ -118,6 +118,7 @@ impl Book {
         ensures room { KeepsRoom track.old track.new }
     {
         let _opening = opening_day(inputs);
+        // It is whole again only at the end, so one for which memory ran out on the way isn't.
         self.whole = false;
         let mut first = self.day_to_fold(inputs);
         let mut cursor = Cursor {
@@ -194,6 +195,7 @@ impl Book {
         let _count = self.state.segments.len();
         let cycle = cycle_in(track, number);
         let behind = &track.entries[cycle.entries..];
+        // What was counted of payments isn't kept: a later post may change those payments.
         let uncounted = Tally::start(cycle.closing);
         Ok(Book {
             state: state_at(alloc, &self.state, behind, cycle.closing, number, accrued)?,

@@ -57,6 +57,7 @@ pub fn charge_interest(
     ensures begins { BeginsWith out.old.items out.new.items }
     ensures capacity { vec_capacity out.old ≤ vec_capacity out.new }
 {
+    // The rows stay while entries are posted: what one segment is charged changes no other's sum.
     let note = note_on(closing.closing);
     for id in 2..segments.len() {
         let rows = &rows[id as usize - 2];

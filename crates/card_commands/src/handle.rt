@@ -91,6 +91,7 @@ impl Run {
         ensures err { let at = sides O.taken O.faults K.rows K.faults in
             IfErr result (FellOn (at output.old keeper.old) (at output.new keeper.new) self.old item.now) }
     {
+        // Carried out first, then spelled: where memory ends in between, all replies but the last are whole.
         let reply = match carry_out(alloc, &mut self.desk, keeper, item) {
             Ok(reply) => reply,
             Err(Fault::Keeper) => return Err(Stop::Keeper),

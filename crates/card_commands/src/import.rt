@@ -104,6 +104,7 @@ pub fn import<I: Source, O: Sink, K: Keeper>(
     ensures cause { let at = outside I.left I.faults O.taken O.faults K.rows K.faults in
         HasCause (at input.old output.old keeper.old) (at input.new output.new keeper.new) result }
 {
+    // All is read first: a quoted field spans line ends, so no front shows which records are whole.
     let bytes = match read_all(alloc, input) {
         Ok(bytes) => bytes,
         Err(stop) => return ended_by(stop),

@@ -60,6 +60,7 @@ fn attend<O: Sink, K: Keeper, D: Door>(
         Err(Failed) => return Err(Ended::Door),
     };
     let served = serve_one(alloc, routes, desk, keeper, &mut link);
+    // A fixed text, written behind the close: a sink that fails leaves no connection open.
     let line = line_of(served).as_bytes();
     door.close(link);
     match write_all(output, line) {
@@ -132,6 +133,7 @@ pub fn serve<O: Sink, K: Keeper, D: Door>(
     ensures { let at = parties O.taken O.faults K.rows K.faults D.visits D.faults in
         Serves (HaveCome port (D.visits door.old) (D.visits door.new)) count desk.old.state (at output.old keeper.old door.old) (at output.new keeper.new door.new) result }
 {
+    // Before it listens: later on, memory is wanted only once a request was read whole.
     match Routes::new(alloc) {
         Ok(routes) => { listen_and_attend(desk, alloc, &routes, port, count, output, keeper, door) }
         Err(NoMemory) => Ended::Memory,

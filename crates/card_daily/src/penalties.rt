@@ -143,6 +143,7 @@ pub(crate) fn end_penalties(inputs: &Inputs, day: Day, cycles: &[Cycle], rates: 
 {
     let _sound = inputs.anchor();
     if let Some(cycle) = cycles.last() {
+        // On the morning after and not on the due date itself: a day has one set of rates.
         if is_day_after(cycle.due, day) {
             end_cured(inputs, day, cycles, cycle.due, rates);
         }

@@ -174,6 +174,7 @@ pub(crate) fn enter_return(
         &charged,
         &mut track.entries,
     )?;
+    // The payment was folded before its Return, so at the day's end the rows leave out all that was returned by then.
     unpay(&mut state.rows, payment);
     push_if_any(&mut track.fees, charged);
     Ok(())

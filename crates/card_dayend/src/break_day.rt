@@ -142,6 +142,7 @@ pub fn span_end(inputs: &Inputs, rates: &RateBook, first: Day, to: Day, cursor: 
     ensures next { IsNext (breaks_by inputs.now rates.now.penalties) first to result }
     ensures cursor { IsCursorOf inputs.now cursor.new }
 {
+    // Each search ends where the one before it found something, so none looks past the nearest break day.
     let posted = next_post(inputs.posts(), &mut cursor.posts, first, to);
     if posted == first {
         return first;

@@ -222,6 +222,7 @@ impl Desk {
         ensures reached { NoneMoves self.old self.new }
         ensures recorded { self.new.recorded ≡ self.old.recorded }
     {
+        // All that may fail comes before the row, so what was kept is always carried out.
         let row = self.next_row(alloc, request)?;
         self.shared.reserve(1)?;
         let common = loaded(alloc, &self.common, shared)?;
@@ -271,6 +272,7 @@ impl Desk {
         ensures reached { MovesOn None (outcome_in self.old.state given.now.account.now given.now.key.now given.now.post.now) result self.old self.new }
         ensures recorded { MayGrow self.old.recorded self.new.recorded }
     {
+        // All that may fail comes before the row, so what was kept is always carried out.
         let row = self.next_row(alloc, given.request)?;
         let name = given.account.copy();
         let made = Account::open(alloc, name, given.key, self.today, given.post, &self.common)?;
@@ -333,6 +335,7 @@ impl Desk {
         ensures most { AreFewToKeep self.old.state (reached_at self.old (Some at)) (outcome_in self.old.state given.now.account.now given.now.key.now given.now.post.now) steps.old steps.new }
         ensures recorded { ChangesAt at self.old.recorded self.new.recorded }
     {
+        // All that may fail comes before the row, so what was kept is always carried out.
         let row = self.next_row(alloc, given.request)?;
         let key = given.key.copy();
         let account = &mut self.accounts[at];

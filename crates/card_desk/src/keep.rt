@@ -18,6 +18,7 @@ pub fn keep_row<K: Keeper>(alloc: Global, keeper: &mut K, row: Row) -> Result<()
     ensures told { SameRowsTold (K.rows keeper.old) (K.rows keeper.new) }
     ensures counts { IsCounted Fault.Keeper Fault.Memory (K.faults keeper.old) (K.faults keeper.new) result }
 {
+    // The row is lent: an array that owns it would have a drop to prove.
     match keeper.append(alloc, from_ref(&row)) {
         Ok(()) => Ok(()),
         Err(KeeperFault::Failed) => Err(Fault::Keeper),

@@ -131,6 +131,7 @@ fn run_request<L: Ledger>(
     let count = desk.count();
     let mut keeper = Untold {};
     match desk.apply(alloc, &mut keeper, request, steps) {
+        // No desk keeps the row of a refusal or a repeat, so a row with one is damaged.
         Ok(_) => Ok(desk.count() > count),
         Err(Fault::Memory) => Err(NoMemory),
         Err(Fault::Keeper) => unreachable!(),

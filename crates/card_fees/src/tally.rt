@@ -254,6 +254,7 @@ impl Tally {
         let slots = posts.in_order();
         let first = place_of(slots, self.near, self.day, self.number);
         let brought = bring(posts, &slots[first..], self.from, &until);
+        // A Return may name a payment that was counted before.
         self.paid = if brought.returns == 0 {
             self.paid.saturating_add(brought.paid)
         } else {

@@ -87,6 +87,7 @@ pub fn leave_key(history: &[Kept], index: &mut KeyTable, last: &Kept)
     ensures index { IsIndex history.now index.new }
     ensures room { HasRoom 1 index.new }
 {
+    // Each post has the one before it in its bucket, so the last leaves its room behind. std's map doesn't promise that.
     let bucket = bucket_of(last.key.bytes(), index);
     index.leave(bucket);
 }

@@ -23,6 +23,7 @@ impl<R: Read> StdSource<R> {
         ensures reader { result.reader ≡ reader }
         ensures told { result.told ≡ told }
     {
+        // Fixed here: a reader of std may begin to show its bytes amid a run, which a source may not.
         StdSource {
             reader,
             told,
@@ -65,6 +66,7 @@ impl<W: Write> StdSink<W> {
         ensures writer { result.writer ≡ writer }
         ensures told { result.told ≡ told }
     {
+        // Fixed here: a writer of std may begin to show its bytes amid a run, which a sink may not.
         StdSink {
             writer,
             told,

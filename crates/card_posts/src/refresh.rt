@@ -93,6 +93,7 @@ fn refresh(
 fn following<'a>(before: &Effect, now: &Effect, waiting: &'a [u32]) -> &'a [u32]
     ensures { result.now ≡ following before.now now.now waiting.now }
 {
+    // What waits depends on the day of the post that it names, not on its cents.
     if before.day == now.day {
         &waiting[..0]
     } else {

@@ -290,6 +290,7 @@ impl RateBook {
         if !self.variable {
             return None;
         }
+        // 0 before the first row, so no call has to require one; no run meets such a day.
         match index.on(day) {
             Some(rate) => Some(rate),
             None => Some(no_rate()),

@@ -94,6 +94,7 @@ pub fn segments_of(alloc: Global, posts: &Posts) -> Result<Segments, NoMemory>
 {
     let opened = opening_day(&post_of(posts, 1).post);
     let mut segments = Segments::start(alloc, opened)?;
+    // Those to come too: no payment reaches a segment without a balance, and 0 cents add no entry.
     add_all(&mut segments, posts)?;
     Ok(segments)
 }

@@ -36,6 +36,7 @@ fn mark(inputs: &Inputs, book: &Book, past: &mut Past) -> Result<(), NoMemory>
     ensures begins { PastBegins past.old past.new }
 {
     let _opened = inputs.anchor();
+    // All else is read from the present Book, so no Plan, Notice or Lower makes it stale.
     let cycle = past.track.cycles.len() as u32;
     past.since.reserve(1)?;
     book.mark(inputs, &past.track, cycle, &mut past.accrued)?;

@@ -262,6 +262,7 @@ impl Replay {
         ensures rewound { IfOk result (λ made. IsRewoundBy shared.now today key.now post.now (Some made) self.old) }
     {
         let key = key.copy();
+        // So the Book is made over all posts, and no history is copied.
         let draft = self
             .posts
             .draft(alloc, key, today, post, shared.calendar())?;
@@ -448,6 +449,7 @@ impl Replay {
     {
         push_issued(&mut self.issued, change.issued);
         self.has_room = false;
+        // Nothing is folded here, so a hundred corrections and then a question fold once.
         take_if_any(
             &mut self.book,
             &mut self.past,

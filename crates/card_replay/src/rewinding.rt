@@ -122,6 +122,7 @@ fn at_closing(alloc: Global, cycle: u32, book: &Book, past: &Past) -> Result<Ear
     requires marked { length past.now.since.items ≡ length past.now.track.cycles.items }
     ensures { IfOk result (IsAtClosing cycle book.now past.now) }
 {
+    // Behind a closing the next cycle has no rows yet, and the cycle's record counts the entries.
     let since = past.since[cycle as usize - 1];
     let ends = ends_at(past, cycle);
     let earlier = book.rewound(alloc, &past.track, cycle, since, &past.accrued)?;
@@ -246,6 +247,7 @@ pub fn go_back(
     requires marked { length past.now.since.items ≡ length past.now.track.cycles.items }
     ensures { IfOk result (λ r. (old g : Given) (p : Post) (reached : ℕ) → MayGoBackOn old g p from cycle reached book.now past.now eve.now → IsAgain g from reached past.now r) }
 {
+    // The eve serves posts of today: charges and questions in turn then fold one day each and no cycle.
     match eve {
         Some(eve) if may_begin(eve, past, from, cycle) => Ok(TakenBack {
             book: eve.book.copy(alloc)?,

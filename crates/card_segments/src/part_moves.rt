@@ -72,6 +72,7 @@ pub fn take(
     ensures capacity { vec_capacity out.old ≤ vec_capacity out.new }
 {
     let items = parts.items();
+    // Room for all first, so that nothing fails between two parts.
     out.reserve(items.len())?;
     for i in 0..items.len() {
         let (segment, cents) = items[i];
@@ -104,6 +105,7 @@ pub fn put_back(
     ensures capacity { vec_capacity out.old ≤ vec_capacity out.new }
 {
     let items = parts.items();
+    // Room for all first, so that nothing fails between two parts.
     out.reserve(2 * items.len())?;
     for i in 0..items.len() {
         let (segment, cents) = items[i];

@@ -39,6 +39,7 @@ fn connect(
     path: &str,
     missing: Missing,
 ) -> Made<FileStore<File>> {
+    // Opened at the first call, so a command that wants no rows touches no file.
     match store {
         Some(_) => Ok(None),
         None => match open(rt, path, missing) {
@@ -172,6 +173,7 @@ impl SqliteKeeper {
             was_written,
             faults: _,
         } = self;
+        // A run that added nothing joins no log, so a file that was only read stays as it is.
         match store {
             Some(store) if was_written => close(store),
             _ => Ok(()),

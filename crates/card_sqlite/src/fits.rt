@@ -97,6 +97,7 @@ pub(crate) fn is_kept_alone(schema: &Schema) -> bool
 pub(crate) fn fits(schema: &Schema) -> bool
     ensures { IsTrue result ↔ IsFor schema.now }
 {
+    // What other tables and indexes do to the three statements isn't examined, so they are refused.
     let empty = schema.tables.is_empty() && schema.indexes.is_empty() && schema.views.is_empty();
     empty || is_kept_alone(schema)
 }

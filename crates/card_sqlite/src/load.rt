@@ -40,6 +40,7 @@ fn records<S: Alter>(conn: &mut Connection<S>) -> Result<Vec<Record>, Error>
 fn seq_of(seq: i64) -> u64
     ensures { result ≡ seq_in (Int seq) }
 {
+    // No row has the number 0, so such a record is damaged.
     if seq < 0 { 0 } else { seq as u64 }
 }
 

@@ -64,6 +64,7 @@ fn entries_from(entries: &[Entry], place: usize) -> &[Entry]
 pub fn cycle_entries<'a>(cycle: &Cycle, cycles: &[Cycle], entries: &'a [Entry]) -> &'a [Entry]
     ensures { (b : Book) → b.cycles ≡ cycles.now → b.entries ≡ entries.now → result.now ≡ spec.cycle_entries cycle.now b }
 {
+    // By the counts that the cycles record, so an old account costs no more.
     entries_from(entries, entries_by(cycle_before(cycle, cycles)))
 }
 

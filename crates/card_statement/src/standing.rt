@@ -41,6 +41,7 @@ fn less(sum: i128, cents: Cents) -> i128
 fn owed_then(left: Cents, entries: &[Entry], segment: u8, day: Day) -> i128
     ensures { result ≡ left -ℤ spec.moved_after segment day entries.now }
 {
+    // Backwards from what is left, so an old account costs no more.
     let mut sum = i128::from(left);
     for entry in entries {
         sum = less(sum, moved_by(entry, segment, day));

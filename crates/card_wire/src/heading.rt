@@ -78,6 +78,7 @@ fn examine(
     ensures kept { got.new.items ≡ got.old.items }
     ensures far { IsSoFar got.new.items fields.new result }
 {
+    // Else each byte of a method, target, name or value would have the whole head parsed again.
     if is_followed(place) {
         return Progress::Wanted(place);
     }

@@ -149,6 +149,7 @@ fn read_spelled(
     ensures line { IfOk result (λ l. l ≡ line_of_fields (kind.now ∷ spec.fields_told (view value.now) fields.now)) }
     ensures dated { IfOk result IsDatedLine }
 {
+    // By way of a line, so that each kind has one reader.
     let line = spell(alloc, kind, value, fields)?;
     Ok(read_line(&line))
 }

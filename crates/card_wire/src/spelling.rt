@@ -50,6 +50,7 @@ fn string_text(alloc: Global, value: &Value) -> Result<Option<String>, NoMemory>
 fn one_word(text: Option<String>) -> Option<String>
     ensures { option_map string_bytes result ≡ spec.one_word (option_map string_bytes text) }
 {
+    // No field has a space or more than 32 bytes, so such a value counts as missing.
     match text {
         Some(text) if is_one_word(text.as_bytes()) => Some(text),
         _ => None,
