@@ -4,7 +4,6 @@ use Rattle.std.specs.List.{list_any, slice_split}
 use Rattle.std.specs.Option.{option_and_then}
 use Rattle.std.proofs.lemmas.Bool.Decides.{nat_tests}
 use Rattle.std.proofs.lemmas.List.{drop_all, length-append}
-use Rattle.card_lines.proofs.NameLemmas.{both_parts}
 use Rattle.card_lines.specs.Fields.{fields_of}
 use Rattle.card_lines.specs.Lines.{line_of, line_of_fields}
 use Rattle.card_wire.specs.Bodies.{fields_told, is_one_word, one_word, told, told_before}
@@ -55,6 +54,11 @@ told_few : (d : Data) (fs : List Field) → length (fields_told d fs) ≤ length
 unfolding fields_told
 told_few d [] = omega arith
 told_few d (f ∷ fs) = let most = before_few (option_and_then (told f) (get (field_name f) d)) (fields_told d fs) (length fs) (told_few d fs) in omega (arith, most)
+
+-- ---- a word has no space, and is short
+both_parts : (a b : Bool) → (a && b) ≡ true → (a ≡ true) × (b ≡ true)
+both_parts true b is = (refl, is)
+both_parts false b is = absurd (cc)
 
 not_true : (b : Bool) → not b ≡ true → b ≡ false
 not_true true is = absurd (cc)
