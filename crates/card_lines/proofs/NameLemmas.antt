@@ -13,7 +13,7 @@ letter_is_ascii b is = grind (arith, nat_tests)
 byte_is_ascii : (b : ℕ) → is_name_byte b ≡ true → b < 128
 byte_is_ascii b is = grind (arith, nat_tests)
 
-both_parts : (a b : Bool) → (a && b) ≡ true → (a ≡ true) × (b ≡ true)
+pub both_parts : (a b : Bool) → (a && b) ≡ true → (a ≡ true) × (b ≡ true)
 both_parts true b is = (refl, is)
 both_parts false b is = absurd (cc)
 
