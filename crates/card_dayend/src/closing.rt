@@ -16,6 +16,7 @@ ghost use Rattle.card_daily.specs.Closing.{IsClosing};
 ghost use Rattle.card_daily.specs.Given.{IsDayOf, Tallies, account_in, seen_in};
 ghost use Rattle.card_daily.specs.Stands.{AreBefore, ArePosted, Begins, posted, KeepsRoom};
 
+use crate::room::push;
 use card_closing::{Closing, Cycle, CycleRows, GraceCase, close};
 use card_daily::{Inputs, Issued, State, Track, due_cycle};
 use card_events::{Anchor, Cents, Day, NoMemory, closing, cycle_of, due};
@@ -216,7 +217,7 @@ fn close_cycle(
         &track.fees,
         &mut track.entries,
     )?;
-    track.cycles.push(cycle)?;
+    push(&mut track.cycles, cycle)?;
     begin_all(&mut state.rows, day.next());
     Ok(())
 }

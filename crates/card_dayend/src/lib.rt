@@ -7,6 +7,7 @@ mod break_day;
 mod closing;
 mod cursor;
 mod day;
+mod room;
 mod rows;
 
 pub use begin::{empty_rows, opening_day, start};
@@ -14,4 +15,5 @@ pub use break_day::span_end;
 pub use closing::close_day;
 pub use cursor::{Cursor, CycleDates};
 pub use day::{next_day, next_span};
+pub use room::make_cycle_room;
 pub use rows::{pass_quiet, row_day};

@@ -18,6 +18,7 @@ use crate::rewinding::{
 use crate::statement::statement_at;
 use crate::taking::take_if_any;
 use card_book::{Folded, Inputs, Issued, Statement};
+use card_dayend::make_cycle_room;
 use card_events::{Day, Name, NoMemory, Num, POST_LIMIT, Post, Steps};
 use card_fees::SharedRows;
 use card_model::Entry;
@@ -192,7 +193,7 @@ impl Replay {
         ensures room { OnOk result (self.new.has_room ≡ true) }
     {
         self.posts.make_room(alloc)?;
-        self.issued.reserve(1)?;
+        make_cycle_room(&mut self.issued)?;
         self.has_room = true;
         Ok(())
     }
