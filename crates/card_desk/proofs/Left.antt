@@ -1,5 +1,5 @@
 -- The steps that are left on the accounts of a desk, by its state.
-use Rattle.std.proofs.Common.{◌≡◌, ℕ, suc, ◌+◌, ◌-◌, ◌*◌, ◌<◌, ◌≤◌, min, Option, Some, None, List, [], ◌∷◌, length, get_or, set, refl, ap, sym, ◌∙◌, subst, arith, zip, ◌||◌}
+use Rattle.std.proofs.Common.{◌≡◌, ℕ, suc, ◌+◌, ◌-◌, ◌*◌, ◌<◌, ◌≤◌, min, Option, Some, None, List, [], ◌∷◌, length, get_or, set, refl, false, ap, sym, ◌∙◌, subst, arith, zip, ◌||◌}
 use Rattle.std.proofs.lemmas.List.{get_or-map, get_or-set_same, length-set}
 use Rattle.std.proofs.lemmas.List.Sums.{sum_by-cons}
 use Rattle.std.specs.List.{sum_by}
@@ -10,9 +10,10 @@ use Rattle.card_book.specs.Stands.{steps_over}
 use Rattle.card_posts.specs.Change.{IsFirstChange}
 use Rattle.card_desk.proofs.FoldLemmas.{alike_at}
 use Rattle.card_desk.specs.Desks.{IsDesk, OpenDesk, named_all, open_desk, reached_all, state_of}
-use Rattle.card_desk.specs.Steps.{AreFewOn, AreFewToApply, AreFewToKeep, AreFewToPost, AreFewToTell, ReachedLists, breaks_left, most_for_all, reached_at, reached_of, reached_there, steps_at, steps_left}
+use Rattle.card_desk.specs.Steps.{AreFewOn, AreFewToApply, AreFewToKeep, AreFewToPost, AreFewToTell, IsIdleOn, IsIdleToApply, IsIdleToJudge, IsIdleToPost, ReachedLists, breaks_left, most_for_all, reached_at, reached_of, reached_there, steps_at, steps_left}
 use Rattle.card_desk.specs.Places.{place_from}
 use Rattle.card_events.specs.History.{CorrectedPost, anchor_of, corrected}
+use Rattle.card_events.specs.Keys.{with_key}
 use Rattle.card_events.specs.SharedRows.{IndexRow, SharedRows, shared_rows}
 use Rattle.card_events.specs.declared.post.Post.{Post}
 use Rattle.card_events.specs.declared.request.Request.TheVariants as request
@@ -23,6 +24,8 @@ use Rattle.card_model.specs.Machine.{Accepts, NamedAccount, Outcome, Refuses, Re
 use Rattle.card_model.specs.Refusals.{Lists, book_today}
 use Rattle.card_model.specs.Spans.{steps_among}
 use Rattle.card_reasons.proofs.SameReasons.{AreAlike}
+use Rattle.card_reasons.specs.Reasons.{reads_book}
+use Rattle.card_replay.specs.Needs.{needs_today}
 use Rattle.card_replay.specs.Replays.{given_of, present_of}
 use Rattle.card_replay.specs.Steps.{AreFewSteps, IsFirstBetween, first_in_cycle}
 
@@ -232,3 +235,36 @@ few_on_there d name key p i before after place few = subst (λ (o : Option ℕ).
 pub none_on_absent : (d : OpenDesk) (name key : List ℕ) (p : Post) (n : ℕ) → place_from name 0 d.state.accounts ≡ None → AreFewToApply d (request.Post name key p) n n
 unfolding AreFewToApply
 none_on_absent d name key p n absent = subst (λ (o : Option ℕ). AreFewOn d.state (reached_at d o) (outcome_in d.state name key p) n n) (sym absent) refl
+
+-- ---- to carry out a post without a step
+-- what is said of the account is said of the desk
+pub idle_there : (rows : List Shared) (today : ℕ) (accounts : List OpenAccount) (i : ℕ) (b : OpenAccount) (d : OpenDesk) (key : List ℕ) (p : Post) (before after : ℕ)
+    → open_desk today rows accounts ≡ d → i < length accounts → b ≡ get_or accounts i b
+    → ((with_key key b.named.lists.posts ≡ None → ⊥) → after ≡ before) → (reads_book p ≡ false → after ≡ before)
+    → IsIdleToJudge (reached_there d i) key p before after
+idle_there rows today accounts i b d key p before after view low is used unread =
+    subst (λ (x : OpenDesk). IsIdleToJudge (reached_there x i) key p before after) view
+    (subst (λ (a : ReachedLists). IsIdleToJudge a key p before after) (sym (there_is rows today accounts i b low is)) (record { used = used; unread = unread }))
+
+-- a post that is judged alone, whatever it comes to
+pub idle_judged : (a : ReachedLists) (key : List ℕ) (p : Post) (o : Outcome) (before after : ℕ) → IsIdleToJudge a key p before after → IsIdleToPost a key p o before after
+idle_judged a key p o before after judged = record { used = judged.used; unread = λ alone asks. judged.unread alone }
+
+-- an accepted post, which is judged and then kept: its key is new
+pub idle_kept : (a : ReachedLists) (key : List ℕ) (p : Post) (o : Outcome) (new : Lists) (before now after : ℕ) → o ≡ Accepts new → with_key key a.lists.posts ≡ None
+    → IsIdleToJudge a key p before now → (needs_today p ≡ false → after ≡ now) → IsIdleToPost a key p o before after
+idle_kept a key p o new before now after is fresh judged kept =
+    subst (λ (x : Outcome). IsIdleToPost a key p x before after) (sym is)
+    (record { used = λ known. absurd (known fresh); unread = λ alone asks. kept asks ∙ judged.unread alone })
+
+-- by the account's name
+pub idle_on_there : (d : OpenDesk) (name key : List ℕ) (p : Post) (i before after : ℕ) → place_from name 0 d.state.accounts ≡ Some i
+    → IsIdleToPost (reached_there d i) key p (outcome_in d.state name key p) before after → IsIdleToApply d (request.Post name key p) before after
+unfolding IsIdleToApply
+idle_on_there d name key p i before after place idle =
+    subst (λ (o : Option ℕ). IsIdleOn (reached_at d o) key p (outcome_in d.state name key p) before after) (sym place) idle
+
+-- where it isn't there
+pub idle_on_absent : (d : OpenDesk) (name key : List ℕ) (p : Post) (n : ℕ) → place_from name 0 d.state.accounts ≡ None → IsIdleToApply d (request.Post name key p) n n
+unfolding IsIdleToApply
+idle_on_absent d name key p n absent = subst (λ (o : Option ℕ). IsIdleOn (reached_at d o) key p (outcome_in d.state name key p) n n) (sym absent) refl

@@ -1,14 +1,18 @@
 -- How many steps a call on a desk takes. A step is a span of an account: at most one day with its posts, and the days before it. Days
 -- are day numbers.
-use Rattle.std.specs.Prelude.{ℕ, ◌+◌, ◌*◌, ◌≡◌, ◌≤◌, List, [], slice_index_or, Option, Some, None}
+use Rattle.std.specs.Prelude.{ℕ, Bool, false, ◌+◌, ◌*◌, ◌≡◌, ◌≤◌, List, [], slice_index_or, Option, Some, None}
 use Rattle.std.specs.List.{sum_by, zip}
+use Rattle.card_events.specs.Keys.{with_key}
 use Rattle.card_events.specs.SharedRows.{shared_rows}
+use Rattle.card_events.specs.declared.post.Post.{Post}
 use Rattle.card_events.specs.declared.request.Request.{Request}
 use Rattle.card_events.specs.declared.request.Request.TheVariants as request
 use Rattle.card_model.specs.Machine.{Accepts, NamedAccount, Outcome, Refuses, Repeats, State, outcome_in}
 use Rattle.card_model.specs.Refusals.{Lists}
 use Rattle.card_book.specs.Stands.{steps_over}
 use Rattle.card_book.specs.StepCounts.{breaks_from}
+use Rattle.card_reasons.specs.Reasons.{reads_book}
+use Rattle.card_replay.specs.Needs.{needs_today}
 use Rattle.card_replay.specs.Replays.{given_of}
 use Rattle.card_replay.specs.Steps.{AreFewSteps, IsFirstBetween, breaks_changed}
 use Rattle.card_desk.specs.Desks.{OpenDesk}
@@ -91,3 +95,30 @@ AreFewOn s (Some a) o before after = AreFewToPost s a o before after
 unfoldable pub AreFewToApply : OpenDesk → Request → ℕ → ℕ → Type 0
 AreFewToApply d (request.Shared r) before after = after ≡ before
 AreFewToApply d (request.Post name key p) before after = AreFewOn d.state (reached_of name d) (outcome_in d.state name key p) before after
+
+-- ---- to carry out a request without a step
+-- to judge a post of an account takes none where its key is used there, nor where the post isn't judged by a book
+pub record IsIdleToJudge (a : ReachedLists) (key : List ℕ) (p : Post) (before after : ℕ) : Type 0 where
+  pub used : (with_key key a.lists.posts ≡ None → ⊥) → after ≡ before
+  pub unread : reads_book p ≡ false → after ≡ before
+
+-- whether today has to be reached for a post that comes to this: one that isn't accepted asks for nothing
+abbrev pub asks_today : Post → Outcome → Bool
+asks_today p (Accepts new) = needs_today p
+asks_today p _ = false
+
+-- No step is taken for a post whose key is used in its account, whether it is a repeat or refused; nor for one that isn't judged by a
+-- book, where it isn't accepted, or sets no rates and is no Bill
+pub record IsIdleToPost (a : ReachedLists) (key : List ℕ) (p : Post) (o : Outcome) (before after : ℕ) : Type 0 where
+  pub used : (with_key key a.lists.posts ≡ None → ⊥) → after ≡ before
+  pub unread : reads_book p ≡ false → asks_today p o ≡ false → after ≡ before
+
+-- nor for any of an account that isn't there
+abbrev pub IsIdleOn : Option ReachedLists → List ℕ → Post → Outcome → ℕ → ℕ → Type 0
+IsIdleOn None key p o before after = after ≡ before
+IsIdleOn (Some a) key p o before after = IsIdleToPost a key p o before after
+
+-- nor for a shared request
+unfoldable pub IsIdleToApply : OpenDesk → Request → ℕ → ℕ → Type 0
+IsIdleToApply d (request.Shared r) before after = after ≡ before
+IsIdleToApply d (request.Post name key p) before after = IsIdleOn (reached_of name d) key p (outcome_in d.state name key p) before after

@@ -55,13 +55,14 @@ struct Given<'a> {
 }
 
 impl Desk {
-    ghost use Rattle.std.specs.Prelude.{◌≡◌, ◌≤◌, ◌<◌, ◌+◌, ◌^◌, ◌++◌, List, [], ◌∷◌, true, Some, None, length, slice_get, slice_index_or, IfOk, IfSome, OnOk, OnErr, IsErrOf, option_copied};
+    ghost use Rattle.std.specs.Prelude.{◌≡◌, ◌≤◌, ◌<◌, ◌+◌, ◌^◌, ◌++◌, List, [], ◌∷◌, true, false, Some, None, length, slice_get, slice_index_or, IfOk, IfSome, OnOk, OnErr, IsErrOf, option_copied};
     ghost use Rattle.std.specs.List.{All};
     ghost use Rattle.std.specs.Option.{option_map};
     ghost use Rattle.card_model.specs.declared.entry.Entry.{Entry};
+    ghost use Rattle.card_replay.specs.Needs.{needs_today};
     ghost use Rattle.card_replay.specs.Replays.{present_of};
     ghost use Rattle.card_replay.specs.Standing.{IsStandingCount};
-    ghost use Rattle.card_desk.specs.Steps.{AreFewOn, AreFewToApply, AreFewToKeep, AreFewToSee, AreFewToTell, most_for_all, reached_at, reached_of, reached_there, steps_at};
+    ghost use Rattle.card_desk.specs.Steps.{AreFewOn, AreFewToApply, AreFewToKeep, AreFewToSee, AreFewToTell, IsIdleToApply, IsIdleToJudge, IsIdleToPost, most_for_all, reached_at, reached_of, reached_there, steps_at};
     ghost use Rattle.card_account.specs.Accounts.{owing_in, restated_statement};
     ghost use Rattle.card_account.specs.Entries.{entries_today};
     ghost use Rattle.card_account.specs.Verdicts.{verdict_of};
@@ -333,6 +334,7 @@ impl Desk {
         ensures carried { Carried (K.rows keeper.old) (K.rows keeper.new) (K.faults keeper.old) (K.faults keeper.new) self.old.state given.now.request.now self.new.state result }
         ensures reached { MovesOn (Some at) (outcome_in self.old.state given.now.account.now given.now.key.now given.now.post.now) result self.old self.new }
         ensures most { AreFewToKeep self.old.state (reached_at self.old (Some at)) (outcome_in self.old.state given.now.account.now given.now.key.now given.now.post.now) steps.old steps.new }
+        ensures idle { needs_today given.now.post.now ≡ false → steps.new ≡ steps.old }
         ensures recorded { ChangesAt at self.old.recorded self.new.recorded }
     {
         // All that may fail comes before the row, so what was kept is always carried out.
@@ -362,6 +364,7 @@ impl Desk {
         ensures reached { OneStays (Some at) self.old self.new }
         ensures most { steps.new ≤ steps.old + steps_at self.old at }
         ensures recorded { ChangesAt at self.old.recorded self.new.recorded }
+        ensures idle { IsIdleToJudge (reached_there self.old at) key.now post.now steps.old steps.new }
         ensures spent { OnOk result (steps.new + steps_at self.new at ≤ steps.old + steps_at self.old at) }
     {
         let account = &mut self.accounts[at];
@@ -383,6 +386,7 @@ impl Desk {
         ensures carried { Carried (K.rows keeper.old) (K.rows keeper.new) (K.faults keeper.old) (K.faults keeper.new) self.old.state given.now.request.now self.new.state result }
         ensures reached { MovesOn (Some at) (outcome_in self.old.state given.now.account.now given.now.key.now given.now.post.now) result self.old self.new }
         ensures most { AreFewOn self.old.state (reached_at self.old (Some at)) (outcome_in self.old.state given.now.account.now given.now.key.now given.now.post.now) steps.old steps.new }
+        ensures idle { IsIdleToPost (reached_there self.old at) given.now.key.now given.now.post.now (outcome_in self.old.state given.now.account.now given.now.key.now given.now.post.now) steps.old steps.new }
         ensures recorded { ChangesAt at self.old.recorded self.new.recorded }
     {
         match self.judge_at(alloc, at, given.key, given.post, steps) {
@@ -406,6 +410,7 @@ impl Desk {
         ensures carried { Carried (K.rows keeper.old) (K.rows keeper.new) (K.faults keeper.old) (K.faults keeper.new) self.old.state given.now.request.now self.new.state result }
         ensures reached { MovesToApply given.now.request.now result self.old self.new }
         ensures most { AreFewToApply self.old given.now.request.now steps.old steps.new }
+        ensures idle { IsIdleToApply self.old given.now.request.now steps.old steps.new }
         ensures recorded { AppliedStays self.old given.now.request.now self.new }
     {
         match self.index.find(given.account.bytes()) {
@@ -419,10 +424,11 @@ impl Desk {
     /// depends on no other. After a fault the state and the rows are as they were. It takes at most two steps more than twice the
     /// break days, before or after the request, from the first day of the cycle in which the first changed day lies, or from the day
     /// last reached where that is earlier, to today; of a request that isn't accepted, from the day last reached on. An opening and a
-    /// shared request take none.
+    /// shared request take none, nor does a post of an account that isn't there, or one under a key that its account has used. Of other
+    /// posts only a Penalty and a Refund may take any, and a Bill, a Plan, a Notice and a Lower that is accepted.
     ///
     /// `Keeper`: the keeper failed, which alone raises its count. `Memory`: memory ran out.
-    #[tactic(auto, using(crate::proofs::Apart::apart_of_step), unfolding(crate::specs::Reached::MovesToApply, crate::specs::Recorded::AppliedStays, crate::specs::Steps::AreFewToApply))]
+    #[tactic(auto, using(crate::proofs::Apart::apart_of_step), unfolding(crate::specs::Reached::MovesToApply, crate::specs::Recorded::AppliedStays, crate::specs::Steps::AreFewToApply, crate::specs::Steps::IsIdleToApply))]
     pub fn apply<K: Keeper, L: Ledger>(
         &mut self,
         alloc: Global,
@@ -440,6 +446,7 @@ impl Desk {
         ensures counts { IsCounted Fault.Keeper Fault.Memory (K.faults keeper.old) (K.faults keeper.new) result }
         ensures reached { MovesToApply request.now result self.old self.new }
         ensures most { AreFewToApply self.old request.now steps.old steps.new }
+        ensures idle { IsIdleToApply self.old request.now steps.old steps.new }
         ensures recorded { AppliedStays self.old request.now self.new }
     {
         match request {

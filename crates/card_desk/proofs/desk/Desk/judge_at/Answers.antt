@@ -5,7 +5,7 @@ use Rattle.card_account.specs.Verdicts.{verdict_of}
 use Rattle.card_account.specs.declared.verdict.Verdict.{Verdict}
 use Rattle.card_desk.proofs.DeskLemmas.{state_by}
 use Rattle.card_desk.proofs.FoldLemmas.{account_at}
-use Rattle.card_desk.proofs.Left.{spent_there, steps_there}
+use Rattle.card_desk.proofs.Left.{idle_there, spent_there, steps_there}
 use Rattle.card_desk.proofs.Reading.{low_in, told_desk, told_state, verdict_read}
 use Rattle.card_desk.specs.Desks.{OpenDesk, now_at, open_desk}
 use Rattle.card_events.specs.Keys.{with_key}
@@ -91,6 +91,18 @@ returns-clause-spent g c =
     on_ok_weaker c.judge.result
     (λ (l : c.judge.new.steps + steps_of d.today d.common a ≤ c.args.steps.now + steps_of d.today d.common b).
     spent_there d.index d.common d.count d.today d.shared.items items c.args.at a b c.args.self.now new c.args.steps.now c.judge.new.steps c.self.invariant after c.self.view_is refl low is l) c.judge.ensures.spent
+
+pub returns-clause-idle : goal.returns-clause-idle
+returns-clause-idle g c =
+    let d = c.self.inside in
+    let items = d.accounts.items in
+    let b = c.index_mut-account.result.now in
+    let s = c.args.self.now.state in
+    let state = state_by _ _ c.self.view_is in
+    let is = c.index_mut-account.ensures.value in
+    let low = low_in d.shared.items d.today items s c.args.at state c.requires.place in
+    idle_there d.shared.items d.today items c.args.at b c.args.self.now c.args.key.now c.args.post.now c.args.steps.now c.judge.new.steps c.self.view_is low is
+    (λ known. (c.judge.ensures.repeated known).steps) (λ alone. (c.judge.ensures.idle alone).steps)
 
 pub returns-clause-reached : goal.returns-clause-reached
 returns-clause-reached g c =

@@ -343,6 +343,16 @@ returns-clause-most g c =
     let least = subst (λ (k : List ℕ). AreFewToPrepare d.today d.common b.named.lists b.folding.reached k p c.args.steps.now c.prepare.new.steps) c.copy-key.ensures c.prepare.ensures.most in
     few_posted d.index d.common d.count d.today d.shared.items items at b c.args.self.now name key p c.args.steps.now c.prepare.new.steps c.self.invariant c.self.view_is low is outcome one least
 
+-- ---- no step
+pub returns-in_err-change-clause-idle : goal.returns-in_err-change-clause-idle
+returns-in_err-change-clause-idle g c = λ not. (c.prepare.ensures.idle not).1
+
+pub returns-in_err-keep_row-clause-idle : goal.returns-in_err-keep_row-clause-idle
+returns-in_err-keep_row-clause-idle g c = λ not. (c.prepare.ensures.idle not).1
+
+pub returns-clause-idle : goal.returns-clause-idle
+returns-clause-idle g c = λ not. (c.prepare.ensures.idle not).1
+
 -- ---- the day that it has reached
 pub returns-in_err-row-clause-reached : goal.returns-in_err-row-clause-reached
 returns-in_err-row-clause-reached g c = failed-moves _ (Some c.args.at) _ _ _ c.from_residual.ensures.0 (none-moves c.args.self.now c.args.at)

@@ -3,8 +3,8 @@ use Rattle.card_model.specs.Machine.{State}
 use Rattle.card_desk.specs.Desks.{named_all}
 use Rattle.card_desk.specs.Places.{IsPlace, place_from}
 use Rattle.card_desk.proofs.DeskLemmas.{found_at, found_none, placed_at, state_by}
-use Rattle.card_desk.proofs.Left.{few_on_there, none_on_absent}
-use Rattle.card_desk.specs.Steps.{AreFewToApply}
+use Rattle.card_desk.proofs.Left.{few_on_there, idle_on_absent, idle_on_there, none_on_absent}
+use Rattle.card_desk.specs.Steps.{AreFewToApply, IsIdleToApply}
 use Rattle.card_events.specs.declared.request.Request.{Request}
 use Rattle.card_desk.proofs.Moves.{named-applied}
 use Rattle.card_desk.specs.Reached.{MovesToApply}
@@ -34,6 +34,20 @@ returns-in-None-clause-most g c =
     ∙ found_none c.self.inside.index (named_all c.self.inside.accounts.items) c.args.given.now.account.now c.bytes.result.now c.self.invariant.index c.bytes.ensures.value c.in-None.ensures in
     subst (λ (r : Request). AreFewToApply c.args.self.now r c.args.steps.now c.args.steps.now) (sym c.requires.request)
     (none_on_absent c.args.self.now c.args.given.now.account.now c.args.given.now.key.now c.args.given.now.post.now c.args.steps.now absent)
+
+pub returns-in-Some-clause-idle : goal.returns-in-Some-clause-idle
+returns-in-Some-clause-idle g c =
+    let there = ap (λ (s : State). place_from c.args.given.now.account.now 0 s.accounts) (sym (state_by _ _ c.self.view_is))
+    ∙ placed_at c.self.inside.index (named_all c.self.inside.accounts.items) c.args.given.now.account.now c.bytes.result.now c.in-Some.at c.self.invariant.index c.bytes.ensures.value c.in-Some.ensures in
+    subst (λ (r : Request). IsIdleToApply c.args.self.now r c.args.steps.now c.post_known.new.steps) (sym c.requires.request)
+    (idle_on_there c.args.self.now c.args.given.now.account.now c.args.given.now.key.now c.args.given.now.post.now c.in-Some.at c.args.steps.now c.post_known.new.steps there c.post_known.ensures.idle)
+
+pub returns-in-None-clause-idle : goal.returns-in-None-clause-idle
+returns-in-None-clause-idle g c =
+    let absent = ap (λ (s : State). place_from c.args.given.now.account.now 0 s.accounts) (sym (state_by _ _ c.self.view_is))
+    ∙ found_none c.self.inside.index (named_all c.self.inside.accounts.items) c.args.given.now.account.now c.bytes.result.now c.self.invariant.index c.bytes.ensures.value c.in-None.ensures in
+    subst (λ (r : Request). IsIdleToApply c.args.self.now r c.args.steps.now c.args.steps.now) (sym c.requires.request)
+    (idle_on_absent c.args.self.now c.args.given.now.account.now c.args.given.now.key.now c.args.given.now.post.now c.args.steps.now absent)
 
 pub returns-in-Some-clause-reached : goal.returns-in-Some-clause-reached
 returns-in-Some-clause-reached g c =

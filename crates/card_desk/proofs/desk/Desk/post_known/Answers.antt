@@ -13,8 +13,8 @@ use Rattle.card_desk.specs.Desks.{now_at}
 use Rattle.card_desk.specs.Places.{IsPlace}
 use Rattle.card_desk.specs.Steps.{reached_there}
 use Rattle.card_desk.proofs.DeskLemmas.{outcome_at}
-use Rattle.card_desk.proofs.Left.{few_judged, few_left}
-use Rattle.card_desk.proofs.OutcomeLemmas.{new_at_key, none_against}
+use Rattle.card_desk.proofs.Left.{few_judged, few_left, idle_judged, idle_kept}
+use Rattle.card_desk.proofs.OutcomeLemmas.{fresh_of, new_at_key, none_against}
 use Rattle.card_desk.proofs.StepLemmas.{answered, out_of_memory, post_refused, post_repeated, refused_by, repeated_by}
 use Rattle.card_desk.proofs.Moves.{done-moves, judged-moves, refused-moves, repeated-moves}
 use Rattle.card_desk.proofs.Recording.{changed_twice}
@@ -117,6 +117,44 @@ returns-in-Err-clause-carried g c = out_of_memory (g.K.Keeper.rows c.args.keeper
 pub returns-in-Err-clause-most : goal.returns-in-Err-clause-most
 returns-in-Err-clause-most g c =
     few_left c.args.self.now.state (reached_there c.args.self.now c.args.at) (outcome_in c.args.self.now.state c.args.given.now.account.now c.args.given.now.key.now c.args.given.now.post.now) c.args.steps.now c.judge_at.new.steps c.judge_at.ensures.most
+
+-- ---- no step
+pub returns-in-Ok-Refused-clause-idle : goal.returns-in-Ok-Refused-clause-idle
+returns-in-Ok-Refused-clause-idle g c =
+    let d = c.args.self.now in
+    let key = c.args.given.now.key.now in
+    let p = c.args.given.now.post.now in
+    idle_judged (reached_there d c.args.at) key p (outcome_in d.state c.args.given.now.account.now key p) c.args.steps.now c.judge_at.new.steps c.judge_at.ensures.idle
+
+pub returns-in-Ok-Repeat-clause-idle : goal.returns-in-Ok-Repeat-clause-idle
+returns-in-Ok-Repeat-clause-idle g c =
+    let d = c.args.self.now in
+    let key = c.args.given.now.key.now in
+    let p = c.args.given.now.post.now in
+    idle_judged (reached_there d c.args.at) key p (outcome_in d.state c.args.given.now.account.now key p) c.args.steps.now c.judge_at.new.steps c.judge_at.ensures.idle
+
+pub returns-in-Err-clause-idle : goal.returns-in-Err-clause-idle
+returns-in-Err-clause-idle g c =
+    let d = c.args.self.now in
+    let key = c.args.given.now.key.now in
+    let p = c.args.given.now.post.now in
+    idle_judged (reached_there d c.args.at) key p (outcome_in d.state c.args.given.now.account.now key p) c.args.steps.now c.judge_at.new.steps c.judge_at.ensures.idle
+
+pub returns-in-Ok-New-clause-idle : goal.returns-in-Ok-New-clause-idle
+returns-in-Ok-New-clause-idle g c =
+    let d = c.args.self.now in
+    let s = d.state in
+    let key = c.args.given.now.key.now in
+    let p = c.args.given.now.post.now in
+    let e : NamedAccount = record { name = []; lists = record { posts = []; issued = [] } } in
+    let judged = sym c.in-Ok-New.field-0-is ∙ c.in-Ok-New.ensures.value e in
+    let a = get_or s.accounts c.args.at e in
+    let both = outcome_at s c.args.given.now.account.now key p c.args.at e verdict.New c.requires.place judged in
+    let new = accepted (present_in s a.lists) key p in
+    let known = with_key key a.lists.posts in
+    let kept = new_at_key (present_in s a.lists) key p known judged in
+    idle_kept (reached_there d c.args.at) key p (outcome_in s c.args.given.now.account.now key p) new c.args.steps.now c.judge_at.new.steps c.keep_post.new.steps
+    (both.1 ∙ kept) (fresh_of (present_in s a.lists) key p known new kept) c.judge_at.ensures.idle c.keep_post.ensures.idle
 
 -- ---- the day that it has reached
 pub returns-in-Ok-Refused-clause-reached : goal.returns-in-Ok-Refused-clause-reached
