@@ -1,5 +1,5 @@
 // Room in a list that grows by one a cycle.
-ghost use Rattle.std.specs.Prelude.{◌≡◌, ◌<◌, ◌≤◌, ◌++◌, [], ◌∷◌, OnOk, vec_len, vec_capacity};
+ghost use Rattle.std.specs.Prelude.{◌≡◌, ◌<◌, ◌≤◌, ◌++◌, [], ◌∷◌, OnOk, OnErr, vec_len, vec_capacity};
 
 use card_events::NoMemory;
 
@@ -17,9 +17,10 @@ pub fn make_cycle_room<T: Drop>(list: &mut Vec<T>) -> Result<(), NoMemory>
     Ok(())
 }
 
-// One more at the end.
+// One more at the end. If memory runs out, the list is as it was.
 pub fn push<T: Drop>(list: &mut Vec<T>, item: T) -> Result<(), NoMemory>
     ensures items { OnOk result (list.new.items ≡ list.old.items ++ item ∷ []) }
+    ensures err { OnErr result (list.new.items ≡ list.old.items) }
     ensures capacity { vec_capacity list.old ≤ vec_capacity list.new }
 {
     make_cycle_room(list)?;

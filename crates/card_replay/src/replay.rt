@@ -44,7 +44,7 @@ pub struct Replay {
 
 impl Model for Replay {
     ghost use Rattle.std.specs.Prelude.{◌≡◌, ◌<◌, true, vec_len, vec_capacity};
-    ghost use Rattle.card_events.specs.History.{anchor_of, is_open};
+    ghost use Rattle.card_events.specs.History.{anchor_of};
     ghost use Rattle.card_replay.specs.Replays.{Replay, day_of, day_reached};
 
     ghost Value = { Replay };
@@ -107,7 +107,7 @@ impl Replay {
     ghost use Rattle.card_events.specs.Billing.{IsCloseDay};
     ghost use Rattle.card_events.specs.Range.{last_calendar_day, last_request_day};
     ghost use Rattle.card_events.specs.Dated.{is_dated_post};
-    ghost use Rattle.card_events.specs.History.{anchor_of, opening_in, terms_in};
+    ghost use Rattle.card_events.specs.History.{anchor_of, is_open, opening_in, terms_in};
     ghost use Rattle.card_events.specs.Keys.{with_key};
     ghost use Rattle.card_model.specs.Machine.{accepted, issues};
     ghost use Rattle.card_model.specs.Folds.{cycle_at};
