@@ -14,6 +14,10 @@ from .nodes import Node, Nodes
 if TYPE_CHECKING:
     from .derivation import Derivation
 
+# the two balances that aren't of purchases, cash or transfers, and what is said of them at first
+_CALLED = {CREDIT: "credit balance", HELD: "amount in dispute"}
+_NOTHING = {CREDIT: "there was no credit balance so far", HELD: "nothing was in dispute so far"}
+
 
 class Balances:
     """Goes through the entries of a book in their order.
@@ -35,7 +39,8 @@ class Balances:
         self.parts: dict[int, list[tuple[int, Node]]] = {}  # of a payment
         self.holds: dict[int, tuple[int, Node]] = {}  # of a dispute
         for segment in self.segments:
-            nothing = self.nodes.none(f"nothing is on {segment.name} yet", rule="entries")
+            nothing = self.nodes.none(_NOTHING.get(segment.number, f"nothing was owed on "
+                                                   f"{segment.name} so far"), rule="entries")
             self.running.append(nothing)
             self.changes.append([(self.book.anchor.opened, nothing)])
         self.allocation = Allocation(self)
@@ -59,7 +64,7 @@ class Balances:
             found, segment, cents.value, day_text(on.value))
         cents.on = cents.on or on
         self.entries.append(cents)
-        name = self.segments[segment].name
+        name = _CALLED.get(segment, self.segments[segment].name)
         owed = self.nodes.make("sum", [self.running[segment], cents],
                                f"{name} after {what}", rule, on=on)
         owed.brief = True

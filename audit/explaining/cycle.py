@@ -79,6 +79,4 @@ class Cycles:
             return
         document.same = same_here(derivation, numbers.k)
         document.close(derivation.facts.closing(numbers.k).value,
-                       derivation.book.corrected.effective)
-        named = {node.more["text"] for node in document.nodes if node.how == "shown"}
-        document.texts |= {text: derivation.issued.texts[text] for text in sorted(named)}
+                       derivation.book.corrected.effective, derivation.issued.texts)

@@ -159,7 +159,7 @@ class Derivation:
         pct = self.facts.term("pct", "percentage of the terms")
         share = make("floor_divide", [make("product", [balance, pct], "balance x percentage",
                                            "portion", "cents x basis points")],
-                     "this percentage of the balance, rounded down", "portion", "cents", by=10_000)
+                     "the percentage of the balance", "portion", "cents", by=10_000)
         charges = make("sum", [share, found.interest, found.fees],
                        "with the interest and the fees of the cycle", "minimum")
         floor = self.facts.term("floor", "floor of the terms")

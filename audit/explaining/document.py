@@ -30,9 +30,13 @@ class Document:
         self.texts[printed.name] = printed.text()
         self.numbers += printed.numbers
 
-    def close(self, last_day: int, effective: dict[int, int]) -> "Document":
-        """Numbers the nodes, and says of each own row without a leaf why it has none."""
+    def close(self, last_day: int, effective: dict[int, int],
+              issued: dict[str, str]) -> "Document":
+        """Numbers the nodes, adds the issued statements that a leaf names, and says of each own row
+        without a leaf why it has none."""
         self.nodes = numbered(n.node for n in self.numbers)
+        named = {node.more["text"] for node in self.nodes if node.how == "shown"}
+        self.texts |= {name: issued[name] for name in sorted(named)}
         used = {node.more["seq"] for node in self.nodes if "seq" in node.more}
         for n, seq in enumerate(self.rows.posts, start=1):
             if seq not in used:

@@ -159,7 +159,8 @@ class Facts:
                   self.term("close", "closing day of the month"), day]
             self._known[place] = self.nodes.leaf(
                 "calendar", cycle_of(self.anchor, day.value), "count",
-                f"cycle of {day_text(day.value)}", "cycles", of=of, calendar="cycle")
+                f"number of the cycle that {day_text(day.value)} lies in", "cycles", of=of,
+                calendar="cycle")
         return self._known[place]
 
     def day_after(self, day: Node, what: str) -> Node:

@@ -58,7 +58,7 @@ class Fees:
         """The cycles whose fees decide between the first and the repeat amount, in words."""
         cycle = cycle_of(self.book.anchor, fee.day)
         if cycle > WINDOW:
-            return "this cycle or the six before"
+            return "this cycle or the six before it"
         return f"cycles 1 to {cycle}, all there were" if cycle > 1 else "this first cycle"
 
     def _missed(self, fee: Fee) -> str:

@@ -42,6 +42,12 @@ def how_text(node: Node) -> str:
     return _division(node) or _arithmetic(node)
 
 
+def brief_text(node: Node) -> str:
+    """How a balance that is shown in one line follows from the one before; nothing for the first
+    of them."""
+    return how_text(node) if len(node.of) == 2 and all(n.value for n in node.of) else ""
+
+
 def is_runs(node: Node) -> bool:
     """A sum over runs of days."""
     return bool(node.of) and isinstance(node.of[0].start, int)

@@ -135,7 +135,8 @@ class Interest:
                  last: Node) -> Node:
         total = self.nodes.make("sum", [run.days for run in runs], f"days x balance of "
                                 f"{segment.name}", "average", start=first, end=last)
-        days = self.nodes.make("days_between", [first, last], f"days of cycle {k}", "cycles", by=1)
+        days = self.nodes.make("days_between", [first, last], f"length of cycle {k}", "cycles",
+                               by=1)
         return self.nodes.make("round_half_up", [total, days], f"average daily balance of "
                                f"{segment.name}", "average", "cents")
 

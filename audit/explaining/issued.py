@@ -66,10 +66,11 @@ class IssuedTexts:
 
     def fee(self, k: int, fee: Fee) -> Node:
         """A fee of statement k."""
-        kind = "FEE-LATE" if fee.kind == "late" else "FEE-RETURN"
+        kind, said = (("FEE-LATE", "late fee") if fee.kind == "late" else
+                      ("FEE-RETURN", "returned-payment fee"))
         for line, fields in enumerate(self._of(k)):
             if fields[1:3] == [kind, str(fee.post)] and fields[0] == self.all.day_text(fee.day):
-                return self._shown(k, line, 3, fee.cents, kind)
+                return self._shown(k, line, 3, fee.cents, said)
         raise LookupError(str(fee))
 
     def grace(self, k: int) -> Node:

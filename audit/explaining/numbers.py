@@ -124,7 +124,7 @@ class StatementNumbers:
     def _timely(self) -> Node:
         issued = self.facts.accepted(self.bill or 0)
         between = self.nodes.make("days_between", [issued, self.facts.due(self.k)],
-                                  f"days from the issue of statement {self.k} to its due date",
+                                  f"from the issue of statement {self.k} to its due date",
                                   "timely")
         return self.nodes.make("at_least", [between], "issued at least 21 days before its due "
                                "date, so a payment is due", "timely", by=21)
@@ -224,7 +224,7 @@ class StatementNumbers:
 def node_copy(node: Node) -> Node:
     """The same sum as a node of its own, for a truth about it."""
     copy = Node(node.how, node.value, node.unit, node.what, node.of)
-    copy.rule, copy.cycle = node.rule, node.cycle
+    copy.rule, copy.cycle, copy.brief = node.rule, node.cycle, True
     return copy
 
 

@@ -48,7 +48,7 @@ class Owed:
         change.add("change {}", ("owed", owed))
         document.add(change)
         document.add(export_numbers(d, "export", 0, self.count))
-        document.close(self.day, d.book.corrected.effective)
+        document.close(self.day, d.book.corrected.effective, d.issued.texts)
 
     def text(self) -> str:
         """Of each segment its entries, with what is owed after each."""

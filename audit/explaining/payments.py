@@ -67,7 +67,7 @@ class Payments:
         if place not in self._known:
             issued = self.facts.accepted(self.book.issued[k].bill)
             between = self.nodes.make("days_between", [issued, self.facts.due(k)],
-                                      f"days from the issue of statement {k} to its due date",
+                                      f"from the issue of statement {k} to its due date",
                                       "timely")
             self._known[place] = self.nodes.make(
                 "at_least", [between], f"statement {k} was issued at least 21 days before its due "
@@ -192,7 +192,7 @@ class Payments:
                 counted = self.counted_since(k, day, "sixty")
                 if counted.value < self.all.minimum(k).value:
                     between = self.nodes.make("days_between", [self.facts.due(k), day],
-                                              f"days since due date {k}", "sixty")
+                                              f"since due date {k}", "sixty")
                     over = self.nodes.make("at_least", [between], "more than 60 days have passed "
                                            f"since due date {k}", "sixty", by=LATE_DAYS + 1)
                     return self.nodes.make("before", [counted, self.all.minimum(k)],

@@ -143,10 +143,12 @@ def table(days: list[Day]) -> str:
     head = "".join(f"<th>{escape(name)}</th>" for name in names)
     rows = []
     for first, last in _alike(days):
-        cells = "".join(f"<td>{money_text(first.balances[name])}</td>" for name in names)
-        rows.append(f"<tr><td>{day_text(first.day)}</td><td>{day_text(last.day)}</td>{cells}"
-                    f"<td class=\"said\">{escape('; '.join(first.events))}</td></tr>")
-    return (f'<div class="wide"><table><caption>Balances at the end of each day</caption><thead>'
-            f'<tr><th>from</th><th>to</th>{head}<th class="said">what happened</th></tr></thead>'
-            "<tbody>"
+        cells = "".join(f'<td class="owed" data-of="{escape(name)}">'
+                        f"{money_text(first.balances[name])}</td>" for name in names)
+        rows.append(f"<tr><td>{day_text(first.day)}</td><td class=\"to\">{day_text(last.day)}</td>"
+                    f"{cells}<td class=\"said\">{escape('; '.join(first.events))}</td></tr>")
+    many = ' class="many"' if len(names) > 1 else ""  # a narrow page has each balance on a line
+    return (f'<div class="wide"><table{many}><caption>Balances at the end of each day</caption>'
+            f'<thead><tr><th>from</th><th>to</th>{head}<th class="said">what happened</th></tr>'
+            "</thead><tbody>"
             f"{''.join(rows)}</tbody></table></div>")

@@ -95,7 +95,7 @@ class Repayment:
             grown, added, owed = self._owed(balances, month)
             share = self.nodes.make("floor_divide", [self.nodes.make(
                 "product", [owed, pct], "owed x percentage", "portion", "cents x basis points")],
-                "this percentage, rounded down", "portion", "cents", by=10_000)
+                "the percentage of what is owed", "portion", "cents", by=10_000)
             charges = self.nodes.make("sum", [share, *added], "with the interest", "repayment")
             least_asked = self.nodes.make("greatest", [charges, floor], "at least the floor",
                                           "repayment")

@@ -41,10 +41,10 @@ def fee_of(name: str, missed: str, table: Node, tier: tuple[bool, str], least: N
            cents: int) -> str:
     """Why a penalty fee is charged, and why it isn't higher; `tier` is whether it is at the repeat
     amount, and the cycles that were looked at."""
-    step = ("repeat amount: one at the first amount was charged" if tier[0] else
-            "first amount: none was charged at it")
-    said = (f"{missed} The fee table has {money_text(table.value)} for a {name} at the {step} in "
-            f"{tier[1]}.")
+    step, since = (("repeat", f"since a {name} at the first amount was charged in") if tier[0] else
+                   ("first", f"since no {name} was charged at it before in"))
+    said = (f"{missed} The {step} amount of the fee table for a {name} is "
+            f"{money_text(table.value)}. It is taken, {since} {tier[1]}.")
     bound = min(node.value for node in least.of[1:])
     if bound < table.value:
         said += (f" But no penalty fee may exceed the minimum payment that was due, "

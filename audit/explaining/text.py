@@ -7,7 +7,7 @@ from collections.abc import Iterator
 from ..days import day_text
 from .differences import HEADING, ONLY, differing
 from .document import Document, is_asked
-from .how import how_text, is_runs, shown_value
+from .how import brief_text, how_text, is_runs, shown_value
 from .nodes import Node, value_text
 from .numbers import Number
 from .rules import PARTS, RULES
@@ -22,6 +22,9 @@ NAMES = ("A row is an accepted line, by its number in the file. A post is an ent
          "number is rounded is the ledger's own choice.")
 RATE_HEADS = f"{'':17} {'YEARLY':>7} {'DAILY':>12} {'AVERAGE DAILY':>14} {'INTEREST':>14}\n" \
              f"{'':17} {'RATE':>7} {'RATE':>12} {'BALANCE':>14}"
+# the heading of a number that no text prints
+UNPRINTED = {"grace": "grace amount (on no line): pays the statement in full",
+             "due-date": "due date (on no line): whether a payment is due by it"}
 MANY = 6  # months that are all shown
 _POST = re.compile(r"(post \d+) \(key [^ ,)]+, entered \d{4}-\d\d-\d\d\)")
 _QUIET = ("cycle", "entries")
@@ -105,9 +108,10 @@ class Text:
         self.seen.add(id(node))
         elsewhere = bool(node.of or node.why) and not children and not node.brief and (
             node.how not in ("calendar", "in_force") and 0 < node.cycle < self.cycle)
-        how = "" if elsewhere else how_text(node.of[0] if is_named(node) else node)
+        how = "" if elsewhere else (brief_text(node) if node.brief else
+                                    how_text(node.of[0] if is_named(node) else node))
         said += "?" if question else ""
-        if how and not (again or node.brief):
+        if how and not again:
             said += (f" ({how})" if not node.of or not children else f" {how}" if question else
                      f": {how}")
         if again and not node.brief:
@@ -207,8 +211,10 @@ class Text:
             assert isinstance(run.start, int)
             self.seen.add(id(balance))
             self.in_tables.add(id(balance))
+            how = brief_text(balance)
             yield from row_line(value_text(balance.value, balance.unit), depth, "from "
-                                f"{day_text(run.start)}: {self.names.short(balance.what)}", "")
+                                f"{day_text(run.start)}: {self.names.short(balance.what)}"
+                                + (f" ({how})" if how else ""), "")
 
     # -- the whole --------------------------------------------------------------------------
 
@@ -232,7 +238,7 @@ class Text:
                 yield ""
         for number in document.numbers:
             if not number.text and (not word or is_asked(word, number)):
-                yield f"{number.word.upper()} (on no line)"
+                yield UNPRINTED[number.word].upper()
                 yield from self.tree(number.node)
                 yield ""
 
@@ -273,9 +279,9 @@ def text_of(document: Document, word: str = "") -> str:
     out = [f"WHERE THE NUMBERS OF CYCLE {head['cycle']} OF ACCOUNT {head['account']} COME FROM, "
            f"{AS[head['as']]} {head['today']}", *textwrap.wrap(
                f"Made from rows 1 to {head['rows_up_to']} of the file. Below each line of the "
-               f"statement are its numbers, each with what it is and how it follows; what it is "
-               f"made of is set in below it. At the right is the section of 12 CFR 1026 "
-               f"(Regulation Z) for the amount. {NAMES}", WIDTH), ""]
+               "statement are its numbers, each with what it is and how it follows; what it is "
+               "made of (\"this\", \"these\") is set in below it. At the right is the section of "
+               f"12 CFR 1026 (Regulation Z) for the amount. {NAMES}", WIDTH), ""]
     out += text.lines(document, word)
     out += text.parts(document, bool(word))
     if not word:

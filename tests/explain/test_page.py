@@ -1,17 +1,20 @@
 """The page: its links, its words, and how a browser shows it."""
 
 import re
-import subprocess
 import unittest
+from collections.abc import Iterator
 from html import unescape
 from html.parser import HTMLParser
 
 from audit.explaining.page import page_of
+from audit.statements.browser import Browser
 from tests.explain.common import RETURNED, ExplainCase
-from tests.support.case import long, tools_missing
+from tests.pages.looked_at import WHOLE, WIDER, WIDTHS, Looked
+from tests.pages.test_browser import missing, printed_pages
+from tests.support.case import long
+from tests.support.program import EXAMPLES
 
-SIZES = (380, 1200)
-BROWSER = ["chromium", "--headless", "--no-sandbox", "--disable-gpu", "--hide-scrollbars"]
+NUMBER = re.compile(r"-?\d+\.\d+%?|\d{4}-\d\d-\d\d")
 
 
 class Tags(HTMLParser):
@@ -66,7 +69,7 @@ class Page(ExplainCase):
         page, text = self.page()
         shown = re.sub("<[^>]+>", "", page.split("<pre>")[1].split("</pre>")[0])
         self.assert_same(unescape(shown) + "\n", text)
-        for number in re.findall(r"-?\d+\.\d+%?|\d{4}-\d\d-\d\d", text):
+        for number in NUMBER.findall(text):
             self.assertIn(f">{number}</a>", page)
 
     def test_planted(self) -> None:
@@ -77,24 +80,45 @@ class Page(ExplainCase):
         self.assertEqual(tags.loaded, ["script"])
 
     @long
-    @unittest.skipIf(tools_missing("chromium", "pdftotext"), "chromium or pdftotext isn't there")
+    @unittest.skipIf(missing(), missing())
     def test_browser(self) -> None:
+        """Nothing reaches past a page of either width, also where it has several balances, and
+        every number of the statement is printed."""
         page, text = self.page()
-        probe = ("<script>document.title=document.documentElement.scrollWidth+' '+innerWidth"
-                 "</script></body>")
-        path = self.write("page.html", page.replace("</body>", probe))
-        for size in SIZES:
-            done = subprocess.run([*BROWSER, f"--window-size={size},900", "--dump-dom",
-                                   f"file://{path}"], capture_output=True, text=True, check=True)
-            title = re.search("<title>(\\d+) (\\d+)</title>", done.stdout)
-            assert title is not None
-            self.assertLessEqual(int(title[1]), int(title[2]), size)
-            self.assertNotIn("CONSOLE", done.stderr)
-        pdf = self.at("page.pdf")
-        plain = self.write("plain.html", page)
-        subprocess.run([*BROWSER, f"--print-to-pdf={pdf}", f"file://{plain}"], capture_output=True,
-                       check=True)
-        words = subprocess.run(["pdftotext", "-layout", pdf, "-"], capture_output=True, text=True,
-                               check=True).stdout
-        for number in re.findall(r"-?\d+\.\d+%?|\d{4}-\d\d-\d\d", text):
+        with Browser() as browser:
+            look = Looked(browser)
+            for html in (page, *self.wide_pages()):
+                for width in WIDTHS:
+                    look.show(html, width)
+                    self.assertEqual(look.value(WIDER), "[]", width)
+                    self.assertEqual((look.value(WHOLE), look.value("innerWidth")), (width, width))
+                    self.assertEqual(look.said(), [])
+            words = "".join(printed_pages(browser.pdf(page, "2024-03-06")))
+        for number in NUMBER.findall(text):
             self.assertIn(number, words)
+
+    def wide_pages(self) -> Iterator[str]:
+        """Pages with tables of several balances, and with large amounts."""
+        large = RETURNED.replace(" 100000\n", " 1000000000\n")
+        names = ("official-g18-interest", "official-13d1-before-the-closing")
+        examples = [(EXAMPLES / f"{name}.txt").read_text(encoding="utf-8") for name in names]
+        for lines, shown in zip([large, *examples], ("10000000.00", "transfer:4", "290.00")):
+            pages = [page_of(cycles.recomputed(k), cycles.days(k))
+                     for _, machine, cycles in self.accounts(lines)
+                     for k in range(1, machine.closed_cycles(cycles.account) + 1)]
+            self.assertTrue(any(f">{shown}<" in page for page in pages), shown)
+            yield from pages
+
+    @long
+    @unittest.skipIf(missing(), missing())
+    def test_planted_width(self) -> None:
+        """A table whose last column a narrow page cuts off is found, though the page is as wide as
+        the window."""
+        page, _ = self.page()
+        cut = page.replace(' class="many"', "")
+        self.assertNotEqual(cut, page)
+        with Browser() as browser:
+            look = Looked(browser)
+            look.show(cut, min(WIDTHS))
+            self.assertEqual(look.value(WHOLE), min(WIDTHS))
+            self.assertIn("TABLE", look.value(WIDER))
