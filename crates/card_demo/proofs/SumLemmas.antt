@@ -17,7 +17,6 @@ use Rattle.card_model.specs.declared.entry.EntryKind.TheVariants as kind
 use Rattle.card_segments.proofs.SumsBack.{cents-within}
 use Rattle.card_segments.specs.Balances.{IsWithin}
 use mir.Syntax.{w128}
-use Rattle.card_statement.proofs.DayBalances.{fits-wide}
 
 -- ---- with more entries
 with-append : (xs ys : List Entry) (t : Totals) → with_entries (xs ++ ys) t ≡ with_entries ys (with_entries xs t)
@@ -85,6 +84,11 @@ account_added s i t u before now =
 -- ---- how large sums are
 pub sum-within : (m k : ℕ) (y z : ℤ) → IsWithin m y → IsWithin k z → IsWithin (m + k) (y +ℤ z)
 sum-within m k y z h g = (let a = h.0 in let b = g.0 in omega (arith, ints), let a = h.1 in let b = g.1 in omega (arith, ints))
+
+-- a number of 128 bits
+pub fits-wide : (n : ℕ) (z : ℤ) → n < 2 ^ 127 → IsWithin n z → FitsSigned w128 z
+fits-wide n (pos k) low within = fits_signed_from_abs w128 (pos k) (omega (arith, ints, within.1))
+fits-wide n (negsuc k) low within = fits_signed_from_abs w128 (negsuc k) (omega (arith, ints, within.0))
 
 wider-one : (m n : ℕ) (z : ℤ) → m ≤ n → IsWithin m z → IsWithin n z
 wider-one m n z more within = (let a = within.0 in omega (arith, ints, a), let b = within.1 in omega (arith, ints, b))

@@ -1,8 +1,7 @@
 use Rattle.std.proofs.Common.{◌≡◌, ◌+◌, ◌^◌, arith, refl, sym, ap, ◌∙◌, subst, ℤ, ◌+ℤ◌, FitsSigned, to_z, of_z, w64}
 use Rattle.std.proofs.lemmas.Int.{to_z-of_z}
-use Rattle.card_statement.proofs.DayBalances.{fits-wide}
 use Rattle.card_segments.proofs.SumsBack.{cents-within}
-use Rattle.card_demo.proofs.SumLemmas.{sum-within}
+use Rattle.card_demo.proofs.SumLemmas.{fits-wide, sum-within}
 use Rattle.card_segments.specs.Balances.{IsWithin}
 use mir.Syntax.{w128}
 use Rattle.card_demo.proofs.totals.plus.Goals as goal
