@@ -19,6 +19,7 @@ from companion.opening import open_rows, require_openable
 from companion.pages import wanted_of
 from companion.reissue import held_back
 from companion.report import end_report, overdue_of, tell_money, tell_tasks
+from companion.rights import cause_of, require_owner
 from companion.run import AFTER_SECONDS, Meant
 from companion.seals import Seal, seals_at
 from companion.state import State, read_state
@@ -105,7 +106,9 @@ def print_all(night: Night) -> Close:
     night.tell(f"statements: {len(wanted)} in {os.path.relpath(folder, night.home)}")
     night.found = bool(overdue_of(tasks, night.day)) or night.found
     tell_tasks(tasks, night.day, night.tell)
-    return tell_money(night.home, night.day, night.state, asker, night.returned, night.tell)
+    sealed = night.before.seal.rows if night.before else 0
+    returned = night.state.returned_since(sealed)
+    return tell_money(night.home, night.day, night.state, asker, returned, night.tell)
 
 
 def save(night: Night) -> None:
@@ -210,11 +213,14 @@ def begun(asked: Asked) -> Night:
     lines, count = count_of(state, asked.day, files)
     hand = Hand(asked.program, path, state, asked.calls, is_bulk(lines, state.rows), count)
     hand.numbers = numbers
-    return Night(asked, hand, last, whole, files)
+    night = Night(asked, hand, last, whole, files)
+    night.found = night.has_refused()
+    return night
 
 
 def night_of(asked: Asked) -> int:
     require_home(asked.home)
+    require_owner(os.path.join(asked.home, LEDGER))
     with locked(asked.home):
         night = begun(asked)
         if is_done(night):
@@ -238,7 +244,7 @@ def night(asked: Asked) -> int:
         return night_of(Asked(asked.program, asked.home, asked.day, meant, asked.wait, asked.calls,
                               asked.reissue, kept, wanted_of(asked.home)))
     except OSError as error:
-        raise Trouble(f"{error.filename or asked.home}: {error.strerror}; {GOES_ON}",
+        raise Trouble(f"{error.filename or asked.home}: {cause_of(error)}; {GOES_ON}",
                       OWN_FILES) from error
     except Trouble as trouble:
         if isinstance(trouble.__cause__, OSError):

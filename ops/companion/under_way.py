@@ -3,11 +3,13 @@
 import contextlib
 import fcntl
 import os
+import re
 from collections.abc import Iterator
 from dataclasses import dataclass, field
 from datetime import date
 
 from companion.backups import Keep
+from companion.files import read_text
 from companion.hand import Hand
 from companion.home import LEDGER, Sealed
 from companion.inputs import Input
@@ -20,6 +22,9 @@ from companion.trouble import LOCKED, Trouble, counted, say
 from companion.waiting import Waiting
 
 LOCK = "night.lock"
+
+# The line of a file of which something, or all, was refused.
+REFUSED = re.compile("inbox .*(, [1-9][0-9]* refused|; it is in refused/.*)")
 
 
 @contextlib.contextmanager
@@ -78,7 +83,6 @@ class Night:
     before: Sealed | None = None
     start: Seal | None = None
     waiting: list[Waiting] = field(default_factory=list)
-    returned: list[str] = field(default_factory=list)
     found: bool = False
 
     @property
@@ -110,6 +114,11 @@ class Night:
         with open(self.part, "a", encoding="utf-8") as file:
             file.write(text + "\n")
 
+    def has_refused(self) -> bool:
+        """Whether something was refused of a file before a stop, by what was told until then."""
+        lines = read_text(self.part).splitlines() if os.path.exists(self.part) else []
+        return any(REFUSED.fullmatch(line) for line in lines)
+
     def reports(self) -> list[str]:
         """The reports of this day's nights that ended, the last one behind."""
         found: list[str] = []
@@ -124,9 +133,6 @@ class Night:
         """Sends what passed the guards. Gives the replies, with the refusals told."""
         sent = self.hand.send(given, name)
         self.found = self.found or bool(sent.refused)
-        self.returned += [f"{request.fields['account']} {request.fields['key']}"
-                          for request, reply in zip(given.requests(), sent.replies)
-                          if request and request.word == "return" and reply.startswith("ok")]
         if name in ("roll", "bills"):
             for text in sent.refused:
                 self.tell(f"  {text}")

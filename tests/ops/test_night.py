@@ -333,6 +333,16 @@ class Inbox(Home):
     def file_in(self, home: str) -> str:
         return os.path.join(home, "rows.db")
 
+    def test_owner(self) -> None:
+        """Root is refused where the ledger is another user's, who couldn't go on from there."""
+        before = self.listing()
+        with (mock.patch("companion.rights.owner_of", lambda path: 12345),
+              mock.patch("os.geteuid", lambda: 0)):
+            self.expect(self.night("2024-02-06"), 10,
+                        f"night: {self.file} belongs to 12345, who couldn't write what a night of "
+                        "root leaves; call as 12345 (sudo -u 12345)")
+        self.assertEqual(self.listing(), before)
+
     def test_under_way(self) -> None:
         """A second night in the folder is turned away, and so is a night while another process has
         the ledger."""
