@@ -17,7 +17,7 @@ from companion.looks import bill_lines, late_bills
 from companion.made import add_notes_of, make_pages
 from companion.opening import open_rows, require_openable
 from companion.pages import wanted_of
-from companion.reissue import held_back
+from companion.reissue import Held, held_back
 from companion.report import end_report, overdue_of, tell_money, tell_tasks
 from companion.rights import cause_of, require_owner
 from companion.run import AFTER_SECONDS, Meant
@@ -48,6 +48,7 @@ def take_in(night: Night, one: Waiting) -> None:
     """Sends a file of the inbox, or puts it aside where a guard refuses it."""
     if one.given is None:
         night.found = True
+        night.missing.append(one.name)
         to = put_away(night, one.name, "refused", ".why", [one.refusal])
         night.tell(f"inbox {one.name}: {one.refusal}; it is in {to}")
         return
@@ -57,6 +58,7 @@ def take_in(night: Night, one: Waiting) -> None:
     add_notes_of(night, one.notes)
     if os.path.getsize(night.path(INBOX, one.name)) != one.size:
         night.found = True
+        night.missing.append(one.name)
         night.tell(f"inbox {one.name}: it was written to meanwhile, so it stays for the next call")
         return
     put_away(night, one.name, "done", ".replies", replies)
@@ -75,8 +77,21 @@ def roll(night: Night) -> None:
     night.tell(f"roll: from {before} to {night.day}")
 
 
+def awaiting(night: Night) -> Held:
+    """The bills that wait for a later call, since records are missing that no statement has after
+    its bill. One whose last day has come doesn't wait."""
+    found = [one for one in night.state.due() if night.missing and night.day < one.last_day]
+    if found:
+        number = "1 waits" if len(found) == 1 else f"{len(found)} wait"
+        night.tell(f"bills: {number} for the next call, since records of "
+                   f"{', '.join(night.missing)} are missing, and a statement has none that come "
+                   f"behind its bill; the first has until {found[0].last_day}")
+    return frozenset((one.account, one.cycle) for one in found)
+
+
 def bill(night: Night) -> None:
-    """Sends the bills that are due, but those printed before with other numbers."""
+    """Sends the bills that are due, but those printed before with other numbers, and those that
+    wait for records."""
     held, texts = held_back(night.asked.program, night.home, night.state, night.hand.close)
     for text in texts:
         night.tell(f"  {text}")
@@ -84,7 +99,8 @@ def bill(night: Night) -> None:
         night.found = True
         night.tell(f"reissue: {counted(len(held), 'bill')} held back, since statements with other "
                    "numbers were printed; --reissue issues them")
-    lines = bill_lines(night.state, frozenset() if night.asked.reissue else held)
+    held = awaiting(night) | (frozenset() if night.asked.reissue else held)
+    lines = bill_lines(night.state, held)
     late = late_bills(night.state)
     if lines:
         night.send(lines_given(lines), "bills")
@@ -214,7 +230,7 @@ def begun(asked: Asked) -> Night:
     hand = Hand(asked.program, path, state, asked.calls, is_bulk(lines, state.rows), count)
     hand.numbers = numbers
     night = Night(asked, hand, last, whole, files)
-    night.found = night.has_refused()
+    night.go_on()
     return night
 
 

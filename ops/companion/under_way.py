@@ -23,8 +23,9 @@ from companion.waiting import Waiting
 
 LOCK = "night.lock"
 
-# The line of a file of which something, or all, was refused.
-REFUSED = re.compile("inbox .*(, [1-9][0-9]* refused|; it is in refused/.*)")
+# The line of a file of which something was refused, and of one of which all was.
+SOME_REFUSED = re.compile("inbox .*, [1-9][0-9]* refused")
+ALL_REFUSED = re.compile("inbox ([^:]*): .*; it is in refused/.*")
 
 
 @contextlib.contextmanager
@@ -76,13 +77,17 @@ class Asked:
 
 @dataclass
 class Night:
-    """One night: where, of which day, what the ledger has so far, and what was told of it."""
+    """One night: where, of which day, what the ledger has so far, and what was told of it.
+
+    `missing` names the files of the inbox whose records aren't in the ledger, or not all of them.
+    """
 
     asked: Asked
     hand: Hand
     before: Sealed | None = None
     start: Seal | None = None
     waiting: list[Waiting] = field(default_factory=list)
+    missing: list[str] = field(default_factory=list)
     found: bool = False
 
     @property
@@ -114,10 +119,13 @@ class Night:
         with open(self.part, "a", encoding="utf-8") as file:
             file.write(text + "\n")
 
-    def has_refused(self) -> bool:
-        """Whether something was refused of a file before a stop, by what was told until then."""
-        lines = read_text(self.part).splitlines() if os.path.exists(self.part) else []
-        return any(REFUSED.fullmatch(line) for line in lines)
+    def go_on(self) -> None:
+        """Takes up what was refused before a stop, by what was told until then."""
+        for line in read_text(self.part).splitlines() if os.path.exists(self.part) else []:
+            whole = ALL_REFUSED.fullmatch(line)
+            if whole:
+                self.missing.append(whole.group(1))
+            self.found = self.found or bool(whole or SOME_REFUSED.fullmatch(line))
 
     def reports(self) -> list[str]:
         """The reports of this day's nights that ended, the last one behind."""
