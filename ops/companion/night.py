@@ -34,14 +34,17 @@ SPARE = 16
 GOES_ON = "the next call goes on from here"
 
 
-def put_away(night: Night, name: str, where: str, end: str, lines: list[str]) -> str:
+def place_for(night: Night, name: str, where: str) -> str:
+    """Where a file of the inbox goes, as a path below the home."""
+    folder = os.path.join(where, str(night.day))
+    make_folder(night.path(folder))
+    return os.path.join(folder, free_name(night.path(folder), name))
+
+
+def put_away(night: Night, name: str, to: str, end: str, lines: list[str]) -> None:
     """Moves a file out of the inbox, and writes beside it what came of it."""
-    folder = night.path(where, str(night.day))
-    make_folder(folder)
-    to = free_name(folder, name)
-    put_text(os.path.join(folder, to + end), "".join(line + "\n" for line in lines))
-    shutil.move(night.path(INBOX, name), os.path.join(folder, to))
-    return os.path.join(where, str(night.day), to)
+    put_text(night.path(to + end), "".join(line + "\n" for line in lines))
+    shutil.move(night.path(INBOX, name), night.path(to))
 
 
 def take_in(night: Night, one: Waiting) -> None:
@@ -49,8 +52,9 @@ def take_in(night: Night, one: Waiting) -> None:
     if one.given is None:
         night.found = True
         night.missing.append(one.name)
-        to = put_away(night, one.name, "refused", ".why", [one.refusal])
+        to = place_for(night, one.name, "refused")
         night.tell(f"inbox {one.name}: {one.refusal}; it is in {to}")
+        put_away(night, one.name, to, ".why", [one.refusal])
         return
     replies = night.send(one.given, one.name)
     if one.note:
@@ -61,7 +65,7 @@ def take_in(night: Night, one: Waiting) -> None:
         night.missing.append(one.name)
         night.tell(f"inbox {one.name}: it was written to meanwhile, so it stays for the next call")
         return
-    put_away(night, one.name, "done", ".replies", replies)
+    put_away(night, one.name, place_for(night, one.name, "done"), ".replies", replies)
 
 
 def lines_given(lines: list[str]) -> Input:
@@ -83,9 +87,10 @@ def awaiting(night: Night) -> Held:
     found = [one for one in night.state.due() if night.missing and night.day < one.last_day]
     if found:
         number = "1 waits" if len(found) == 1 else f"{len(found)} wait"
-        night.tell(f"bills: {number} for the next call, since records of "
-                   f"{', '.join(night.missing)} are missing, and a statement has none that come "
-                   f"behind its bill; the first has until {found[0].last_day}")
+        names = ", ".join(dict.fromkeys(night.missing))
+        night.tell(f"bills: {number} for the next call, since records of {names} are missing, and "
+                   "a statement has none that come behind its bill; the first has until "
+                   f"{found[0].last_day}")
     return frozenset((one.account, one.cycle) for one in found)
 
 

@@ -316,8 +316,13 @@ class Inbox(Home):
         self.put("cards.csv", HEADER[:-1])
         self.assertEqual(self.night("2024-02-06")[0], 1)
         self.put("cards.csv", HEADER[:-1])
-        self.assertTrue(killed_at("bill", self.home, "--day", "2024-02-07"))
-        self.expect(self.night("2024-02-07"), 1, "bills: 1 waits for the next call")
+        for step in ("put_away", "bill"):
+            self.assertTrue(killed_at(step, self.home, "--day", "2024-02-07"))
+            self.assertIn("it is in refused/2024-02-07/cards.csv\n",
+                          self.text("reports", "2024-02-07.part"))
+        self.expect(self.night("2024-02-07"), 1, "bills: 1 waits for the next call, since records "
+                    "of cards.csv are missing")
+        self.assertEqual(self.names("refused", "2024-02-07"), ["cards.csv", "cards.csv.why"])
         self.put("cards.csv", HEADER[:-1])
         done = self.night("2024-02-09")
         self.expect(done, 1, "bills: 1\n")
