@@ -12,6 +12,7 @@ from companion.check import cause_in, require_sound
 from companion.days import day_of
 from companion.files import make_folder, names_in, put_text, settle
 from companion.opening import MORE_ROOM, copy_pair, held, require_openable
+from companion.rights import cause_of
 from companion.seals import Seal, read_seal
 from companion.state import count_and_today
 from companion.trouble import CANNOT_OPEN, DONE, GUARDED, OWN_FILES, Trouble, counted, say
@@ -60,7 +61,7 @@ def name_of(path: str, day: date, rows: int) -> str:
 
 def backup(program: str, path: str, folder: str, wait: int,
            prove: Prove | None = None) -> tuple[str, bool]:
-    """Makes a backup in the folder, named by today and the number of rows.
+    """Makes a backup in the folder, named by today and the number of rows, with the file's mode.
 
     Gives its path, and whether it is new. It gets its name once `prove` had billctl load its rows.
     """
@@ -78,13 +79,14 @@ def backup(program: str, path: str, folder: str, wait: int,
                 require_sound(program, path, copy)
             else:
                 prove(copy)
+            os.chmod(copy, os.stat(path).st_mode & 0o777)
             settle(copy)
             os.rename(copy, to)
             settle(to)
     except sqlite3.Error as error:
         raise Trouble(f"a backup can't be made in {folder}: {error}", OWN_FILES) from error
     except OSError as error:
-        raise Trouble(f"a backup can't be made in {folder}: {error.strerror}",
+        raise Trouble(f"a backup can't be made in {folder}: {cause_of(error)}",
                       OWN_FILES) from error
     require_same_rows(to, found, path)
     put_text(to + SEAL_END, found.text() + "\n")

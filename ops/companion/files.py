@@ -2,6 +2,7 @@
 
 import os
 
+from companion.rights import cause_of
 from companion.trouble import OWN_FILES, Trouble
 
 
@@ -25,7 +26,7 @@ def put_text(path: str, text: str) -> None:
             os.fsync(file.fileno())
         os.replace(new, path)
     except OSError as error:
-        raise Trouble(f"{path} can't be written: {error.strerror}", OWN_FILES) from error
+        raise Trouble(f"{path} can't be written: {cause_of(error)}", OWN_FILES) from error
 
 
 def make_folder(path: str) -> None:
@@ -36,7 +37,7 @@ def make_folder(path: str) -> None:
     try:
         os.makedirs(path, mode=0o700, exist_ok=True)
     except OSError as error:
-        raise Trouble(f"the folder {path} can't be made: {error.strerror}", OWN_FILES) from error
+        raise Trouble(f"the folder {path} can't be made: {cause_of(error)}", OWN_FILES) from error
 
 
 def read_text(path: str) -> str:
@@ -45,7 +46,7 @@ def read_text(path: str) -> str:
         with open(path, encoding="utf-8", errors="backslashreplace") as file:
             return file.read()
     except OSError as error:
-        raise Trouble(f"{path} can't be read: {error.strerror}", OWN_FILES) from error
+        raise Trouble(f"{path} can't be read: {cause_of(error)}", OWN_FILES) from error
 
 
 def names_in(folder: str) -> list[str]:

@@ -126,8 +126,9 @@ class Hand:
         self.numbers[account, key] = int(reply[3:])
 
     def asker(self) -> Asker:
-        """Answers questions; what was open for many lines is ended before."""
-        if isinstance(self.session, Pipe):
+        """Answers questions; what was open for many lines is ended before, and isn't begun again
+        where an input by a call of its own ended it."""
+        if self.bulk:
             self.close()
             self.bulk = False
         self.begin()

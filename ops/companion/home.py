@@ -12,6 +12,7 @@ from typing import Any
 
 from companion.files import names_in, read_text
 from companion.opening import open_rows
+from companion.rights import cause_of
 from companion.seals import Seal, seals_at
 from companion.trouble import DONE, FOUND, GUARDED, OWN_FILES, Trouble, counted, say
 
@@ -37,7 +38,7 @@ def read_toml(path: str) -> dict[str, Any]:
         with open(path, "rb") as file:
             return tomllib.load(file)
     except OSError as error:
-        raise Trouble(f"{path} can't be read: {error.strerror}", OWN_FILES) from error
+        raise Trouble(f"{path} can't be read: {cause_of(error)}", OWN_FILES) from error
     except (tomllib.TOMLDecodeError, UnicodeDecodeError) as error:
         raise Trouble(f"{path} isn't understood: {error}", GUARDED) from error
 
@@ -115,7 +116,8 @@ def require_sealed(home: str, whole: Seal, early: Seal | None, last: Sealed) -> 
         raise Trouble(
             f"the first {rows} rows aren't those that {name} sealed: a row was changed, lost or "
             f"put in. Nothing was done. Keep the file as it is, and compare it with the backup of "
-            f"{rows} rows: `rows` prints both as lines", GUARDED)
+            f"{rows} rows: `rows` prints both as lines, and `restore` puts the backup in its place "
+            "and keeps the file", GUARDED)
 
 
 def chain(home: str, wait: int) -> int:

@@ -60,8 +60,9 @@ def add_night(words: Words) -> None:
         "in the order of their names, the bills that are due, their statements and the open tasks\n"
         "in HOME/statements/DAY, the day's close in HOME/books, a backup in HOME/backups, and a\n"
         "report in HOME/reports. A file that a guard refuses goes to HOME/refused/DAY with its\n"
-        "cause, the others to HOME/done/DAY with their replies. It may be stopped anywhere and\n"
-        "called again; a second call of a night changes nothing. A ledger whose first rows aren't\n"
+        "cause, and the bills wait for the next call while they may; the others go to\n"
+        "HOME/done/DAY with their replies. It may be stopped anywhere and called again; a second\n"
+        "call after a night with nothing left changes nothing. A ledger whose first rows aren't\n"
         "those that the last report sealed is refused. Prints the path of the report. Status 1:\n"
         "something was refused, or a deadline is past.", carry_night, wait=60, place="home",
         program=True)

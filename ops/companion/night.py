@@ -17,8 +17,9 @@ from companion.looks import bill_lines, late_bills
 from companion.made import add_notes_of, make_pages
 from companion.opening import open_rows, require_openable
 from companion.pages import wanted_of
-from companion.reissue import held_back
+from companion.reissue import Held, held_back
 from companion.report import end_report, overdue_of, tell_money, tell_tasks
+from companion.rights import cause_of, require_owner
 from companion.run import AFTER_SECONDS, Meant
 from companion.seals import Seal, seals_at
 from companion.state import State, read_state
@@ -33,22 +34,27 @@ SPARE = 16
 GOES_ON = "the next call goes on from here"
 
 
-def put_away(night: Night, name: str, where: str, end: str, lines: list[str]) -> str:
+def place_for(night: Night, name: str, where: str) -> str:
+    """Where a file of the inbox goes, as a path below the home."""
+    folder = os.path.join(where, str(night.day))
+    make_folder(night.path(folder))
+    return os.path.join(folder, free_name(night.path(folder), name))
+
+
+def put_away(night: Night, name: str, to: str, end: str, lines: list[str]) -> None:
     """Moves a file out of the inbox, and writes beside it what came of it."""
-    folder = night.path(where, str(night.day))
-    make_folder(folder)
-    to = free_name(folder, name)
-    put_text(os.path.join(folder, to + end), "".join(line + "\n" for line in lines))
-    shutil.move(night.path(INBOX, name), os.path.join(folder, to))
-    return os.path.join(where, str(night.day), to)
+    put_text(night.path(to + end), "".join(line + "\n" for line in lines))
+    shutil.move(night.path(INBOX, name), night.path(to))
 
 
 def take_in(night: Night, one: Waiting) -> None:
     """Sends a file of the inbox, or puts it aside where a guard refuses it."""
     if one.given is None:
         night.found = True
-        to = put_away(night, one.name, "refused", ".why", [one.refusal])
+        night.missing.append(one.name)
+        to = place_for(night, one.name, "refused")
         night.tell(f"inbox {one.name}: {one.refusal}; it is in {to}")
+        put_away(night, one.name, to, ".why", [one.refusal])
         return
     replies = night.send(one.given, one.name)
     if one.note:
@@ -56,9 +62,10 @@ def take_in(night: Night, one: Waiting) -> None:
     add_notes_of(night, one.notes)
     if os.path.getsize(night.path(INBOX, one.name)) != one.size:
         night.found = True
+        night.missing.append(one.name)
         night.tell(f"inbox {one.name}: it was written to meanwhile, so it stays for the next call")
         return
-    put_away(night, one.name, "done", ".replies", replies)
+    put_away(night, one.name, place_for(night, one.name, "done"), ".replies", replies)
 
 
 def lines_given(lines: list[str]) -> Input:
@@ -74,8 +81,22 @@ def roll(night: Night) -> None:
     night.tell(f"roll: from {before} to {night.day}")
 
 
+def awaiting(night: Night) -> Held:
+    """The bills that wait for a later call, since records are missing that no statement has after
+    its bill. One whose last day has come doesn't wait."""
+    found = [one for one in night.state.due() if night.missing and night.day < one.last_day]
+    if found:
+        number = "1 waits" if len(found) == 1 else f"{len(found)} wait"
+        names = ", ".join(dict.fromkeys(night.missing))
+        night.tell(f"bills: {number} for the next call, since records of {names} are missing, and "
+                   "a statement has none that come behind its bill; the first has until "
+                   f"{found[0].last_day}")
+    return frozenset((one.account, one.cycle) for one in found)
+
+
 def bill(night: Night) -> None:
-    """Sends the bills that are due, but those printed before with other numbers."""
+    """Sends the bills that are due, but those printed before with other numbers, and those that
+    wait for records."""
     held, texts = held_back(night.asked.program, night.home, night.state, night.hand.close)
     for text in texts:
         night.tell(f"  {text}")
@@ -83,7 +104,8 @@ def bill(night: Night) -> None:
         night.found = True
         night.tell(f"reissue: {counted(len(held), 'bill')} held back, since statements with other "
                    "numbers were printed; --reissue issues them")
-    lines = bill_lines(night.state, frozenset() if night.asked.reissue else held)
+    held = awaiting(night) | (frozenset() if night.asked.reissue else held)
+    lines = bill_lines(night.state, held)
     late = late_bills(night.state)
     if lines:
         night.send(lines_given(lines), "bills")
@@ -105,7 +127,9 @@ def print_all(night: Night) -> Close:
     night.tell(f"statements: {len(wanted)} in {os.path.relpath(folder, night.home)}")
     night.found = bool(overdue_of(tasks, night.day)) or night.found
     tell_tasks(tasks, night.day, night.tell)
-    return tell_money(night.home, night.day, night.state, asker, night.returned, night.tell)
+    sealed = night.before.seal.rows if night.before else 0
+    returned = night.state.returned_since(sealed)
+    return tell_money(night.home, night.day, night.state, asker, returned, night.tell)
 
 
 def save(night: Night) -> None:
@@ -210,11 +234,14 @@ def begun(asked: Asked) -> Night:
     lines, count = count_of(state, asked.day, files)
     hand = Hand(asked.program, path, state, asked.calls, is_bulk(lines, state.rows), count)
     hand.numbers = numbers
-    return Night(asked, hand, last, whole, files)
+    night = Night(asked, hand, last, whole, files)
+    night.go_on()
+    return night
 
 
 def night_of(asked: Asked) -> int:
     require_home(asked.home)
+    require_owner(os.path.join(asked.home, LEDGER))
     with locked(asked.home):
         night = begun(asked)
         if is_done(night):
@@ -238,7 +265,7 @@ def night(asked: Asked) -> int:
         return night_of(Asked(asked.program, asked.home, asked.day, meant, asked.wait, asked.calls,
                               asked.reissue, kept, wanted_of(asked.home)))
     except OSError as error:
-        raise Trouble(f"{error.filename or asked.home}: {error.strerror}; {GOES_ON}",
+        raise Trouble(f"{error.filename or asked.home}: {cause_of(error)}; {GOES_ON}",
                       OWN_FILES) from error
     except Trouble as trouble:
         if isinstance(trouble.__cause__, OSError):

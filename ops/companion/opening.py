@@ -15,6 +15,7 @@ import urllib.parse
 from collections.abc import Generator, Iterator
 
 from companion import locks
+from companion.rights import whose
 from companion.trouble import CANNOT_OPEN, DAMAGED, FOUND, OWN_FILES, Trouble, say
 
 # A row's number and its bytes.
@@ -51,7 +52,7 @@ def cause_of_name(path: str) -> str | None:
     if not os.path.isdir(folder):
         return f"{path}: its folder {folder} isn't there"
     if not os.access(folder, os.R_OK | os.X_OK):
-        return f"{path}: its folder {folder} may not be read by this user"
+        return f"{path}: its folder {folder} may not be read by this user{whose(folder)}"
     return None
 
 
@@ -66,7 +67,7 @@ def cause_of_kind(path: str, what: str) -> str | None:
         return f"{what} has {found.st_nlink} names (hard links); billctl takes a file with one"
     for right, word in ((os.R_OK, "read"), (os.W_OK, "written")):
         if not os.access(path, right):
-            return f"{what} may not be {word} by this user"
+            return f"{what} may not be {word} by this user{whose(path)}"
     return None
 
 
@@ -101,8 +102,9 @@ def cause_of_pair(real: str, path: str) -> str | None:
     if os.path.lexists(log):
         return cause_of_kind(log, f"{path}: its log {log}") or cause_of_content(real, path)
     if not os.access(os.path.dirname(real), os.W_OK):
-        return (f"{path}: its log can't be made, since the folder {os.path.dirname(real)} "
-                "may not be written by this user")
+        folder = os.path.dirname(real)
+        return (f"{path}: its log can't be made, since the folder {folder} "
+                f"may not be written by this user{whose(folder)}")
     return cause_of_content(real, path)
 
 

@@ -16,7 +16,7 @@ from companion.days import day_of
 from companion.files import free_name, make_folder, names_in, put_text, read_text, settle
 from companion.home import INBOX, LEDGER, sealed_reports
 from companion.inputs import Input
-from companion.opening import OTHER_FOLDER, cause_of_name, log_of
+from companion.opening import OTHER_FOLDER, cause_of_kind, cause_of_name, log_of
 from companion.reissue import NAME as STATEMENT
 from companion.seals import Seal, read_seal
 from companion.state import State, read_state
@@ -59,13 +59,18 @@ def move_away(path: str) -> str | None:
 
 
 def keep_access(real: str, copy: str) -> None:
-    """Gives a copy the mode of the file whose place it takes, and its owner if this user may."""
-    found = os.stat(real)
-    os.chmod(copy, found.st_mode & 0o777)
+    """Gives a copy the mode of the file whose place it takes, and its owner if this user may.
+
+    Where no file is there, it is for its owner alone, who is the folder's.
+    """
+    is_there = os.path.exists(real)
+    found = os.stat(real if is_there else os.path.dirname(real))
+    os.chmod(copy, found.st_mode & 0o777 if is_there else 0o600)
     try:
         os.chown(copy, found.st_uid, found.st_gid)
     except PermissionError:
-        say(f"restore: {real} belongs to this user now")
+        if is_there:
+            say(f"restore: {real} belongs to this user now")
 
 
 @dataclass
@@ -223,12 +228,28 @@ def place(backup_path: str, path: str, wait: int, found: Seal) -> str | None:
         settle(copy)
         if os.path.lexists(path):
             locks.wait_for([os.path.realpath(path), log_of(path)], wait)
-            keep_access(os.path.realpath(path), copy)
+        keep_access(os.path.realpath(path), copy)
         moved = move_away(path)
         os.rename(copy, os.path.realpath(path))
     settle(os.path.realpath(path))
     require_same_rows(path, found, backup_path)
     return moved
+
+
+def is_restored(path: str, wait: int, found: Seal) -> bool:
+    """Whether a file has the rows of a backup already. One that is damaged hasn't; why is told."""
+    if not os.path.exists(path):
+        return False
+    try:
+        return read_seal(path, wait) == found
+    except Trouble as trouble:
+        real = os.path.realpath(path)
+        if cause_of_kind(real, path):
+            raise
+        locks.wait_for([real, log_of(path)], 0)
+        cause = trouble.message.removesuffix("; restore a backup")
+        say(f"restore: what is there can't be read: {cause}")
+        return False
 
 
 def home_of(path: str) -> str | None:
@@ -249,7 +270,7 @@ def restore(program: str, backup_path: str, path: str, wait: int, again: bool = 
     found, state = require_backup(program, backup_path)
     home = home_of(path)
     undone = undone_of(home, found, state) if home else Undone()
-    if not os.path.exists(path) or read_seal(path, wait) != found:
+    if not is_restored(path, wait, found):
         folder = place(backup_path, path, wait, found)
         say(f"restore: {path} has the {counted(found.rows, 'row')} of {backup_path}")
         if folder:

@@ -70,6 +70,7 @@ class State:
     accounts: dict[str, Account] = field(default_factory=dict)
     shared: set[str] = field(default_factory=set)
     issued: list[tuple[date, str, int]] = field(default_factory=list)
+    returned: list[tuple[int, str, str]] = field(default_factory=list)
 
     def take(self, request: Request) -> None:
         """Carries out the request of the next row."""
@@ -95,6 +96,7 @@ class State:
             self.issued.append((self.today, name, cycle))
         elif request.word == "return":
             account.returns[account.posts] = int(request.fields["target"])
+            self.returned.append((self.rows, name, key))
 
     def is_new(self, request: Request, reply: str) -> bool:
         """Whether a reply says that a request was accepted now, and not before."""
@@ -115,6 +117,10 @@ class State:
     def issued_on(self, day: date) -> list[tuple[str, int]]:
         """The account and the cycle of each statement that was issued on a day."""
         return [(account, cycle) for when, account, cycle in self.issued if when == day]
+
+    def returned_since(self, rows: int) -> list[str]:
+        """The account and the key of each return behind so many rows."""
+        return [f"{account} {key}" for row, account, key in self.returned if row > rows]
 
     def due(self) -> list[Due]:
         """The closed cycles without a bill, those whose last day comes first in front."""

@@ -3,11 +3,13 @@
 import contextlib
 import fcntl
 import os
+import re
 from collections.abc import Iterator
 from dataclasses import dataclass, field
 from datetime import date
 
 from companion.backups import Keep
+from companion.files import read_text
 from companion.hand import Hand
 from companion.home import LEDGER, Sealed
 from companion.inputs import Input
@@ -20,6 +22,10 @@ from companion.trouble import LOCKED, Trouble, counted, say
 from companion.waiting import Waiting
 
 LOCK = "night.lock"
+
+# The line of a file of which something was refused, and of one of which all was.
+SOME_REFUSED = re.compile("inbox .*, [1-9][0-9]* refused")
+ALL_REFUSED = re.compile("inbox ([^:]*): .*; it is in refused/.*")
 
 
 @contextlib.contextmanager
@@ -71,14 +77,17 @@ class Asked:
 
 @dataclass
 class Night:
-    """One night: where, of which day, what the ledger has so far, and what was told of it."""
+    """One night: where, of which day, what the ledger has so far, and what was told of it.
+
+    `missing` names the files of the inbox whose records aren't in the ledger, or not all of them.
+    """
 
     asked: Asked
     hand: Hand
     before: Sealed | None = None
     start: Seal | None = None
     waiting: list[Waiting] = field(default_factory=list)
-    returned: list[str] = field(default_factory=list)
+    missing: list[str] = field(default_factory=list)
     found: bool = False
 
     @property
@@ -110,6 +119,14 @@ class Night:
         with open(self.part, "a", encoding="utf-8") as file:
             file.write(text + "\n")
 
+    def go_on(self) -> None:
+        """Takes up what was refused before a stop, by what was told until then."""
+        for line in read_text(self.part).splitlines() if os.path.exists(self.part) else []:
+            whole = ALL_REFUSED.fullmatch(line)
+            if whole:
+                self.missing.append(whole.group(1))
+            self.found = self.found or bool(whole or SOME_REFUSED.fullmatch(line))
+
     def reports(self) -> list[str]:
         """The reports of this day's nights that ended, the last one behind."""
         found: list[str] = []
@@ -124,9 +141,6 @@ class Night:
         """Sends what passed the guards. Gives the replies, with the refusals told."""
         sent = self.hand.send(given, name)
         self.found = self.found or bool(sent.refused)
-        self.returned += [f"{request.fields['account']} {request.fields['key']}"
-                          for request, reply in zip(given.requests(), sent.replies)
-                          if request and request.word == "return" and reply.startswith("ok")]
         if name in ("roll", "bills"):
             for text in sent.refused:
                 self.tell(f"  {text}")

@@ -11,6 +11,7 @@ from companion.backups import Keep, keep_of
 from companion.days import day_of
 from companion.program import ask_of
 from companion.requests import NUMBER
+from companion.rights import cause_of
 from companion.server import Ended, NoServer
 from companion.trouble import OWN_FILES, Trouble, say
 
@@ -139,7 +140,7 @@ def main(args: list[str]) -> int:
         os.dup2(os.open(os.devnull, os.O_WRONLY), sys.stdout.fileno())
         return 141
     except OSError as error:
-        say(f"{asked.word}: {error.filename or 'a file'}: {error.strerror}")
+        say(f"{asked.word}: {error.filename or 'a file'}: {cause_of(error)}")
         return OWN_FILES
     except KeyboardInterrupt:
         say(f"{asked.word}: stopped")

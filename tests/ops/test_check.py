@@ -92,6 +92,16 @@ class Names(Case):
                        f"its log can't be made, since the folder {self.room} may not be written by "
                        "this user")
 
+    def test_whose(self) -> None:
+        """A right that is missing is told with the file's owner, and what to do."""
+        self.begin()
+        with (mock.patch("os.access", lambda asked, mode: asked != self.file),
+              mock.patch("companion.rights.owner_of", lambda path: 12345),
+              mock.patch("os.geteuid", lambda: 12346)):
+            self.check(self.file, 5, f"{self.file} may not be read by this user: it belongs to "
+                       "12345, and this user is 12346; call as 12345, or have root give it to "
+                       "12346 by chown")
+
     def test_log(self) -> None:
         self.begin()
         log = self.file + "-wal"

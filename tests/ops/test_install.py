@@ -151,7 +151,8 @@ class Removed(Case):
         found = self.installed(root)
         self.assertIn("opt/billctl/audit/__main__.py", found)
         self.assertIn("usr/local/share/doc/billctl/OPERATIONS.md", found)
-        self.assertIn("usr/local/share/doc/billctl/nginx.conf", found)
+        for name in ("nginx.conf", "openapi.json", "statement.schema.json"):
+            self.assertIn(f"usr/local/share/doc/billctl/{name}", found)
         self.assertTrue({f"etc/systemd/system/{name}" for name in UNITS} <= found)
         kept = os.path.join(root, "var/lib/billctl/rows.db")
         with open(kept, "w", encoding="ascii") as file:

@@ -77,6 +77,43 @@ class Backups(Case):
         self.assertEqual(ledger("rows", self.at(moved[0], "rows.db"), "--since", "5")[1],
                          "charge anna c2 2024-02-06 purchase 500\n")
 
+    def test_damaged(self) -> None:
+        """A backup takes the place of a file that can't be read, which is kept beside it."""
+        self.begin()
+        to = ledger("backup", self.file, self.at("saved"))[1].strip()
+        before = self.rows()
+        with open(self.file, "rb") as file:
+            sound = file.read()
+        page = len(sound) // 2
+        changed = sound[:page] + b"\xff" * 8 + sound[page + 8:]
+        for spoiled, why in ((changed, "is damaged, as SQLite"),
+                             (sound[:page], "is damaged, as SQLite"),
+                             (b"no database\n" * 400, "is no SQLite database")):
+            with open(self.file, "wb") as file:
+                file.write(spoiled)
+            self.assertEqual(ledger("check", self.file)[0], 5)
+            done = ledger("restore", to, self.file)
+            self.expect(done, 0, f"restore: what is there can't be read: {self.file} {why}")
+            self.assertEqual(self.rows(), before)
+            folder = done[2].split("what was there is in ")[1].split(";")[0]
+            with open(os.path.join(folder, "rows.db"), "rb") as file:
+                self.assertEqual(file.read(), spoiled)
+        os.remove(self.file)
+        os.mkdir(self.file)
+        self.expect(ledger("restore", to, self.file), 5, f"{self.file} is a folder")
+
+    def test_modes(self) -> None:
+        """A backup and a restored file are for those who might read the file, and no others."""
+        self.begin()
+        to = ledger("backup", self.file, self.at("saved"))[1].strip()
+        self.assertEqual(os.stat(to).st_mode & 0o777, 0o600)
+        os.chmod(to, 0o644)
+        for end in ("", "-wal"):
+            if os.path.exists(self.file + end):
+                os.remove(self.file + end)
+        self.expect(ledger("restore", to, self.file), 0, f"{self.file} has the 5 rows of {to}")
+        self.assertEqual(os.stat(self.file).st_mode & 0o777, 0o600)
+
     def test_log(self) -> None:
         """What a killed run left in the log is in the backup."""
         with Session([self.file, "apply"]) as session:

@@ -75,6 +75,8 @@ class Ways(Home):
                          "dispute a2 d 2024-02-05 2 100\nindex 2024-03-01 500\n")
                 self.put("odd.csv", HEADER + '"a3","q1",charge,2024-02-06,purchase,300,,\r\n')
                 self.assertEqual(self.night(day, *more)[0], 1)
+            # the second night's cards were refused, and a bill waited for the next call
+            self.assertEqual(self.night(day, *more)[0], 0)
         return {name: data for name, data in self.listing().items() if ".db" not in name}
 
     def rows_left(self) -> list[tuple[int, bytes]]:
@@ -91,6 +93,16 @@ class Ways(Home):
             self.assertEqual(self.rows_left(), rows)
         self.assertIn(b"bad 6 6\n", served[f"done/{DAY}/desk.txt.replies"])
         self.assertIn(b"bad 45 5\n", served[f"done/{DAY}/cards.csv.replies"])
+
+    def test_bulk_ended(self) -> None:
+        """Where many lines wait, the last input goes by a call of its own, and no bill is due: the
+        night goes on with a server."""
+        self.begin("roll 2024-02-06\nopen anna o 2024-02-06 5 1999 2499 2199 2999 2500 100\n")
+        self.put("odd.csv", HEADER + '"anna","q1",charge,2024-02-06,purchase,300,,\r\n')
+        with mock.patch("companion.night.is_bulk", lambda lines, rows: True):
+            done = self.night("2024-02-07")
+        self.assertEqual(done[0], 0, done)
+        self.assertIn("  charge 3.00 0.00 (new: 3.00 0.00)\n", done[2])
 
     def test_forms(self) -> None:
         """What the companion calls bad is what billctl does, for lines changed at random."""
@@ -237,6 +249,9 @@ bill anna bill-1 1
                           ("bank.3", "the input is a workbook (.xlsx) or another zip"),
                           ("other.csv", "the input is a workbook (.xlsx) or another zip")):
             self.assertIn(why, self.text("refused", DAY, f"{name}.why"))
+        # the bill waits for them, and the next call issues it
+        self.assertEqual(ledger("rows", self.file, "--since", "3")[1], "")
+        self.assertEqual(self.night(DAY)[0], 0)
         self.assertEqual(ledger("rows", self.file, "--since", "3")[1], "bill anna bill-1 1\n")
 
     def test_description(self) -> None:

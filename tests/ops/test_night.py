@@ -22,6 +22,7 @@ from tests.support.program import PROGRAM, TOP, Session
 from .common import Told, ledger, start_ledger
 from .home import Home
 from .issuer import FIRST, HEADER, Issuer
+from .stops import killed_at
 
 DAYS = 31
 BIG = 8000
@@ -293,6 +294,45 @@ class Inbox(Home):
                              "it is in refused/2024-02-06/desk.txt")
         self.assertEqual(ledger("today", self.file)[1], "2024-02-06\n")
 
+    def test_awaiting(self) -> None:
+        """Where a file was refused, bills wait for it while there is time: a statement has no
+        record that comes behind its bill."""
+        record = "anna,c1,charge,2024-02-05,purchase,500,,\n"
+        self.put("cards.csv", HEADER + record[:-1])
+        done = self.night("2024-02-06")
+        # 21 days before the due date, 2024-03-01
+        self.expect(done, 1, "bills: 1 waits for the next call, since records of cards.csv are "
+                    "missing, and a statement has none that come behind its bill; the first has "
+                    "until 2024-02-09\nbills: 0\n")
+        self.put("cards.csv", HEADER + record)
+        self.assertEqual(self.night("2024-02-06")[0], 0)
+        self.assertIn("2024-02-05 CHARGE          2           5.00\n",
+                      self.text("statements", "2024-02-06", "anna-1.txt"))
+        self.assertEqual(ledger("due", self.file)[1], "")
+
+    def test_awaiting_no_longer(self) -> None:
+        """A bill waits for no file on its last day, nor where the next call has none that is
+        refused; a night that was stopped remembers the one that was."""
+        self.put("cards.csv", HEADER[:-1])
+        self.assertEqual(self.night("2024-02-06")[0], 1)
+        self.put("cards.csv", HEADER[:-1])
+        for step in ("put_away", "bill"):
+            self.assertTrue(killed_at(step, self.home, "--day", "2024-02-07"))
+            self.assertIn("it is in refused/2024-02-07/cards.csv\n",
+                          self.text("reports", "2024-02-07.part"))
+        self.expect(self.night("2024-02-07"), 1, "bills: 1 waits for the next call, since records "
+                    "of cards.csv are missing")
+        self.assertEqual(self.names("refused", "2024-02-07"), ["cards.csv", "cards.csv.why"])
+        self.put("cards.csv", HEADER[:-1])
+        done = self.night("2024-02-09")
+        self.expect(done, 1, "bills: 1\n")
+        self.assertNotIn("waits", done[2])
+
+    def test_awaiting_next_call(self) -> None:
+        self.put("cards.csv", HEADER[:-1])
+        self.assertEqual(self.night("2024-02-06")[0], 1)
+        self.expect(self.night("2024-02-06"), 0, "bills: 1\n")
+
     def test_names(self) -> None:
         """What is still being written stays, and a second file of a name doesn't take the place of
         the first."""
@@ -332,6 +372,16 @@ class Inbox(Home):
 
     def file_in(self, home: str) -> str:
         return os.path.join(home, "rows.db")
+
+    def test_owner(self) -> None:
+        """Root is refused where the ledger is another user's, who couldn't go on from there."""
+        before = self.listing()
+        with (mock.patch("companion.rights.owner_of", lambda path: 12345),
+              mock.patch("os.geteuid", lambda: 0)):
+            self.expect(self.night("2024-02-06"), 10,
+                        f"night: {self.file} belongs to 12345, who couldn't write what a night of "
+                        "root leaves; call as 12345 (sudo -u 12345)")
+        self.assertEqual(self.listing(), before)
 
     def test_under_way(self) -> None:
         """A second night in the folder is turned away, and so is a night while another process has

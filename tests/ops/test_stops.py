@@ -60,6 +60,25 @@ class Stops(Home):
                     self.assertTrue(killed_at(step, self.home, "--day", DAY, *more), step)
                 self.gone_through(*more)
 
+    def test_told(self) -> None:
+        """What was refused before a stop is in the status of the night that goes on, and what came
+        back is in its report."""
+        for number, step in enumerate(("put_away", "bill", "save_end", "end_report")):
+            self.fresh(self.at(f"told{number}"))
+            self.put("a.csv", HEADER + "a1,p,payment,2024-02-05,,500,600,online\n"
+                                       "nobody,c,charge,2024-02-05,purchase,1,,\n")
+            self.put("b.txt", "return a1 r 2024-02-06 2\n")
+            self.assertTrue(killed_at(step, self.home, "--day", DAY))
+            self.assertEqual(self.night(DAY)[0], 1, step)
+            report = self.text("reports", f"{DAY}.txt")
+            self.assertEqual(report.count("payments returned: 0\n"), 0, step)
+            self.assertTrue(report.rpartition("newly late: 0\n")[2].startswith(
+                "payments returned: 1\n  a1 r\n"), report)
+        # the file of the return comes again: a repeat, and nothing came back since
+        self.put("b.txt", "return a1 r 2024-02-06 2\n")
+        self.assertEqual(self.night("2024-02-07")[0], 0)
+        self.assertIn("payments returned: 0\n", self.text("reports", "2024-02-07.txt"))
+
     def test_full_disks(self) -> None:
         """Each is told by what can't be written, or by the status of billctl."""
         statuses = set()
