@@ -8,10 +8,11 @@ smaller issuer.
 """
 
 import os
-import sqlite3
 import sys
 import unittest
 
+from ..support.program import TOP
+from ..support.rows import count_of
 from .common import HEADER, PROGRAM
 from .home import Home
 
@@ -25,14 +26,7 @@ FEW = 40
 
 # A program that writes how many rows its file has each time it is started.
 COUNTING = """#!/bin/sh
-[ -f "$1" ] && "{python}" - "$1" >>"{log}" <<'END'
-import shutil, sqlite3, sys, tempfile, os
-with tempfile.TemporaryDirectory() as room:
-    for end in ("", "-wal"):
-        if os.path.exists(sys.argv[1] + end):
-            shutil.copyfile(sys.argv[1] + end, room + "/rows.db" + end)
-    print(sqlite3.connect(room + "/rows.db").execute("SELECT count(*) FROM kept").fetchone()[0])
-END
+[ -f "$1" ] && PYTHONPATH="{top}" "{python}" -m tests.ops.count_rows "$1" >>"{log}"
 exec "{program}" "$@"
 """
 
@@ -43,8 +37,8 @@ class Counted(Home):
     def nights(self, accounts: int, records: int, *more: str) -> list[float]:
         """Goes through both nights. Gives how often each one read all of its rows."""
         log = self.at("loads")
-        counting = self.write("counting", COUNTING.format(python=sys.executable, log=log,
-                                                          program=PROGRAM))
+        counting = self.write("counting", COUNTING.format(
+            top=TOP, python=sys.executable, log=log, program=PROGRAM))
         os.chmod(counting, 0o755)
         self.begin("feerow 2011-01-02 3000 4100\nroll 2024-02-05\n" + "".join(
             f"open a{n} o 2024-01-06 5 1999 2499 2199 2999 2500 100\n" for n in range(accounts)))
@@ -55,21 +49,15 @@ class Counted(Home):
                 for n in range(number)))
             self.assertEqual(self.night(day, "--program", counting, *more)[0], 0)
             found.append(self.times(log))
-        self.assertEqual(self.count(), accounts + 2 + 1 + records + accounts + 1 + FEW)
+        self.assertEqual(count_of(self.file), accounts + 2 + 1 + records + accounts + 1 + FEW)
         return found
-
-    def count(self) -> int:
-        base = sqlite3.connect(self.file)
-        number: int = base.execute("SELECT count(*) FROM kept").fetchone()[0]
-        base.close()
-        return number
 
     def times(self, log: str) -> float:
         """How often all rows were read since the last time."""
         with open(log, encoding="ascii") as file:
             read = sum(int(line) for line in file)
         os.remove(log)
-        return read / self.count()
+        return read / count_of(self.file)
 
     def left(self) -> tuple[dict[str, bytes], list[tuple[int, bytes]]]:
         """What the nights left: all files but those of SQLite, and the rows."""

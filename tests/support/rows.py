@@ -43,6 +43,12 @@ def rows_of(file: Word) -> list[Row]:
         return base.execute("SELECT seq, body FROM kept ORDER BY seq").fetchall()
 
 
+def count_of(file: Word) -> int:
+    """How many rows there are."""
+    with copied(file) as path, base_of(path) as base:
+        return int(base.execute("SELECT count(*) FROM kept").fetchone()[0])
+
+
 def bodies_of(file: Word) -> list[bytes]:
     return [body for _, body in rows_of(file)]
 
