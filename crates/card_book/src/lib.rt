@@ -11,7 +11,8 @@ mod sheet;
 mod statement;
 
 pub use card_daily::{
-    Amounts, Cycle, Entry, Fee, Fees, Inputs, Issued, Present, Statement, Track, row_for,
+    Amounts, Cycle, Entry, Fee, Fees, Inputs, Issued, PackedSheet, Present, Statement, Track,
+    row_for,
 };
 pub use card_statement::Sheet;
 pub use folded::{Folded, fees_up_to};

@@ -39,7 +39,7 @@ fn cycle_of(issued: Option<&Issued>) -> Option<&Cycle>
     ensures { option_copied result ≡ interest.statement_of (option_copied issued.entry) }
 {
     match issued {
-        Some(row) => Some(&row.statement.cycle),
+        Some(row) => Some(&row.statement),
         None => None,
     }
 }

@@ -28,7 +28,7 @@ little : (o : Option IssuedRow) (f : IssuedRow → ℕ) (balance cents : ℕ) �
 little None f balance cents = omega arith
 little (Some r) f balance cents = omega arith
 
-posted-little : (issued : Option IssuedRow) (amount : Book → SegmentTerms → ℕ) (g : SegmentTerms) (p : Posting) → posted_for issued amount g p ≤ 10_000_000_000_000
+pub posted-little : (issued : Option IssuedRow) (amount : Book → SegmentTerms → ℕ) (g : SegmentTerms) (p : Posting) → posted_for issued amount g p ≤ 10_000_000_000_000
 posted-little issued amount g p = little issued _ _ _
 
 sum-little : (issued : Option IssuedRow) (seen : Seen) (amount : Book → SegmentTerms → ℕ) (gs : List SegmentTerms) (p : Posting)

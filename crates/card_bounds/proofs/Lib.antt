@@ -4,6 +4,7 @@ pub mod Counts
 pub mod CycleAmounts
 pub mod CycleInterest
 pub mod Dated
+pub mod EntrySizes
 pub mod Held
 pub mod HeldDays
 pub mod Holds

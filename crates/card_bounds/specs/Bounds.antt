@@ -1,5 +1,5 @@
 -- How large balances, rows and sums can be, from the limits on posts, cents, fees and days alone.
-use Rattle.std.specs.Prelude.{ℕ, ◌+◌, ◌*◌, ◌==◌, ◌≡◌, ◌≤◌, ◌<◌, cond, length, List, ◌++◌, Option, pos, ◌≤ℤ◌, neg_ℤ, nat_abs}
+use Rattle.std.specs.Prelude.{ℕ, ◌+◌, ◌*◌, ◌==◌, ◌≡◌, ◌≤◌, ◌<◌, true, cond, length, List, ◌++◌, Option, pos, ◌≤ℤ◌, neg_ℤ, nat_abs}
 use Rattle.std.specs.List.{All, Contains, filter, range_with_len, sum_by}
 use Rattle.card_events.specs.Money.{daily, rate_limit}
 use Rattle.card_events.specs.History.{CorrectedPost, anchor_of}
@@ -185,3 +185,20 @@ pub record AmountsSmall : Type 0 where
   pub moves :
       (posts : ℕ) (history : List Kept) (issued : List IssuedRow) (shared : SharedRows) (day : ℕ) → IsLimited posts history shared day
       → moved (book history issued shared day).entries ≤ most_moved posts
+
+-- ---- the size of an entry
+-- an entry is at most 10^15 cents in size
+abbrev pub IsSmallEntry : Entry → Type 0
+IsSmallEntry e = nat_abs e.cents ≤ 1_000_000_000_000_000
+
+-- an entry of interest is at most 10^13 cents
+abbrev pub IsLittleInterest : Entry → Type 0
+IsLittleInterest e = is_kind kind.Interest e.kind ≡ true → nat_abs e.cents ≤ 10_000_000_000_000
+
+-- No entry of interest has more, in the book of every day, whatever the posts; and within the limits no entry at all is above
+-- 10^15 cents in size
+pub record EntriesSmall : Type 0 where
+  pub interest : (history : List Kept) (issued : List IssuedRow) (shared : SharedRows) (day : ℕ) → All IsLittleInterest (book history issued shared day).entries
+  pub days :
+      (posts : ℕ) (history : List Kept) (issued : List IssuedRow) (shared : SharedRows) (day : ℕ) → IsLimited posts history shared day → posts ≤ 200000
+      → All IsSmallEntry (book history issued shared day).entries

@@ -1,5 +1,5 @@
 //! Bounds from the limits on posts, cents, fees and days alone; on which segments and days entries lie.
-ghost use Rattle.card_bounds.specs.Bounds.{AmountsSmall, BalancesBounded, BalancesSmall, CyclesHaveTheirInterest, HeldIsNeverBelow, RatesSmall, RowsOfPastDays, RowsSmall, SmallAtEachStep, SumsSmall};
+ghost use Rattle.card_bounds.specs.Bounds.{AmountsSmall, BalancesBounded, BalancesSmall, CyclesHaveTheirInterest, EntriesSmall, HeldIsNeverBelow, RatesSmall, RowsOfPastDays, RowsSmall, SmallAtEachStep, SumsSmall};
 ghost use Rattle.card_bounds.specs.Counts.{EntriesAreFew};
 ghost use Rattle.card_bounds.specs.Places.{CyclesBeginInTurn, EntriesHaveDays, EntriesHaveSegments};
 ghost use Rattle.card_bounds.specs.Reached.{PaymentsReach};
@@ -83,4 +83,9 @@ pub fn payments_reach()
 /// interest apart, is within what the limits on posts, cents and fees let them move.
 pub fn amounts_small()
     ensures { AmountsSmall }
+{}
+
+/// No entry of interest is above 10^13 cents, and no entry at all above 10^15 in size, with at most 200,000 posts.
+pub fn entries_small()
+    ensures { EntriesSmall }
 {}

@@ -8,3 +8,4 @@ pub mod Closes
 pub mod Interest
 pub mod Record
 pub mod Turns
+pub mod Places

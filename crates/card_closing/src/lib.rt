@@ -3,11 +3,13 @@
 #![tactic(auto)]
 
 mod accrual;
+mod amount;
 mod amounts;
 mod case;
 mod closing;
 mod cycle;
 mod fees;
+mod few;
 pub mod grace_laws;
 mod interest;
 pub mod laws;

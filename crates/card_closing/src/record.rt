@@ -41,16 +41,17 @@ fn charged_amounts(alloc: Global, segments: &Segments, done: &Amounts) -> Result
 }
 
 // Whether amounts are those of segments below one, in order of number, and none is 0.
-fn are_by_number(items: &[(u8, u64)], end: u8) -> bool
+fn are_by_number(done: &Amounts, end: u8) -> bool
     requires { 2 ≤ end }
-    ensures { result ≡ true → by_number (λ s. amount_at s items.now) (end - 2) ≡ items.now }
+    ensures { result ≡ true → by_number (λ s. amount_at s done.now) (end - 2) ≡ done.now }
 {
     let mut next: u32 = 2;
-    for item in items {
-        if (item.0 as u32) < next || end <= item.0 || item.1 == 0 {
+    for place in 0..done.len() {
+        let (segment, cents) = done.get(place);
+        if (segment as u32) < next || end <= segment || cents == 0 {
             return false;
         }
-        next = item.0 as u32 + 1;
+        next = segment as u32 + 1;
     }
     true
 }
@@ -60,7 +61,7 @@ pub fn charged(alloc: Global, segments: &Segments, done: Amounts) -> Result<Amou
     requires { AreSmall done }
     ensures { IfOk result (λ v. v ≡ by_number (λ s. amount_at s done) (length segments.now.balances - 2)) }
 {
-    if are_by_number(done.items(), segments.len()) {
+    if are_by_number(&done, segments.len()) {
         return Ok(done);
     }
     charged_amounts(alloc, segments, &done)

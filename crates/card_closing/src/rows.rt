@@ -133,7 +133,7 @@ impl CycleRows {
 
     /// The sum of the balances that bear interest (12 CFR 1026.54(a)(1)), each times its day's rate in units of 10^-9:
     /// none, all as they stand, or each less what was repaid on later days up to the due date. The days are the cycle's
-    /// own. It is at most 10^23 and doesn't allocate.
+    /// own. The sum is at most 10^23. The call doesn't allocate.
     pub fn interest_sum(&self, case: GraceCase) -> u128
         ensures value { result ≡ interest_on case self.now }
         ensures own_days { AreDaysFrom self.now.first self.now.days }

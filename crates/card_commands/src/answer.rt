@@ -1,5 +1,5 @@
 // The result of an item, and what is written for it.
-ghost use Rattle.std.specs.Prelude.{◌≡◌, IfOk, OnOk, OnErr};
+ghost use Rattle.std.specs.Prelude.{◌≡◌, false, IfOk, IfSome, OnOk, OnErr};
 ghost use Rattle.std.specs.String.{string_bytes};
 ghost use Rattle.card_desk.specs.Applied as applied;
 ghost use Rattle.card_desk.specs.Kept.{Fits};
@@ -10,6 +10,7 @@ ghost use Rattle.card_model.specs.Machine.{State};
 ghost use Rattle.card_commands.specs.Answers.{answer_text, is_refused, item_rows, next, reply_in};
 ghost use Rattle.card_commands.specs.Answers as spec;
 ghost use Rattle.card_demo.specs.Progress.{is_refusal};
+ghost use Rattle.card_lines.specs.Replies as lines;
 ghost use Rattle.card_text.specs.Items.{IsDatedItem};
 
 use card_desk::{Desk, Fault, View, uncounted};
@@ -42,6 +43,19 @@ pub fn carry_out<K: Keeper>(
             Err(fault) => Err(fault),
         },
         Item::Show(_) | Item::Bad { .. } => Ok(None),
+    }
+}
+
+/// The number under which an item's post was accepted, where this is the reply to it. The line of that reply is then all that is written
+/// for the item.
+#[tactic(auto, unfolding(crate::specs::Answers::reply_in, crate::specs::Answers::answer_text, crate::specs::Answers::is_refused))]
+pub fn accepted_number(item: &Item, reply: &Option<Reply>) -> Option<u32>
+    ensures text { IfSome result (λ n. (s : State) → reply.now ≡ reply_in s item.now → answer_text s item.now ≡ lines.reply_text (Reply.Accepted n)) }
+    ensures refused { IfSome result (λ n. (s : State) → reply.now ≡ reply_in s item.now → is_refused s item.now ≡ false) }
+{
+    match (item, reply) {
+        (Item::Request(_), Some(Reply::Accepted(number))) => Some(*number),
+        _ => None,
     }
 }
 

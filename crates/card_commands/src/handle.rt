@@ -1,10 +1,11 @@
 // A run over items.
 ghost use Rattle.std.specs.Prelude.{◌≡◌, ◌||◌};
 
-use crate::answer::{answer, carry_out};
+use crate::answer::{accepted_number, answer, carry_out};
 use crate::stop::Stop;
 use card_desk::{Desk, Fault};
 use card_events::NoMemory;
+use card_lines::accepted_line;
 use card_ports::{Keeper, Sink, SinkFault, write_all};
 use card_text::Item;
 use std::alloc::Global;
@@ -97,11 +98,14 @@ impl Run {
             Err(Fault::Keeper) => return Err(Stop::Keeper),
             Err(Fault::Memory) => return Err(Stop::Memory),
         };
-        let (text, refused) = match answer(alloc, &mut self.desk, item, &reply) {
-            Ok(answer) => answer,
-            Err(NoMemory) => return Err(Stop::Memory),
+        let told = match accepted_number(item, &reply) {
+            Some(number) => self.tell(accepted_line(number).as_str(), false, output),
+            None => match answer(alloc, &mut self.desk, item, &reply) {
+                Ok((text, refused)) => self.tell(&text, refused, output),
+                Err(NoMemory) => return Err(Stop::Memory),
+            },
         };
-        match self.tell(&text, refused, output) {
+        match told {
             Ok(()) => Ok(()),
             Err(SinkFault::Failed) => Err(Stop::Sink),
             Err(SinkFault::Memory) => Err(Stop::Memory),

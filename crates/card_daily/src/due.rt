@@ -94,7 +94,7 @@ pub(crate) fn fees_of(issued: Option<&Issued>) -> Option<&[Fee]>
     ensures { option_copied result ≡ issued_fees (option_copied issued.entry) }
 {
     match issued {
-        Some(row) => Some(row.statement.cycle.fees.items()),
+        Some(row) => Some(row.statement.fees.items()),
         None => None,
     }
 }

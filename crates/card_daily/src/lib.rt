@@ -14,6 +14,7 @@ mod state;
 mod track;
 
 pub use card_closing::{Amounts, Cycle, Entry, Fee, Fees};
+pub use card_statement::PackedSheet;
 pub use due::{due_cycle, due_day};
 pub use inputs::{Inputs, row_for};
 pub use penalties::is_sixty_days_late;

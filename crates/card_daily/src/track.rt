@@ -1,6 +1,6 @@
 use card_closing::{Cycle, Entry, Fee};
 use card_events::{Day, NoMemory};
-use card_statement::Sheet;
+use card_statement::{PackedSheet, Sheet};
 use std::alloc::Global;
 use std::marker::Model;
 
@@ -22,13 +22,15 @@ pub struct Statement {
     pub sheet: Sheet,
 }
 
-/// An issued statement: its cycle, the number of the Bill that issued it, the day of that Bill, and what it said.
+/// An issued statement: the number of its cycle, the number of the Bill that issued it, the day of that Bill, and what it said:
+/// the cycle as it was then, and the sheet, packed.
 #[derive(Drop)]
 pub struct Issued {
     pub cycle: u32,
     pub bill: u32,
     pub day: Day,
-    pub statement: Statement,
+    pub statement: Cycle,
+    pub sheet: PackedSheet,
 }
 
 impl Model for Issued {
@@ -36,7 +38,7 @@ impl Model for Issued {
 
     ghost Value = { IssuedRow };
 
-    ghost view = { λ i. record { cycle = i.cycle; bill = i.bill; day = i.day; statement = i.statement.cycle; sheet = i.statement.sheet } };
+    ghost view = { λ i. record { cycle = i.cycle; bill = i.bill; day = i.day; statement = i.statement; sheet = i.sheet } };
 }
 
 impl Statement {

@@ -171,7 +171,7 @@ fn statement(issued: Option<&Issued>) -> Option<&Cycle>
     ensures { option_copied result ≡ interest.statement_of (option_copied issued.entry) }
 {
     match issued {
-        Some(row) => Some(&row.statement.cycle),
+        Some(row) => Some(&row.statement),
         None => None,
     }
 }

@@ -12,3 +12,4 @@ pub mod HeldSums
 pub mod Numbered
 pub mod HeldSegments
 pub mod HoldStanding
+pub mod SoleHolder

@@ -1,10 +1,14 @@
 // What payments and merchants' credits repay.
-ghost use Rattle.std.specs.Prelude.{◌≡◌, ◌++◌, Option, IfOk, OnOk, OnErr, min, pos, ◌≤ℤ◌, vec_capacity, ◌≤◌};
+ghost use Rattle.std.specs.Prelude.{◌≡◌, ◌++◌, [], Option, IfOk, OnOk, OnErr, length, min, pos, ◌≤ℤ◌, vec_capacity, ◌≤◌};
 ghost use Rattle.card_model.specs.Limits.{balance_limit};
+ghost use Rattle.card_segments.specs.Holdings.{holdings};
 ghost use Rattle.card_segments.specs.Parts.{AreParts};
 ghost use Rattle.card_effects.specs.Entering.{EntersCredit, EntersPayment, Leaves, MayMove};
+ghost use Rattle.card_effects.specs.Places.{numbers_of};
+ghost use Rattle.card_effects.specs.Ranks.{ranks_on};
 ghost use Rattle.card_events.specs.declared.anchor.Channel.{Channel};
 ghost use Rattle.card_events.specs.History.{CorrectedPost};
+ghost use Rattle.card_model.specs.Allocation.{allocated, placed};
 ghost use Rattle.card_model.specs.Books.{Account, Book};
 ghost use Rattle.card_model.specs.Cycles.{IssuedRow, Seen, last_cycle};
 ghost use Rattle.card_model.specs.Effects.{effect, parts_entries, second_closing};
@@ -18,8 +22,65 @@ use crate::place::numbers_of;
 use crate::ranks::ranks;
 use card_events::{Cents, Day, NoMemory, Place, Slot};
 use card_rates::{IndexTable, RateBook};
-use card_segments::{Entry, EntryKind, Parts, Segments, allocate, place_credit, take};
+use card_segments::{Entry, EntryKind, Parts, Segments, allocate, place_credit, sole_parts, take};
 use std::alloc::Global;
+
+// The parts of a payment. Nothing is ranked where one segment at most has a balance.
+fn payment_parts(
+    alloc: Global,
+    segments: &Segments,
+    rates: &RateBook,
+    index: &IndexTable,
+    slot: &Slot,
+    minimum_part: Cents,
+    following_closing: Day,
+) -> Result<Parts, NoMemory>
+    requires asked { MayMove segments.now rates.now slot.now.cents }
+    requires minimum { pos 0 ≤ℤ minimum_part }
+    requires within { minimum_part ≤ℤ slot.now.cents }
+    ensures parts { IfOk result (λ parts. parts ≡ allocated (at_least_zero minimum_part) (at_least_zero slot.now.cents) (holdings [] segments.now.balances (ranks_on index.now rates.now following_closing slot.now.day))) }
+    ensures whole { IfOk result (λ parts. AreParts segments.now.balances (at_least_zero slot.now.cents) parts) }
+    ensures all { length (ranks_on index.now rates.now following_closing slot.now.day) ≡ length segments.now.balances }
+{
+    // what it says is needed as a fact: a balance for each segment
+    let _count = segments.len();
+    match sole_parts(alloc, segments, slot.cents)? {
+        Some(parts) => Ok(parts),
+        None => {
+            let ranks = ranks(alloc, segments, rates, index, following_closing, slot.day)?;
+            let parts = allocate(alloc, segments, &ranks, minimum_part, slot.cents)?;
+            Ok(parts)
+        }
+    }
+}
+
+// The parts of a merchant's credit. Nothing is ranked where one segment at most has a balance.
+fn credit_parts(
+    alloc: Global,
+    segments: &Segments,
+    rates: &RateBook,
+    index: &IndexTable,
+    slot: &Slot,
+    place: &Place,
+    following_closing: Day,
+) -> Result<Parts, NoMemory>
+    requires asked { MayMove segments.now rates.now slot.now.cents }
+    ensures parts { IfOk result (λ parts. parts ≡ placed (at_least_zero slot.now.cents) (holdings (numbers_of place.now rates.now.segments) segments.now.balances (ranks_on index.now rates.now following_closing slot.now.day))) }
+    ensures whole { IfOk result (λ parts. AreParts segments.now.balances (at_least_zero slot.now.cents) parts) }
+    ensures all { length (ranks_on index.now rates.now following_closing slot.now.day) ≡ length segments.now.balances }
+{
+    // what it says is needed as a fact: a balance for each segment
+    let _count = segments.len();
+    match sole_parts(alloc, segments, slot.cents)? {
+        Some(parts) => Ok(parts),
+        None => {
+            let ranks = ranks(alloc, segments, rates, index, following_closing, slot.day)?;
+            let first = numbers_of(alloc, segments, place)?;
+            let parts = place_credit(alloc, segments, &ranks, &first, slot.cents)?;
+            Ok(parts)
+        }
+    }
+}
 
 /// A payment of so many cents on its effective day (12 CFR 1026.10, .53), and its parts, by the rates of the day under this index.
 /// The minimum part is what is left of the minimum payment, or the whole where that is less. The following closing is the one after
@@ -45,8 +106,15 @@ pub fn payment(
     ensures left { Leaves result segments.old segments.new out.old.items out.new.items }
     ensures capacity { vec_capacity out.old ≤ vec_capacity out.new }
 {
-    let ranks = ranks(alloc, segments, rates, index, following_closing, slot.day)?;
-    let parts = allocate(alloc, segments, &ranks, minimum_part, slot.cents)?;
+    let parts = payment_parts(
+        alloc,
+        segments,
+        rates,
+        index,
+        slot,
+        minimum_part,
+        following_closing,
+    )?;
     let note = note_of(slot, EntryKind::Payment);
     take(segments, &parts, &note, out)?;
     Ok(parts)
@@ -74,9 +142,15 @@ pub fn credit(
     ensures left { Leaves result segments.old segments.new out.old.items out.new.items }
     ensures capacity { vec_capacity out.old ≤ vec_capacity out.new }
 {
-    let ranks = ranks(alloc, segments, rates, index, following_closing, slot.day)?;
-    let first = numbers_of(alloc, segments, place)?;
-    let parts = place_credit(alloc, segments, &ranks, &first, slot.cents)?;
+    let parts = credit_parts(
+        alloc,
+        segments,
+        rates,
+        index,
+        slot,
+        place,
+        following_closing,
+    )?;
     let note = note_of(slot, EntryKind::Credit);
     take(segments, &parts, &note, out)?;
     Ok(parts)

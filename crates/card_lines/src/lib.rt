@@ -17,5 +17,5 @@ pub use forms::{
 pub use line::{BadField, Line};
 pub use line_reading::read_line;
 pub use refusal::{RefusalValue, refusal_name, refusal_value};
-pub use reply::{bad_text, name_text, reply_text, show_text};
+pub use reply::{accepted_line, bad_text, name_text, reply_text, show_text};
 pub use word::{PostKind, Word, read_word};

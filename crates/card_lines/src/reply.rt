@@ -4,6 +4,7 @@ ghost use Rattle.std.specs.String.{string_bytes};
 ghost use Rattle.card_lines.specs.Replies as spec;
 
 use crate::refusal::{refusal_name, refusal_value};
+use arrayvec::ArrayString;
 use card_events::{Cents, Day, Name, NoMemory, Refusal, Reply};
 use itoa::Buffer;
 use std::alloc::Global;
@@ -19,22 +20,22 @@ pub fn reply_text(alloc: Global, reply: &Reply) -> Result<String, NoMemory>
 {
     match reply {
         Reply::Done => Ok(String::from_str(alloc, "ok\n")?),
-        Reply::Accepted(number) => accepted_text(alloc, *number),
+        Reply::Accepted(number) => Ok(String::from_str(alloc, accepted_line(*number).as_str())?),
         Reply::Refused(refusal) => refusal_text(alloc, refusal),
     }
 }
 
-// The line of a post that was accepted under a number, as most replies are.
-#[tactic(auto, using(crate::proofs::TextRules::texts))]
-fn accepted_text(alloc: Global, number: u32) -> Result<String, NoMemory>
-    ensures { IfOk result (λ text. string_bytes text ≡ codes "ok " ++ decimal number ++ 10 ∷ []) }
+/// The line of a post that was accepted under a number, as most replies are. It doesn't allocate.
+#[tactic(auto, using(crate::proofs::TextRules::texts), unfolding(crate::specs::Replies::reply_text))]
+pub fn accepted_line(number: u32) -> ArrayString<ACCEPTED>
+    ensures { result.bytes ≡ spec.reply_text (Reply.Accepted number) }
 {
     let mut digits = Buffer::new();
-    let mut text = String::with_capacity(alloc, ACCEPTED)?;
-    text.push_str("ok ")?;
-    text.push_str(digits.format(number))?;
-    text.push_str("\n")?;
-    Ok(text)
+    let mut line = ArrayString::new();
+    line.push_str("ok ");
+    line.push_str(digits.format(number));
+    line.push_str("\n");
+    line
 }
 
 #[tactic(auto, using(crate::proofs::TextRules::texts), unfolding(crate::specs::Replies::refusal_text))]

@@ -20,3 +20,4 @@ pub mod Fronts
 pub mod Withdrawn
 pub mod Waiting
 pub mod Unrated
+pub mod Sparse

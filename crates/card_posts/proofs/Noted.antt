@@ -275,6 +275,27 @@ changed-within h p e l = by p l
 of-other : (h : List Kept) (k : Kept) (m : ℕ) → SaysSame h (more h k) m → correction_of (more h k) m ≡ correction_of h m
 of-other h k m s = of-parts h (more h k) m s.0 s.1
 
+-- a post that corrects nothing changes none
+pub plain-changed : (h : List Kept) (p : Post) → corrects p ≡ false → changed_by h p ≡ 0
+plain-changed h (post.Open d t) none = refl
+plain-changed h (post.OpenVariable d t) none = refl
+plain-changed h (post.Charge d p c) none = refl
+plain-changed h (post.Credit d p c) none = refl
+plain-changed h (post.Payment d i y c) none = refl
+plain-changed h (post.Return d t) none = refl
+plain-changed h (post.Plan d v r w f) none = refl
+plain-changed h (post.Notice d y r w) none = refl
+plain-changed h (post.Lower d y r) none = refl
+plain-changed h post.Penalty none = refl
+plain-changed h (post.Review d f) none = refl
+plain-changed h (post.Dispute d t c) none = refl
+plain-changed h (post.Ack d t) none = refl
+plain-changed h (post.Resolve d t c) none = absurd (cc)
+plain-changed h (post.AskRefund d) none = refl
+plain-changed h (post.Refund c) none = refl
+plain-changed h (post.Amend t d c) none = absurd (cc)
+plain-changed h (post.Bill c) none = refl
+
 pub noted-none : (h : List Kept) (k : Kept) → NameEarlier 1 h → target_of k.post ≤ length h → changed_by h k.post ≡ 0 → corrections_from (more h k) 1 h ≡ corrections_from h 1 h
 noted-none h k e l z = all-same h (more h k) (changed_by h k.post) (λ m n. of-other h k m (said-other h k e l m n)) 1 h (omega (arith, z))
 

@@ -1,15 +1,17 @@
 -- A post that is entered for a while, and taken back.
-use Rattle.std.proofs.Common.{◌≡◌, ℕ, ◌+◌, ◌-◌, ◌≤◌, Bool, true, List, [], ◌∷◌, take, length, length-append, Option, Some, None, refl, sym, ap, ◌∙◌, subst, arith}
+use Rattle.std.proofs.Common.{◌≡◌, ℕ, ◌+◌, ◌-◌, ◌≤◌, Bool, true, false, List, [], ◌∷◌, take, length, length-append, Option, Some, None, refl, sym, ap, ◌∙◌, subst, arith}
 use Rattle.card_events.specs.declared.anchor.Anchor.{Anchor}
 use Rattle.card_events.specs.History.{CorrectedPost, anchor_of, corrected}
 use Rattle.card_events.specs.Keys.{with_key}
 use Rattle.card_events.specs.declared.kept.Kept.{Kept}
 use Rattle.card_events.specs.declared.kept.Slot.{Slot}
 use Rattle.card_posts.specs.Change.{IsFirstChange}
-use Rattle.card_posts.specs.Draft.{IsCopyIfAny, IsDraft, IsRoomyIfAny, StoodIfAny, corrections_before, effects_before, slots_before}
+use Rattle.card_posts.specs.Draft.{HasSpareIfNone, IsCopyIfAny, IsDraft, IsRoomyIfAny, StoodIfAny, corrections_before, effects_before, slots_before}
+use Rattle.card_posts.specs.Corrections.{corrects}
 use Rattle.card_posts.specs.Effect.{corrected_with}
+use Rattle.card_posts.specs.Later.{HasSpare, Later}
 use Rattle.card_posts.specs.Posted.{Posted, StandsFor, target_of}
-use Rattle.card_posts.specs.Stored.{AreBeside, IsKept, NameEarlier}
+use Rattle.card_posts.specs.Stored.{AreBeside, IsKept, NameEarlier, ends_correcting}
 use Rattle.card_posts.specs.declared.correction.Correction.{Correction}
 use Rattle.card_posts.specs.declared.draft.Beside.{Beside}
 use Rattle.card_posts.specs.declared.draft.Draft.{Draft}
@@ -21,6 +23,13 @@ use Rattle.card_events.proofs.OneMore.{more}
 -- what clauses see of posts that are stored
 abbrev pub posted_of : List Kept → List Effect → Bool → Posted
 posted_of h es room = record { history = h; corrected = corrected_with 1 5 h es; has_room = room }
+
+-- the last post is one that corrects others, or not
+pub ends-more : (h : List Kept) (k : Kept) → ends_correcting (more h k) ≡ corrects k.post
+unfolding ends_correcting
+ends-more [] k = refl
+ends-more (q ∷ []) k = refl
+ends-more (q ∷ p ∷ h) k = ends-more (p ∷ h) k
 
 -- ---- entered
 stood-if-any : (holidays : List ℕ) (k : Kept) (old new : Posted) (cs : List Correction) (es : List Effect) (slots : List Slot) (o : Option Beside)
@@ -99,6 +108,14 @@ posted-back k old new d g h es fs room n draft view long count h_is fs_is =
 
     parts : (h x : List Kept) (c y : List CorrectedPost) (r z : Bool) → h ≡ x → c ≡ y → r ≡ z → make h c r ≡ make x y z
     parts h x c y r z p q s = rw (p, q, s) refl
+
+-- where nothing was kept the last post corrects no other, so there is room
+pub spare-if-none : (k : Kept) (old new : Posted) (d : Draft) (g : List Kept) (later : Later) → IsDraft k old new d → g ≡ new.history → (ends_correcting g ≡ false → HasSpare later) → HasSpareIfNone d.before later
+spare-if-none k old new d g later draft same spare = by d.before draft.stood
+  where
+    by : (o : Option Beside) → StoodIfAny k old new o → HasSpareIfNone o later
+    by None s = spare (ap ends_correcting (same ∙ draft.history) ∙ (ends-more old.history k ∙ s.plain))
+    by (Some b) s = tt
 
 -- what is stored once the last post is taken back
 pub record AreBack (a : Anchor) (h : List Kept) (cs : List Correction) (es : List Effect) (slots : List Slot) : Type 0 where

@@ -8,6 +8,7 @@ use Rattle.card_events.specs.declared.post.Post.{Post}
 use Rattle.card_posts.specs.Change.{IsFirstChange}
 use Rattle.card_posts.specs.Corrections.{corrects}
 use Rattle.card_posts.specs.Effect.{corrected_with, slots_from}
+use Rattle.card_posts.specs.Later.{HasSpare, Later}
 use Rattle.card_posts.specs.Order.{in_order}
 use Rattle.card_posts.specs.Posted.{Posted}
 use Rattle.card_posts.specs.Stored.{AreBeside}
@@ -23,7 +24,7 @@ IsFirstWith holidays accepted p posted from =
 
 -- each of the lists has room for one more
 pub record IsRoomy (b : Beside) : Type 0 where
-  pub correction_room : vec_len b.corrections < vec_capacity b.corrections
+  pub correction_room : HasSpare b.corrections
   pub effect_room : vec_len b.effects < vec_capacity b.effects
   pub slot_room : vec_len b.order < vec_capacity b.order
 
@@ -31,9 +32,14 @@ abbrev pub IsRoomyIfAny : Option Beside → Type 0
 IsRoomyIfAny None = Unit {0}
 IsRoomyIfAny (Some b) = IsRoomy b
 
+-- where nothing was kept there is room for what is said of one post more
+abbrev pub HasSpareIfNone : Option Beside → Later → Type 0
+HasSpareIfNone None later = HasSpare later
+HasSpareIfNone (Some b) later = Unit {0}
+
 -- the lists are these, each with room for one more
 pub record IsCopy (later : List Correction) (now : List Effect) (slots : List Slot) (b : Beside) : Type 0 where
-  pub correction_items : b.corrections.items ≡ later
+  pub correction_items : b.corrections.each ≡ later
   pub effect_items : b.effects.items ≡ now
   pub slot_items : b.order.items ≡ slots
   pub room : IsRoomy b
@@ -45,7 +51,7 @@ IsCopyIfAny post later now slots (Some b) = IsCopy later now slots b
 
 -- the lists are those that stood beside the posts, and each has room for one more
 pub record StoodBeside (old : Posted) (b : Beside) : Type 0 where
-  pub beside : AreBeside old.history b.corrections.items b.effects.items b.order.items
+  pub beside : AreBeside old.history b.corrections.each b.effects.items b.order.items
   pub corrected : old.corrected ≡ corrected_with 1 5 old.history b.effects.items
   pub room : IsRoomy b
 
@@ -77,7 +83,7 @@ pub record AwaitsReturn (new : Posted) (d : Draft) : Type 0 where
 -- what is said of the posts but the last: what was kept, or else what is there without its end
 abbrev pub corrections_before : Option Beside → List Correction → List Correction
 corrections_before None later = take (length later - 1) later
-corrections_before (Some b) later = b.corrections.items
+corrections_before (Some b) later = b.corrections.each
 
 -- what counts for the posts but the last
 abbrev pub effects_before : Option Beside → List Effect → List Effect

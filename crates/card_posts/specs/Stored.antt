@@ -1,5 +1,5 @@
 -- What is stored beside the accepted posts of an account.
-use Rattle.std.specs.Prelude.{◌≡◌, ℕ, suc, ◌<◌, ◌≤◌, Bool, true, List, [], ◌∷◌, drop, length, vec_len, vec_capacity}
+use Rattle.std.specs.Prelude.{◌≡◌, ℕ, suc, ◌<◌, ◌≤◌, Bool, true, false, List, [], ◌∷◌, drop, length, vec_len, vec_capacity}
 use Rattle.std.specs.Global.{Vec}
 use Rattle.card_events.specs.Billing.{IsCloseDay}
 use Rattle.card_events.specs.Range.{last_request_day}
@@ -10,8 +10,9 @@ use Rattle.card_events.specs.declared.kept.Kept.{Kept}
 use Rattle.card_events.specs.declared.kept.Slot.{Slot}
 use Rattle.card_keys.specs.Buckets.{HasRoom, Indexed, IsIndex}
 use Rattle.card_waits.specs.Waits.{AreWaits, HasRoom as HasWaitRoom, Waits}
-use Rattle.card_posts.specs.Corrections.{corrections}
+use Rattle.card_posts.specs.Corrections.{corrections, corrects}
 use Rattle.card_posts.specs.Effect.{AreSmall, slots_from}
+use Rattle.card_posts.specs.Later.{HasSpare, Later}
 use Rattle.card_posts.specs.Order.{in_order}
 use Rattle.card_posts.specs.Posted.{AreNumbered, IsReceived, SetNoRates, target_of}
 use Rattle.card_posts.specs.declared.correction.Correction.{Correction}
@@ -54,16 +55,22 @@ pub record AreBeside (history : List Kept) (later : List Correction) (now : List
   pub order : slots ≡ in_order (slots_from 1 now)
 
 -- there is room for one more in each
-pub record HaveRoom (history : Vec Kept) (index : Indexed) (waits : Waits) (later : Vec Correction) (now : Vec Effect) (slots : Vec Slot) : Type 0 where
+pub record HaveRoom (history : Vec Kept) (index : Indexed) (waits : Waits) (later : Later) (now : Vec Effect) (slots : Vec Slot) : Type 0 where
   pub history_room : vec_len history < vec_capacity history
   pub index_room : HasRoom 1 index
   pub wait_room : HasWaitRoom waits
-  pub correction_room : vec_len later < vec_capacity later
+  pub correction_room : HasSpare later
   pub effect_room : vec_len now < vec_capacity now
   pub slot_room : vec_len slots < vec_capacity slots
 
+-- the last of these posts corrects others
+unfoldable pub ends_correcting : List Kept → Bool
+ends_correcting [] = false
+ends_correcting (k ∷ []) = corrects k.post
+ends_correcting (k ∷ q ∷ ks) = ends_correcting (q ∷ ks)
+
 -- what always holds of it: an account may have the history, the rest is kept beside it, where there is said to be room there is,
--- and no post behind so many sets rates
-abbrev pub AreStored : Anchor → Vec Kept → Indexed → Waits → Vec Correction → Vec Effect → Vec Slot → Bool → ℕ → Type 0
+-- no post behind so many sets rates, and while the last post corrects no other there is room for what one more would say
+abbrev pub AreStored : Anchor → Vec Kept → Indexed → Waits → Later → Vec Effect → Vec Slot → Bool → ℕ → Type 0
 AreStored a history index waits later now slots has_room rated =
-    IsKept a history.items × IsIndex history.items index × AreWaits history.items waits × AreBeside history.items later.items now.items slots.items × (has_room ≡ true → HaveRoom history index waits later now slots) × SetNoRates (drop rated history.items)
+    IsKept a history.items × IsIndex history.items index × AreWaits history.items waits × AreBeside history.items later.each now.items slots.items × (has_room ≡ true → HaveRoom history index waits later now slots) × SetNoRates (drop rated history.items) × (ends_correcting history.items ≡ false → HasSpare later)

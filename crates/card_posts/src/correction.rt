@@ -1,11 +1,13 @@
 // What later posts say of each post, by number.
-ghost use Rattle.std.specs.Prelude.{◌≡◌, ◌-◌, ◌<◌, ◌≤◌, ◌++◌, [], ◌∷◌, length, slice_index_or, slice_set};
+ghost use Rattle.std.specs.Prelude.{◌≡◌, ◌≤◌, ◌++◌, [], ◌∷◌, false, length};
 ghost use Rattle.card_events.specs.History.{at_number};
 ghost use Rattle.card_events.specs.declared.kept.Kept.{Kept};
-ghost use Rattle.card_posts.specs.Corrections.{charge_named, changed_by, corrections_from, with_post};
+ghost use Rattle.card_posts.specs.Corrections.{charge_named, changed_by, corrections_from, corrects, with_post};
+ghost use Rattle.card_posts.specs.Later.{HasSpare, nothing};
 ghost use Rattle.card_posts.specs.Posted.{target_of};
 ghost use Rattle.card_posts.specs.Stored.{NameEarlier};
 
+use crate::correction_table::CorrectionTable;
 use card_events::{Day, Kept, Num, Post, numbered};
 
 // What later posts say of a post: the day and cents of the last Amend, and the sum that was confirmed as an error in it.
@@ -13,6 +15,16 @@ use card_events::{Day, Kept, Num, Post, numbered};
 pub struct Correction {
     pub amend: Option<(Day, Num)>,
     pub confirmed: u64,
+}
+
+// Nothing is said of a post.
+pub fn nothing() -> Correction
+    ensures { result ≡ nothing }
+{
+    Correction {
+        amend: None,
+        confirmed: 0,
+    }
 }
 
 // the charge that the Dispute of this number names, and 0 for what is none
@@ -53,26 +65,17 @@ pub fn with_post(before: &Correction, post: &Post) -> Correction
     }
 }
 
-// Adds what one more post says of an earlier one.
-fn say(corrections: &mut [Correction], number: u64, post: &Post)
-    requires some { 0 < number }
-    requires known { number ≤ length corrections.old }
-    ensures { (d : Correction) → corrections.new ≡ slice_set corrections.old (number - 1) (with_post post.now (slice_index_or corrections.old (number - 1) d)) }
-{
-    let at = number as usize - 1;
-    let now = with_post(&corrections[at], post);
-    corrections[at] = now;
-}
-
-// Brings what is said of earlier posts up to one more post.
-pub fn note(history: &[Kept], corrections: &mut [Correction], post: &Post)
+// Brings what is said of earlier posts up to one more post. It doesn't allocate: there is room.
+pub fn note(history: &[Kept], corrections: &mut CorrectionTable, post: &Post)
     requires names { NameEarlier 1 history.now }
     requires earlier { target_of post.now ≤ length history.now }
-    requires corrections { corrections.old ≡ corrections_from history.now 1 history.now }
-    ensures { (k : Kept) → k.post ≡ post.now → corrections.new ≡ corrections_from (history.now ++ k ∷ []) 1 history.now }
+    requires corrections { corrections.old.each ≡ corrections_from history.now 1 history.now }
+    requires room { HasSpare corrections.old }
+    ensures each { (k : Kept) → k.post ≡ post.now → corrections.new.each ≡ corrections_from (history.now ++ k ∷ []) 1 history.now }
+    ensures spare { corrects post.now ≡ false → HasSpare corrections.new }
 {
     let number = changed_by(history, post);
     if number > 0 {
-        say(corrections, number, post);
+        corrections.say(number, post);
     }
 }

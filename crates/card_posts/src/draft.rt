@@ -4,11 +4,12 @@ ghost use Rattle.card_events.specs.Limits.{post_limit};
 ghost use Rattle.card_keys.specs.Buckets.{HasRoom, IsIndex};
 ghost use Rattle.card_waits.specs.Waits.{AreWaits, HasRoom as HasWaitRoom};
 ghost use Rattle.card_posts.specs.Corrections.{corrects};
-ghost use Rattle.card_posts.specs.Draft.{IsCopy, IsCopyIfAny, IsRoomyIfAny, corrections_before, effects_before, slots_before};
+ghost use Rattle.card_posts.specs.Draft.{HasSpareIfNone, IsCopy, IsCopyIfAny, IsRoomyIfAny, corrections_before, effects_before, slots_before};
 ghost use Rattle.card_posts.specs.Effect.{slots_from};
+ghost use Rattle.card_posts.specs.Later.{HasSpare};
 ghost use Rattle.card_posts.specs.Order.{in_order};
 
-use crate::correction::Correction;
+use crate::correction_table::CorrectionTable;
 use crate::effect::Effect;
 use crate::order::take_out;
 use crate::refresh::is_correction;
@@ -20,7 +21,7 @@ use std::alloc::Global;
 // What was kept beside the posts before one that corrects others.
 #[derive(Drop)]
 pub struct Beside {
-    pub corrections: Vec<Correction>,
+    pub corrections: CorrectionTable,
     pub effects: Vec<Effect>,
     pub order: Vec<Slot>,
 }
@@ -57,14 +58,14 @@ fn copy_with_room<T: Copy>(alloc: Global, list: &[T]) -> Result<Vec<T>, NoMemory
 // What is kept beside the posts, in memory of its own.
 fn copy_beside(
     alloc: Global,
-    corrections: &[Correction],
+    corrections: &CorrectionTable,
     effects: &[Effect],
     order: &[Slot],
 ) -> Result<Beside, NoMemory>
-    ensures { IfOk result (IsCopy corrections.now effects.now order.now) }
+    ensures { IfOk result (IsCopy corrections.now.each effects.now order.now) }
 {
     Ok(Beside {
-        corrections: copy_with_room(alloc, corrections)?,
+        corrections: corrections.copy(alloc)?,
         effects: copy_with_room(alloc, effects)?,
         order: copy_with_room(alloc, order)?,
     })
@@ -74,11 +75,11 @@ fn copy_beside(
 pub fn beside_if_corrected(
     alloc: Global,
     post: &Post,
-    corrections: &[Correction],
+    corrections: &CorrectionTable,
     effects: &[Effect],
     order: &[Slot],
 ) -> Result<Option<Beside>, NoMemory>
-    ensures copy { IfOk result (IsCopyIfAny post.now corrections.now effects.now order.now) }
+    ensures copy { IfOk result (IsCopyIfAny post.now corrections.now.each effects.now order.now) }
     ensures alone { corrects post.now ≡ false → IsOk result }
 {
     if is_correction(post) {
@@ -89,39 +90,41 @@ pub fn beside_if_corrected(
 }
 
 // Takes out what counts for the last post, which corrects no other.
-fn pop_last(corrections: &mut Vec<Correction>, effects: &mut Vec<Effect>, order: &mut Vec<Slot>)
-    requires corrections { 1 ≤ length corrections.old.items }
+fn pop_last(corrections: &mut CorrectionTable, effects: &mut Vec<Effect>, order: &mut Vec<Slot>)
+    requires spare { HasSpare corrections.old }
+    requires corrections { 1 ≤ length corrections.old.each }
     requires effects { 1 ≤ length effects.old.items }
     requires few { length effects.old.items ≤ post_limit }
     requires order { order.old.items ≡ in_order (slots_from 1 effects.old.items) }
-    ensures corrections { corrections.new.items ≡ corrections_before None corrections.old.items }
+    ensures corrections { corrections.new.each ≡ corrections_before None corrections.old.each }
     ensures effects { effects.new.items ≡ effects_before None effects.old.items }
     ensures order { order.new.items ≡ slots_before None effects.old.items }
-    ensures correction_room { vec_len corrections.new < vec_capacity corrections.new }
+    ensures correction_room { HasSpare corrections.new }
     ensures effect_room { vec_len effects.new < vec_capacity effects.new }
     ensures slot_room { vec_len order.new < vec_capacity order.new }
 {
     take_out(order, effects, effects.len() - 1);
-    let _ = corrections.pop();
+    corrections.pop();
     let _ = effects.pop();
 }
 
 // Puts back what stood beside the posts before the last one: what was kept, or else all but what counts for the last.
 pub fn put_back(
     before: Option<Beside>,
-    corrections: &mut Vec<Correction>,
+    corrections: &mut CorrectionTable,
     effects: &mut Vec<Effect>,
     order: &mut Vec<Slot>,
 )
     requires room { IsRoomyIfAny before }
-    requires corrections { 1 ≤ length corrections.old.items }
+    requires spare { HasSpareIfNone before corrections.old }
+    requires corrections { 1 ≤ length corrections.old.each }
     requires effects { 1 ≤ length effects.old.items }
     requires few { length effects.old.items ≤ post_limit }
     requires order { order.old.items ≡ in_order (slots_from 1 effects.old.items) }
-    ensures corrections { corrections.new.items ≡ corrections_before before corrections.old.items }
+    ensures corrections { corrections.new.each ≡ corrections_before before corrections.old.each }
     ensures effects { effects.new.items ≡ effects_before before effects.old.items }
     ensures order { order.new.items ≡ slots_before before effects.old.items }
-    ensures correction_room { vec_len corrections.new < vec_capacity corrections.new }
+    ensures correction_room { HasSpare corrections.new }
     ensures effect_room { vec_len effects.new < vec_capacity effects.new }
     ensures slot_room { vec_len order.new < vec_capacity order.new }
 {

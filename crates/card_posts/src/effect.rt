@@ -13,7 +13,8 @@ ghost use Rattle.card_posts.specs.Stored.{IsKept, IsTimely};
 ghost use Rattle.card_posts.specs.declared.effect.Effect.{Effect};
 ghost use Rattle.card_events.specs.declared.anchor.Anchor.{Anchor};
 
-use crate::correction::{Correction, with_post};
+use crate::correction::{Correction, nothing, with_post};
+use crate::correction_table::CorrectionTable;
 use card_events::{Anchor, Calendar, Channel, Day, Kept, Num, Post, credit_day, numbered};
 
 // What counts for a post now: its effective day and its corrected cents.
@@ -238,18 +239,14 @@ pub fn day_of_next(
     requires received { IsReceived anchor.now.opened accepted post.now }
     ensures { result ≡ effective_day anchor.now calendar.now history.now (1 + length history.now) accepted post.now }
 {
-    let nothing = Correction {
-        amend: None,
-        confirmed: 0,
-    };
-    let alone = day_alone(accepted, post, &nothing, anchor, calendar);
+    let alone = day_alone(accepted, post, &nothing(), anchor, calendar);
     later(alone, awaited_day(history, effects, post, history.len()))
 }
 
 // What counts for the earlier post that one more post corrects, with that post.
 pub fn effect_with(
     history: &[Kept],
-    corrections: &[Correction],
+    corrections: &CorrectionTable,
     effects: &[Effect],
     number: u64,
     post: &Post,
@@ -257,7 +254,7 @@ pub fn effect_with(
     calendar: &Calendar,
 ) -> Effect
     requires kept { IsKept anchor.now history.now }
-    requires corrections { corrections.now ≡ corrections_from history.now 1 history.now }
+    requires corrections { corrections.now.each ≡ corrections_from history.now 1 history.now }
     requires effects { effects.now ≡ spec.effects anchor.now calendar.now history.now }
     requires target { target_of post.now ≤ length history.now }
     requires number { number ≡ changed_by history.now post.now }
@@ -268,7 +265,8 @@ pub fn effect_with(
 {
     let i = number as usize - 1;
     let kept = &history[i];
-    let correction = with_post(&corrections[i], post);
+    let before = corrections.at(i);
+    let correction = with_post(&before, post);
     let alone = day_alone(kept.accepted, &kept.post, &correction, anchor, calendar);
     Effect {
         day: later(alone, awaited_day(history, effects, &kept.post, i)),
@@ -279,23 +277,23 @@ pub fn effect_with(
 // What counts for post i + 1, where what counts for all posts before it is known.
 pub fn effect_now(
     history: &[Kept],
-    corrections: &[Correction],
+    corrections: &CorrectionTable,
     effects: &[Effect],
     i: usize,
     anchor: &Anchor,
     calendar: &Calendar,
 ) -> Effect
     requires kept { IsKept anchor.now history.now }
-    requires corrections { corrections.now ≡ corrections_from history.now 1 history.now }
+    requires corrections { corrections.now.each ≡ corrections_from history.now 1 history.now }
     requires known { i < length history.now }
     requires length { i ≤ length effects.now }
     requires front { take i effects.now ≡ take i (spec.effects anchor.now calendar.now history.now) }
     ensures { (d : Effect) → result ≡ slice_index_or (spec.effects anchor.now calendar.now history.now) i d }
 {
     let kept = &history[i];
-    let correction = &corrections[i];
+    let correction = corrections.at(i);
     Effect {
-        day: day_now(history, effects, i, kept, correction, anchor, calendar),
-        cents: cents_now(&kept.post, correction),
+        day: day_now(history, effects, i, kept, &correction, anchor, calendar),
+        cents: cents_now(&kept.post, &correction),
     }
 }

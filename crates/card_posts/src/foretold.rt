@@ -10,7 +10,8 @@ ghost use Rattle.card_posts.specs.Effect as spec;
 ghost use Rattle.card_posts.specs.Posted.{IsReceived, target_of};
 ghost use Rattle.card_posts.specs.Stored.{IsKept};
 
-use crate::correction::{Correction, changed_by};
+use crate::correction::changed_by;
+use crate::correction_table::CorrectionTable;
 use crate::effect::{Effect, day_of_next, effect_with};
 use crate::refresh::after_one;
 use card_events::{Anchor, Calendar, Day, Kept, Post};
@@ -19,7 +20,7 @@ use card_events::{Anchor, Calendar, Day, Kept, Post};
 // the post which it corrects leaves and moves to. What waits for that one never counts before it.
 pub fn first_with(
     history: &[Kept],
-    corrections: &[Correction],
+    corrections: &CorrectionTable,
     effects: &[Effect],
     accepted: Day,
     post: &Post,
@@ -27,7 +28,7 @@ pub fn first_with(
     calendar: &Calendar,
 ) -> Day
     requires kept { IsKept anchor.now history.now }
-    requires corrections { corrections.now ≡ corrections_from history.now 1 history.now }
+    requires corrections { corrections.now.each ≡ corrections_from history.now 1 history.now }
     requires effects { effects.now ≡ spec.effects anchor.now calendar.now history.now }
     requires target { target_of post.now ≤ length history.now }
     requires dated { accepted ≤ last_request_day }

@@ -2,6 +2,7 @@
 #![tactic(auto)]
 
 mod correction;
+mod correction_table;
 mod draft;
 mod effect;
 mod enter;

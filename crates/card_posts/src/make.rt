@@ -1,5 +1,5 @@
 // The lists of an account that was just opened, room in them, and copies of them.
-ghost use Rattle.std.specs.Prelude.{◌≡◌, ◌<◌, [], ◌∷◌, true, IfOk, OnOk, vec_len, vec_capacity};
+ghost use Rattle.std.specs.Prelude.{◌≡◌, ◌<◌, ◌≤◌, [], ◌∷◌, true, IfOk, OnOk, vec_len, vec_capacity};
 ghost use Rattle.card_events.specs.Billing.{IsCloseDay};
 ghost use Rattle.card_events.specs.History.{is_open, opening_in, terms_in};
 ghost use Rattle.card_events.specs.declared.kept.Kept.{Kept};
@@ -24,15 +24,19 @@ pub fn opening(post: &Post) -> Anchor
     }
 }
 
-// Room for one more in a list, which most often is there; else it grows by half, since lists that double stand half empty.
-pub fn make_room_in<T: Drop>(list: &mut Vec<T>) -> Result<(), NoMemory>
+// Room for one more in a list, which most often is there; else it grows by half and by so many, since lists that double stand half
+// empty.
+pub fn make_room_in<T: Drop>(list: &mut Vec<T>, least: usize) -> Result<(), NoMemory>
+    requires some { 0 < least }
+    requires few { least ≤ 4 }
     ensures items { list.new.items ≡ list.old.items }
+    ensures spare { vec_len list.old < vec_capacity list.old → vec_len list.new < vec_capacity list.new }
     ensures room { OnOk result (vec_len list.new < vec_capacity list.new) }
 {
     if list.len() < list.capacity() {
         return Ok(());
     }
-    list.reserve_exact(list.len() / 2 + 4)?;
+    list.reserve_exact(list.len() / 2 + least)?;
     Ok(())
 }
 

@@ -1,4 +1,4 @@
-use crate::correction::Correction;
+use crate::correction_table::CorrectionTable;
 use crate::draft::{Draft, beside_if_corrected, put_back, take_last};
 use crate::effect::{Effect, no_cents};
 use crate::enter::enter;
@@ -15,6 +15,9 @@ use std::marker::Model;
 // How many buckets the keys of a new account lie in.
 const FIRST_BUCKETS: usize = 4;
 
+// For how many posts more there is room at least where a list grows that holds each.
+const LEAST_GROWTH: usize = 4;
+
 /// The accepted posts of an account, in order of acceptance, at most 200,000, of which the first opened it; and the
 /// corrected list, which says what counts of each post now.
 #[derive(Drop)]
@@ -22,7 +25,7 @@ pub struct Posts {
     history: Vec<Kept>,
     index: KeyTable,
     waits: WaitTable,
-    corrections: Vec<Correction>,
+    corrections: CorrectionTable,
     effects: Vec<Effect>,
     order: Vec<Slot>,
     anchor: Anchor,
@@ -86,15 +89,11 @@ impl Posts {
             day: anchor.opened,
             cents: no_cents(),
         };
-        let nothing = Correction {
-            amend: None,
-            confirmed: 0,
-        };
         let history = one(alloc, kept)?;
         Ok(Posts {
             index: rebuilt(alloc, &history, FIRST_BUCKETS, 0)?,
             waits: waits_of(alloc, post)?,
-            corrections: one(alloc, nothing)?,
+            corrections: CorrectionTable::of_one(alloc)?,
             order: one(alloc, slot(1, &effect))?,
             effects: one(alloc, effect)?,
             history,
@@ -178,12 +177,12 @@ impl Posts {
         if self.has_room {
             return Ok(());
         }
-        make_room_in(&mut self.history)?;
+        make_room_in(&mut self.history, LEAST_GROWTH)?;
         card_keys::make_room(alloc, &self.history, &mut self.index)?;
         self.waits.make_room()?;
-        make_room_in(&mut self.corrections)?;
-        make_room_in(&mut self.effects)?;
-        make_room_in(&mut self.order)?;
+        self.corrections.make_room()?;
+        make_room_in(&mut self.effects, LEAST_GROWTH)?;
+        make_room_in(&mut self.order, LEAST_GROWTH)?;
         self.has_room = true;
         Ok(())
     }
@@ -332,7 +331,7 @@ impl Posts {
             history: copy_history(alloc, &self.history)?,
             index: self.index.copy(alloc)?,
             waits: self.waits.copy(alloc)?,
-            corrections: Vec::from_slice(alloc, &self.corrections)?,
+            corrections: self.corrections.copy(alloc)?,
             effects: Vec::from_slice(alloc, &self.effects)?,
             order: Vec::from_slice(alloc, &self.order)?,
             anchor: self.anchor,

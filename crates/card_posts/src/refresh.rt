@@ -8,7 +8,7 @@ ghost use Rattle.card_posts.specs.Effect as spec;
 ghost use Rattle.card_posts.specs.Stored.{AreOrdered, IsKept};
 ghost use Rattle.card_posts.specs.declared.effect.Effect.{Effect};
 
-use crate::correction::Correction;
+use crate::correction_table::CorrectionTable;
 use crate::effect::{Effect, effect_now};
 use crate::order::change;
 use card_events::{Anchor, Calendar, Day, Kept, Post, Slot};
@@ -65,7 +65,7 @@ fn refresh_one(effects: &mut [Effect], order: &mut Vec<Slot>, i: usize, now: &Ef
 // brings the posts with these numbers up to what the history says, where the others are
 fn refresh(
     history: &[Kept],
-    corrections: &[Correction],
+    corrections: &CorrectionTable,
     effects: &mut [Effect],
     order: &mut Vec<Slot>,
     anchor: &Anchor,
@@ -73,7 +73,7 @@ fn refresh(
     numbers: &[u32],
 )
     requires kept { IsKept anchor.now history.now }
-    requires corrections { corrections.now ≡ corrections_from history.now 1 history.now }
+    requires corrections { corrections.now.each ≡ corrections_from history.now 1 history.now }
     requires length { length effects.old ≤ length history.now }
     requires ordered { AreOrdered order.old.items effects.old }
     requires others { AgreeBut numbers.now effects.old (take (length effects.old) (spec.effects anchor.now calendar.now history.now)) }
@@ -105,7 +105,7 @@ fn following<'a>(before: &Effect, now: &Effect, waiting: &'a [u32]) -> &'a [u32]
 // one. Answers the first day known to differ.
 pub fn update(
     history: &[Kept],
-    corrections: &[Correction],
+    corrections: &CorrectionTable,
     effects: &mut [Effect],
     order: &mut Vec<Slot>,
     anchor: &Anchor,
@@ -114,7 +114,7 @@ pub fn update(
     waiting: &[u32],
 ) -> Day
     requires kept { IsKept anchor.now history.now }
-    requires corrections { corrections.now ≡ corrections_from history.now 1 history.now }
+    requires corrections { corrections.now.each ≡ corrections_from history.now 1 history.now }
     requires length { length effects.old ≤ length history.now }
     requires ordered { AreOrdered order.old.items effects.old }
     requires moved { IsMoved number waiting.now effects.old (take (length effects.old) (spec.effects anchor.now calendar.now history.now)) }

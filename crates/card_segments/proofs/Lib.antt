@@ -7,7 +7,9 @@ pub mod SumsBack
 pub mod Better
 pub mod Turn
 pub mod HoldingLists
+pub mod Counted
 pub mod PartFacts
+pub mod Sole
 pub mod Payable
 pub mod Undone
 pub mod Returned

@@ -1,7 +1,7 @@
 -- The parts of an amount: they ascend, sum to it, and are of segments that can bear them.
 use Rattle.std.proofs.Common.{◌≡◌, ℕ, zero, suc, ◌+◌, ◌-◌, ◌<◌, ◌≤◌, Bool, true, false, cond, List, [], ◌∷◌, ◌++◌, length, drop, refl, sym, ap, ◌∙◌, subst, arith, eqb, eq-eqb, get_or, get_or-drop, take, Option, Some, None, ℤ, pos, negsuc}
 use Rattle.std.specs.Prelude.{◌≤ℤ◌}
-use Rattle.std.specs.List.{All, Contains, filter_map, cons_option}
+use Rattle.std.specs.List.{All, Contains, filter, filter_map, cons_option}
 use Rattle.std.proofs.lemmas.Int.{ints}
 use Rattle.std.proofs.lemmas.List.{drop_all}
 use Rattle.std.proofs.lemmas.Bool.{eqb-true, ne_eqb}
@@ -12,18 +12,14 @@ use Rattle.card_model.specs.Entries.{at_least_zero}
 use Rattle.card_model.specs.declared.holding.Holding.{Holding}
 use Rattle.card_model.proofs.Signs.{excess-chooses, minimum-chooses, pay-within, place-chooses}
 use Rattle.card_model.proofs.WholeParts.{paid_at-ascends, paid_at-other}
-use Rattle.card_segments.specs.Holdings.{holdings, holdings_from}
+use Rattle.card_segments.specs.Holdings.{counts, holdings, holdings_from}
 use Rattle.card_segments.specs.Parts.{AreCovered, AreOnSegments, AreParts, Ascend, IsOnSegment, parts_sum}
 use Rattle.card_segments.specs.declared.rank.Rank.{Rank}
+use Rattle.card_segments.proofs.Counted.{allocated-counted, contains-high, placed-counted}
 use Rattle.card_segments.proofs.HoldingLists.{holdings-ascend}
 
 abbrev total_of : Paying → ℕ
 total_of s = s.credit + paid_sum s.left
-
-contains-high : (low : ℕ) (hs : List Holding) (h : Holding) → Ascends low hs → Contains hs h → low ≤ h.id
-contains-high low [] h a (k, l, e) = absurd (omega arith)
-contains-high low (x ∷ hs) h a (zero, l, e) = subst (λ (g : Holding). low ≤ g.id) e a.0
-contains-high low (x ∷ hs) h a (suc k, l, e) = let more = contains-high (x.id + 1) hs h a.1 (k, omega arith, e) in let m = a.0 in omega arith
 
 paid_at-sum : (n low : ℕ) (hs : List Holding) (h : Holding) → Ascends low hs → Contains hs h → paid_sum (paid_at h.id n hs) ≡ paid_sum hs + n
 unfolding paid_at
@@ -212,14 +208,16 @@ written n xs ys e f =
     let none : drop (length xs) ys ≡ [] = drop_all (length xs) ys (omega arith) in
     rw none (take-append-all n xs (omega arith))
 
-pub placed-is : (bs : List ℤ) (rs : List Rank) (place : List ℕ) (amount credit : ℕ) (hs left : List Holding) (items : List (ℕ × ℕ)) → hs ≡ holdings place bs rs → pay place_rule amount (at hs 0) ≡ at left credit → items ≡ parts (at left credit)
+pub placed-is : (bs : List ℤ) (rs : List Rank) (place : List ℕ) (amount credit : ℕ) (hs left : List Holding) (items : List (ℕ × ℕ)) → hs ≡ filter counts (holdings place bs rs) → pay place_rule amount (at hs 0) ≡ at left credit → items ≡ parts (at left credit)
     → items ≡ placed amount (holdings place bs rs)
-placed-is bs rs place amount credit hs left items e p q = q ∙ ap parts (sym p ∙ ap (λ us. pay place_rule amount (at us 0)) e)
+placed-is bs rs place amount credit hs left items e p q = q ∙ (ap parts (sym p ∙ ap (λ us. pay place_rule amount (at us 0)) e) ∙ placed-counted amount 2 (holdings place bs rs) (holdings-ascend place 2 2 (drop 2 bs) (drop 2 rs) (omega arith)))
 
-pub allocated-is : (bs : List ℤ) (rs : List Rank) (minimum amount first credit : ℕ) (hs mid left : List Holding) (items : List (ℕ × ℕ)) → hs ≡ holdings [] bs rs → pay minimum_rule minimum (at hs 0) ≡ at mid first
+pub allocated-is : (bs : List ℤ) (rs : List Rank) (minimum amount first credit : ℕ) (hs mid left : List Holding) (items : List (ℕ × ℕ)) → hs ≡ filter counts (holdings [] bs rs) → pay minimum_rule minimum (at hs 0) ≡ at mid first
     → pay excess_rule (amount - minimum) (at mid first) ≡ at left credit → items ≡ parts (at left credit) → items ≡ allocated minimum amount (holdings [] bs rs)
 allocated-is bs rs minimum amount first credit hs mid left items e p r q =
-    q ∙ ap parts (sym r ∙ ap (pay excess_rule (amount - minimum)) (sym p ∙ ap (λ us. pay minimum_rule minimum (at us 0)) e))
+    q
+    ∙ (ap parts (sym r ∙ ap (pay excess_rule (amount - minimum)) (sym p ∙ ap (λ us. pay minimum_rule minimum (at us 0)) e))
+    ∙ allocated-counted minimum amount 2 (holdings [] bs rs) (holdings-ascend [] 2 2 (drop 2 bs) (drop 2 rs) (omega arith)))
 
 -- the lesser amount is the lesser number
 pub least : (a b : ℤ) → a ≤ℤ b → at_least_zero a ≤ at_least_zero b

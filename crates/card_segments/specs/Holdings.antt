@@ -1,5 +1,5 @@
 -- What a payment may reach, of balances and ranks by segment.
-use Rattle.std.specs.Prelude.{ℕ, ◌+◌, ◌==◌, List, [], ◌∷◌, drop, ℤ}
+use Rattle.std.specs.Prelude.{ℕ, ◌+◌, ◌==◌, ◌||◌, nat_lt, Bool, List, [], ◌∷◌, drop, ℤ}
 use Rattle.std.specs.List.{list_any}
 use Rattle.card_model.specs.Entries.{at_least_zero}
 use Rattle.card_model.specs.declared.holding.Holding.{Holding}
@@ -26,3 +26,7 @@ holdings_from place id (b ∷ bs) (r ∷ rs) = holding place id b r ∷ holdings
 -- all segments but Credit and Held, which take no part
 abbrev pub holdings : List ℕ → List ℤ → List Rank → List Holding
 holdings place balances ranks = holdings_from place 2 (drop 2 balances) (drop 2 ranks)
+
+-- it was paid, or can be: no other takes part
+abbrev pub counts : Holding → Bool
+counts h = nat_lt 0 h.paid || nat_lt 0 h.balance

@@ -1,10 +1,11 @@
-ghost use Rattle.std.specs.Prelude.{◌≡◌, ℕ, ◌+◌, ◌<◌, ◌≤◌, ◌^◌, ◌++◌, [], ◌∷◌, length, take, OnOk, IfOk, pos, ◌≤ℤ◌, slice_index_or};
+ghost use Rattle.std.specs.Prelude.{◌≡◌, ℕ, ◌+◌, ◌<◌, ◌≤◌, ◌^◌, ◌++◌, [], ◌∷◌, length, take, OnOk, IfOk, IfSome, is_some, pos, ◌≤ℤ◌, slice_index_or};
 ghost use Rattle.card_model.specs.Limits.{balance_limit};
-ghost use Rattle.std.specs.List.{All, filter_map, list_any};
+ghost use Rattle.std.specs.List.{All, filter, filter_map, list_any};
 ghost use Rattle.card_model.specs.Allocation.{Ascends, allocated, part_of, parts, placed};
 ghost use Rattle.card_model.specs.Entries.{at_least_zero};
-ghost use Rattle.card_segments.specs.Holdings.{holding, holdings};
+ghost use Rattle.card_segments.specs.Holdings.{counts, holding, holdings};
 ghost use Rattle.card_segments.specs.Parts.{AreParts, part};
+ghost use Rattle.card_segments.specs.Sole.{AreOfSole, holders, is_above_zero, sole};
 
 use crate::pay::pay_by;
 use crate::rule::Rule;
@@ -39,7 +40,15 @@ fn holding(s: &Segments, ranks: &[Rank], place: &[u8], id: u8) -> Holding
     }
 }
 
-// All segments but Credit and Held.
+// Whether a cent can be paid on the segment with a number.
+fn has_balance(s: &Segments, id: u8) -> bool
+    requires { id < length s.now.balances }
+    ensures { result ≡ is_above_zero (slice_index_or s.now.balances id (pos 0)) }
+{
+    at_least_zero(s.balance(id)) > 0
+}
+
+// All segments with a balance but Credit and Held.
 fn holdings(
     alloc: Global,
     s: &Segments,
@@ -47,13 +56,15 @@ fn holdings(
     place: &[u8],
 ) -> Result<Vec<Holding>, NoMemory>
     requires { length ranks.now ≡ length s.now.balances }
-    ensures items { IfOk result (λ v. v.items ≡ holdings place.now s.now.balances ranks.now) }
+    ensures items { IfOk result (λ v. v.items ≡ filter counts (holdings place.now s.now.balances ranks.now)) }
     ensures some { 1 ≤ length s.now.balances }
     ensures room { IfOk result (λ v. All (λ h. h.paid + h.balance < 2 ^ 64) v.items) }
 {
     let mut list = Vec::new(alloc);
     for id in 2..s.len() {
-        list.push(holding(s, ranks, place, id))?;
+        if has_balance(s, id) {
+            list.push(holding(s, ranks, place, id))?;
+        }
     }
     Ok(list)
 }
@@ -82,6 +93,53 @@ fn parts_of(
         add_part(&mut list, holding.id, holding.paid)?;
     }
     Ok(list)
+}
+
+// The only segment with a balance, apart from Credit and Held; Credit where there is none.
+fn sole_holder(s: &Segments) -> Option<u8>
+    ensures holder { result ≡ sole (holders s.now.balances) }
+    ensures known { IfSome result (λ id. id < length s.now.balances) }
+{
+    let mut found: u8 = 0;
+    for id in 2..s.len() {
+        if has_balance(s, id) {
+            if found != 0 {
+                return None;
+            }
+            found = id;
+        }
+    }
+    Some(found)
+}
+
+// A part of a segment, with what goes to Credit.
+fn two_parts(
+    alloc: Global,
+    id: u8,
+    paid: u64,
+    credit: u64,
+) -> Result<SmallVec<(u8, u64), 4>, NoMemory>
+    ensures { IfOk result (λ v. v.items ≡ part 0 credit ++ part id paid) }
+{
+    let mut list = SmallVec::new(alloc);
+    add_part(&mut list, 0, credit)?;
+    add_part(&mut list, id, paid)?;
+    Ok(list)
+}
+
+/// The parts of a payment or a merchant's credit of some cents where one segment at most has a balance, apart from Credit and
+/// Held: it is paid up to its balance, and the rest goes to Credit, however segments rank (12 CFR 1026.53). None where more of
+/// them have one: then the parts are those of `allocate` or `place_credit`.
+pub fn sole_parts(alloc: Global, s: &Segments, amount: Cents) -> Result<Option<Parts>, NoMemory>
+    ensures parts { IfOk result (λ found. IfSome found (AreOfSole s.now.balances (at_least_zero amount))) }
+    ensures found { IfOk result (λ found. is_some found ≡ is_some (sole (holders s.now.balances))) }
+{
+    let Some(id) = sole_holder(s) else {
+        return Ok(None);
+    };
+    let amount = at_least_zero(amount);
+    let paid = at_least_zero(s.balance(id)).min(amount);
+    Ok(Some(Parts::of(two_parts(alloc, id, paid, amount - paid)?)))
 }
 
 /// The parts of a payment of some cents. The minimum part goes cent by cent to the balance with the least rate. The excess

@@ -15,7 +15,7 @@ mod rank;
 mod rule;
 mod segments;
 
-pub use allocation::{allocate, place_credit};
+pub use allocation::{allocate, place_credit, sole_parts};
 pub use card_model::{Entry, EntryKind, Note, Segment, Sort};
 pub use part_moves::{put_back, take};
 pub use parts::Parts;

@@ -1,5 +1,5 @@
 -- What is owed on a segment at the ends of days: only the days of its entries change it.
-use Rattle.std.proofs.Common.{◌≡◌, ℕ, zero, suc, ◌+◌, ◌-◌, ◌*◌, ◌<◌, ◌≤◌, ◌^◌, Bool, true, false, not, ◌||◌, ◌&&◌, cond, List, [], ◌∷◌, ◌++◌, length, take, get_or, refl, sym, ap, ◌∙◌, arith, eqb, leb, ltb, ℤ, pos, negsuc, ◌+ℤ◌, ◌-ℤ◌, w64, FitsSigned}
+use Rattle.std.proofs.Common.{◌≡◌, ℕ, zero, suc, ◌+◌, ◌-◌, ◌*◌, ◌<◌, ◌≤◌, ◌^◌, Bool, true, false, not, ◌||◌, ◌&&◌, cond, List, [], ◌∷◌, ◌++◌, length, take, get_or, refl, sym, ap, ◌∙◌, arith, eqb, leb, ltb, ℤ, pos, negsuc, ◌+ℤ◌, ◌-ℤ◌, FitsSigned}
 use Rattle.std.specs.List.{All, filter, list_any, range_with_len}
 use Rattle.std.proofs.lemmas.Bool.Decides.{nat_tests}
 use Rattle.std.proofs.lemmas.Int.{fits_signed_from_abs, ints}
@@ -8,7 +8,6 @@ use Rattle.std.proofs.lemmas.List.Elements.{All-head, All-tail, filter-append}
 use Rattle.card_model.proofs.Posted.{sum_of-append}
 use Rattle.card_model.specs.Entries.{at_least_zero, balance}
 use Rattle.card_model.specs.declared.entry.Entry.{Entry}
-use Rattle.card_segments.proofs.SumsBack.{cents-within}
 use Rattle.card_segments.specs.Balances.{IsWithin}
 use Rattle.card_statement.specs.Lines.{entries_on, is_owed_on, was_owed}
 use Rattle.card_statement.specs.Standing.{is_owed_after, is_owed_then, moved_after}
@@ -48,7 +47,7 @@ after-more s day es i e l is =
     ∙ (after-append s day (take i es) (get_or es i e ∷ [])
     ∙ ap (λ (x : Entry). moved_after s day (take i es) +ℤ moved_after s day (x ∷ [])) (sym is))
 
-after-none : (s day : ℕ) → moved_after s day [] ≡ pos 0
+pub after-none : (s day : ℕ) → moved_after s day [] ≡ pos 0
 unfolding moved_after
 after-none s day = refl
 
@@ -61,7 +60,7 @@ sum-first p s e es = by (p e) (filter p es)
     by true fs = refl
     by false fs = refl
 
-after-first : (s day : ℕ) (e : Entry) (es : List Entry)
+pub after-first : (s day : ℕ) (e : Entry) (es : List Entry)
     → moved_after s day (e ∷ es) ≡ cond (ltb day e.day) (cond (eqb e.segment s) e.cents (pos 0) +ℤ moved_after s day es) (moved_after s day es)
 unfolding moved_after
 after-first s day e es = sum-first (λ (x : Entry). ltb day x.day) s e es
@@ -122,7 +121,7 @@ by-and-after s day (e ∷ es) =
     two false false x a b a' b' c n p q r = absurd (cc)
 
 -- ---- a day more
-or-none : (t u : Bool) → (t || u) ≡ false → (t ≡ false) × (u ≡ false)
+pub or-none : (t u : Bool) → (t || u) ≡ false → (t ≡ false) × (u ≡ false)
 or-none true u e = absurd (cc)
 or-none false u e = (refl, e)
 
@@ -224,7 +223,7 @@ next-there true first last day b l h q =
     rw (low, high, there) refl
 
 -- so many days on, something is owed at the end of one of them, or at the end of the first or of an entry's
-abbrev After : ℤ → List Entry → ℕ → ℕ → ℕ → Bool
+abbrev pub After : ℤ → List Entry → ℕ → ℕ → ℕ → Bool
 After left es s first last = list_any (is_owed_after left es s first last) es
 
 pub days-enough : (left : ℤ) (es : List Entry) (s first n : ℕ)

@@ -5,9 +5,12 @@ mod deferred;
 mod earlier;
 pub mod laws;
 mod moves;
+mod packed;
+mod packing;
 mod rate;
 mod sheet;
 mod standing;
+mod unpacking;
 mod years;
 
 pub use card_model::{DeferredLine, Move, RateLine};
@@ -16,6 +19,7 @@ pub use earlier::{
     corrections, cycle_entries, has_due_payment, late_up_to, owed_before, previous_balance,
 };
 pub use moves::moves_of;
+pub use packed::PackedSheet;
 pub use rate::rate_lines;
 pub use sheet::Sheet;
 pub use years::{fees_year, interest_year};

@@ -1,12 +1,12 @@
 // The transactions that the entries of a cycle make up.
-ghost use Rattle.std.specs.Prelude.{◌≡◌, ◌≤◌, ◌+◌, ◌^◌, [], IfOk, OnOk, nat_abs};
+ghost use Rattle.std.specs.Prelude.{◌≡◌, ◌≤◌, ◌+◌, ◌^◌, [], false, take, IfOk, OnOk, nat_abs};
 ghost use Rattle.std.specs.List.{All, filter};
 ghost use Rattle.card_model.specs.Entries as entries;
-ghost use Rattle.card_statement.specs.Gathering.{raised_by, sizes, with_entry, with_if};
+ghost use Rattle.card_statement.specs.Gathering.{later_of, place_of, raised_by, sizes, with_entry, with_if};
 ghost use Rattle.card_model.specs.Sheets as spec;
 
 use crate::Move;
-use card_events::NoMemory;
+use card_events::{Day, NoMemory};
 use card_model::{Entry, EntryKind};
 use std::alloc::Global;
 
@@ -65,12 +65,13 @@ fn raise(line: &mut Move, entry: &Entry)
     line.cents += entry.cents;
 }
 
-// Adds an entry to its transaction, or begins that.
-fn add(moves: &mut Vec<Move>, entry: &Entry) -> Result<(), NoMemory>
+// Adds an entry to its transaction, or begins that: no transaction before this place is the entry's.
+fn add(moves: &mut Vec<Move>, from: usize, entry: &Entry) -> Result<(), NoMemory>
     requires small { All (λ m. nat_abs m.cents + nat_abs entry.now.cents ≤ 10 ^ 17) moves.old.items }
+    requires others { All (λ m. spec.is_of_move entry.now m ≡ false) (take from moves.old.items) }
     ensures { OnOk result (moves.new.items ≡ with_entry entry.now moves.old.items) }
 {
-    for i in 0..moves.len() {
+    for i in from..moves.len() {
         if is_of_move(entry, &moves[i]) {
             raise(&mut moves[i], entry);
             return Ok(());
@@ -81,24 +82,52 @@ fn add(moves: &mut Vec<Move>, entry: &Entry) -> Result<(), NoMemory>
 }
 
 // Adds an entry, where it is of a transaction.
-fn add_if(moves: &mut Vec<Move>, entry: &Entry) -> Result<(), NoMemory>
+fn add_if(moves: &mut Vec<Move>, from: usize, entry: &Entry) -> Result<(), NoMemory>
     requires small { All (λ m. nat_abs m.cents + nat_abs entry.now.cents ≤ 10 ^ 17) moves.old.items }
+    requires others { All (λ m. spec.is_of_move entry.now m ≡ false) (take from moves.old.items) }
     ensures { OnOk result (moves.new.items ≡ with_if entry.now moves.old.items) }
 {
     if moves_owed(entry) {
-        add(moves, entry)?;
+        add(moves, from, entry)?;
     }
     Ok(())
 }
 
-// All transactions of entries, those that came to nothing too.
+// Where the transactions of a day may begin among so many, where the latest one so far is this day and its own begin at a
+// place: there on that day, behind all on a later day, and anywhere on an earlier one.
+fn beginning(latest: Day, from: usize, count: usize, day: Day) -> usize
+    ensures { result ≡ place_of latest from count day }
+{
+    if day > latest {
+        count
+    } else if day < latest {
+        0
+    } else {
+        from
+    }
+}
+
+// The later of two days.
+fn later(latest: Day, day: Day) -> Day
+    ensures { result ≡ later_of latest day }
+{
+    if day > latest { day } else { latest }
+}
+
+// All transactions of entries, those that came to nothing too. Where entries stand in the order of their days, each is looked
+// for among the transactions of its own day alone.
 fn gather(alloc: Global, entries: &[Entry]) -> Result<Vec<Move>, NoMemory>
     requires small { sizes entries.now ≤ 10 ^ 17 }
     ensures { IfOk result (λ moves. moves.items ≡ spec.gathered (filter spec.moves_owed entries.now)) }
 {
     let mut moves = Vec::new(alloc);
+    let mut latest = Day::first();
+    let mut from = 0;
     for i in 0..entries.len() {
-        add_if(&mut moves, &entries[i])?;
+        let entry = &entries[i];
+        from = beginning(latest, from, moves.len(), entry.day);
+        latest = later(latest, entry.day);
+        add_if(&mut moves, from, entry)?;
     }
     Ok(moves)
 }

@@ -7,6 +7,7 @@ ghost use Rattle.card_repay.specs.Limits.{item_limit, owing_limit};
 ghost use Rattle.card_text.specs.Repayment as spec;
 
 use crate::columns::{push_both, push_end};
+use card_closing::Amounts;
 use card_events::{Bp, Cents, Money, NoMemory};
 use card_repay::{AtMinimum, In36, Owing, at_minimum, in_36};
 use card_statement::{RateLine, Sheet};
@@ -30,8 +31,8 @@ fn rate_of(lines: &[RateLine], segment: u8) -> Bp
 }
 
 // What is owed on a segment, a pair of its number and cents.
-fn owing_of(lines: &[RateLine], amount: &(u8, u64)) -> Owing
-    ensures { result ≡ spec.owing_of lines.now amount.now }
+fn owing_of(lines: &[RateLine], amount: (u8, u64)) -> Owing
+    ensures { result ≡ spec.owing_of lines.now amount }
 {
     Owing {
         cents: amount.1,
@@ -40,16 +41,12 @@ fn owing_of(lines: &[RateLine], amount: &(u8, u64)) -> Owing
 }
 
 // What is owed on each of some segments.
-fn owing_at(
-    alloc: Global,
-    lines: &[RateLine],
-    amounts: &[(u8, u64)],
-) -> Result<Vec<Owing>, NoMemory>
+fn owing_at(alloc: Global, lines: &[RateLine], amounts: &Amounts) -> Result<Vec<Owing>, NoMemory>
     ensures { IfOk result (λ owing. owing.items ≡ map (spec.owing_of lines.now) amounts.now) }
 {
     let mut owing = Vec::new(alloc);
-    for amount in amounts {
-        owing.push(owing_of(lines, amount))?;
+    for place in 0..amounts.len() {
+        owing.push(owing_of(lines, amounts.get(place)))?;
     }
     Ok(owing)
 }
@@ -61,7 +58,7 @@ fn owing_on(alloc: Global, sheet: &Sheet) -> Result<Vec<Owing>, NoMemory>
     ensures few { IfOk result (λ owing. length owing.items ≤ item_limit) }
     ensures small { IfOk result (λ owing. total owing.items ≤ owing_limit) }
 {
-    let owing = owing_at(alloc, &sheet.rates, sheet.closing.items())?;
+    let owing = owing_at(alloc, &sheet.rates, &sheet.closing)?;
     Ok(owing)
 }
 

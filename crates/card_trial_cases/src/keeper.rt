@@ -1,4 +1,4 @@
-use card_ports::{Keeper, KeeperFault, Row};
+use card_ports::{Keeper, KeeperFault, Row, Rows};
 use std::alloc::Global;
 
 // Keeps nothing, and tells nothing.
@@ -12,8 +12,8 @@ impl Keeper for Untold {
 
     ghost faults = { λ k. 0 };
 
-    fn load(&mut self, alloc: Global) -> Result<Vec<Row>, KeeperFault> {
-        Ok(Vec::new(alloc))
+    fn load_packed(&mut self, alloc: Global) -> Result<Rows, KeeperFault> {
+        Ok(Rows::new(alloc))
     }
 
     fn append(&mut self, _alloc: Global, _more: &[Row]) -> Result<(), KeeperFault> {

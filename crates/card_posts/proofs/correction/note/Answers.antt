@@ -6,7 +6,7 @@ use Rattle.card_posts.specs.Posted.{target_of}
 use Rattle.card_posts.specs.Stored.{NameEarlier}
 use Rattle.card_posts.specs.declared.correction.Correction.{Correction}
 use Rattle.card_events.proofs.OneMore.{more}
-use Rattle.card_posts.proofs.Noted.{by_parts, changed-within, corrections-length, noted-none, noted-one}
+use Rattle.card_posts.proofs.Noted.{by_parts, changed-within, corrections-length, noted-none, noted-one, plain-changed}
 use Rattle.card_posts.proofs.correction.note.Goals as goal
 
 pub say-requires-clause-known : goal.say-requires-clause-known
@@ -30,10 +30,18 @@ one h k p cs new n e l same are is z said =
     ∙ (ap (λ m. set (corrections_from h 1 h) (m - 1) (with_post k.post (get_or (corrections_from h 1 h) (m - 1) d))) number
     ∙ sym (noted-one h k d e (same-target h k p same l) (subst (λ m. 0 < m) number z)))))
 
-pub returns-then-number-gt0 : goal.returns-then-number-gt0
-returns-then-number-gt0 c k same =
-    one c.args.history.now k c.args.post.now c.args.corrections.now c.say.new.corrections c.changed_by-number.result c.requires.names c.requires.earlier same c.requires.corrections c.changed_by-number.ensures (omega (arith, c.if-number-gt0.true)) c.say.ensures
+pub returns-then-number-gt0-clause-each : goal.returns-then-number-gt0-clause-each
+returns-then-number-gt0-clause-each c k same =
+    one c.args.history.now k c.args.post.now c.args.corrections.now.each c.say.new.self.each c.changed_by-number.result c.requires.names c.requires.earlier same c.requires.corrections c.changed_by-number.ensures (omega (arith, c.if-number-gt0.true)) c.say.ensures
 
-pub returns-else-number-gt0 : goal.returns-else-number-gt0
-returns-else-number-gt0 c k same =
-    none c.args.history.now k c.args.post.now c.args.corrections.now c.changed_by-number.result c.requires.names c.requires.earlier same c.requires.corrections c.changed_by-number.ensures (omega (arith, c.if-number-gt0.false))
+pub returns-else-number-gt0-clause-each : goal.returns-else-number-gt0-clause-each
+returns-else-number-gt0-clause-each c k same =
+    none c.args.history.now k c.args.post.now c.args.corrections.now.each c.changed_by-number.result c.requires.names c.requires.earlier same c.requires.corrections c.changed_by-number.ensures (omega (arith, c.if-number-gt0.false))
+
+pub returns-then-number-gt0-clause-spare : goal.returns-then-number-gt0-clause-spare
+returns-then-number-gt0-clause-spare c plain =
+    let no_number = plain-changed c.args.history.now c.args.post.now plain in
+    absurd (omega (arith, c.if-number-gt0.true, c.changed_by-number.ensures, no_number))
+
+pub returns-else-number-gt0-clause-spare : goal.returns-else-number-gt0-clause-spare
+returns-else-number-gt0-clause-spare c plain = c.requires.room

@@ -11,8 +11,8 @@ use Rattle.card_posts.proofs.Targets.{effects-at}
 use Rattle.card_posts.proofs.DayLemmas.{amend-dated, names-at, timely-at}
 use Rattle.card_posts.proofs.effect.effect_now.Goals as goal
 
-pub bounds-corrections-i : goal.bounds-corrections-i
-bounds-corrections-i c = let l = corrections-length c.args.history.now 1 c.args.history.now in rw (c.requires.corrections, l) c.requires.known
+pub at-correction-requires : goal.at-correction-requires
+at-correction-requires c = let l = corrections-length c.args.history.now 1 c.args.history.now in rw (c.requires.corrections, l) c.requires.known
 
 pub day_now-requires-clause-timely : goal.day_now-requires-clause-timely
 day_now-requires-clause-timely c = subst (λ (k : Kept). IsTimely c.args.anchor.now.opened k) (sym c.index-history-i.is) (timely-at _ c.args.i c.args.history.now c.index-history-i.result c.requires.kept.timely c.requires.known)
@@ -20,13 +20,13 @@ day_now-requires-clause-timely c = subst (λ (k : Kept). IsTimely c.args.anchor.
 pub day_now-requires-clause-correction : goal.day_now-requires-clause-correction
 day_now-requires-clause-correction c =
     let number : 1 + c.args.i ≡ c.args.i + 1 = omega arith in
-    c.index-corrections-i.is ∙ (ap (λ u. get_or u c.args.i c.index-corrections-i.result) c.requires.corrections
-    ∙ (corrections-at c.args.history.now 1 c.args.i c.args.history.now c.index-corrections-i.result c.requires.known ∙ ap (correction_of c.args.history.now) number))
+    c.at-correction.ensures c.at-correction.result ∙ (ap (λ u. get_or u c.args.i c.at-correction.result) c.requires.corrections
+    ∙ (corrections-at c.args.history.now 1 c.args.i c.args.history.now c.at-correction.result c.requires.known ∙ ap (correction_of c.args.history.now) number))
 
 pub day_now-requires-clause-amend : goal.day_now-requires-clause-amend
 day_now-requires-clause-amend c =
-    let is : c.index-corrections-i.result ≡ correction_of c.args.history.now (1 + c.args.i) = c.index-corrections-i.is ∙ (ap (λ u. get_or u c.args.i c.index-corrections-i.result) c.requires.corrections
-    ∙ corrections-at c.args.history.now 1 c.args.i c.args.history.now c.index-corrections-i.result c.requires.known) in
+    let is : c.at-correction.result ≡ correction_of c.args.history.now (1 + c.args.i) = c.at-correction.ensures c.at-correction.result ∙ (ap (λ u. get_or u c.args.i c.at-correction.result) c.requires.corrections
+    ∙ corrections-at c.args.history.now 1 c.args.i c.args.history.now c.at-correction.result c.requires.known) in
     subst (λ (o : Correction). IsAmendDated c.args.anchor.now.opened o.amend) (sym is) (amend-dated c.args.anchor.now.opened (1 + c.args.i) c.args.history.now c.requires.kept.timely)
 
 pub day_now-requires-clause-earlier : goal.day_now-requires-clause-earlier
@@ -43,9 +43,9 @@ same-parts a b c d e f = rw (e, f) refl
 pub returns : goal.returns
 returns c d =
     let number : 1 + c.args.i ≡ c.args.i + 1 = omega arith in
-    let said : c.index-corrections-i.result ≡ correction_of c.args.history.now (c.args.i + 1) =
-    c.index-corrections-i.is ∙ (ap (λ u. get_or u c.args.i c.index-corrections-i.result) c.requires.corrections
-    ∙ (corrections-at c.args.history.now 1 c.args.i c.args.history.now c.index-corrections-i.result c.requires.known ∙ ap (correction_of c.args.history.now) number)) in
+    let said : c.at-correction.result ≡ correction_of c.args.history.now (c.args.i + 1) =
+    c.at-correction.ensures c.at-correction.result ∙ (ap (λ u. get_or u c.args.i c.at-correction.result) c.requires.corrections
+    ∙ (corrections-at c.args.history.now 1 c.args.i c.args.history.now c.at-correction.result c.requires.known ∙ ap (correction_of c.args.history.now) number)) in
     let there = effects-at c.args.anchor.now c.args.calendar.now c.args.history.now 1 c.args.i c.args.history.now d c.index-history-i.result c.requires.known in
     same-parts _ _ _ _ c.day_now.ensures (c.cents_now.ensures c.args.history.now (c.args.i + 1) said)
     ∙ (ap (λ n. effect_of c.args.anchor.now c.args.calendar.now c.args.history.now n c.index-history-i.result) (sym number)

@@ -20,8 +20,8 @@ use Rattle.card_posts.proofs.effect.effect_with.Goals as goal
 within : (n m : ℕ) → 0 < n → n ≤ m → n - 1 < m
 within n m z l = omega (arith, z, l)
 
-pub bounds-corrections-i : goal.bounds-corrections-i
-bounds-corrections-i c = let l = corrections-length c.args.history.now 1 c.args.history.now in rw (c.requires.corrections, l) (within c.args.number (length c.args.history.now) c.requires.some c.requires.known)
+pub at-before-requires : goal.at-before-requires
+at-before-requires c = let l = corrections-length c.args.history.now 1 c.args.history.now in rw (c.requires.corrections, l) (within c.args.number (length c.args.history.now) c.requires.some c.requires.known)
 
 timely-here : (opened i : ℕ) (h : List Kept) (k : Kept) → k ≡ get_or h i k → i < length h → AreTimely opened h → IsTimely opened k
 timely-here opened i h k is l t = subst (λ (q : Kept). IsTimely opened q) (sym is) (timely-at opened i h k t l)
@@ -55,8 +55,8 @@ pub day_alone-alone-requires-clause-amend : goal.day_alone-alone-requires-clause
 day_alone-alone-requires-clause-amend c =
     let k : Kept = record { number = 0; key = []; accepted = 0; post = c.args.post.now } in
     dated c.args.anchor.now.opened c.args.number c.args.history.now k c.with_post-correction.result c.requires.kept.timely c.requires.dated
-    (said c.args.history.now k c.args.post.now c.args.corrections.now c.index-corrections-i.result c.with_post-correction.result c.args.number c.requires.kept.names c.requires.target refl c.requires.corrections c.requires.number c.requires.some
-    c.index-corrections-i.is c.with_post-correction.ensures)
+    (said c.args.history.now k c.args.post.now c.args.corrections.now.each c.at-before.result c.with_post-correction.result c.args.number c.requires.kept.names c.requires.target refl c.requires.corrections c.requires.number c.requires.some
+    (c.at-before.ensures c.at-before.result) c.with_post-correction.ensures)
 
 pub awaited_day-requires-clause-earlier : goal.awaited_day-requires-clause-earlier
 awaited_day-requires-clause-earlier c =
@@ -90,8 +90,8 @@ day-with a holidays h k q p o n alone other day e l same is below within said_is
 pub returns : goal.returns
 returns c k d named =
     let l = within c.args.number (length c.args.history.now) c.requires.some c.requires.known in
-    let is = said c.args.history.now k c.args.post.now c.args.corrections.now c.index-corrections-i.result c.with_post-correction.result c.args.number c.requires.kept.names c.requires.target named c.requires.corrections c.requires.number c.requires.some
-    c.index-corrections-i.is c.with_post-correction.ensures in
+    let is = said c.args.history.now k c.args.post.now c.args.corrections.now.each c.at-before.result c.with_post-correction.result c.args.number c.requires.kept.names c.requires.target named c.requires.corrections c.requires.number c.requires.some
+    (c.at-before.ensures c.at-before.result) c.with_post-correction.ensures in
     let same : get_or c.args.history.now (c.args.number - 1) d ≡ c.index-history-i.result = get_or_default c.args.history.now (c.args.number - 1) d c.index-history-i.result l ∙ sym c.index-history-i.is in
     let below = subst (λ (q : Kept). target_of q.post < 1 + (c.args.number - 1)) (sym c.index-history-i.is) (names-at 1 (c.args.number - 1) c.args.history.now c.index-history-i.result c.requires.kept.names l) in
     let day = day-with c.args.anchor.now c.args.calendar.now c.args.history.now k c.index-history-i.result c.args.post.now c.with_post-correction.result c.args.number c.day_alone-alone.result (unwrap_or c.awaited_day.result 0) c.later.result

@@ -4,13 +4,14 @@ use Rattle.card_model.specs.Allocation.{allocated, excess_rule, parts, pay}
 use Rattle.card_model.specs.Entries.{at_least_zero}
 use Rattle.card_segments.specs.Holdings.{holdings}
 use Rattle.card_segments.specs.Parts.{AreParts, Ascend}
+use Rattle.card_segments.proofs.Counted.{counted-ascends}
 use Rattle.card_segments.proofs.HoldingLists.{holdings-ascend}
 use Rattle.card_segments.proofs.PartFacts.{allocated-is, allocated-parts, at, least, written}
 use Rattle.card_segments.proofs.allocation.allocate.Goals as goal
 
 pub pay_by-first-requires-clause-ascending : goal.pay_by-first-requires-clause-ascending
 pay_by-first-requires-clause-ascending c =
-    rw (c.deref_mut.ensures.value, c.in_ok-list.ensures.items) (holdings-ascend [] 0 2 _ _ (omega arith))
+    rw (c.deref_mut.ensures.value, c.in_ok-list.ensures.items) (counted-ascends 0 (holdings [] c.args.s.now.balances c.args.ranks.now) (holdings-ascend [] 0 2 (drop 2 c.args.s.now.balances) (drop 2 c.args.ranks.now) (omega arith)))
 
 pub of-requires : goal.of-requires
 of-requires c =

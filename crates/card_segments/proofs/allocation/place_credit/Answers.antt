@@ -1,16 +1,17 @@
-use Rattle.std.proofs.Common.{◌∙◌, ap, arith, sym, subst, length, w64}
+use Rattle.std.proofs.Common.{◌∙◌, ap, arith, sym, subst, length, drop, w64}
 use Rattle.std.proofs.lemmas.Int.{to_z-of_z}
 use Rattle.card_model.specs.Allocation.{placed, parts}
 use Rattle.card_model.specs.Entries.{at_least_zero}
 use Rattle.card_segments.specs.Holdings.{holdings}
 use Rattle.card_segments.specs.Parts.{AreParts, Ascend}
+use Rattle.card_segments.proofs.Counted.{counted-ascends}
 use Rattle.card_segments.proofs.HoldingLists.{holdings-ascend}
 use Rattle.card_segments.proofs.PartFacts.{placed-is, placed-parts, at, written}
 use Rattle.card_segments.proofs.allocation.place_credit.Goals as goal
 
 pub pay_by-credit-requires-clause-ascending : goal.pay_by-credit-requires-clause-ascending
 pay_by-credit-requires-clause-ascending c =
-    rw (c.deref_mut.ensures.value, c.in_ok-list.ensures.items) (holdings-ascend c.args.first.now 0 2 _ _ (omega arith))
+    rw (c.deref_mut.ensures.value, c.in_ok-list.ensures.items) (counted-ascends 0 (holdings c.args.first.now c.args.s.now.balances c.args.ranks.now) (holdings-ascend c.args.first.now 0 2 (drop 2 c.args.s.now.balances) (drop 2 c.args.ranks.now) (omega arith)))
 
 pub of-requires : goal.of-requires
 of-requires c =

@@ -1,10 +1,11 @@
-use Rattle.std.proofs.Common.{◌≡◌, ◌∙◌, ◌++◌, [], ◌∷◌, ◌<◌, ◌≤◌, ap, length, rules, set, subst, sym}
+use Rattle.std.proofs.Common.{◌≡◌, ◌∙◌, ◌++◌, [], ◌∷◌, ◌<◌, ◌≤◌, ap, length, refl, rules, set, subst, sym}
 use Rattle.std.proofs.Common.{List, get_or}
 use Rattle.std.proofs.lemmas.List.{get_or_default}
 use Rattle.card_statement.specs.Gathering.{raised_by}
 use Rattle.card_model.specs.Sheets.{is_of_move}
 use Rattle.card_model.specs.declared.lines.Move.{Move}
 use Rattle.card_statement.proofs.Steps.{ended, found, passed}
+use Rattle.card_statement.proofs.LatestDay.{skipped}
 use Rattle.card_statement.proofs.moves.add.Goals as goal
 
 pub returns-then-is_of_move : goal.returns-then-is_of_move
@@ -40,3 +41,6 @@ returns c =
     c.in_ok-push.ensures.items
     ∙ (ap (λ (l : List Move). l ++ c.begun.result ∷ []) c.loop-i.invariant.same
     ∙ (ap (λ (x : Move). old ++ x ∷ []) c.begun.ensures ∙ ended e old c.loop-i.i past c.loop-i.invariant.left))
+
+pub loop-i-init : goal.loop-i-init
+loop-i-init c = record { same = refl; left = skipped c.args.entry.now c.args.moves.now.items c.args.from c.requires.others }

@@ -4,10 +4,12 @@ use Rattle.card_events.specs.declared.kept.Kept.{Kept}
 use Rattle.card_waits.specs.Waits.{AreWaits}
 use Rattle.card_posts.specs.Effect.{corrected_with}
 use Rattle.card_posts.specs.Posted.{Posted, SetNoRates, StandsFor}
+use Rattle.card_posts.specs.Stored.{ends_correcting}
 use Rattle.card_keys.specs.Buckets.{Indexed, IsIndex}
 use Rattle.card_posts.proofs.Following.{corrected-is, effects-back}
 use Rattle.card_posts.proofs.Waiting.{awaited-target}
 use Rattle.card_posts.proofs.Unrated.{none-with}
+use Rattle.card_posts.proofs.Withdrawn.{ends-more}
 use Rattle.card_posts.proofs.posts.Posts.add.Goals as goal
 
 pub enter-from-requires-clause-stands : goal.enter-from-requires-clause-stands
@@ -46,6 +48,7 @@ invariant_of-self c =
       c.enter-from.ensures.beside,
       λ e. absurd (cc),
       rated,
+      λ e. c.enter-from.ensures.spare (sym (ends-more history _) ∙ (ap ends_correcting (sym c.enter-from.ensures.history) ∙ e)),
     )
   where
     index-with : (h d g : List Kept) (k : Kept) (i : Indexed) → d ≡ h → g ≡ h ++ k ∷ [] → IsIndex (d ++ k ∷ []) i → IsIndex g i
