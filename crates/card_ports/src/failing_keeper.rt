@@ -1,5 +1,5 @@
 use crate::row::{add_copies, copies};
-use crate::{Calls, Keeper, KeeperFault, Row};
+use crate::{Calls, Keeper, KeeperFault, Row, Rows};
 use std::alloc::Global;
 use std::marker::Model;
 
@@ -63,6 +63,23 @@ impl Keeper for FailingKeeper {
             return Err(KeeperFault::Failed);
         }
         let all = copies(alloc, &self.rows)?;
+        Ok(all)
+    }
+
+    fn load_packed(&mut self, alloc: Global) -> Result<Rows, KeeperFault>
+        ensures given { IfOk result (λ all. all ≡ self.old.rows) }
+        ensures kept { self.new.rows ≡ self.old.rows }
+        ensures fails { (fails_next self.old.calls ≡ true) ↔ IsErrOf result KeeperFault.Failed }
+        ensures calls { self.new.calls ≡ after_call self.old.calls }
+        ensures count { self.old.calls.faults ≤ self.new.calls.faults }
+        ensures unfailed { OnOk result (self.new.calls.faults ≡ self.old.calls.faults) }
+        ensures cause { IsErrOf result KeeperFault.Failed → Rose self.old.calls.faults self.new.calls.faults }
+        ensures memory { IsErrOf result KeeperFault.Memory → self.new.calls.faults ≡ self.old.calls.faults }
+    {
+        if self.calls.fails_now() {
+            return Err(KeeperFault::Failed);
+        }
+        let all = Rows::pack(alloc, &self.rows)?;
         Ok(all)
     }
 

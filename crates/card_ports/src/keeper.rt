@@ -4,7 +4,7 @@ ghost use Rattle.card_ports.specs.Rows.{GoOn, KeepsRows, AddsRows, GivesRows, Sa
 ghost use Rattle.card_ports.specs.declared.row.Row.{Row};
 ghost use Rattle.card_ports.specs.declared.keeper.KeeperFault.TheVariants.{Memory};
 
-use crate::Row;
+use crate::{Row, Rows};
 use card_events::NoMemory;
 use std::alloc::{AllocError, AllocFailed, Global};
 
@@ -52,6 +52,21 @@ pub trait Keeper {
     /// All rows, in order. They stay.
     fn load(&mut self, alloc: Global) -> Result<Vec<Row>, KeeperFault>
         ensures given { IfOk result (λ all. GivesRows (rows self.old) all.items) }
+        ensures kept { KeepsRows (rows self.old) (rows self.new) }
+        ensures told { SameRowsTold (rows self.old) (rows self.new) }
+        ensures count { faults self.old ≤ faults self.new }
+        ensures unfailed { OnOk result (faults self.new ≡ faults self.old) }
+        ensures cause { IsErrOf result KeeperFault.Failed → Rose (faults self.old) (faults self.new) }
+        ensures memory { IsErrOf result KeeperFault.Memory → faults self.new ≡ faults self.old }
+    {
+        let rows = self.load_packed(alloc)?;
+        let all = rows.unpack(alloc)?;
+        Ok(all)
+    }
+
+    /// The same rows in one list, which takes less memory. They stay.
+    fn load_packed(&mut self, alloc: Global) -> Result<Rows, KeeperFault>
+        ensures given { IfOk result (λ all. GivesRows (rows self.old) all) }
         ensures kept { KeepsRows (rows self.old) (rows self.new) }
         ensures told { SameRowsTold (rows self.old) (rows self.new) }
         ensures count { faults self.old ≤ faults self.new }

@@ -1,5 +1,5 @@
 use crate::row::{add_copies, copies};
-use crate::{Keeper, KeeperFault, Row};
+use crate::{Keeper, KeeperFault, Row, Rows};
 use std::alloc::Global;
 use std::marker::Model;
 
@@ -52,6 +52,15 @@ impl Keeper for MemoryKeeper {
         ensures never { IsErrOf result KeeperFault.Failed → ⊥ }
     {
         let all = copies(alloc, &self.rows)?;
+        Ok(all)
+    }
+
+    fn load_packed(&mut self, alloc: Global) -> Result<Rows, KeeperFault>
+        ensures given { IfOk result (λ all. all ≡ self.old) }
+        ensures kept { self.new ≡ self.old }
+        ensures never { IsErrOf result KeeperFault.Failed → ⊥ }
+    {
+        let all = Rows::pack(alloc, &self.rows)?;
         Ok(all)
     }
 

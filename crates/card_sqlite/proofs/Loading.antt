@@ -1,38 +1,43 @@
 -- What a load gives and leaves.
-use Rattle.std.proofs.Common.{◌≡◌, inl, inr, ℕ, List, [], ◌∷◌, ◌++◌, ◌+◌, ◌<◌, map, length, take, get_or, Ok, Err, Result, All, OnOk, IfOk, Vec, refl, sym, ap, subst, ◌∙◌, arith}
+use Rattle.std.proofs.Common.{◌≡◌, inl, inr, ℕ, List, [], ◌∷◌, map, length, Ok, Err, Result, OnOk, OnErr, IfOk, Vec, refl, sym, ap, subst, ◌∙◌, arith}
 use Rattle.std.specs.declared.alloc.Global.{Global}
-use Rattle.std.proofs.lemmas.List.{take_more, map-append}
-use Rattle.std.proofs.lemmas.List.Elements.{All-push}
 use Rattle.std.proofs.lemmas.List.Sorted.{length_permutation}
-use Rattle.sqlite_value.specs.Order.{Row as Record, column}
 use Rattle.sqlite.specs.declared.error.Error.{Error}
 use Rattle.sqlite_schema.specs.declared.schema.Schema.{Schema}
 use Rattle.sqlite.specs.Effect.{Database}
-use Rattle.sqlite.specs.Values.{IsInt}
+use Rattle.sqlite.specs.State.{State, IsUnchanged}
 use Rattle.card_ports.specs.declared.row.Row.{Row}
-use Rattle.card_sqlite.specs.Kept.{kept_schema, shown, row_in, IsFor, Creates, AreShown, AreKept, Keeps}
+use Rattle.card_sqlite.specs.Kept.{kept_schema, shown, row_in, IsFor, Creates, AreKept, Keeps, Stays}
+use Rattle.card_ports.specs.declared.keeper.KeeperFault.{KeeperFault}
+use Rattle.card_ports.specs.declared.keeper.KeeperFault.TheVariants as fault_is
+use Rattle.sqlite_trees.specs.declared.store.Store.{Ghosts}
+use Rattle.sqlite.specs.Held.{Held}
+use Rattle.card_sqlite.specs.Calls.{Loads, LoadsPacked}
 use Rattle.card_sqlite.proofs.Order.{empty_keeps}
 
 no_more : {X : Type 0} (xs : List X) → length xs ≡ 0 → xs ≡ []
 no_more [] e = refl
 no_more (x ∷ xs) e = absurd (omega arith)
 
-gives : (old mid : Database) (records : List Record) (rows : List Row) → Creates old mid → AreShown mid.trees records → rows ≡ map row_in records → All (λ r. IsInt (column r 0)) records → Keeps old rows
-gives old mid records rows (inl made) are read ints =
-    let none : records ≡ [] = no_more records (length_permutation (map shown (mid.trees 0)) records are.same ∙ ap (λ rs. length (map shown rs)) made.2) in
-    inl (made.0, read ∙ ap (map row_in) none)
-gives old mid records rows (inr there) are read ints =
-    inr (there.0, subst (λ (d : Database). AreKept d.trees rows) there.1 (record { ordered = records; shown_are = are; numbered = ints; read = read }))
+gives : (old mid : Database) (rows : List Row) → Creates old mid → AreKept mid.trees rows → Keeps old rows
+gives old mid rows (inl made) are =
+    let none : are.ordered ≡ [] = no_more are.ordered (length_permutation (map shown (mid.trees 0)) are.ordered are.shown_are.same ∙ ap (λ rs. length (map shown rs)) made.2) in
+    inl (made.0, are.read ∙ ap (map row_in) none)
+gives old mid rows (inr there) are = inr (there.0, subst (λ (d : Database). AreKept d.trees rows) there.1 are)
 
-pub given : (old mid : Database) (records : List Record) (r : Result (Vec Row Global) Error) → Creates old mid → AreShown mid.trees records
-    → IfOk r (λ rows. rows.items ≡ map row_in records) → OnOk r (All (λ r. IsInt (column r 0)) records) → IfOk r (λ rows. Keeps old rows.items)
-given old mid records (Ok rows) made are read ints = gives old mid records rows.items made are read ints
-given old mid records (Err e) made are read ints = tt
+pub given : (old mid : Database) (r : Result (List Row) Error) → Creates old mid → IfOk r (AreKept mid.trees) → IfOk r (Keeps old)
+given old mid (Ok rows) made are = gives old mid rows made are
+given old mid (Err e) made are = tt
 
 -- and the table is as it was made
-pub still_made : (old mid new : Database) (r : Result (Vec Row Global) Error) → Creates old mid → new ≡ mid → OnOk r (Creates old new)
-still_made old mid new (Ok rows) made same = subst (Creates old) (sym same) made
+pub still_made : (old mid new : State) (r : Result (List Row) Error) → Creates old.now mid.now → OnOk r (IsUnchanged mid new) → OnOk r (Creates old.now new.now)
+still_made old mid new (Ok rows) made same = subst (Creates old.now) (sym same.0.now_is) made
 still_made old mid new (Err e) made same = tt
+
+-- what is seen stays, whether the rows were read or not
+pub still_seen : (mid new : State) (r : Result (List Row) Error) → OnOk r (IsUnchanged mid new) → OnErr r (Stays mid new) → Stays mid new
+still_seen mid new (Ok rows) same stays is_open = same.0.now_is
+still_seen mid new (Err e) same stays is_open = stays is_open
 
 -- a database with the same rows, whether the table is new or not
 pub kept_by : (old new : Database) → Creates old new → IsFor new.schema × ((rows : List Row) → Keeps old rows → Keeps new rows)
@@ -49,15 +54,45 @@ kept_same old new for same = (subst (λ (d : Database). IsFor d.schema) (sym sam
 pub kept_then : (old mid new : Database) → Creates old mid → new ≡ mid → IsFor new.schema × ((rows : List Row) → Keeps old rows → Keeps new rows)
 kept_then old mid new made same = subst (λ (d : Database). IsFor d.schema × ((rows : List Row) → Keeps old rows → Keeps d rows)) (sym same) (kept_by old mid made)
 
-pub read_more : (records : List Record) (i : ℕ) (rows : List Row) (r0 : Record) (row : Row) → i < length records → r0 ≡ get_or records i r0 → row ≡ row_in r0 → IsInt (column r0 0)
-    → (rows ≡ map row_in (take i records)) × All (λ r. IsInt (column r 0)) (take i records)
-    → (rows ++ row ∷ [] ≡ map row_in (take (i + 1) records)) × All (λ r. IsInt (column r 0)) (take (i + 1) records)
-read_more records i rows r0 row within at is int so =
-    let more : take (i + 1) records ≡ take i records ++ r0 ∷ [] = take_more records i r0 within ∙ ap (λ r. take i records ++ r ∷ []) (sym at) in (
-      subst (λ rs. rows ++ row ∷ [] ≡ map row_in rs) (sym more) (rw (so.0, is) (sym (map-append row_in (take i records) (r0 ∷ [])))),
-      subst (λ rs. All (λ r. IsInt (column r 0)) rs) (sym more) (All-push (λ r. IsInt (column r 0)) (take i records) r0 so.1 int),
-    )
-
 pub has_table : (old new : Database) → Creates old new → new.schema ≡ kept_schema
 has_table old new (inl made) = made.1
 has_table old new (inr there) = ap (λ (d : Database). d.schema) there.1 ∙ there.0
+
+-- ---- rows that are unpacked after they were loaded
+unpacked_keeps : (old : Database) (rows : List Row) (r : Result (Vec Row Global) KeeperFault) → IfOk r (λ all. all.items ≡ rows) → Keeps old rows → IfOk r (λ all. Keeps old all.items)
+unpacked_keeps old rows (Ok all) same keeps = subst (Keeps old) (sym same) keeps
+unpacked_keeps old rows (Err e) same keeps = tt
+
+unpacked_makes : (old new : Database) (r : Result (Vec Row Global) KeeperFault) → Creates old new → OnOk r (Creates old new)
+unpacked_makes old new (Ok all) made = made
+unpacked_makes old new (Err e) made = tt
+
+no_fault : {X : Type 0} (rows : List Row) (fault : KeeperFault) → ◌≡◌ {A = Result (List Row) KeeperFault} (Ok rows) (Err fault) → X
+no_fault rows fault is = absurd (cc)
+
+pub unpacked_loads : {S : Type 0} (g : Ghosts S) (old new : Held S) (rows : List Row) (r : Result (Vec Row Global) KeeperFault) → LoadsPacked g old new (Ok rows) → IfOk r (λ all. all.items ≡ rows) → Loads g old new r
+unpacked_loads g old new rows r loads same = record {
+  given = λ clean. unpacked_keeps _ rows r same (loads.given clean);
+  made = λ clean. unpacked_makes _ _ r (loads.made clean);
+  kept = loads.kept;
+  mode = loads.mode;
+  busy = loads.busy;
+  idle = loads.idle;
+  denied = λ inside. no_fault rows fault_is.Failed (loads.denied inside);
+  unfit = λ none. no_fault rows fault_is.Failed (loads.unfit none);
+}
+
+failed_same : {A B : Type 0} (fault other : KeeperFault) → ◌≡◌ {A = Result A KeeperFault} (Err fault) (Err other) → ◌≡◌ {A = Result B KeeperFault} (Err fault) (Err other)
+failed_same fault other is = let e : fault ≡ other = cc in ap Err e
+
+pub fault_loads : {S : Type 0} (g : Ghosts S) (old new : Held S) (fault : KeeperFault) → LoadsPacked g old new (Err fault) → Loads g old new (Err fault)
+fault_loads g old new fault loads = record {
+  given = λ clean. tt;
+  made = λ clean. tt;
+  kept = loads.kept;
+  mode = loads.mode;
+  busy = loads.busy;
+  idle = loads.idle;
+  denied = λ inside. failed_same fault fault_is.Failed (loads.denied inside);
+  unfit = λ none. failed_same fault fault_is.Failed (loads.unfit none);
+}

@@ -33,7 +33,7 @@ use Rattle.sqlite.specs.Listing.{understood}
 use Rattle.sqlite.specs.Effect.{Database}
 use Rattle.sqlite.specs.State.{State, mode_of, Writes, Executes, ExecutesIn, IsNotRun, ExecutesInside, KeepsCommit, IsUnchanged, IsRolledBack, FailsToQuery, FailsToShow, Shown, RunsCommand, shows_rows}
 use Rattle.sqlite.specs.Steps.{FailsToCommit}
-use Rattle.sqlite.proofs.Callers.{IsPlain, statement_of, runs_as, reads_as, one_step}
+use Rattle.sqlite.proofs.Callers.{statement_of, runs_as, reads_as, one_step}
 use Rattle.card_ports.specs.declared.row.Row.{Row}
 use Rattle.card_sqlite.specs.Kept.{create_text, insert_text, select_text, kept, no_schema, kept_schema, AddsRow, IsFor, Creates, Stays, IsSettled, AreShown, shown, by_seq}
 use Rattle.card_sqlite.proofs.Texts.{create_missing, create_there, insert_is, select_is, create_plain, create_there_plain, insert_plain, select_plain, terms, query}
@@ -167,13 +167,6 @@ answered trees rows a =
 
 pub shows_for : (old new : State) (rows : List Record) → old.now.schema ≡ kept_schema → Shown select_text [] old new rows → AreShown old.now.trees rows
 shows_for old new rows has h = answered old.now.trees rows (finds old new rows has h)
-
-pub shows_same : (old new : State) (rows : List Record) → old.now.schema ≡ kept_schema → Shown select_text [] old new rows → IsUnchanged old new
-unfolding Shown
-shows_same old new rows has h =
-    let known = sym h.1.is ∙ ap (λ s. understood s select_text) has in
-    let bare = subst IsPlain (sym known) select_plain in
-    let it = rw (bare.0) at h.2 in it.3
 
 -- ---- what a refusal leaves
 

@@ -234,6 +234,10 @@ module _ (tells : Bool) (old new : State) (a : tells ≡ true → Good old) (b :
   given_result (Ok all) h = told_given tells old new a b all.items h
   given_result (Err e) h = tt
 
+  pub given_packed : (r : Result (List Row) KeeperFault) → (tells ≡ true → IfOk r (λ all. Keeps old.now all)) → IfOk r (λ all. GivesRows (told tells old) all)
+  given_packed (Ok all) h = told_given tells old new a b all h
+  given_packed (Err e) h = tt
+
   module _ (mode : tells ≡ true → old.in_transaction ≡ false → new.in_transaction ≡ false) where
     pub same_kept : (tells ≡ true → new.now ≡ old.now) → KeepsRows (told tells old) (told tells new)
     same_kept h = told_kept_all tells old new a b mode (λ t rows keeps. subst (λ (d : Database). Keeps d rows) (sym (h t)) keeps)

@@ -5,3 +5,4 @@ pub mod Closed
 pub mod Calls
 pub mod Connected
 pub mod Waiting
+pub mod Reading

@@ -1,12 +1,12 @@
 ghost use Rattle.std.specs.Prelude.{◌≡◌, None, IfNone, IfSome, OnOk, IsErr};
-ghost use Rattle.card_sqlite.specs.Calls.{Loads, Appends};
+ghost use Rattle.card_sqlite.specs.Calls.{LoadsPacked, Appends};
 ghost use Rattle.card_sqlite.specs.Connected.{conn_of, connected, Between};
 
 use crate::StoreKeeper;
 use crate::fault::fault_of;
 use crate::opening::{Missing, open};
 use crate::store::{close, counted};
-use card_ports::{Keeper, KeeperFault, Row};
+use card_ports::{Keeper, KeeperFault, Row, Rows};
 use sqlite::{Alter, Connection, Error, File, FileStore};
 use sqlite_disk::Disk;
 use std::alloc::Global;
@@ -74,11 +74,11 @@ fn add<S: Alter>(
     store: &mut StoreKeeper<S>,
     alloc: Global,
     rows: &[Row],
-) -> Result<Vec<Row>, KeeperFault>
+) -> Result<Rows, KeeperFault>
     ensures { Appends S.Store rows.now store.old.conn store.new.conn result }
 {
     match store.append_rows(rows) {
-        Ok(()) => Ok(Vec::new(alloc)),
+        Ok(()) => Ok(Rows::new(alloc)),
         Err(fault) => Err(fault),
     }
 }
@@ -88,12 +88,12 @@ fn answer<S: Alter>(
     store: &mut StoreKeeper<S>,
     alloc: Global,
     more: Option<&[Row]>,
-) -> Result<Vec<Row>, KeeperFault>
-    ensures loads { IfNone more.entry (Loads S.Store store.old.conn store.new.conn result) }
+) -> Result<Rows, KeeperFault>
+    ensures loads { IfNone more.entry (LoadsPacked S.Store store.old.conn store.new.conn result) }
     ensures appends { IfSome more.entry (λ rows. Appends S.Store rows.now store.old.conn store.new.conn result) }
 {
     match more {
-        None => store.load_rows(alloc),
+        None => store.load_rows_packed(alloc),
         Some(rows) => add(store, alloc, rows),
     }
 }
@@ -103,8 +103,8 @@ fn answer_over<S: Alter + Drop>(
     made: Made<S>,
     alloc: Global,
     more: Option<&[Row]>,
-) -> Result<Vec<Row>, KeeperFault>
-    ensures loads { IfNone more.entry (Between (connected store.old made) (conn_of store.new) (λ old new. Loads S.Store old new result)) }
+) -> Result<Rows, KeeperFault>
+    ensures loads { IfNone more.entry (Between (connected store.old made) (conn_of store.new) (λ old new. LoadsPacked S.Store old new result)) }
     ensures appends { IfSome more.entry (λ rows. Between (connected store.old made) (conn_of store.new) (λ old new. Appends S.Store rows.now old new result)) }
     ensures unconnected { connected store.old made ≡ None → IsErr result × (store.new ≡ store.old) }
 {
@@ -121,7 +121,7 @@ fn answer_on<D: Disk + Drop>(
     made: Made<FileStore<D>>,
     alloc: Global,
     more: Option<&[Row]>,
-) -> Result<Vec<Row>, KeeperFault> {
+) -> Result<Rows, KeeperFault> {
     answer_over(store, made, alloc, more)
 }
 
@@ -155,7 +155,7 @@ impl SqliteKeeper {
     }
 
     // Opens the file where that isn't done yet, and adds the rows, where some are handed on. Else gives the rows that are kept.
-    fn answer(&mut self, alloc: Global, more: Option<&[Row]>) -> Result<Vec<Row>, KeeperFault>
+    fn answer(&mut self, alloc: Global, more: Option<&[Row]>) -> Result<Rows, KeeperFault>
         ensures { self.new.faults ≡ self.old.faults }
     {
         let made = connect(&self.store, &self.rt, self.path.as_str(), self.missing);
@@ -188,7 +188,7 @@ impl Keeper for SqliteKeeper {
 
     ghost faults = { λ k. k.faults };
 
-    fn load(&mut self, alloc: Global) -> Result<Vec<Row>, KeeperFault> {
+    fn load_packed(&mut self, alloc: Global) -> Result<Rows, KeeperFault> {
         match self.answer(alloc, None) {
             Ok(rows) => Ok(rows),
             Err(fault) => Err(counted(&mut self.faults, fault)),

@@ -1,5 +1,5 @@
 use crate::{StoreKeeper, Told};
-use card_ports::{Keeper, KeeperFault, Row};
+use card_ports::{Keeper, KeeperFault, Row, Rows};
 use std::alloc::Global;
 
 impl<S: Told> Keeper for StoreKeeper<S> {
@@ -13,6 +13,13 @@ impl<S: Told> Keeper for StoreKeeper<S> {
     fn load(&mut self, alloc: Global) -> Result<Vec<Row>, KeeperFault> {
         let _before = self.schema();
         let loaded = self.load_rows(alloc);
+        let _after = self.schema();
+        loaded
+    }
+
+    fn load_packed(&mut self, alloc: Global) -> Result<Rows, KeeperFault> {
+        let _before = self.schema();
+        let loaded = self.load_rows_packed(alloc);
         let _after = self.schema();
         loaded
     }

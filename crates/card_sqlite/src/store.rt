@@ -1,14 +1,14 @@
-ghost use Rattle.std.specs.Prelude.{◌≡◌, ◌≤◌, OnOk, IsErrOf};
+ghost use Rattle.std.specs.Prelude.{◌≡◌, ◌≤◌, IfOk, IfErr, OnOk, IsErrOf};
 ghost use Rattle.card_ports.specs.Counts.{Rose};
 ghost use Rattle.sqlite.specs.State.{IsLive};
 ghost use Rattle.sqlite.specs.Held.{state};
-ghost use Rattle.card_sqlite.specs.Calls.{Loads, Appends};
+ghost use Rattle.card_sqlite.specs.Calls.{Loads, LoadsPacked, Appends};
 
 use crate::append::append;
 use crate::fault::fault_of;
 use crate::fits::{fits, is_kept_alone};
 use crate::load::load;
-use card_ports::{KeeperFault, Row};
+use card_ports::{KeeperFault, Row, Rows};
 use sqlite::{Alter, Connection, FileStore};
 use sqlite_disk::Disk;
 use sqlite_schema::schema::Schema;
@@ -35,8 +35,8 @@ pub(crate) fn counted(faults: &mut u64, fault: KeeperFault) -> KeeperFault
 }
 
 // Loads where no transaction is under way and the schema is the ledger's. Else nothing is done.
-fn load_if_fit<S: Alter>(conn: &mut Connection<S>, alloc: Global) -> Result<Vec<Row>, KeeperFault>
-    ensures loads { Loads S.Store conn.old conn.new result }
+fn load_if_fit<S: Alter>(conn: &mut Connection<S>, alloc: Global) -> Result<Rows, KeeperFault>
+    ensures loads { LoadsPacked S.Store conn.old conn.new result }
 {
     if !conn.is_autocommit() || !fits(conn.schema()) {
         return Err(KeeperFault::Failed);
@@ -44,6 +44,17 @@ fn load_if_fit<S: Alter>(conn: &mut Connection<S>, alloc: Global) -> Result<Vec<
     match load(conn, alloc) {
         Ok(rows) => Ok(rows),
         Err(error) => Err(fault_of(error)),
+    }
+}
+
+// The rows, each with a list of its own.
+fn unpacked(alloc: Global, rows: &Rows) -> Result<Vec<Row>, KeeperFault>
+    ensures same { IfOk result (λ all. all.items ≡ rows.now) }
+    ensures memory { IfErr result (λ fault. fault ≡ KeeperFault.Memory) }
+{
+    match rows.unpack(alloc) {
+        Ok(all) => Ok(all),
+        Err(_) => Err(KeeperFault::Memory),
     }
 }
 
@@ -98,6 +109,20 @@ impl<S: Alter> StoreKeeper<S> {
     /// has anything but the table `kept`, or where a statement fails; `Memory` where memory was wanted and isn't there.
     pub fn load_rows(&mut self, alloc: Global) -> Result<Vec<Row>, KeeperFault>
         ensures loads { Loads S.Store self.old.conn self.new.conn result }
+        ensures count { self.old.faults ≤ self.new.faults }
+        ensures unfailed { OnOk result (self.new.faults ≡ self.old.faults) }
+        ensures cause { IsErrOf result KeeperFault.Failed → Rose self.old.faults self.new.faults }
+        ensures memory { IsErrOf result KeeperFault.Memory → self.new.faults ≡ self.old.faults }
+    {
+        match self.load_rows_packed(alloc) {
+            Ok(rows) => unpacked(alloc, &rows),
+            Err(fault) => Err(fault),
+        }
+    }
+
+    /// The same rows, packed in one list, under the same conditions and with the same faults.
+    pub fn load_rows_packed(&mut self, alloc: Global) -> Result<Rows, KeeperFault>
+        ensures loads { LoadsPacked S.Store self.old.conn self.new.conn result }
         ensures count { self.old.faults ≤ self.new.faults }
         ensures unfailed { OnOk result (self.new.faults ≡ self.old.faults) }
         ensures cause { IsErrOf result KeeperFault.Failed → Rose self.old.faults self.new.faults }

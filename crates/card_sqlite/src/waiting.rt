@@ -4,7 +4,7 @@ ghost use Rattle.card_sqlite.specs.Waiting as spec;
 use crate::SqliteKeeper;
 use crate::flush::{Lost, flush};
 use crate::store::counted;
-use card_ports::{Keeper, KeeperFault, MemoryKeeper, Row};
+use card_ports::{Keeper, KeeperFault, MemoryKeeper, Row, Rows};
 use std::alloc::Global;
 use std::cell::RefCell;
 use std::io::{self, Error, ErrorKind, Write};
@@ -129,6 +129,20 @@ impl<K: Keeper + Drop, W: Write + Drop> Waiting<K, W> {
         match self.fault() {
             Some(fault) => Err(fault),
             None => self.keeper.load(alloc),
+        }
+    }
+
+    /// The same rows, packed in one list.
+    pub fn load_packed(&mut self, alloc: Global) -> Result<Rows, KeeperFault>
+        ensures given { IfOk result (λ rows. GivesRows (all_rows self.old) rows) }
+        ensures ok { OnOk result (KeptAll self.old self.new) }
+        ensures err { IfErr result (λ fault. LostFor fault self.old self.new ⊎ KeptAll self.old self.new) }
+        ensures ground { IfErr result (λ fault. HasGround fault self.old self.new.faults) }
+    {
+        let _ = self.settle();
+        match self.fault() {
+            Some(fault) => Err(fault),
+            None => self.keeper.load_packed(alloc),
         }
     }
 
@@ -295,9 +309,9 @@ impl<'a, W: Write + Drop> WaitingKeeper<'a, W> {
         WaitingKeeper { to, faults: 0 }
     }
 
-    fn load_there(&self, alloc: Global) -> Result<Vec<Row>, KeeperFault> {
+    fn load_there(&self, alloc: Global) -> Result<Rows, KeeperFault> {
         match self.to.try_borrow_mut() {
-            Ok(mut waiting) => waiting.load(alloc),
+            Ok(mut waiting) => waiting.load_packed(alloc),
             Err(_) => Err(KeeperFault::Failed),
         }
     }
@@ -317,7 +331,7 @@ impl<'a, W: Write + Drop> Keeper for WaitingKeeper<'a, W> {
 
     ghost faults = { λ k. k.faults };
 
-    fn load(&mut self, alloc: Global) -> Result<Vec<Row>, KeeperFault> {
+    fn load_packed(&mut self, alloc: Global) -> Result<Rows, KeeperFault> {
         match self.load_there(alloc) {
             Ok(rows) => Ok(rows),
             Err(fault) => Err(counted(&mut self.faults, fault)),
