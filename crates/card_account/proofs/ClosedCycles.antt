@@ -1,39 +1,21 @@
 -- A cycle that is closed before today is in the book of today.
-use Rattle.std.proofs.Common.{◌≡◌, ℕ, zero, suc, ◌+◌, ◌<◌, ◌≤◌, ◌⊎◌, inl, inr, Bool, true, false, List, [], ◌∷◌, length, Option, Some, None, refl, ap, arith}
+use Rattle.std.proofs.Common.{◌≡◌, ℕ, zero, suc, ◌<◌, ◌≤◌, Bool, true, false, List, [], ◌∷◌, length, Option, Some, None, refl, arith}
 use Rattle.std.specs.Prelude.{IsSomeAnd, is_some, if◌then◌else◌, nat_lt, not, ◌==◌, slice_get}
 use Rattle.std.specs.Option.{option_map}
-use Rattle.std.proofs.lemmas.Bool.{and_parts, cases_lt, ltb-true}
+use Rattle.std.proofs.lemmas.Bool.{and_parts, ltb-true}
 use Rattle.card_account.specs.Accounts.{is_closed, restated_as, restated_statement}
 use Rattle.card_replay.specs.Replays.{present_of}
 use Rattle.card_account.specs.Closed.{ClosedCyclesAreInTheBook}
 use Rattle.card_events.specs.Billing.{closing}
 use Rattle.card_events.specs.Range.{last_request_day}
-use Rattle.card_events.specs.declared.anchor.Anchor.{Anchor}
-use Rattle.card_events.proofs.Cycles.{closing_grows, cycle_around}
 use Rattle.card_events.specs.History.{anchor_of}
 use Rattle.card_model.specs.Caps.{row_for}
 use Rattle.card_model.specs.CycleDays.{HasItsDays, IsOpening}
 use Rattle.card_model.specs.Cycles.{Cycle, IssuedRow}
 use Rattle.card_model.specs.Folds.{book, cycle_at}
 use Rattle.card_model.specs.Refusals.{Present, book_today}
-use Rattle.card_model.proofs.Calendar.{cycles_are_of_the_calendar, is-anchor}
-
--- ---- closings come in the order of their numbers
-in_turn : (a : Anchor) (i j : ℕ) → i ≤ j → closing a i ≤ closing a j
-in_turn a i zero l = let none : i ≡ zero = omega arith in let same = ap (closing a) none in omega (arith, same)
-in_turn a i (suc j) l = by (cases_lt i (suc j)) (in_turn a i j)
-  where
-    by : (i < suc j) ⊎ (suc j ≤ i) → (i ≤ j → closing a i ≤ closing a j) → closing a i ≤ closing a (suc j)
-    by (inl less) before = let to = before (omega arith) in let more = closing_grows a j in omega (arith, to, more)
-    by (inr more) before = let here : i ≡ suc j = omega arith in let same = ap (closing a) here in omega (arith, same)
-
--- so a cycle that closes before another has a smaller number
-earlier : (a : Anchor) (i j : ℕ) → closing a i < closing a j → i < j
-earlier a i j l = by (cases_lt i j)
-  where
-    by : (i < j) ⊎ (j ≤ i) → i < j
-    by (inl less) = less
-    by (inr more) = let turn = in_turn a j i more in absurd (omega (arith, l, turn))
+use Rattle.card_model.proofs.Calendar.{cycles_are_of_the_calendar}
+use Rattle.card_replay.proofs.Owing.{closed-there}
 
 -- ---- a list of cycles has those with numbers from 1 to their count
 pub from_one : (k : ℕ) → not (k == 0) ≡ true → 1 ≤ k
@@ -58,13 +40,9 @@ in_book now cycle open' low dated e =
     let b = book now.lists.posts now.lists.issued now.shared now.today in
     let parts = and_parts (not (cycle == 0)) (nat_lt (closing a cycle) now.today) e in
     let shut = ltb-true (closing a cycle) now.today parts.1 in
-    let count = cycles_are_of_the_calendar.count now.lists.posts now.lists.issued now.shared now.today in
-    let around = cycle_around a (is-anchor a open') (now.today + 1) (length b.cycles + 1) (omega (arith, low)) (omega (arith, dated)) count in
-    let next = around.1 in
-    let less = earlier a cycle (length b.cycles + 1) (omega (arith, shut, next)) in
     in_list (HasItsDays a cycle) cycle b.cycles
     (λ c is. cycles_are_of_the_calendar.days now.lists.posts now.lists.issued now.shared now.today cycle c open' (omega (arith, dated)) is)
-    (from_one cycle parts.0) (omega (arith, less))
+    (from_one cycle parts.0) (closed-there now.lists now.shared now.today cycle open' low dated shut)
 
 -- ---- the restated statement
 some_of : (P : Cycle → Type 0) (o : Option Cycle) → IsSomeAnd o P → is_some o ≡ true

@@ -1,5 +1,7 @@
 -- What is recorded of an account is its book at the end of the day that it has reached.
 use Rattle.std.proofs.Common.{◌≡◌, ℕ, ◌+◌, ◌-◌, ◌*◌, ◌<◌, ◌≤◌, ◌^◌, List, length, subst, sym, arith}
+use Rattle.card_account.proofs.Few.{all_small}
+use Rattle.card_account.specs.Entries.{AreSmallEntries}
 use Rattle.card_bounds.proofs.CountDays.{entries_are_few}
 use Rattle.card_daily.specs.Given.{opened_in}
 use Rattle.card_events.specs.SharedRows.{SharedRows}
@@ -19,3 +21,6 @@ pub recorded_few : (shared : SharedRows) (r : Replay) → IsReplay shared r → 
 recorded_few shared r h =
     subst (λ (es : List Entry). length es < 2 ^ 32) (sym (recorded_book shared r h))
     (few _ (length r.lists.posts) r.folding.reached (opened_in (given_of r.lists shared)) (entries_are_few.lists r.lists.posts r.lists.issued shared r.folding.reached h.sound.segments) h.sound.accepted.count h.dated)
+
+pub recorded_small : (shared : SharedRows) (r : Replay) → IsReplay shared r → AreSmallEntries r.folding.past.track.entries.items
+recorded_small shared r h = subst AreSmallEntries (sym (recorded_book shared r h)) (all_small (given_of r.lists shared) r.folding.reached h.sound h.dated)

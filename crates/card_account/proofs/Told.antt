@@ -3,6 +3,7 @@ use Rattle.std.proofs.Common.{◌≡◌, ℕ, ◌+◌, ◌≤◌, ◌⊎◌, inl
 use Rattle.std.specs.Prelude.{OnOk, OnErr}
 use Rattle.card_account.specs.Accounts.{HasTold, IsAccount, IsTold, MayBeFolded, OpenAccount, replay_of, steps_of}
 use Rattle.card_book.specs.Stands.{breaks_of}
+use Rattle.card_daily.specs.Given.{IsSound, ReachesToday}
 use Rattle.card_events.specs.History.{anchor_of, corrected}
 use Rattle.card_events.specs.SharedRows.{SharedRows}
 use Rattle.card_events.specs.declared.kept.Kept.{Kept}
@@ -10,7 +11,9 @@ use Rattle.card_model.proofs.Spans.{spans_are_steps}
 use Rattle.card_model.specs.Cycles.{IssuedRow}
 use Rattle.card_model.specs.Refusals.{Lists}
 use Rattle.card_posts.specs.Posted.{Posted, StandsFor, last_accepted}
-use Rattle.card_replay.specs.Replays.{IsReplay, IsToday, MayReach, Replay, SameLists, given_of}
+use Rattle.card_replay.proofs.Settled.{settled-today}
+use Rattle.card_past.proofs.Waiting.{front-sound}
+use Rattle.card_replay.specs.Replays.{Folding, IsReplay, IsToday, MayReach, Replay, SameLists, given_of, present_of}
 
 pub may-be-folded : (today : ℕ) (shared : SharedRows) (a : OpenAccount) → IsAccount today shared a → MayBeFolded today shared a
 may-be-folded today shared a h = record {
@@ -32,6 +35,10 @@ pub on-any-err : {T E : Type 0} (r : Result T E) (P : Type 0) → P → OnErr r 
 on-any-err (Ok x) P p = tt
 on-any-err (Err e) P p = p
 
+pub turned : (P Q : Type 0) → P ⊎ Q → Q ⊎ P
+turned P Q (inl p) = inr p
+turned P Q (inr q) = inl q
+
 pub either-of : {T E : Type 0} (r : Result T E) (P Q R : Type 0) → (P → R) → (Q → R) → OnOk r P → OnErr r Q → R
 either-of (Ok x) P Q R f g p q = f p
 either-of (Err e) P Q R f g p q = g q
@@ -49,7 +56,26 @@ stands-by holidays p a history same h = same ∙ (h ∙ ap (λ (l : List Kept). 
 
 -- the account with a name that has a replay
 abbrev pub with_replay : List ℕ → Replay → OpenAccount
-with_replay name r = record { named = record { name = name; lists = r.lists }; corrected = r.corrected; has_room = r.has_room; folding = r.folding }
+with_replay name r = record { named = record { name = name; lists = r.lists }; corrected = r.corrected; has_room = r.has_room; late = r.late; folding = r.folding }
+
+-- ---- its rows
+-- where it has reached today, all that was issued is made
+pub all-made : (today : ℕ) (shared : SharedRows) (a : OpenAccount) → IsAccount today shared a → a.folding.reached ≡ today → a.late.made ≡ a.named.lists.issued
+all-made today shared a h reached = (settled-today shared today (replay_of a) h.replay h.reach reached).made
+
+-- a fold of what is made asks for no more
+pub made-sound : (today : ℕ) (shared : SharedRows) (a : OpenAccount) → IsAccount today shared a → IsSound (given_of (record { posts = a.named.lists.posts; issued = a.late.made }) shared)
+made-sound today shared a h =
+    front-sound a.named.lists.posts a.late.made h.replay.late.rest shared
+    (subst (λ (rows : List IssuedRow). IsSound (given_of (record { posts = a.named.lists.posts; issued = rows }) shared)) h.replay.late.rows h.replay.sound)
+
+-- whatever the rows are, these posts may be folded to today
+pub reaches : (today : ℕ) (shared : SharedRows) (a : OpenAccount) (l : Lists) → l.posts ≡ a.named.lists.posts → IsAccount today shared a → ReachesToday (present_of today shared l)
+reaches today shared a l same h = record {
+  opened = subst (λ (ks : List Kept). (anchor_of ks).opened ≤ today) (sym same) h.reach.opened;
+  accepted = subst (λ (ks : List Kept). last_accepted ks ≤ today) (sym same) h.reach.accepted;
+  dated = h.reach.last;
+}
 
 -- ---- to tell of it
 -- nothing was folded
@@ -77,6 +103,11 @@ told-by today shared name old new reach same replay reached = record {
     later : (new.folding.reached ≡ today) ⊎ (new.folding.reached ≡ old.folding.reached) → new.folding.reached ≤ today
     later (inl e) = omega (arith, e)
     later (inr e) = let low = reach.later in omega (arith, e, low)
+
+-- what it owed was made, and its folding stays
+pub told-made : (today : ℕ) (shared : SharedRows) (name : List ℕ) (old new : Replay) → MayReach today old → SameLists old new → IsReplay shared new → new.folding ≡ old.folding
+    → IsTold today shared (with_replay name old) (with_replay name new)
+told-made today shared name old new reach same replay folding = told-by today shared name old new reach same replay (inr (ap (λ (f : Folding). f.reached) folding))
 
 pub has-told : (today : ℕ) (shared : SharedRows) (old new : OpenAccount) → IsTold today shared old new → new.folding.reached ≡ today → HasTold today shared old new
 has-told today shared old new told reached = record { told = told; reached = reached }

@@ -19,16 +19,18 @@ use Rattle.card_model.specs.Folds.{cycle_at}
 use Rattle.card_model.specs.Machine.{NamedAccount}
 use Rattle.card_model.specs.Refusals.{Lists, Present, book_today}
 use Rattle.card_model.specs.Sheets.{sheet_of}
+use Rattle.card_replay.specs.Owes.{Late}
 use Rattle.card_replay.specs.Replays.{Folding, IsReplay, MayReach, Replay, present_of}
 use Rattle.card_replay.specs.Steps.{steps_to}
 use Rattle.card_rates.specs.Segments.{account_segments}
 
 -- the account as the machine has it, with the corrected list that is kept of it, whether there is room for one more post with its
--- statement, and what is kept of its book
+-- statement, which statements are made and which are owed, and what is kept of its book
 pub record OpenAccount : Type 0 where
   pub named : NamedAccount
   pub corrected : List CorrectedPost
   pub has_room : Bool
+  pub late : Late
   pub folding : Folding
 
 -- the corrected list is that of the posts under these holidays
@@ -44,7 +46,7 @@ pub record MayBeFolded (today : ℕ) (shared : SharedRows) (a : OpenAccount) : T
 -- ---- its folding
 -- the account without its name
 abbrev pub replay_of : OpenAccount → Replay
-replay_of a = record { lists = a.named.lists; corrected = a.corrected; has_room = a.has_room; folding = a.folding }
+replay_of a = record { lists = a.named.lists; corrected = a.corrected; has_room = a.has_room; late = a.late; folding = a.folding }
 
 -- What always holds of it, under these shared rows, on a day that isn't before the one last reached
 pub record IsAccount (today : ℕ) (shared : SharedRows) (a : OpenAccount) : Type 0 where

@@ -1,6 +1,7 @@
 -- The entries of an account, and its segments by number.
 use Rattle.std.specs.Prelude.{◌<◌, ◌^◌, length, List}
 use Rattle.std.specs.List.{All}
+use Rattle.card_bounds.specs.Bounds.{IsSmallEntry}
 use Rattle.card_model.specs.Refusals.{Present, book_today}
 use Rattle.card_model.specs.declared.entry.Entry.{Entry}
 use Rattle.card_model.specs.declared.segment.Segment.{Segment}
@@ -14,7 +15,12 @@ pub record AccountEntries : Type 0 where
 abbrev pub entries_today : Present → AccountEntries
 entries_today now = record { entries = (book_today now).entries; segments = account_segments now.shared.holidays now.lists.posts }
 
--- each entry is on one of the segments, and there are fewer than 2^32
+-- no entry is above 10^15 cents in size
+abbrev pub AreSmallEntries : List Entry → Type 0
+AreSmallEntries entries = All IsSmallEntry entries
+
+-- each entry is on one of the segments, there are fewer than 2^32, and none is above 10^15 cents in size
 pub record AreListed (entries : List Entry) (segments : List Segment) : Type 0 where
   pub placed : All (λ e. e.segment < length segments) entries
   pub few : length entries < 2 ^ 32
+  pub small : AreSmallEntries entries

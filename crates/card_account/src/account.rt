@@ -20,8 +20,9 @@ use std::marker::Model;
 use std::sync::ledger::Ledger;
 
 /// An account: its name, and its posts and issued statements with its book folded to the day last reached. One that was just opened has
-/// reached none. A call that is given today and shared rows wants an account that stands under these rows, and a today that is at most
-/// 2099-12-31 and not before the opening day, the day last reached or a day on which a post was accepted.
+/// reached none. Of the statements some may be owed where the account was loaded: they are made when a fold passes the days of their
+/// Bills, or when an issued statement is asked for. A call that is given today and shared rows requires an account that stands under these
+/// rows, and a today that is at most 2099-12-31 and not before the opening day, the day last reached or a day on which a post was accepted.
 #[derive(Drop)]
 pub struct Account {
     name: Name,
@@ -33,22 +34,24 @@ impl Model for Account {
 
     ghost Value = { OpenAccount };
 
-    ghost view = { λ a. record { named = record { name = a.name; lists = a.replay.lists }; corrected = a.replay.corrected; has_room = a.replay.has_room; folding = a.replay.folding } };
+    ghost view = { λ a. record { named = record { name = a.name; lists = a.replay.lists }; corrected = a.replay.corrected; has_room = a.replay.has_room; late = a.replay.late; folding = a.replay.folding } };
 }
 
 impl Account {
-    ghost use Rattle.std.specs.Prelude.{◌≡◌, ◌≤◌, ◌+◌, true, false, length, IfOk, OnErr, OnOk, None, List, ℕ, if◌then◌else◌};
+    ghost use Rattle.std.specs.Prelude.{◌≡◌, ◌≤◌, ◌+◌, true, false, [], length, IfOk, OnErr, OnOk, None, List, ℕ, if◌then◌else◌};
     ghost use Rattle.card_events.specs.Billing.{IsCloseDay};
     ghost use Rattle.card_events.specs.Range.{last_request_day};
     ghost use Rattle.card_account.specs.Accounts.{HasTold, IsAccount, IsFoldedToday, IsIssueOf, IsTold, issued_statement, owing_in, replay_of, restated_statement, steps_of};
-    ghost use Rattle.card_account.specs.Entries.{entries_today};
+    ghost use Rattle.card_account.specs.Entries.{AreSmallEntries, entries_today};
     ghost use Rattle.card_account.specs.Reached.{IsIdle, StaysNear};
     ghost use Rattle.card_account.specs.Verdicts.{verdict_of};
     ghost use Rattle.card_account.specs.Works.{tasks_of};
+    ghost use Rattle.card_book.specs.Stands.{steps_over};
     ghost use Rattle.card_daily.specs.Given.{IsSound};
     ghost use Rattle.card_events.specs.Dated.{is_dated_post};
-    ghost use Rattle.card_events.specs.History.{at_number, is_open, opening_in, terms_in};
+    ghost use Rattle.card_events.specs.History.{anchor_of, at_number, is_open, opening_in, terms_in};
     ghost use Rattle.card_events.specs.Keys.{with_key};
+    ghost use Rattle.card_events.specs.SharedRows.{SharedRows};
     ghost use Rattle.card_model.specs.Machine.{accepted, at_key, is_repeat_of};
     ghost use Rattle.card_model.specs.Refusals.{book_today, reason_against};
     ghost use Rattle.card_reasons.specs.Reasons.{reads_book};
@@ -89,9 +92,11 @@ impl Account {
         &self.name
     }
 
-    /// What is recorded of it up to the day last reached.
+    /// What is recorded of it up to the day last reached. Of an account that stands under its shared rows, no entry is above 10^15 cents
+    /// in size.
     pub fn recorded(&self) -> &[Entry]
-        ensures { result.now ≡ self.now.folding.past.track.entries.items }
+        ensures entries { result.now ≡ self.now.folding.past.track.entries.items }
+        ensures small { (today : ℕ) (shared : SharedRows) → IsAccount today shared self.now → AreSmallEntries result.now }
     {
         self.replay.recorded()
     }
@@ -108,12 +113,21 @@ impl Account {
         self.replay.standing(post, today, shared)
     }
 
-    // It as it is judged and shown today.
+    // It as it is judged and shown today, which it has reached: so all its statements are made.
     fn present<'a>(&'a self, today: Day, shared: &'a SharedRows) -> Present<'a>
-        requires { IsAccount today shared.now self.now }
+        requires account { IsAccount today shared.now self.now }
+        requires today { self.now.folding.reached ≡ today }
         ensures { result ≡ present_of today shared.now self.now.named.lists }
     {
-        Present::new(self.replay.posts(), self.replay.issued(), shared, today)
+        Present::new(self.replay.posts(), self.replay.made(), shared, today)
+    }
+
+    // It as a post is judged today by the posts alone, with the statements that are made: others may be owed.
+    fn present_by_posts<'a>(&'a self, today: Day, shared: &'a SharedRows) -> Present<'a>
+        requires { IsAccount today shared.now self.now }
+        ensures { result ≡ present_of today shared.now (record { posts = self.now.named.lists.posts; issued = self.now.late.made }) }
+    {
+        Present::new(self.replay.posts(), self.replay.made(), shared, today)
     }
 
     // Its book of today, which it has reached.
@@ -200,7 +214,7 @@ impl Account {
         Ok(self.judge_by_book(today, post, shared))
     }
 
-    // The result of a post whose key is new, and for which no book is read.
+    // The result of a post whose key is new, and for which no book is read. No issued statement is read either: those that are owed stay so.
     fn judge_by_posts(&self, today: Day, post: &Post, shared: &SharedRows) -> Verdict
         requires dated { is_dated_post post.now ≡ true }
         requires account { IsAccount today shared.now self.now }
@@ -208,7 +222,7 @@ impl Account {
         requires no_book { reads_book post.now ≡ false }
         ensures { (key : List ℕ) → result ≡ verdict_of (at_key (present_of today shared.now self.now.named.lists) key post.now None) }
     {
-        verdict(reason_by_posts(&self.present(today, shared), post))
+        verdict(reason_by_posts(&self.present_by_posts(today, shared), post))
     }
 
     // The result of a Penalty or a Refund whose key is new, by the book of today.
@@ -245,8 +259,9 @@ impl Account {
 
     /// Prepares a post that is no opening, against which there is no reason, under a new key; its days are days of requests. There is
     /// room for the post, and the Book is there that it takes the account back to. For a Bill and for what sets rates the account reaches
-    /// today; else nothing is folded, and no step is taken. Its posts and issued statements stay; with the post, they are as every run
-    /// leaves them. If memory runs out, it is the same account too.
+    /// today; else its folding stays, and no step is taken. Where the post changes a day up to the closing of a cycle whose statement is
+    /// owed, what is owed is made first, and the steps of that aren't counted. Its posts and issued statements stay; with the post, they
+    /// are as every run leaves them. If memory runs out, it is the same account too.
     pub fn prepare<L: Ledger>(
         &mut self,
         alloc: Global,
@@ -266,6 +281,7 @@ impl Account {
         ensures prepared { IfOk result (λ c. IsPrepared shared.now c (replay_of self.new)) }
         ensures post { IfOk result (λ c. IsChangeOf key today post.now c) }
         ensures ready { OnOk result (IsReadyFor today post.now (replay_of self.new)) }
+        ensures made { IfOk result (λ c. c.owes ≡ None) }
         ensures idle { FoldsIfNeeded post.now self.old.folding self.new.folding steps.old steps.new }
         ensures most { AreFewToPrepare today shared.now self.old.named.lists self.old.folding.reached key post.now steps.old steps.new }
     {
@@ -274,7 +290,34 @@ impl Account {
             .prepare(alloc, key, post, today, from, shared, steps)
     }
 
-    /// Takes a post that was prepared for this account, with the statement that it issues, and answers its number. What it changes is
+    /// Prepares a post as `prepare` does, for rows that are loaded: the statement of a Bill is owed where today isn't reached, so that
+    /// nothing is folded for it. For what sets rates, and for a post that changes a day up to the closing of a cycle whose statement is
+    /// owed, the account reaches today. If memory runs out, it is the same account too.
+    pub fn prepare_loaded<L: Ledger>(
+        &mut self,
+        alloc: Global,
+        key: Name,
+        today: Day,
+        post: &Post,
+        shared: &SharedRows,
+        steps: &mut Steps<L>,
+    ) -> Result<Change, NoMemory>
+        requires account { IsAccount today shared.now self.old }
+        requires dated { is_dated_post post.now ≡ true }
+        requires not_open { is_open post.now ≡ false }
+        requires fresh { with_key key self.old.named.lists.posts ≡ None }
+        requires no_reason { reason_against (present_of today shared.now self.old.named.lists) post.now ≡ None }
+        requires sound { IsSound (given_of (accepted (present_of today shared.now self.old.named.lists) key post.now) shared.now) }
+        ensures told { IsTold today shared.now self.old self.new }
+        ensures prepared { IfOk result (λ c. IsPrepared shared.now c (replay_of self.new)) }
+        ensures post { IfOk result (λ c. IsChangeOf key today post.now c) }
+    {
+        let first = self.replay.first_change(post, today, shared);
+        self.replay
+            .prepare_loaded(alloc, key, post, today, first, shared, steps)
+    }
+
+    /// Takes a post that was prepared for this account, with the statement that it issues or owes, and answers its number. What it changes is
     /// folded when the account is next asked. The day that it has reached isn't after today, nor before the last closing before the
     /// first day that the post changes, or the day before the opening, or before the day that it had reached. It doesn't allocate and
     /// can't fail.
@@ -334,11 +377,25 @@ impl Account {
         entries_today(alloc, &self.present(today, shared), &folded)
     }
 
-    /// The statement of a cycle as it was issued, none where no Bill has issued it.
-    pub fn issued(&self, alloc: Global, cycle: Num) -> Result<Option<Statement>, NoMemory>
-        ensures { IfOk result (λ s. s ≡ issued_statement cycle self.now.named.lists.issued) }
+    /// The statement of a cycle as it was issued, none where no Bill has issued it. Statements that are owed are made first, since it may
+    /// be one of them. The day last reached stays, and no step is taken where none is owed.
+    pub fn issued<L: Ledger>(
+        &mut self,
+        alloc: Global,
+        today: Day,
+        cycle: Num,
+        shared: &SharedRows,
+        steps: &mut Steps<L>,
+    ) -> Result<Option<Statement>, NoMemory>
+        requires { IsAccount today shared.now self.old }
+        ensures told { IsTold today shared.now self.old self.new }
+        ensures folding { self.new.folding ≡ self.old.folding }
+        ensures value { IfOk result (λ s. s ≡ issued_statement cycle self.old.named.lists.issued) }
+        ensures idle { self.old.late.owed ≡ [] → steps.new ≡ steps.old }
+        ensures most { steps.new ≤ steps.old + steps_over (given_of self.old.named.lists shared.now) today (anchor_of self.old.named.lists.posts).opened }
     {
-        issued_of(alloc, self.replay.issued(), cycle)
+        self.replay.make_owed(alloc, today, shared, steps)?;
+        issued_of(alloc, self.replay.made(), cycle)
     }
 
     /// The statement of a cycle as the book of today has it, which the account reaches; none where the cycle isn't closed before today.

@@ -30,11 +30,13 @@ impl Model for EntryList {
 impl EntryList {
     ghost use Rattle.std.specs.Prelude.{◌≡◌, ◌<◌, ◌^◌, length};
     ghost use Rattle.std.specs.List.{All};
+    ghost use Rattle.card_account.specs.Entries.{AreSmallEntries};
 
-    /// The entries, one after the other: fewer than 2^32.
+    /// The entries, one after the other: fewer than 2^32, each at most 10^15 cents in size.
     pub fn entries(&self) -> &[Entry]
         ensures entries { result.now ≡ self.now.entries }
         ensures few { length self.now.entries < 2 ^ 32 }
+        ensures small { AreSmallEntries self.now.entries }
     {
         &self.entries
     }

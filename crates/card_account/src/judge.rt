@@ -1,11 +1,12 @@
 // Why a post under a new key isn't accepted, by the posts and, of a Penalty or a Refund, by the book of today.
-ghost use Rattle.std.specs.Prelude.{◌≡◌, true, false, Some};
+ghost use Rattle.std.specs.Prelude.{◌≡◌, true, false, List, Some};
 ghost use Rattle.card_account.specs.Verdicts.{refunds_no_amount};
 ghost use Rattle.card_events.specs.Dated.{is_dated_post};
 ghost use Rattle.card_events.specs.declared.post.Post.TheVariants as post;
 ghost use Rattle.card_events.specs.History.{is_open};
+ghost use Rattle.card_model.specs.Cycles.{IssuedRow};
 ghost use Rattle.card_model.specs.Refusals.{Present, book_today, reason_against};
-ghost use Rattle.card_reasons.specs.Reasons.{reads_book};
+ghost use Rattle.card_reasons.specs.Reasons.{judged_of, reads_book};
 
 use card_book::{Folded, Present};
 use card_events::{Num, Post, Refusal};
@@ -60,20 +61,20 @@ pub fn reason_by_book(now: &Present, folded: &Folded, post: &Post) -> Option<Ref
     }
 }
 
-// Why a Bill isn't accepted today.
+// Why a Bill isn't accepted today, whatever was issued.
 fn bill_today(now: &Present, cycle: Num) -> Option<Refusal>
-    ensures { result ≡ reason_against now.now (post.Bill cycle) }
+    ensures { (issued : List IssuedRow) → result ≡ reason_against (judged_of now.now.today now.now.shared issued now.now.lists.posts) (post.Bill cycle) }
 {
     ordered_bill_reason(now.posts(), &now.anchor(), now.today(), cycle)
 }
 
-/// Why another post isn't accepted today under a new key, by the posts alone: the first reason, and None where it is accepted. It is no
-/// opening, Penalty or Refund, and its days are days of requests.
+/// Why another post isn't accepted today under a new key, by the posts alone, whatever was issued: the first reason, and None where it is
+/// accepted. It is no opening, Penalty or Refund, and its days are days of requests.
 pub fn reason_by_posts(now: &Present, post: &Post) -> Option<Refusal>
     requires not_open { is_open post.now ≡ false }
     requires no_book { reads_book post.now ≡ false }
     requires dated { is_dated_post post.now ≡ true }
-    ensures { result ≡ reason_against now.now post.now }
+    ensures { (issued : List IssuedRow) → result ≡ reason_against (judged_of now.now.today now.now.shared issued now.now.lists.posts) post.now }
 {
     match post {
         Post::Bill { cycle } => bill_today(now, *cycle),

@@ -29,9 +29,9 @@ fn as_issued(alloc: Global, row: &Issued) -> Result<Statement, NoMemory>
 {
     // From its row and not computed again: what was issued stays.
     Ok(Statement {
-        cycle: row.statement.cycle.copy(alloc)?,
+        cycle: row.statement.copy(alloc)?,
         issue: row.day,
-        sheet: row.statement.sheet.copy(alloc)?,
+        sheet: row.sheet.unpack(alloc)?,
     })
 }
 

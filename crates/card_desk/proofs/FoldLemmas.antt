@@ -9,7 +9,7 @@ use Rattle.std.specs.Prelude.{nat_le, nat_lt, ◌&&◌, ◌++◌, ◌+◌, ◌-�
 use Rattle.std.specs.Option.{option_map}
 use Rattle.card_account.specs.Accounts.{IsAccount, OpenAccount, is_closed, issue_of, replay_of, restated_as, restated_statement}
 use Rattle.card_replay.specs.Replays.{AreLaterRows, given_of, present_of}
-use Rattle.card_replay.proofs.LaterRows.{later_rows_leave_it}
+use Rattle.card_replay.proofs.LaterReplay.{later_rows_leave_it}
 use Rattle.card_account.specs.Entries.{AccountEntries, entries_today}
 use Rattle.card_account.specs.Verdicts.{verdict_of}
 use Rattle.card_account.specs.declared.verdict.Verdict.{Verdict}

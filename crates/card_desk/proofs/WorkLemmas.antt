@@ -1,10 +1,8 @@
 -- The open tasks of all accounts are those of the state.
 use Rattle.std.proofs.Common.{◌≡◌, ℕ, suc, ◌<◌, List, [], ◌∷◌, ◌++◌, length, get_or, refl, ap, sym, ◌∙◌, subst, arith}
-use Rattle.std.proofs.lemmas.List.{get_or-map, length-map}
-use Rattle.std.proofs.lemmas.List.Elements.{All-cons, All-get_or, All-nil}
+use Rattle.std.proofs.lemmas.List.Elements.{All-cons, All-nil}
 use Rattle.std.specs.List.{All, flat_map}
 use Rattle.card_account.specs.Accounts.{AreTold, IsAccount, OpenAccount}
-use Rattle.card_account.specs.Runs.{AreRunning}
 use Rattle.card_account.specs.Works.{tasks_of, work_of}
 use Rattle.card_desk.proofs.FoldLemmas.{all_running, running_at, same_book}
 use Rattle.card_desk.specs.Applied.{are_short}

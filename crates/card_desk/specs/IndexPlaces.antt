@@ -1,16 +1,11 @@
 -- Names and the numbers that they were given.
-use Rattle.std.specs.Prelude.{◌≡◌, ℕ, if◌then◌else◌, List, [], ◌∷◌, map, Option, Some, None}
+use Rattle.std.specs.Prelude.{◌≡◌, ℕ, if◌then◌else◌, List, [], ◌∷◌, Option, Some, None}
 use Rattle.std.specs.Str.{bytes_eq}
-use Rattle.std.specs.Global.{Vec}
 
 -- the number of a name, where it has one
 unfoldable pub place_of : List ℕ → List (List ℕ × ℕ) → Option ℕ
 place_of name [] = None
 place_of name (e ∷ es) = let later = place_of name es in if bytes_eq name e.0 then Some e.1 else later
-
--- the names of a map, with their numbers
-abbrev pub named : List (Vec ℕ × ℕ) → List (List ℕ × ℕ)
-named entries = map (λ e. (e.0.items, e.1)) entries
 
 -- this name has this number now, or none, and every other name has what it had
 abbrev pub Places : List (List ℕ × ℕ) → List (List ℕ × ℕ) → List ℕ → Option ℕ → Type 0

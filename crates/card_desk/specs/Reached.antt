@@ -53,7 +53,7 @@ pub record AllMove {T E : Type 0} (result : Result T E) (old new : OpenDesk) : T
   pub count : length new.reached ≡ length old.reached
   pub each : (i : ℕ) → i < length old.reached → StaysOrIsToday old.state.today (day_there old i) (day_there new i)
 
--- What was issued is told without a fold
+-- What was issued moves none
 unfoldable pub MovesToSee : {T E : Type 0} → Ask → Result T E → OpenDesk → OpenDesk → Type 0
 MovesToSee (ask.Show account) result old new = MovesNamed account result old new
 MovesToSee (ask.Issued account cycle) result old new = NoneMoves old new

@@ -62,7 +62,7 @@ AreFewToTell s (Some a) before after = after ≤ before + (breaks_left s a + 1)
 abbrev pub most_for_all : OpenDesk → ℕ
 most_for_all d = sum_by (λ (x : NamedAccount × ℕ). breaks_left d.state (record { lists = x.0.lists; reached = x.1 }) + 1) (zip d.state.accounts d.reached)
 
--- What was issued takes none
+-- For what was issued none is counted
 unfoldable pub AreFewToSee : OpenDesk → Ask → ℕ → ℕ → Type 0
 AreFewToSee d (ask.Show account) before after = AreFewToTell d.state (reached_of account d) before after
 AreFewToSee d (ask.Issued account cycle) before after = after ≡ before

@@ -5,6 +5,8 @@ ghost use Rattle.card_account.specs.Accounts.{OpenAccount};
 ghost use Rattle.card_desk.specs.Views.{stated};
 ghost use Rattle.card_desk.specs.Kept as spec;
 
+mod loading;
+
 use crate::index::NameIndex;
 use crate::keep::keep_row;
 use crate::row::row_of;
@@ -19,8 +21,8 @@ use card_fees::SharedRows;
 use card_model::Entry;
 use card_ports::{Keeper, Row};
 use std::alloc::Global;
-use std::marker::Model;
-use std::sync::ledger::Ledger;
+use std::marker::{Brand, Model};
+use std::sync::ledger::{Blank, Ledger};
 
 /// Today, the accepted shared requests with the holidays, the fee rows and the index in them, and all accounts in the order of
 /// their opening, each folded to the day that it has reached, if it has reached one. Clauses see it as a record of its state, these
@@ -63,14 +65,15 @@ impl Desk {
     ghost use Rattle.card_replay.specs.Replays.{present_of};
     ghost use Rattle.card_replay.specs.Standing.{IsStandingCount};
     ghost use Rattle.card_desk.specs.Steps.{AreFewOn, AreFewToApply, AreFewToKeep, AreFewToSee, AreFewToTell, IsIdleToApply, IsIdleToJudge, IsIdleToPost, most_for_all, reached_at, reached_of, reached_there, steps_at};
-    ghost use Rattle.card_account.specs.Accounts.{owing_in, restated_statement};
-    ghost use Rattle.card_account.specs.Entries.{entries_today};
+    ghost use Rattle.card_account.specs.Accounts.{issued_statement, owing_in, restated_statement};
+    ghost use Rattle.card_account.specs.Entries.{AreSmallEntries, entries_today};
     ghost use Rattle.card_account.specs.Verdicts.{verdict_of};
     ghost use Rattle.card_events.specs.Keys.{with_key};
     ghost use Rattle.card_events.specs.SharedRows.{SharedRows, shared_rows};
     ghost use Rattle.card_rows.specs.Held.{is_request};
     ghost use Rattle.card_desk.specs.Desks.{IsRun, now_at};
     ghost use Rattle.card_events.specs.Billing.{IsCloseDay};
+    ghost use Rattle.card_events.specs.Blanks.{IsBlankOf};
     ghost use Rattle.card_events.specs.Dated.{is_dated, is_dated_post};
     ghost use Rattle.card_events.specs.History.{is_open, terms_in};
     ghost use Rattle.card_ports.specs.Rows.{KeepsRows, SameRowsTold};
@@ -150,22 +153,25 @@ impl Desk {
     }
 
     /// What is recorded of the account at a place in the order of opening: its entries up to the end of the day that it has reached,
-    /// which isn't after today.
+    /// which isn't after today. Each is at most 10^15 cents in size.
     pub fn recorded(&self, place: usize) -> &[Entry]
         requires { place < length self.now.recorded }
         ensures value { (d : List Entry) → result.now ≡ slice_index_or self.now.recorded place d }
         ensures entries { result.now ≡ entries_there self.now place }
         ensures reached { (reached_there self.now place).reached ≤ self.now.state.today }
         ensures few { length result.now < 2 ^ 32 }
+        ensures small { AreSmallEntries result.now }
     {
         self.accounts[place].recorded()
     }
 
-    /// What is recorded of an account: its entries up to the end of the day that it has reached. None comes exactly where it isn't there.
+    /// What is recorded of an account: its entries up to the end of the day that it has reached, each at most 10^15 cents in size. None
+    /// comes exactly where it isn't there.
     pub fn entries_of(&self, account: &Name) -> Option<&[Entry]>
         ensures entries { option_copied result ≡ option_map (entries_there self.now) (place_from account.now 0 self.now.state.accounts) }
         ensures value { (d : List Entry) → option_copied result ≡ option_map (λ at. slice_index_or self.now.recorded at d) (place_from account.now 0 self.now.state.accounts) }
         ensures few { IfSome result (λ entries. length entries.now < 2 ^ 32) }
+        ensures small { IfSome result (λ entries. AreSmallEntries entries.now) }
     {
         match self.place_of(account) {
             Some(at) => Some(self.recorded(at)),
@@ -279,7 +285,7 @@ impl Desk {
         let made = Account::open(alloc, name, given.key, self.today, given.post, &self.common)?;
         self.accounts.reserve(1)?;
         let place = self.accounts.len() as u32;
-        self.index.insert(alloc, given.account.bytes(), place)?;
+        self.index.insert(given.account.bytes(), place)?;
         match keep_row(alloc, keeper, row) {
             Ok(()) => {
                 push_account(&mut self.accounts, made);
@@ -425,7 +431,8 @@ impl Desk {
     /// break days, before or after the request, from the first day of the cycle in which the first changed day lies, or from the day
     /// last reached where that is earlier, to today; of a request that isn't accepted, from the day last reached on. An opening and a
     /// shared request take none, nor does a post of an account that isn't there, or one under a key that its account has used. Of other
-    /// posts only a Penalty and a Refund may take any, and a Bill, a Plan, a Notice and a Lower that is accepted.
+    /// posts only a Penalty and a Refund may take any, and a Bill, a Plan, a Notice and a Lower that is accepted. Steps that make statements
+    /// which a load put off, where a post changes a day up to the closing of one, aren't counted.
     ///
     /// `Keeper`: the keeper failed, which alone raises its count. `Memory`: memory ran out.
     #[tactic(auto, using(crate::proofs::Apart::apart_of_step), unfolding(crate::specs::Reached::MovesToApply, crate::specs::Recorded::AppliedStays, crate::specs::Steps::AreFewToApply, crate::specs::Steps::IsIdleToApply))]
@@ -541,15 +548,39 @@ impl Desk {
         }
     }
 
-    // The statement of a cycle of an account as it was issued.
-    fn issued(&self, alloc: Global, account: &Name, cycle: Num) -> Result<View, NoMemory>
-        ensures { IfOk result (λ view. view ≡ issued cycle (lists_of account.now self.now.state.accounts)) }
+    // The statement of a cycle of the account at a place as it was issued. What the account owes is made for it.
+    fn issued_with<L: Ledger>(
+        &mut self,
+        alloc: Global,
+        at: usize,
+        cycle: Num,
+        blank: Blank,
+    ) -> Result<Option<Statement>, NoMemory>
+        requires own { IsBlankOf L.name L.parts blank.name blank.parts }
+        requires place { at < length self.old.state.accounts }
+        ensures state { self.new.state ≡ self.old.state }
+        ensures value { IfOk result (λ x. (d : NamedAccount) → x ≡ issued_statement cycle (now_at self.old.state at d).lists.issued) }
+        ensures reached { NoneMoves self.old self.new }
+        ensures recorded { self.new.recorded ≡ self.old.recorded }
+    {
+        let mut steps = Steps::<L>::new(blank);
+        let account = &mut self.accounts[at];
+        account.issued(alloc, self.today, cycle, &self.common, &mut steps)
+    }
+
+    // The statement of a cycle of an account as it was issued. Nobody counts the steps that make what the account owes: they are
+    // those that a load put off. The day that it has reached stays.
+    fn issued(&mut self, alloc: Global, account: &Name, cycle: Num) -> Result<View, NoMemory>
+        ensures state { self.new.state ≡ self.old.state }
+        ensures view { IfOk result (λ view. view ≡ issued cycle (lists_of account.now self.old.state.accounts)) }
+        ensures reached { NoneMoves self.old self.new }
+        ensures recorded { self.new.recorded ≡ self.old.recorded }
     {
         match self.index.find(account.bytes()) {
             None => Ok(View::NoAccount),
             Some(at) => {
-                let account = &self.accounts[at as usize];
-                let statement = account.issued(alloc, cycle)?;
+                let blank = Blank::new(1);
+                let statement = self.issued_with::<Brand>(alloc, at as usize, cycle, blank)?;
                 Ok(stated(statement))
             }
         }
@@ -627,7 +658,8 @@ impl Desk {
 
     /// The answer to what is asked, or that memory ran out. The state stays; the accounts that the answer is of reach today, and if memory
     /// runs out, some may have. It takes at most one step more than there are break days from the day last reached to today, none
-    /// where the account isn't there or for what was issued, and for `Work` at most the sum of these over all accounts.
+    /// where the account isn't there or for what was issued, and for `Work` at most the sum of these over all accounts. Where an issued
+    /// statement is asked for, the steps that make what a load put off aren't counted.
     #[tactic(auto, unfolding(crate::specs::Reached::MovesToSee, crate::specs::Recorded::SeenStays, crate::specs::Views::seen, crate::specs::Steps::AreFewToSee))]
     pub fn see<L: Ledger>(
         &mut self,
@@ -678,7 +710,7 @@ fn push_shared(list: &mut Vec<Shared>, shared: Shared)
     requires { vec_len list.old < vec_capacity list.old }
     ensures { list.new.items ≡ list.old.items ++ shared ∷ [] }
 {
-    let _ = list.push(shared);
+    list.push_reserved(shared);
 }
 
 // One more, for which room was made.
@@ -686,5 +718,5 @@ fn push_account(list: &mut Vec<Account>, account: Account)
     requires { vec_len list.old < vec_capacity list.old }
     ensures { list.new.items ≡ list.old.items ++ account ∷ [] }
 {
-    let _ = list.push(account);
+    list.push_reserved(account);
 }

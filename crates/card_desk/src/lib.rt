@@ -7,6 +7,7 @@ mod index;
 mod keep;
 pub mod laws;
 mod load;
+mod name_key;
 mod row;
 mod share;
 pub mod uncounted;

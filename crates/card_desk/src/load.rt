@@ -7,34 +7,15 @@ ghost use Rattle.card_model.specs.Machine.{is_new, step};
 ghost use Rattle.card_desk.specs.Applied.{IsCounted};
 ghost use Rattle.card_desk.specs.Kept.{AreDamaged, IsNewRow, IsRunOf, accepted_count};
 ghost use Rattle.card_desk.specs.Loads.{GoesOn};
+ghost use Rattle.card_rows.specs.Held.{is_request};
 
+use crate::Desk;
 use crate::fault::LoadFault;
-use crate::{Desk, Fault};
 use card_events::{NoMemory, Request, Steps};
-use card_ports::{Keeper, KeeperFault, Row};
+use card_ports::{Keeper, KeeperFault, Rows};
 use card_rows::decode;
 use std::alloc::Global;
 use std::sync::ledger::Ledger;
-
-// Keeps nothing, shows nothing and never fails: rows that are loaded aren't kept again.
-#[derive(Drop)]
-struct Untold {}
-
-impl Keeper for Untold {
-    ghost use Rattle.std.specs.Prelude.{None};
-
-    ghost rows = { λ k. None };
-
-    ghost faults = { λ k. 0 };
-
-    fn load(&mut self, alloc: Global) -> Result<Vec<Row>, KeeperFault> {
-        Ok(Vec::new(alloc))
-    }
-
-    fn append(&mut self, _alloc: Global, _more: &[Row]) -> Result<(), KeeperFault> {
-        Ok(())
-    }
-}
 
 impl Desk {
     ghost use Rattle.std.specs.Prelude.{◌≡◌, ◌≤◌, ℕ, Err, IfOk, OnOk, IsErrOf};
@@ -43,7 +24,7 @@ impl Desk {
     ghost use Rattle.card_desk.specs.Kept.{AreDamagedAt, IsLoadedOf, Fits};
 
     /// The desk that the kept rows give: that of a run of their requests. The rows stay, whatever is answered. Nothing is said of the
-    /// steps.
+    /// steps. No account is folded for a Bill: its statement is made when a fold passes its day, or when it is asked for.
     ///
     /// `Damaged(n)`: row n, counted from 1, is the first whose number isn't n, whose body is no spelling, or whose request
     /// is refused or a repeat in its place; it never comes for rows that a desk wrote.
@@ -67,14 +48,14 @@ impl Desk {
 }
 
 // All rows that are kept.
-fn kept_rows<K: Keeper>(alloc: Global, keeper: &mut K) -> Result<Vec<Row>, LoadFault>
-    ensures given { IfOk result (λ all. GivesRows (K.rows keeper.old) all.items) }
+fn kept_rows<K: Keeper>(alloc: Global, keeper: &mut K) -> Result<Rows, LoadFault>
+    ensures given { IfOk result (λ all. GivesRows (K.rows keeper.old) all) }
     ensures damaged { (n : ℕ) → IsErrOf result (LoadFault.Damaged n) → ⊥ }
     ensures rows_stay { KeepsRows (K.rows keeper.old) (K.rows keeper.new) }
     ensures told { SameRowsTold (K.rows keeper.old) (K.rows keeper.new) }
     ensures counts { IsCounted LoadFault.Keeper LoadFault.Memory (K.faults keeper.old) (K.faults keeper.new) result }
 {
-    match keeper.load(alloc) {
+    match keeper.load_packed(alloc) {
         Ok(rows) => Ok(rows),
         Err(KeeperFault::Failed) => Err(LoadFault::Keeper),
         Err(KeeperFault::Memory) => Err(LoadFault::Memory),
@@ -82,15 +63,15 @@ fn kept_rows<K: Keeper>(alloc: Global, keeper: &mut K) -> Result<Vec<Row>, LoadF
 }
 
 // Carries out the requests of rows, from the first day on.
-fn run_rows<L: Ledger>(alloc: Global, rows: &[Row], steps: &mut Steps<L>) -> Result<Desk, LoadFault>
+fn run_rows<L: Ledger>(alloc: Global, rows: &Rows, steps: &mut Steps<L>) -> Result<Desk, LoadFault>
     ensures ok { IfOk result (λ d. IsRunOf rows.now d.state) }
     ensures damaged { (n : ℕ) → IsErrOf result (LoadFault.Damaged n) → AreDamaged rows.now n }
     ensures never { IsErrOf result LoadFault.Keeper → ⊥ }
 {
     let mut desk = Desk::new(alloc);
-    for (i, row) in rows.iter().enumerate() {
+    for i in 0..rows.len() {
         let number = i as u64 + 1;
-        if !run_row(alloc, &mut desk, number, row, steps)? {
+        if !run_row(alloc, &mut desk, number, rows.seq(i), rows.body(i), steps)? {
             return Err(LoadFault::Damaged(number));
         }
     }
@@ -102,16 +83,17 @@ fn run_row<L: Ledger>(
     alloc: Global,
     desk: &mut Desk,
     number: u64,
-    row: &Row,
+    seq: u64,
+    body: &[u8],
     steps: &mut Steps<L>,
 ) -> Result<bool, NoMemory>
-    ensures new { IfOk result (λ new. new ≡ true → GoesOn desk.old.state number row.now desk.new.state) }
-    ensures bad { IfOk result (λ new. new ≡ false → (r : Request) → IsNewRow desk.old.state number row.now r → ⊥) }
+    ensures new { IfOk result (λ new. new ≡ true → GoesOn desk.old.state number (record { seq = seq; body = body.now }) desk.new.state) }
+    ensures bad { IfOk result (λ new. new ≡ false → (r : Request) → IsNewRow desk.old.state number (record { seq = seq; body = body.now }) r → ⊥) }
 {
-    if row.seq != number {
+    if seq != number {
         return Ok(false);
     }
-    match decode(row.body.bytes()) {
+    match decode(body) {
         Some(request) => run_request(alloc, desk, &request, steps),
         None => Ok(false),
     }
@@ -125,15 +107,12 @@ fn run_request<L: Ledger>(
     steps: &mut Steps<L>,
 ) -> Result<bool, NoMemory>
     requires dated { is_dated request.now ≡ true }
+    requires taken { is_request request.now ≡ true }
     ensures new { IfOk result (λ new. new ≡ is_new desk.old.state request.now) }
     ensures step { OnOk result (desk.new.state ≡ (step desk.old.state request.now).0) }
 {
     let count = desk.count();
-    let mut keeper = Untold {};
-    match desk.apply(alloc, &mut keeper, request, steps) {
-        // No desk keeps the row of a refusal or a repeat, so a row with one is damaged.
-        Ok(_) => Ok(desk.count() > count),
-        Err(Fault::Memory) => Err(NoMemory),
-        Err(Fault::Keeper) => unreachable!(),
-    }
+    desk.carry_loaded(alloc, request, steps)?;
+    // No desk keeps the row of a refusal or a repeat, so a row with one is damaged.
+    Ok(desk.count() > count)
 }

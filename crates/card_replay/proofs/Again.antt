@@ -27,22 +27,22 @@ use Rattle.card_book.specs.Rewound.{AreFolded, GoesBack, IsCutTrack}
 use Rattle.card_book.specs.Stands.{StandsFor, Summary, day_to_fold}
 use Rattle.card_book.specs.declared.marks.Accruing.{Accruing}
 use Rattle.card_replay.proofs.Changed.{anchor-stays, continues-before, plain-stands, terms-stay}
-use Rattle.card_replay.proofs.CycleBefore.{closed-before, closed-then, cycle-read, cycle-there}
+use Rattle.card_past.proofs.CycleBefore.{closed-before, closed-then, cycle-read, cycle-there}
 use Rattle.card_replay.proofs.CutTrack.{cut-track}
 use Rattle.card_replay.proofs.MarksFront.{among-front, marks-front}
-use Rattle.card_replay.proofs.NextClosing.{closing-dated, closing-none}
-use Rattle.card_replay.proofs.Parts.{first-front}
-use Rattle.card_replay.proofs.Reaching.{none-marked, none-recorded}
-use Rattle.card_replay.proofs.Through.{cycles-through, last-is, opened-through}
+use Rattle.card_past.proofs.NextClosing.{closing-dated, closing-none}
+use Rattle.card_past.proofs.Parts.{first-front}
+use Rattle.card_past.proofs.Reaching.{none-marked, none-recorded}
+use Rattle.card_past.proofs.Through.{cycles-through, last-is, opened-through}
 use Rattle.card_replay.specs.Pasts.{AreWithin, IsFront}
 use Rattle.card_replay.proofs.Unread.{eve-on}
 use Rattle.card_replay.specs.Rewinds.{AreEndsOf, IsAgain, IsAtBeginning, IsAtClosing, IsBeforeChange, MayBegin, MayGoBackOn, back_at, cycle_before}
 use Rattle.card_replay.specs.Replays.{BeginsAgain, HasMarks, IsEve, IsWhole, Stands, day_of}
 use Rattle.card_replay.specs.Steps.{first_in_cycle}
 use Rattle.card_replay.specs.declared.change.TakenBack.{TakenBack}
-use Rattle.card_replay.specs.declared.eve.Eve.{Eve}
-use Rattle.card_replay.specs.declared.past.Ends.{Ends}
-use Rattle.card_replay.specs.declared.past.Past.{Past}
+use Rattle.card_past.specs.declared.eve.Eve.{Eve}
+use Rattle.card_past.specs.declared.past.Ends.{Ends}
+use Rattle.card_past.specs.declared.past.Past.{Past}
 use Rattle.card_replay.specs.declared.rewinding.Earlier.{Earlier}
 
 -- ---- where the lists ended

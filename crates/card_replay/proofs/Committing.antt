@@ -19,9 +19,10 @@ use Rattle.card_daily.specs.Given.{Given, IsSound, opened_in}
 use Rattle.card_book.specs.Stands.{Summary, day_to_fold}
 use Rattle.card_replay.proofs.Changed.{same-anchor}
 use Rattle.card_replay.proofs.LaterRows.{some-posts}
-use Rattle.card_replay.proofs.Through.{opened-through, reached-is}
+use Rattle.card_past.proofs.Through.{opened-through, reached-is}
 use Rattle.card_replay.proofs.Unread.{issues-nothing, unread-stands}
-use Rattle.card_replay.specs.Changes.{IsChangeOf, IsCommitted, IsPrepared, HasRewound, IsRewoundBy, IsTaken, Takes, issued_as, lists_with}
+use Rattle.card_replay.specs.Changes.{IsChangeOf, IsCommitted, IsPrepared, HasRewound, IsRewoundBy, IsTaken, Takes, issued_as, late_with, lists_with}
+use Rattle.card_replay.specs.Owes.{AreLate}
 use Rattle.card_replay.specs.Rewinds.{IsAgain}
 use Rattle.card_replay.specs.Replays.{Folding, HasClosings, IsEve, IsFolding, IsReplay, IsWhole, MayReach, Replay, Stands, day_of, given_of, present_of}
 use Rattle.card_replay.specs.Steps.{IsFirstBetween, IsNear, first_in_cycle}
@@ -134,12 +135,15 @@ kept-same n c key today p h = ap (λ k. kept_as n k c.today c.post) h.key ∙ (a
 abbrev pub lists_by : List Kept → List IssuedRow → Lists
 lists_by posts rows = record { posts = posts; issued = rows }
 
-lists-are : (shared : SharedRows) (today : ℕ) (key : List ℕ) (p : Post) (c : Change) (l : Lists) → IsChangeOf key today p c → issued_as c.issued ≡ issues (present_of today shared l) p
-    → lists_with c l ≡ accepted (present_of today shared l) key p
+-- and so is what it issues
+pub issues-same : (shared : SharedRows) (today : ℕ) (key : List ℕ) (p : Post) (c : Change) (l : Lists) → IsChangeOf key today p c → issues (present_of c.today shared l) c.post ≡ issues (present_of today shared l) p
+issues-same shared today key p c l h = ap (λ d. issues (present_of d shared l) c.post) h.today ∙ ap (issues (present_of today shared l)) h.post
+
+lists-are : (shared : SharedRows) (today : ℕ) (key : List ℕ) (p : Post) (c : Change) (l : Lists) → IsChangeOf key today p c → lists_with shared c l ≡ accepted (present_of today shared l) key p
 unfolding accepted
-lists-are shared today key p c l h issued =
-    ap (λ k. lists_by (l.posts ++ k ∷ []) (l.issued ++ issued_as c.issued)) (kept-same (length l.posts + 1) c key today p h)
-    ∙ ap (λ rows. lists_by (l.posts ++ kept_as (length l.posts + 1) key today p ∷ []) (l.issued ++ rows)) issued
+lists-are shared today key p c l h =
+    ap (λ k. lists_by (l.posts ++ k ∷ []) (l.issued ++ issues (present_of c.today shared l) c.post)) (kept-same (length l.posts + 1) c key today p h)
+    ∙ ap (λ rows. lists_by (l.posts ++ kept_as (length l.posts + 1) key today p ∷ []) (l.issued ++ rows)) (issues-same shared today key p c l h)
 
 pub record Accepts (n : ℕ) (l : Lists) : Type 0 where
   pub opened : (anchor_of l.posts).opened ≤ n
@@ -165,15 +169,19 @@ record IsNext (shared : SharedRows) (today : ℕ) (new : Replay) : Type 0 where
   pub reach : MayReach today new
 
 -- its lists are those with the post
-committed-lists : (shared : SharedRows) (today : ℕ) (key : List ℕ) (p : Post) (c : Change) (r new : Replay) → IsChangeOf key today p c → issued_as c.issued ≡ issues (present_of today shared r.lists) p → IsCommitted shared c r new
+pub committed-lists : (shared : SharedRows) (today : ℕ) (key : List ℕ) (p : Post) (c : Change) (r new : Replay) → IsChangeOf key today p c → IsCommitted shared c r new
     → new.lists ≡ accepted (present_of today shared r.lists) key p
-committed-lists shared today key p c r new is issued committed = committed.lists ∙ lists-are shared today key p c r.lists is issued
+committed-lists shared today key p c r new is committed = committed.lists ∙ lists-are shared today key p c r.lists is
+
+-- what is owed of it then
+abbrev pub StaysLate : SharedRows → List ℕ → ℕ → Post → Change → Replay → Type 0
+StaysLate shared key today p c r = (reached : ℕ) → reached ≤ r.folding.reached → AreLate shared (accepted (present_of today shared r.lists) key p) reached (late_with c r.late)
 
 committed-stands : (shared : SharedRows) (today : ℕ) (key : List ℕ) (p : Post) (c : Change) (r new : Replay) → IsReplay shared r → MayReach today r → IsChangeOf key today p c
-    → issued_as c.issued ≡ issues (present_of today shared r.lists) p → reason_against (present_of today shared r.lists) p ≡ None → IsSound (given_of (accepted (present_of today shared r.lists) key p) shared)
+    → StaysLate shared key today p c r → reason_against (present_of today shared r.lists) p ≡ None → IsSound (given_of (accepted (present_of today shared r.lists) key p) shared)
     → IsRewoundBy shared today key p c.rewound r → IsCommitted shared c r new → IsNext shared today new
-committed-stands shared today key p c r new h may is issued none sound rewound committed =
-    let lists : new.lists ≡ accepted (present_of today shared r.lists) key p = committed-lists shared today key p c r new is issued committed in
+committed-stands shared today key p c r new h may is owes none sound rewound committed =
+    let lists : new.lists ≡ accepted (present_of today shared r.lists) key p = committed-lists shared today key p c r new is committed in
     let all = accepts shared today key p r h may (received (present_of today shared r.lists) p none) in
     let folding : IsFolding (given_of (accepted (present_of today shared r.lists) key p) shared) new.folding = rewound.next new.folding committed.folding in
     let reached = rewound.earlier new.folding committed.folding in
@@ -187,6 +195,8 @@ committed-stands shared today key p c r new h may is issued none sound rewound c
         timely = subst (λ (l : Lists). AreTimely (anchor_of l.posts).opened l.posts) (sym lists) all.timely;
         opened = subst (λ (l : Lists). (anchor_of l.posts).opened ≤ new.folding.reached + 1) (sym lists) low;
         dated = omega (arith, dated, reached);
+        late = subst (λ (l : Lists). AreLate shared l new.folding.reached new.late) (sym lists)
+            (subst (AreLate shared (accepted (present_of today shared r.lists) key p) new.folding.reached) (sym committed.late) (owes new.folding.reached reached));
         folding = subst (λ (l : Lists). IsFolding (given_of l shared) new.folding) (sym lists) folding;
       };
       reach = record {
@@ -199,9 +209,9 @@ committed-stands shared today key p c r new h may is issued none sound rewound c
 
 -- ---- prepared
 pub is-prepared : (shared : SharedRows) (today : ℕ) (key : List ℕ) (p : Post) (c : Change) (r : Replay) → IsReplay shared r → MayReach today r → r.has_room ≡ true → IsChangeOf key today p c
-    → issued_as c.issued ≡ issues (present_of today shared r.lists) p → reason_against (present_of today shared r.lists) p ≡ None → IsSound (given_of (accepted (present_of today shared r.lists) key p) shared)
-    → IsRewoundBy shared today key p c.rewound r → IsPrepared shared c r
-is-prepared shared today key p c r h may room is issued none sound rewound =
+    → (c.owes ≡ None → issued_as c.issued ≡ issues (present_of today shared r.lists) p) → StaysLate shared key today p c r → reason_against (present_of today shared r.lists) p ≡ None
+    → IsSound (given_of (accepted (present_of today shared r.lists) key p) shared) → IsRewoundBy shared today key p c.rewound r → IsPrepared shared c r
+is-prepared shared today key p c r h may room is issued owes none sound rewound =
     let now = present_of today shared r.lists in
     let last = may.last in
     let day = is.today in
@@ -215,10 +225,10 @@ is-prepared shared today key p c r h may room is issued none sound rewound =
         dated = omega (arith, last, day);
         received = subst (λ (q : Post). IsReceived (anchor_of r.lists.posts).opened c.today q) (sym is.post) (subst (λ d. IsReceived (anchor_of r.lists.posts).opened d p) (sym day) (received now p none));
       };
-      issued = issued ∙ (ap (issues now) (sym is.post) ∙ ap (λ d. issues (present_of d shared r.lists) c.post) (sym day));
-      next = λ new committed. (committed-stands shared today key p c r new h may is issued none sound rewound committed).replay;
-      reach_next = λ new committed. subst (λ d. MayReach d new) (sym day) (committed-stands shared today key p c r new h may is issued none sound rewound committed).reach;
+      issued = λ made. issued made ∙ sym (issues-same shared today key p c r.lists is);
+      next = λ new committed. (committed-stands shared today key p c r new h may is owes none sound rewound committed).replay;
+      reach_next = λ new committed. subst (λ d. MayReach d new) (sym day) (committed-stands shared today key p c r new h may is owes none sound rewound committed).reach;
       near = λ new committed.
-          subst (λ (l : Lists). IsNear shared r.lists l r.folding.reached new.folding.reached) (sym (committed-lists shared today key p c r new is issued committed))
+          subst (λ (l : Lists). IsNear shared r.lists l r.folding.reached new.folding.reached) (sym (committed-lists shared today key p c r new is committed))
           (rewound.near new.folding committed.folding);
     }

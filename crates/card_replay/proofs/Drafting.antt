@@ -24,7 +24,7 @@ use Rattle.card_replay.proofs.Changed.{anchor-stays, same-anchor}
 use Rattle.card_replay.proofs.Committing.{again-rewound, given_with, late-rewound, with-post, with_post}
 use Rattle.card_replay.proofs.LateChange.{late-stands}
 use Rattle.card_replay.proofs.LaterRows.{some-posts}
-use Rattle.card_replay.proofs.Through.{last-is}
+use Rattle.card_past.proofs.Through.{last-is}
 use Rattle.card_replay.proofs.Unread.{begun-on}
 use Rattle.card_replay.specs.Changes.{IsRewoundBy, MayPrepare}
 use Rattle.card_replay.specs.Rewinds.{IsAgain, IsBeforeChange, IsOneMore, MayGoBackOn, cycle_before}

@@ -14,7 +14,7 @@ use Rattle.card_model.specs.Books.{Book}
 use Rattle.card_model.specs.CycleDays.{IsOpening}
 use Rattle.card_model.specs.Cycles.{Cycle}
 use Rattle.card_model.specs.Folds.{cycle_at}
-use Rattle.card_replay.proofs.Through.{recorded, some-closed, through}
+use Rattle.card_past.proofs.Through.{recorded, some-closed, through}
 use Rattle.card_replay.specs.Laws.{HasClosing, IsNotFolded, IsTheBook, KeptBookIsTheFold, KeptClosingsAreTheFold}
 use Rattle.card_replay.specs.Replays.{Folding, IsFolding, Stands, day_of, given_of}
 

@@ -11,16 +11,13 @@ use Rattle.card_model.specs.CycleDays.{IsOpening}
 use Rattle.card_model.specs.Cycles.{Cycle}
 use Rattle.card_model.specs.Folds.{cycle_at}
 use Rattle.card_model.specs.Laws.{HistoriesAgree}
-use Rattle.card_posts.proofs.Holidays.{same-corrected}
 use Rattle.card_posts.specs.Posted.{last_accepted}
 use Rattle.card_book.proofs.Agreement.{later_rows_agree}
 use Rattle.card_book.proofs.GoingOn.{agreement_goes_on}
 use Rattle.card_book.proofs.MarksGoOn.{marks_go_on}
 use Rattle.card_book.proofs.RatesGoOn.{rates_go_on}
 use Rattle.card_book.specs.GoingOn.{Continues, HaveSameRates, sets_rates}
-use Rattle.card_replay.proofs.Eves.{eve-goes-on, eve_folding, if-some}
-use Rattle.card_replay.proofs.Through.{closed-in, continues-through, same-first, stands-on}
-use Rattle.card_replay.specs.Laws.{LaterRowsLeaveIt}
+use Rattle.card_past.proofs.Through.{closed-in, continues-through, same-first, stands-on}
 use Rattle.card_replay.specs.Replays.{AreLaterRows, Folding, IsEve, IsFolding, IsReplay, Replay, day_of, given_of}
 
 -- ---- agreement up to an earlier day
@@ -55,7 +52,7 @@ some-posts [] h = let first = h.first in absurd (omega (arith, first))
 some-posts (k ∷ ks) h = omega arith
 
 -- a folding of a day up to this one
-rows-on : (old new : SharedRows) (r : Replay) (day : ℕ) (f : Folding) → IsReplay old r → last_accepted r.lists.posts ≤ day → AreLaterRows (is_variable r.lists.posts) day old new → f.reached ≤ day → IfSome f.eve (IsEve (given_of r.lists new) f.reached f.past)
+pub rows-on : (old new : SharedRows) (r : Replay) (day : ℕ) (f : Folding) → IsReplay old r → last_accepted r.lists.posts ≤ day → AreLaterRows (is_variable r.lists.posts) day old new → f.reached ≤ day → IfSome f.eve (IsEve (given_of r.lists new) f.reached f.past)
     → IsFolding (given_of r.lists old) f → IsFolding (given_of r.lists new) f
 rows-on old new r day f h accepted rows within stood folding =
     let was = given_of r.lists old in
@@ -82,20 +79,3 @@ rows-on old new r day f h accepted rows within stood folding =
   where
     early : (k : ℕ) (c : Cycle) → cycle_at k f.past.track.cycles.items ≡ Some c → c.closing ≤ f.reached
     early k c at = closed-in (given_of r.lists old) f k c folding at
-
-pub later_rows_leave_it : LaterRowsLeaveIt
-later_rows_leave_it old new r day h reached accepted rows sound =
-    let was = given_of r.lists old in
-    let now = given_of r.lists new in
-    let f = r.folding in
-    record {
-      corrected = h.corrected ∙ same-corrected (anchor_of r.lists.posts) old.holidays new.holidays r.lists.posts h.timely (λ x l. rows.holidays x (omega (arith, l, accepted)));
-      sound = sound;
-      timely = h.timely;
-      opened = h.opened;
-      dated = h.dated;
-      folding = rows-on old new r day f h accepted rows reached
-          (if-some f.eve (IsEve was f.reached f.past) (IsEve now f.reached f.past)
-          (λ e stood. let low = stood.earlier in eve-goes-on was now f.reached f.past e stood refl (λ front is stands. rows-on old new r day (eve_folding e front) h accepted rows (omega (arith, low, reached)) tt stands)) h.folding.eve)
-          h.folding;
-    }

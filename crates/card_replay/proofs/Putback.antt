@@ -6,8 +6,8 @@ use Rattle.card_book.specs.Marks.{AreMarks}
 use Rattle.card_book.specs.Stands.{StandsFor, Summary}
 use Rattle.card_replay.specs.Pasts.{AreSame, AreWithin}
 use Rattle.card_replay.specs.Replays.{HasMarks, Stands}
-use Rattle.card_replay.specs.declared.past.Ends.{Ends}
-use Rattle.card_replay.specs.declared.past.Past.{Past}
+use Rattle.card_past.specs.declared.past.Ends.{Ends}
+use Rattle.card_past.specs.declared.past.Past.{Past}
 
 -- two tracks with the same lists
 pub record HaveSame (t u : Track) : Type 0 where

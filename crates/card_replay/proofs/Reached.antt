@@ -16,33 +16,36 @@ use Rattle.card_posts.specs.Posted.{IsReceived, Posted, last_accepted}
 use Rattle.card_posts.specs.Stored.{AreTimely}
 use Rattle.card_daily.specs.Given.{Given, IsSound, book_on, opened_in}
 use Rattle.card_book.specs.Stands.{Summary, breaks_of, steps_over}
-use Rattle.card_replay.proofs.Eves.{if-some}
-use Rattle.card_replay.proofs.Parts.{begins-same, begins-within, same-front}
+use Rattle.card_past.proofs.Eves.{if-some}
+use Rattle.card_past.proofs.Parts.{begins-same, begins-within, same-front}
 use Rattle.card_replay.proofs.Putback.{kept-same, marks-same, within-same}
-use Rattle.card_replay.proofs.Reaching.{none-marked, none-recorded}
-use Rattle.card_replay.proofs.Through.{cycles-through, last-is, opened-on, reached-is, some-book, some-day}
+use Rattle.card_past.proofs.Reaching.{none-marked, none-recorded}
+use Rattle.card_replay.proofs.Settled.{all-made}
+use Rattle.card_past.proofs.Through.{cycles-through, last-is, opened-on, reached-is, some-book, some-day}
 use Rattle.card_replay.specs.Changes.{IsReadyFor}
+use Rattle.card_replay.specs.Owes.{AreLate, Late}
 use Rattle.card_replay.specs.Pasts.{AreEnds, AreSame, IsEmpty, PastBegins}
 use Rattle.card_replay.specs.Replays.{Folding, FoldsOn, IsEve, IsFolding, HasClosings, IsReplay, IsToday, IsWhole, MayReach, Replay, SameLists, Stands, day_of, day_reached, given_of, opened_lists, posted_of, present_of}
-use Rattle.card_replay.specs.declared.eve.Eve.{Eve}
-use Rattle.card_replay.specs.declared.past.Ends.{Ends}
-use Rattle.card_replay.specs.declared.past.Past.{Past}
+use Rattle.card_past.specs.declared.eve.Eve.{Eve}
+use Rattle.card_past.specs.declared.past.Ends.{Ends}
+use Rattle.card_past.specs.declared.past.Past.{Past}
 
 -- no day lies behind the last
 pub no-steps : (g : Given) (to : ℕ) → steps_over g to (to + 1) ≡ 0
 no-steps g to = spans_are_steps.none (breaks_of g to) (to + 1) to (omega arith)
 
 -- the account by its parts
-abbrev pub seen : List Kept → List IssuedRow → List CorrectedPost → Bool → Folding → Replay
-seen posts rows corrected has_room f = record { lists = record { posts = posts; issued = rows }; corrected = corrected; has_room = has_room; folding = f }
+abbrev pub seen : List Kept → List IssuedRow → List CorrectedPost → Bool → Late → Folding → Replay
+seen posts rows corrected has_room late f = record { lists = record { posts = posts; issued = rows }; corrected = corrected; has_room = has_room; late = late; folding = f }
 
 -- its folding by its parts
 abbrev pub folding_of : List Kept → Option Summary → Past → Option Eve → Folding
 folding_of posts b p eve = record { reached = day_reached (anchor_of posts).opened (day_of b); book = b; past = p; eve = eve }
 
--- with another folding of a day that isn't before the one reached
-pub later-replay : (shared : SharedRows) (r : Replay) (f : Folding) → IsReplay shared r → r.folding.reached ≤ f.reached → f.reached ≤ last_request_day → IsFolding (given_of r.lists shared) f → IsReplay shared (record r { folding = f })
-later-replay shared r f h later last folding =
+-- with another folding of a day that isn't before the one reached, and other rows made
+pub later-replay : (shared : SharedRows) (r : Replay) (late : Late) (f : Folding) → IsReplay shared r → r.folding.reached ≤ f.reached → f.reached ≤ last_request_day → AreLate shared r.lists f.reached late → IsFolding (given_of r.lists shared) f
+    → IsReplay shared (record r { late = late; folding = f })
+later-replay shared r late f h later last owes folding =
     let opened = h.opened in
     record {
       corrected = h.corrected;
@@ -50,6 +53,7 @@ later-replay shared r f h later last folding =
       timely = h.timely;
       opened = omega (arith, opened, later);
       dated = last;
+      late = owes;
       folding = folding;
     }
 
@@ -93,8 +97,12 @@ same-replay shared r p same h = record {
   timely = h.timely;
   opened = h.opened;
   dated = h.dated;
+  late = h.late;
   folding = folding-back (given_of r.lists shared) r.folding p same h.folding;
 }
+
+pub replay-put-back : (shared : SharedRows) (r : Replay) (late : Late) (p : Past) → late ≡ r.late → AreSame r.folding.past p → IsReplay shared r → IsReplay shared (record r { late = late; folding = past_back r.folding p })
+replay-put-back shared r late p e same h = later-replay shared r late (past_back r.folding p) h (omega arith) h.dated (subst (AreLate shared r.lists r.folding.reached) (sym e) h.late) (folding-back (given_of r.lists shared) r.folding p same h.folding)
 
 pub folds-on : (shared : SharedRows) (r : Replay) (today : ℕ) → IsReplay shared r → MayReach today r → FoldsOn (given_of r.lists shared) today r.folding.book r.folding.past
 folds-on shared r today h may = record {
@@ -180,20 +188,21 @@ begun g opened b p same some none empty = record {
 pub begun-before : (opened : ℕ) (b : Option Summary) → 1 ≤ opened → b ≡ None → day_reached opened (day_of b) + 1 ≡ opened
 begun-before opened b some none = let same : day_reached opened (day_of b) ≡ opened - 1 = ap (λ o. day_reached opened (day_of o)) none in omega (arith, some, same)
 
-pub started : (shared : SharedRows) (key : List ℕ) (today : ℕ) (p : Post) (cs : List CorrectedPost) (room : Bool) (f : Folding) → is_open p ≡ true → opening_in p ≤ today → today ≤ last_request_day
+pub started : (shared : SharedRows) (key : List ℕ) (today : ℕ) (p : Post) (cs : List CorrectedPost) (room : Bool) (late : Late) (f : Folding) → late.made ≡ [] → late.owed ≡ [] → is_open p ≡ true → opening_in p ≤ today → today ≤ last_request_day
     → IsSound (given_of (opened_lists key today p) shared) → cs ≡ corrected (anchor_of (kept_as 1 key today p ∷ [])) shared.holidays (kept_as 1 key today p ∷ []) → f.reached + 1 ≡ opening_in p
-    → IsFolding (given_of (opened_lists key today p) shared) f → IsReplay shared (record { lists = opened_lists key today p; corrected = cs; has_room = room; folding = f })
-started shared key today p cs room f o opened l sound is reached folding = record {
+    → IsFolding (given_of (opened_lists key today p) shared) f → IsReplay shared (record { lists = opened_lists key today p; corrected = cs; has_room = room; late = late; folding = f })
+started shared key today p cs room late f made none o opened l sound is reached folding = record {
   corrected = is;
   sound = sound;
   timely = first-timely (opening_in p) today key p o l;
   opened = omega (arith, reached);
   dated = omega (arith, reached, opened, l);
+  late = all-made shared (opened_lists key today p) f.reached late made none;
   folding = folding;
 }
 
-pub started-reach : (key : List ℕ) (today : ℕ) (p : Post) (cs : List CorrectedPost) (room : Bool) (f : Folding) → opening_in p ≤ today → today ≤ last_request_day → f.reached + 1 ≡ opening_in p → MayReach today (record { lists = opened_lists key today p; corrected = cs; has_room = room; folding = f })
-started-reach key today p cs room f opened l reached = record { opened = opened; later = omega (arith, reached, opened); accepted = first-last today key p; last = l }
+pub started-reach : (key : List ℕ) (today : ℕ) (p : Post) (cs : List CorrectedPost) (room : Bool) (late : Late) (f : Folding) → opening_in p ≤ today → today ≤ last_request_day → f.reached + 1 ≡ opening_in p → MayReach today (record { lists = opened_lists key today p; corrected = cs; has_room = room; late = late; folding = f })
+started-reach key today p cs room late f opened l reached = record { opened = opened; later = omega (arith, reached, opened); accepted = first-last today key p; last = l }
 
 -- ---- an account whose lists stay
 pub same-lists : (a b c : Replay) → SameLists a b → SameLists b c → SameLists a c
@@ -220,17 +229,21 @@ either-same today old mid new same (inr e) = inr (ap (λ (f : Folding). f.reache
 pub ready-same : (today : ℕ) (p : Post) (old new : Replay) → new.folding ≡ old.folding → IsReadyFor today p old → IsReadyFor today p new
 ready-same today p old new same ready = λ needs. ap (λ (f : Folding). f.reached) same ∙ ready needs
 
-pub replay-same : (shared : SharedRows) (old new : Replay) → SameLists old new → new.folding ≡ old.folding → IsReplay shared old → IsReplay shared new
-replay-same shared old new same folding h = by-parts shared old.lists new.lists old.corrected new.corrected old.folding new.folding old.has_room new.has_room (sym same.lists) (sym same.corrected) (sym folding) h
+pub replay-same : (shared : SharedRows) (old new : Replay) → SameLists old new → new.late ≡ old.late → new.folding ≡ old.folding → IsReplay shared old → IsReplay shared new
+replay-same shared old new same late folding h =
+    by-parts shared old.lists new.lists old.corrected new.corrected old.late new.late old.folding new.folding old.has_room new.has_room (sym same.lists) (sym same.corrected) (sym late) (sym folding) h
   where
-    by-parts : (shared : SharedRows) (l m : Lists) (cs ds : List CorrectedPost) (f g : Folding) (a b : Bool) → l ≡ m → cs ≡ ds → f ≡ g → IsReplay shared (record { lists = l; corrected = cs; has_room = a; folding = f }) → IsReplay shared (record { lists = m; corrected = ds; has_room = b; folding = g })
-    by-parts shared l m cs ds f g a b e i j k =
-        subst (λ (x : Lists). IsReplay shared (record { lists = x; corrected = ds; has_room = b; folding = g })) e
-        (subst (λ (x : List CorrectedPost). IsReplay shared (record { lists = l; corrected = x; has_room = b; folding = g })) i
-        (subst (λ (x : Folding). IsReplay shared (record { lists = l; corrected = cs; has_room = b; folding = x })) j (roomy shared l cs f a b k)))
+    by-parts : (shared : SharedRows) (l m : Lists) (cs ds : List CorrectedPost) (x y : Late) (f g : Folding) (a b : Bool) → l ≡ m → cs ≡ ds → x ≡ y → f ≡ g → IsReplay shared (record { lists = l; corrected = cs; has_room = a; late = x; folding = f })
+        → IsReplay shared (record { lists = m; corrected = ds; has_room = b; late = y; folding = g })
+    by-parts shared l m cs ds x y f g a b e i n j k =
+        subst (λ (z : Lists). IsReplay shared (record { lists = z; corrected = ds; has_room = b; late = y; folding = g })) e
+        (subst (λ (z : List CorrectedPost). IsReplay shared (record { lists = l; corrected = z; has_room = b; late = y; folding = g })) i
+        (subst (λ (z : Late). IsReplay shared (record { lists = l; corrected = cs; has_room = b; late = z; folding = g })) n
+        (subst (λ (z : Folding). IsReplay shared (record { lists = l; corrected = cs; has_room = b; late = x; folding = z })) j (roomy shared l cs x f a b k))))
       where
-        roomy : (shared : SharedRows) (l : Lists) (cs : List CorrectedPost) (f : Folding) (a b : Bool) → IsReplay shared (record { lists = l; corrected = cs; has_room = a; folding = f }) → IsReplay shared (record { lists = l; corrected = cs; has_room = b; folding = f })
-        roomy shared l cs f a b h = record { corrected = h.corrected; sound = h.sound; timely = h.timely; opened = h.opened; dated = h.dated; folding = h.folding }
+        roomy : (shared : SharedRows) (l : Lists) (cs : List CorrectedPost) (x : Late) (f : Folding) (a b : Bool) → IsReplay shared (record { lists = l; corrected = cs; has_room = a; late = x; folding = f })
+            → IsReplay shared (record { lists = l; corrected = cs; has_room = b; late = x; folding = f })
+        roomy shared l cs x f a b h = record { corrected = h.corrected; sound = h.sound; timely = h.timely; opened = h.opened; dated = h.dated; late = h.late; folding = h.folding }
 
 -- ---- its closings, over inputs that are its lists
 pub has-closings : (g : Given) (shared : SharedRows) (r : Replay) → g ≡ given_of r.lists shared → IsReplay shared r → HasClosings g r.folding.book r.folding.past

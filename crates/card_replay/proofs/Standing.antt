@@ -22,11 +22,11 @@ use Rattle.card_book.proofs.Closings.{closing-count}
 use Rattle.card_book.specs.GoingOn.{Continues}
 use Rattle.card_replay.proofs.Changed.{continues-first}
 use Rattle.card_replay.proofs.Committing.{with-post, with_post}
-use Rattle.card_replay.proofs.CycleBefore.{closed-before, closed-then, cycle-read, cycle-there, later-cycle}
+use Rattle.card_past.proofs.CycleBefore.{closed-before, closed-then, cycle-read, cycle-there, later-cycle}
 use Rattle.card_replay.proofs.Drafting.{first-with}
 use Rattle.card_replay.proofs.EntryDays.{entries-grow}
 use Rattle.card_replay.proofs.LaterRows.{some-posts}
-use Rattle.card_replay.proofs.Through.{closed-in, cycles-through, recorded, through}
+use Rattle.card_past.proofs.Through.{closed-in, cycles-through, recorded, through}
 use Rattle.card_replay.proofs.Unread.{continues-unread}
 use Rattle.card_replay.specs.Replays.{IsReplay, MayReach, Replay, day_of, given_of, posted_of}
 use Rattle.card_replay.specs.Standing.{AreStanding, IsForetold, IsStandingCount, MayCome, closing_before, lists_after}

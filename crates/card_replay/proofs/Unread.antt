@@ -23,12 +23,12 @@ use Rattle.card_book.proofs.RatesGoOn.{rates_go_on}
 use Rattle.card_book.specs.GoingOn.{Continues, HaveSameRates, sets_rates}
 use Rattle.card_book.specs.Stands.{book_through, day_to_fold}
 use Rattle.card_replay.proofs.Changed.{continues-none, same-anchor}
-use Rattle.card_replay.proofs.Eves.{eve-goes-on, eve_folding, if-some}
+use Rattle.card_past.proofs.Eves.{eve-goes-on, eve_folding, if-some}
 use Rattle.card_replay.proofs.LaterRows.{some-posts}
-use Rattle.card_replay.proofs.Through.{closed-in, continues-through, recorded, same-first, stands-on}
+use Rattle.card_past.proofs.Through.{closed-in, continues-through, recorded, same-first, stands-on}
 use Rattle.card_replay.specs.Replays.{Folding, IsEve, IsFolding, day_of, given_of, present_of}
-use Rattle.card_replay.specs.declared.eve.Eve.{Eve}
-use Rattle.card_replay.specs.declared.past.Past.{Past}
+use Rattle.card_past.specs.declared.eve.Eve.{Eve}
+use Rattle.card_past.specs.declared.past.Past.{Past}
 
 -- ---- it changes no book up to today
 continues-plain : (today : ℕ) (shared : SharedRows) (lists : Lists) (key : List ℕ) (p : Post) (x : ℕ) → issues (present_of today shared lists) p ≡ [] → is_unread p ≡ true

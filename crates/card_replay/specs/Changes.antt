@@ -1,44 +1,26 @@
 -- A post that was prepared for an account, and what taking it makes of the account. Days are day numbers.
 use Rattle.std.specs.Prelude.{◌≡◌, ℕ, ◌+◌, ◌<◌, ◌≤◌, true, false, List, [], ◌∷◌, ◌++◌, length, Option, Some, None}
+use Rattle.std.specs.List.{All}
 use Rattle.card_events.specs.Range.{last_request_day}
 use Rattle.card_events.specs.History.{anchor_of, corrected}
 use Rattle.card_events.specs.Keys.{with_key}
 use Rattle.card_events.specs.Limits.{post_limit}
 use Rattle.card_events.specs.SharedRows.{SharedRows}
 use Rattle.card_events.specs.declared.post.Post.{Post}
-use Rattle.card_events.specs.declared.post.Post.TheVariants as post
-use Rattle.card_model.specs.Cycles.{Cycle, IssuedRow, Sheet}
-use Rattle.card_model.specs.Folds.{cycle_at, row_of_cycle}
 use Rattle.card_model.specs.Machine.{accepted, issues, kept_as}
 use Rattle.card_model.specs.Refusals.{Lists, reason_against}
-use Rattle.card_model.specs.Sheets.{sheet_of}
 use Rattle.card_model.specs.Unread.{is_unread}
-use Rattle.card_daily.specs.Given.{Given, IsSound}
+use Rattle.card_daily.specs.Given.{IsSound}
 use Rattle.card_posts.specs.Posted.{IsReceived, target_of}
+pub use Rattle.card_past.specs.Rows.{issued_as, issued_from, sheet_on}
 use Rattle.card_replay.specs.Needs.{needs_today}
+use Rattle.card_replay.specs.Owes.{IsBillOf, Late, owed_as}
 use Rattle.card_replay.specs.Pasts.{IsFront}
 use Rattle.card_replay.specs.Replays.{Folding, IsFolding, IsReplay, MayReach, Replay, day_of, day_reached, given_of, present_of}
 use Rattle.card_replay.specs.Steps.{IsNear}
 use Rattle.card_replay.specs.declared.change.Change.{Change}
 use Rattle.card_replay.specs.declared.change.TakenBack.{TakenBack}
-
--- the row that was issued, if one was
-abbrev pub issued_as : Option IssuedRow → List IssuedRow
-issued_as None = []
-issued_as (Some row) = row ∷ []
-
--- what a closed cycle's statement shows beside it, where it is issued on a day
-abbrev pub sheet_on : Given → ℕ → Cycle → Sheet
-sheet_on g day c = sheet_of g.history g.issued g.shared day c
-
--- the row of a closed cycle that a Bill with a number issues on a day
-abbrev pub row_on : Given → ℕ → ℕ → ℕ → Cycle → IssuedRow
-row_on g cycle number day c = record { cycle = cycle; bill = number; day = day; statement = c; sheet = sheet_on g day c }
-
--- what a post with a number issues on a day, where these cycles are closed
-abbrev pub issued_from : Given → List Cycle → ℕ → ℕ → Post → List IssuedRow
-issued_from g cycles number day (post.Bill cycle) = row_of_cycle cycle number day (sheet_on g day) (cycle_at cycle cycles)
-issued_from g cycles number day _ = []
+use Rattle.card_past.specs.declared.owed.Owed.{Owed}
 
 -- it is of this post, under this key, today
 pub record IsChangeOf (name : List ℕ) (day : ℕ) (p : Post) (c : Change) : Type 0 where
@@ -48,12 +30,16 @@ pub record IsChangeOf (name : List ℕ) (day : ℕ) (p : Post) (c : Change) : Ty
 
 -- ---- taking it
 -- the lists with the post, and with the row that it issues
-abbrev pub lists_with : Change → Lists → Lists
-lists_with c l =
+abbrev pub lists_with : SharedRows → Change → Lists → Lists
+lists_with shared c l =
     record {
       posts = l.posts ++ kept_as (length l.posts + 1) c.key c.today c.post ∷ [];
-      issued = l.issued ++ issued_as c.issued;
+      issued = l.issued ++ issues (present_of c.today shared l) c.post;
     }
+
+-- the rows that are made and the Bills whose rows are owed, with what was prepared
+abbrev pub late_with : Change → Late → Late
+late_with c l = record { made = l.made ++ issued_as c.issued; owed = l.owed ++ owed_as c.owes }
 
 -- The folding stays where the post takes it nowhere; else it is that of the earlier day, or of none, and there is no eve. The account is
 -- opened on a day
@@ -69,7 +55,8 @@ IsTaken opened (Some r) old new = HasRewound opened r old new
 
 -- The account after the post. That is all that is said of it, so where this post was prepared it follows that it stands
 pub record IsCommitted (shared : SharedRows) (c : Change) (old new : Replay) : Type 0 where
-  pub lists : new.lists ≡ lists_with c old.lists
+  pub lists : new.lists ≡ lists_with shared c old.lists
+  pub late : new.late ≡ late_with c old.late
   pub corrected : new.corrected ≡ corrected (anchor_of new.lists.posts) shared.holidays new.lists.posts
   pub folding : IsTaken (anchor_of old.lists.posts).opened c.rewound old.folding new.folding
 
@@ -85,6 +72,15 @@ pub record MayBeAdded (c : Change) (r : Replay) : Type 0 where
 -- it has reached today, where the post asks for that
 abbrev pub IsReadyFor : ℕ → Post → Replay → Type 0
 IsReadyFor today p r = needs_today p ≡ true → r.folding.reached ≡ today
+
+-- it is a Bill whose statement may be owed, since today isn't reached
+pub record IsOwedFor (today : ℕ) (p : Post) (r : Replay) (o : Owed) : Type 0 where
+  pub bill : IsBillOf r.lists.posts p o
+  pub behind : r.folding.reached < today
+
+-- it changes no day up to the closing of a cycle whose statement is owed
+abbrev pub LeavesOwed : Post → ℕ → Replay → Type 0
+LeavesOwed p from r = is_unread p ≡ false → All (λ o. o.closing < from) r.late.owed
 
 -- where the post doesn't ask for that, nothing is folded and no step is taken
 abbrev pub FoldsIfNeeded : Post → Folding → Folding → ℕ → ℕ → Type 0
@@ -102,13 +98,13 @@ pub record MayPrepare (shared : SharedRows) (today : ℕ) (key : List ℕ) (p : 
   pub sound : IsSound (given_of (accepted (present_of today shared r.lists) key p) shared)
   pub read : is_unread p ≡ false
 
--- The post was prepared for this account: the row is the one that the post issues, and whatever the account becomes by taking the
+-- The post was prepared for this account: the row is the one that the post issues, unless its statement is owed, and whatever the account becomes by taking the
 -- post, it stands, and may be brought to today, from a day that isn't before the last closing before the change
 pub record IsPrepared (shared : SharedRows) (c : Change) (r : Replay) : Type 0 where
   pub replay : IsReplay shared r
   pub reach : MayReach c.today r
   pub added : MayBeAdded c r
-  pub issued : issued_as c.issued ≡ issues (present_of c.today shared r.lists) c.post
+  pub issued : c.owes ≡ None → issued_as c.issued ≡ issues (present_of c.today shared r.lists) c.post
   pub next : (new : Replay) → IsCommitted shared c r new → IsReplay shared new
   pub reach_next : (new : Replay) → IsCommitted shared c r new → MayReach c.today new
   pub near : (new : Replay) → IsCommitted shared c r new → IsNear shared r.lists new.lists r.folding.reached new.folding.reached

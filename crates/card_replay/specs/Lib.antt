@@ -6,3 +6,7 @@ pub mod Replays
 pub mod Steps
 pub mod Needs
 pub mod Standing
+pub mod Waiting
+pub mod Making
+pub mod Lates
+pub mod Owes

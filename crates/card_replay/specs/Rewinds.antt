@@ -18,9 +18,9 @@ use Rattle.card_replay.specs.Pasts.{AreFirst, IsFront}
 use Rattle.card_replay.specs.Replays.{HasClosings, IsEve, IsFolding, IsWhole, day_of}
 use Rattle.card_replay.specs.Steps.{first_in_cycle}
 use Rattle.card_replay.specs.declared.change.TakenBack.{TakenBack}
-use Rattle.card_replay.specs.declared.eve.Eve.{Eve}
-use Rattle.card_replay.specs.declared.past.Ends.{Ends}
-use Rattle.card_replay.specs.declared.past.Past.{Past}
+use Rattle.card_past.specs.declared.eve.Eve.{Eve}
+use Rattle.card_past.specs.declared.past.Ends.{Ends}
+use Rattle.card_past.specs.declared.past.Past.{Past}
 use Rattle.card_replay.specs.declared.rewinding.Earlier.{Earlier}
 
 -- the number of the last cycle that closed before the one that a day lies in, 0 before the first closing, and for a day before the

@@ -1,27 +1,22 @@
 // An account with its book folded to the day last reached.
-ghost use Rattle.std.specs.Prelude.{◌≡◌, ◌+◌, ◌≤◌, IfOk, OnOk, OnErr, None};
-ghost use Rattle.card_book.specs.Stands.{day_to_fold, steps_over};
-ghost use Rattle.card_replay.specs.Pasts.{AreSame, PastBegins};
-ghost use Rattle.card_replay.specs.Replays.{FoldsOn, IsFolding, day_of};
+mod owing;
 
-use crate::book_if_any::BookIfAny;
-use crate::change::{Change, IssuedIfAny, TakenBack};
-use crate::eve::{Eve, eve_of};
-use crate::folding::fold_on;
+use crate::change::{Change, TakenBack};
 use crate::foretold::may_come;
-use crate::issuing::{closed_number, issued_by, push_issued};
-use crate::past::{Past, cut, ends_of, entries_up_to, nothing};
 use crate::rewinding::{
     closed_before, cycles_before, folded_since, go_back, is_folded_to, is_unread, needs_today,
     rewind, sets_rates,
 };
-use crate::statement::statement_at;
 use crate::taking::take_if_any;
 use card_book::{Folded, Inputs, Issued, Statement};
 use card_dayend::make_cycle_room;
 use card_events::{Day, Name, NoMemory, Num, POST_LIMIT, Post, Steps};
 use card_fees::SharedRows;
 use card_model::Entry;
+use card_past::{
+    BookIfAny, Eve, IssuedIfAny, Owed, Past, Told, closed_number, cut, ends_of, entries_up_to,
+    eve_of, issued_by, nothing, push_issued, push_owed, reach, reach_with_all, statement_at, tell,
+};
 use card_posts::Posts;
 use std::alloc::Global;
 use std::marker::Model;
@@ -30,12 +25,15 @@ use std::sync::ledger::Ledger;
 
 /// The posts and the issued statements of an account, with its book folded to the day last reached, what is recorded up to then,
 /// and what has to be kept of each closing to go back to it; and, where there is one, the Book of an earlier day. Where no day is reached
-/// nothing is folded, and there is no Book. Clauses see it as a record of these, and of the day last reached, which then is the day before
-/// the opening.
+/// nothing is folded, and there is no Book. Of the issued statements some may be owed: their Bills were accepted behind the day last
+/// reached, and they are made on the way when a fold passes their days. Clauses see it as a record of these, and of the day last reached,
+/// which is the day before the opening where none is; and all that were issued, whether made or owed.
 #[derive(Drop)]
 pub struct Replay {
     posts: Posts,
+    told: Told,
     issued: Vec<Issued>,
+    owed: Vec<Owed>,
     book: BookIfAny,
     past: Past,
     eve: Option<Eve>,
@@ -49,57 +47,9 @@ impl Model for Replay {
 
     ghost Value = { Replay };
 
-    ghost view = { λ r. record { lists = record { posts = r.posts.history; issued = r.issued.items }; corrected = r.posts.corrected; has_room = r.has_room; folding = record { reached = day_reached (anchor_of r.posts.history).opened (day_of r.book); book = r.book; past = r.past; eve = r.eve } } };
+    ghost view = { λ r. record { lists = record { posts = r.posts.history; issued = r.told.rows }; corrected = r.posts.corrected; has_room = r.has_room; late = record { made = r.issued.items; owed = r.owed.items }; folding = record { reached = day_reached (anchor_of r.posts.history).opened (day_of r.book); book = r.book; past = r.past; eve = r.eve } } };
 
-    ghost invariant = { λ r. r.has_room ≡ true → (r.posts.has_room ≡ true) × (vec_len r.issued < vec_capacity r.issued) };
-}
-
-// Folds a copy of a Book, or, where there is none, the one before the opening day, to the end of today. If memory runs out, the past
-// begins with what it held.
-fn folded_on<L: Ledger>(
-    alloc: Global,
-    inputs: &Inputs,
-    book: &BookIfAny,
-    past: &mut Past,
-    today: Day,
-    steps: &mut Steps<L>,
-) -> Result<BookIfAny, NoMemory>
-    requires folded { FoldsOn inputs.now today book.now past.old }
-    ensures folding { IfOk result (λ b. IsFolding inputs.now (record { reached = today; book = b; past = past.new; eve = None })) }
-    ensures steps { OnOk result (steps.new ≡ steps.old + steps_over inputs.now today (day_to_fold inputs.now (day_of book.now))) }
-    ensures most { steps.new ≤ steps.old + steps_over inputs.now today (day_to_fold inputs.now (day_of book.now)) }
-    ensures begins { PastBegins past.old past.new }
-{
-    let mut later = book.to_fold_on(alloc, inputs)?;
-    fold_on(alloc, inputs, &mut later, past, today, steps)?;
-    let kept = BookIfAny::of(alloc, later)?;
-    Ok(kept)
-}
-
-// The same; if memory runs out, the past is as it was.
-fn reach<L: Ledger>(
-    alloc: Global,
-    inputs: &Inputs,
-    book: &BookIfAny,
-    past: &mut Past,
-    today: Day,
-    steps: &mut Steps<L>,
-) -> Result<BookIfAny, NoMemory>
-    requires folded { FoldsOn inputs.now today book.now past.old }
-    ensures folding { IfOk result (λ b. IsFolding inputs.now (record { reached = today; book = b; past = past.new; eve = None })) }
-    ensures steps { OnOk result (steps.new ≡ steps.old + steps_over inputs.now today (day_to_fold inputs.now (day_of book.now))) }
-    ensures most { steps.new ≤ steps.old + steps_over inputs.now today (day_to_fold inputs.now (day_of book.now)) }
-    ensures begins { OnOk result (PastBegins past.old past.new) }
-    ensures err { OnErr result (AreSame past.old past.new) }
-{
-    let ends = ends_of(past);
-    match folded_on(alloc, inputs, book, past, today, steps) {
-        Ok(later) => Ok(later),
-        Err(NoMemory) => {
-            cut(past, &ends);
-            Err(NoMemory)
-        }
-    }
+    ghost invariant = { λ r. r.has_room ≡ true → (r.posts.has_room ≡ true) × (vec_len r.issued < vec_capacity r.issued) × (vec_len r.owed < vec_capacity r.owed) };
 }
 
 impl Replay {
@@ -118,9 +68,9 @@ impl Replay {
     ghost use Rattle.card_rates.specs.Segments.{account_segments};
     ghost use Rattle.card_daily.specs.Given.{IsSound};
     ghost use Rattle.card_book.specs.GoingOn as rates;
-    ghost use Rattle.card_replay.specs.Changes.{FoldsIfNeeded, IsChangeOf, IsCommitted, IsPrepared, IsReadyFor, IsRewoundBy, MayPrepare, issued_as};
+    ghost use Rattle.card_replay.specs.Changes.{FoldsIfNeeded, IsChangeOf, IsCommitted, IsPrepared, IsReadyFor, IsRewoundBy, LeavesOwed, MayPrepare, issued_as};
     ghost use Rattle.card_posts.specs.Draft.{IsFirstWith};
-    ghost use Rattle.card_replay.specs.Replays.{IsReplay, IsToday, KeepsEve, MayReach, SameLists, given_of, opened_lists, posted_of, present_of};
+    ghost use Rattle.card_replay.specs.Replays.{IsReplay, IsToday, KeepsEve, MayReach, SameLists, day_of, given_of, opened_lists, posted_of, present_of};
     ghost use Rattle.card_replay.specs.Standing.{AreStanding, IsForetold, IsStandingCount, MayCome};
     ghost use Rattle.card_replay.specs.Steps.{AreFewToPrepare, IsNear, steps_to};
 
@@ -144,10 +94,13 @@ impl Replay {
         ensures reached { IfOk result (λ r. r.folding.reached + 1 ≡ opening_in post.now) }
         ensures reach { IfOk result (MayReach today) }
         ensures room { IfOk result (λ r. r.has_room ≡ false) }
+        ensures none { IfOk result (λ r. r.late.owed ≡ []) }
     {
         Ok(Replay {
             posts: Posts::start(alloc, key, today, post)?,
+            told: Told::none(),
             issued: Vec::new(alloc),
+            owed: Vec::new(alloc),
             book: BookIfAny::none(),
             past: nothing(alloc),
             eve: None,
@@ -178,9 +131,74 @@ impl Replay {
         if is_folded_to(&self.book, today) {
             return Ok(());
         }
+        if self.owed.is_empty() {
+            self.fold_to(alloc, today, shared, steps)
+        } else {
+            self.make_to(alloc, today, shared, steps)
+        }
+    }
+
+    // The same where today isn't reached and no statement is owed.
+    fn fold_to<L: Ledger>(
+        &mut self,
+        alloc: Global,
+        today: Day,
+        shared: &SharedRows,
+        steps: &mut Steps<L>,
+    ) -> Result<(), NoMemory>
+        requires replay { IsReplay shared.now self.old }
+        requires reach { MayReach today self.old }
+        requires behind { day_of self.old.folding.book ≡ Some today → ⊥ }
+        requires none { self.old.late.owed ≡ [] }
+        ensures same { SameLists self.old self.new }
+        ensures replay { IsReplay shared.now self.new }
+        ensures reached { OnOk result (self.new.folding.reached ≡ today) }
+        ensures eve { OnOk result (KeepsEve today self.old.folding self.new.folding) }
+        ensures err { OnErr result (self.new.folding.reached ≡ self.old.folding.reached) }
+        ensures steps { OnOk result (steps.new ≡ steps.old + steps_to today shared.now self.old) }
+        ensures most { steps.new ≤ steps.old + steps_to today shared.now self.old }
+    {
         let ends = ends_of(&self.past);
         let inputs = Inputs::new(&self.posts, &self.issued, shared);
         let later = reach(alloc, &inputs, &self.book, &mut self.past, today, steps)?;
+        let book = replace(&mut self.book, later);
+        self.eve = eve_of(book, ends);
+        Ok(())
+    }
+
+    // The same where today isn't reached: the statements that are owed are made on the way.
+    fn make_to<L: Ledger>(
+        &mut self,
+        alloc: Global,
+        today: Day,
+        shared: &SharedRows,
+        steps: &mut Steps<L>,
+    ) -> Result<(), NoMemory>
+        requires replay { IsReplay shared.now self.old }
+        requires reach { MayReach today self.old }
+        requires behind { day_of self.old.folding.book ≡ Some today → ⊥ }
+        ensures same { SameLists self.old self.new }
+        ensures replay { IsReplay shared.now self.new }
+        ensures reached { OnOk result (self.new.folding.reached ≡ today) }
+        ensures eve { OnOk result (KeepsEve today self.old.folding self.new.folding) }
+        ensures err { OnErr result (self.new.folding.reached ≡ self.old.folding.reached) }
+        ensures steps { OnOk result (steps.new ≡ steps.old + steps_to today shared.now self.old) }
+        ensures most { steps.new ≤ steps.old + steps_to today shared.now self.old }
+    {
+        let ends = ends_of(&self.past);
+        let later = reach_with_all(
+            alloc,
+            &self.told,
+            &self.posts,
+            &mut self.issued,
+            &self.owed,
+            today,
+            &self.book,
+            &mut self.past,
+            shared,
+            steps,
+        )?;
+        self.owed.clear();
         let book = replace(&mut self.book, later);
         self.eve = eve_of(book, ends);
         Ok(())
@@ -190,10 +208,12 @@ impl Replay {
     fn make_room(&mut self, alloc: Global) -> Result<(), NoMemory>
         ensures same { SameLists self.old self.new }
         ensures folding { self.new.folding ≡ self.old.folding }
+        ensures late { self.new.late ≡ self.old.late }
         ensures room { OnOk result (self.new.has_room ≡ true) }
     {
         self.posts.make_room(alloc)?;
         make_cycle_room(&mut self.issued)?;
+        make_cycle_room(&mut self.owed)?;
         self.has_room = true;
         Ok(())
     }
@@ -232,10 +252,14 @@ impl Replay {
         shared: &SharedRows,
     ) -> Result<IssuedIfAny, NoMemory>
         requires replay { IsReplay shared.now self.now }
+        requires reach { MayReach today self.now }
         requires ready { IsReadyFor today post.now self.now }
         requires no_reason { reason_against (present_of today shared.now self.now.lists) post.now ≡ None }
         ensures { IfOk result (λ made. issued_as made ≡ issues (present_of today shared.now self.now.lists) post.now) }
     {
+        if !needs_today(post) {
+            return Ok(IssuedIfAny::none());
+        }
         let number = self.posts.len() + 1;
         let inputs = Inputs::new(&self.posts, &self.issued, shared);
         let made = issued_by(alloc, &inputs, &self.book, &self.past, post, number, today)?;
@@ -258,8 +282,10 @@ impl Replay {
         requires reached { self.old.folding.reached ≡ reached }
         requires within { from ≤ reached }
         requires there { self.old.folding.book ≡ None → ⊥ }
+        requires sets { rates.sets_rates post.now ≡ true }
         ensures same { SameLists self.old self.new }
         ensures folding { self.new.folding ≡ self.old.folding }
+        ensures late { self.new.late ≡ self.old.late }
         ensures rewound { IfOk result (λ made. IsRewoundBy shared.now today key.now post.now (Some made) self.old) }
     {
         let key = key.copy();
@@ -317,6 +343,7 @@ impl Replay {
         requires there { self.old.folding.book ≡ None → ⊥ }
         ensures same { SameLists self.old self.new }
         ensures folding { self.new.folding ≡ self.old.folding }
+        ensures late { self.new.late ≡ self.old.late }
         ensures rewound { IfOk result (λ made. IsRewoundBy shared.now today key.now post.now (Some made) self.old) }
     {
         if sets_rates(post) {
@@ -341,6 +368,7 @@ impl Replay {
         requires first { IsFirstWith shared.now.holidays today post.now (posted_of self.old) from }
         ensures same { SameLists self.old self.new }
         ensures folding { self.new.folding ≡ self.old.folding }
+        ensures late { self.new.late ≡ self.old.late }
         ensures rewound { IfOk result (λ made. IsRewoundBy shared.now today key.now post.now made self.old) }
     {
         match folded_since(&self.book, from) {
@@ -372,6 +400,7 @@ impl Replay {
         requires sound { IsSound (given_of (accepted (present_of today shared.now self.old.lists) key.now post.now) shared.now) }
         ensures same { SameLists self.old self.new }
         ensures folding { self.new.folding ≡ self.old.folding }
+        ensures late { self.new.late ≡ self.old.late }
         ensures rewound { IfOk result (λ made. IsRewoundBy shared.now today key.now post.now made self.old) }
     {
         if is_unread(post) {
@@ -394,7 +423,8 @@ impl Replay {
     /// days are days of requests. There is room for it, and
     /// the Book is there that it takes the account back to, where that day isn't after the one last reached: that of the eve, of the
     /// closing before the cycle in which the day lies, or, in the first cycle, none. The account reaches today for a Bill, whose row is
-    /// read off the book of today, and for a Plan, a Notice or a Lower; for any other post nothing is folded, and no step is taken.
+    /// read off the book of today, and for a Plan, a Notice or a Lower; for any other post its folding stays, and no step is taken. Where
+    /// such a post changes a day up to the closing of a cycle whose statement is owed, what is owed is made first, without a count.
     /// The posts and the issued statements stay as they are; with the post, they are as every run leaves them. The day last reached
     /// is as before, or today.
     pub fn prepare<L: Ledger>(
@@ -421,10 +451,40 @@ impl Replay {
         ensures prepared { IfOk result (λ c. IsPrepared shared.now c self.new) }
         ensures post { IfOk result (λ c. IsChangeOf key today post.now c) }
         ensures ready { OnOk result (IsReadyFor today post.now self.new) }
+        ensures made { IfOk result (λ c. c.owes ≡ None) }
         ensures idle { FoldsIfNeeded post.now self.old.folding self.new.folding steps.old steps.new }
         ensures most { AreFewToPrepare today shared.now self.old.lists self.old.folding.reached key post.now steps.old steps.new }
     {
         self.reach_for(alloc, post, today, shared, steps)?;
+        self.make_for(alloc, post, today, from, shared)?;
+        self.changed(alloc, key, post, today, from, shared)
+    }
+
+    // What a post changes, for which today is reached where it asks for that, and which leaves each statement that is owed.
+    fn changed(
+        &mut self,
+        alloc: Global,
+        key: Name,
+        post: &Post,
+        today: Day,
+        from: Day,
+        shared: &SharedRows,
+    ) -> Result<Change, NoMemory>
+        requires replay { IsReplay shared.now self.old }
+        requires reach { MayReach today self.old }
+        requires ready { IsReadyFor today post.now self.old }
+        requires leaves { LeavesOwed post.now from self.old }
+        requires fresh { with_key key self.old.lists.posts ≡ None }
+        requires no_reason { reason_against (present_of today shared.now self.old.lists) post.now ≡ None }
+        requires first { IsFirstWith shared.now.holidays today post.now (posted_of self.old) from }
+        requires sound { IsSound (given_of (accepted (present_of today shared.now self.old.lists) key post.now) shared.now) }
+        ensures same { SameLists self.old self.new }
+        ensures replay { IsReplay shared.now self.new }
+        ensures folding { self.new.folding ≡ self.old.folding }
+        ensures prepared { IfOk result (λ c. IsPrepared shared.now c self.new) }
+        ensures post { IfOk result (λ c. IsChangeOf key today post.now c) }
+        ensures made { IfOk result (λ c. c.owes ≡ None) }
+    {
         let issued = self.issued_today(alloc, post, today, shared)?;
         self.make_room(alloc)?;
         let rewound = self.rewound(alloc, &key, post, today, from, shared)?;
@@ -433,6 +493,7 @@ impl Replay {
             post: *post,
             today,
             issued,
+            owes: None,
             rewound,
         })
     }
@@ -448,7 +509,15 @@ impl Replay {
         ensures room { self.new.has_room ≡ false }
         ensures number { result ≡ length self.old.lists.posts + 1 }
     {
+        tell(
+            &mut self.told,
+            &self.posts,
+            shared,
+            &change.post,
+            change.today,
+        );
         push_issued(&mut self.issued, change.issued);
+        push_owed(&mut self.owed, change.owes);
         self.has_room = false;
         // Nothing is folded here, so a hundred corrections and then a question fold once.
         take_if_any(
@@ -471,9 +540,11 @@ impl Replay {
         &self.posts
     }
 
-    /// The issued statements.
-    pub fn issued(&self) -> &[Issued]
-        ensures { result.now ≡ self.now.lists.issued }
+    /// The statements that are made. They are all that were issued where none is owed.
+    pub fn made(&self) -> &[Issued]
+        ensures value { result.now ≡ self.now.late.made }
+        ensures all { (shared : SharedRows) → IsReplay shared self.now → self.now.late.owed ≡ [] → result.now ≡ self.now.lists.issued }
+        ensures today { (shared : SharedRows) (today : ℕ) → IsReplay shared self.now → MayReach today self.now → self.now.folding.reached ≡ today → result.now ≡ self.now.lists.issued }
     {
         &self.issued
     }
@@ -541,6 +612,7 @@ impl Replay {
         shared: &SharedRows,
     ) -> Result<Option<Statement>, NoMemory>
         requires today { IsToday _today shared.now self.now }
+        requires reach { MayReach _today self.now }
         requires small { cycle ≤ last_calendar_day }
         ensures { IfOk result (λ s. s ≡ option_map (statement_on (given_of self.now.lists shared.now) issue) (cycle_at cycle (book_today (present_of _today shared.now self.now.lists)).cycles)) }
     {

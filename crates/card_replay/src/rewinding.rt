@@ -15,13 +15,11 @@ ghost use Rattle.card_replay.specs.Needs as needs;
 ghost use Rattle.card_replay.specs.Replays.{day_of, day_reached};
 ghost use Rattle.card_replay.specs.Rewinds.{IsAgain, IsAtBeginning, IsAtClosing, MayBegin, MayGoBackOn, MayRewind, cycle_before};
 
-use crate::book_if_any::BookIfAny;
 use crate::change::TakenBack;
-use crate::eve::Eve;
 use crate::foretold::earlier;
-use crate::past::{Ends, Past, ends_at, first_ends};
 use card_book::{Book, Inputs};
 use card_events::{Anchor, Day, NoMemory, Post, cycle_of};
+use card_past::{BookIfAny, Ends, Eve, Past, ends_at, first_ends};
 use std::alloc::Global;
 
 /// The Book at the closing of a cycle, and where what is recorded up to then ends.

@@ -3,10 +3,8 @@ ghost use Rattle.std.specs.Prelude.{◌≡◌, ℕ};
 ghost use Rattle.card_replay.specs.Changes.{HasRewound, IsTaken};
 ghost use Rattle.card_replay.specs.Replays.{day_of, day_reached};
 
-use crate::book_if_any::BookIfAny;
 use crate::change::TakenBack;
-use crate::eve::Eve;
-use crate::past::{Past, cut};
+use card_past::{BookIfAny, Eve, Past, cut};
 
 // Takes a Book and its past back to an earlier day; the eve is dropped. It doesn't allocate.
 fn take(book: &mut BookIfAny, past: &mut Past, eve: &mut Option<Eve>, rewound: TakenBack)

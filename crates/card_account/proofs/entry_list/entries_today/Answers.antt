@@ -1,6 +1,7 @@
 use Rattle.std.proofs.Common.{◌≡◌, ℕ, ◌<◌, ◌^◌, List, length, ap, sym, ◌∙◌, subst}
 use Rattle.std.specs.List.{All}
-use Rattle.card_account.proofs.Few.{entries_few}
+use Rattle.card_account.proofs.Few.{entries_few, today_small}
+use Rattle.card_account.specs.Entries.{AreSmallEntries}
 use Rattle.card_model.specs.Books.{Book}
 use Rattle.card_model.specs.Refusals.{book_today}
 use Rattle.card_model.specs.declared.entry.Entry.{Entry}
@@ -16,4 +17,5 @@ invariant_of-result c =
     record {
       placed = subst (λ (n : ℕ). All (λ (e : Entry). e.segment < n) entries) (sym (ap length c.in_ok-segments.ensures.segments)) on;
       few = subst (λ (l : List Entry). length l < 2 ^ 32) (sym book) (entries_few now c.anchor-opening.ensures.sound c.today-last.ensures.reached);
+      small = subst AreSmallEntries (sym book) (today_small now c.anchor-opening.ensures.sound c.today-last.ensures.reached);
     }

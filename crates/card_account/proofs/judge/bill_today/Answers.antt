@@ -6,7 +6,7 @@ use Rattle.card_events.specs.History.{anchor_of}
 use Rattle.card_events.specs.declared.kept.Kept.{Kept}
 use Rattle.card_events.specs.declared.post.Post.TheVariants as post
 use Rattle.card_model.specs.Refusals.{Lists}
-use Rattle.card_reasons.specs.Reasons.{AreInOrder, bill_reason}
+use Rattle.card_reasons.specs.Reasons.{AreInOrder, bill_reason, judged_of}
 use Rattle.card_reasons.proofs.ReasonLemmas.{of_bill}
 use Rattle.card_account.proofs.judge.bill_today.Goals as goal
 
@@ -21,9 +21,9 @@ pub ordered_bill_reason-requires-clause-order : goal.ordered_bill_reason-require
 ordered_bill_reason-requires-clause-order c = in-order c.args.now.now.lists c.anchor.result c.posts.result.now.history c.anchor.ensures.value c.posts.ensures.history c.anchor.ensures.sound.in_turn
 
 pub returns : goal.returns
-returns c =
+returns c issued =
     let now = c.args.now.now in
     let a = c.anchor.result in
     let cycle = c.args.cycle in
-    of_bill now (post.Bill cycle) cycle a c.ordered_bill_reason.result refl c.anchor.ensures.value
+    of_bill (judged_of now.today now.shared issued now.lists.posts) (post.Bill cycle) cycle a c.ordered_bill_reason.result refl c.anchor.ensures.value
     (c.ordered_bill_reason.ensures ∙ ap (λ (h : List Kept). bill_reason c.today.result a h cycle) c.posts.ensures.history ∙ ap (λ (n : ℕ). bill_reason n a now.lists.posts cycle) c.today.ensures.value)

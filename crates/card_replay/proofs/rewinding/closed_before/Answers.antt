@@ -1,6 +1,6 @@
 use Rattle.std.proofs.Common.{ℕ, ◌-◌, ◌<◌, ◌≤◌, min, sym, ap, ◌∙◌, arith}
 use Rattle.card_events.specs.Billing.{cycle_of}
-use Rattle.card_replay.proofs.CycleBefore.{none-before}
+use Rattle.card_past.proofs.CycleBefore.{none-before}
 use Rattle.card_replay.specs.Replays.{day_reached}
 use Rattle.card_replay.proofs.rewinding.closed_before.Goals as goal
 

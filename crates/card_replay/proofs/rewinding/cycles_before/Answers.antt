@@ -1,6 +1,6 @@
 use Rattle.std.proofs.Common.{sym, arith}
 use Rattle.std.proofs.lemmas.Bool.Decides.{nat_tests}
-use Rattle.card_replay.proofs.CycleBefore.{none-before}
+use Rattle.card_past.proofs.CycleBefore.{none-before}
 use Rattle.card_replay.proofs.rewinding.cycles_before.Goals as goal
 
 pub returns-then-lt : goal.returns-then-lt

@@ -12,8 +12,11 @@ use Rattle.card_account.proofs.account.Account.entries.Goals as goal
 pub folded-folded-requires : goal.folded-folded-requires
 folded-folded-requires g c = is-today c.args.today c.args.shared.now c.args.self.now c.to_day.new.self c.in_ok-to_day.ensures.today
 
-pub present-requires : goal.present-requires
-present-requires g c = c.to_day.ensures.told.account
+pub present-requires-clause-account : goal.present-requires-clause-account
+present-requires-clause-account g c = c.to_day.ensures.told.account
+
+pub present-requires-clause-today : goal.present-requires-clause-today
+present-requires-clause-today g c = c.in_ok-to_day.ensures.today.reached
 
 pub entries_today-requires-clause-book : goal.entries_today-requires-clause-book
 entries_today-requires-clause-book g c = c.folded-folded.ensures.book ∙ ap book_today (sym c.present.ensures)

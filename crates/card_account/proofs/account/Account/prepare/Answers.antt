@@ -1,6 +1,6 @@
-use Rattle.std.proofs.Common.{◌≡◌, ◌⊎◌, None, inl, inr, sym, subst}
+use Rattle.std.proofs.Common.{◌≡◌, None, sym, subst}
 use Rattle.card_account.specs.Accounts.{IsTold, OpenAccount, replay_of}
-use Rattle.card_account.proofs.Told.{told-by, with_replay}
+use Rattle.card_account.proofs.Told.{told-by, turned, with_replay}
 use Rattle.card_daily.specs.Given.{IsSound}
 use Rattle.card_events.specs.Keys.{with_key}
 use Rattle.card_model.specs.Machine.{accepted}
@@ -9,10 +9,6 @@ use Rattle.card_replay.specs.Changes.{FoldsIfNeeded}
 use Rattle.card_replay.specs.Replays.{IsReplay, MayReach, given_of, present_of}
 use Rattle.card_replay.specs.Steps.{AreFewToPrepare}
 use Rattle.card_account.proofs.account.Account.prepare.Goals as goal
-
-turned : (P Q : Type 0) → P ⊎ Q → Q ⊎ P
-turned P Q (inl p) = inr p
-turned P Q (inr q) = inl q
 
 pub prepare-requires-clause-replay : goal.prepare-requires-clause-replay
 prepare-requires-clause-replay g c = subst (λ (a : OpenAccount). IsReplay c.args.shared.now (replay_of a)) (sym c.self.view_is) c.requires.account.replay

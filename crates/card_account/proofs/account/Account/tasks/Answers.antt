@@ -13,8 +13,11 @@ use Rattle.card_account.proofs.account.Account.tasks.Goals as goal
 pub folded-folded-requires : goal.folded-folded-requires
 folded-folded-requires g c = is-today c.args.today c.args.shared.now c.args.self.now c.to_day.new.self c.in_ok-to_day.ensures.today
 
-pub present-now-requires : goal.present-now-requires
-present-now-requires g c = c.to_day.ensures.told.account
+pub present-now-requires-clause-account : goal.present-now-requires-clause-account
+present-now-requires-clause-account g c = c.to_day.ensures.told.account
+
+pub present-now-requires-clause-today : goal.present-now-requires-clause-today
+present-now-requires-clause-today g c = c.in_ok-to_day.ensures.today.reached
 
 pub tasks_today-requires-clause-book : goal.tasks_today-requires-clause-book
 tasks_today-requires-clause-book g c = c.folded-folded.ensures.book ∙ ap book_today (sym c.present-now.ensures)

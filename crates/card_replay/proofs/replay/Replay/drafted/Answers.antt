@@ -1,14 +1,16 @@
 use Rattle.std.proofs.Common.{◌≡◌, ℕ, ◌+◌, ◌≤◌, length, sym, ap, subst, ◌∙◌, arith}
-use Rattle.std.specs.Prelude.{IfOk}
+use Rattle.std.specs.Prelude.{IfOk, ◌||◌}
 use Rattle.card_events.specs.History.{anchor_of, corrected}
 use Rattle.card_events.specs.Keys.{with_key}
 use Rattle.card_model.specs.Machine.{kept_as}
+use Rattle.card_book.specs.Laws.{is_bill}
 use Rattle.card_daily.specs.Given.{IsSound}
 use Rattle.card_posts.specs.Posted.{IsReceived, Posted, StandsFor}
 use Rattle.card_reasons.proofs.Accepted.{few, received, target_there}
 use Rattle.card_replay.proofs.Committing.{lists_by, with_post}
 use Rattle.card_replay.proofs.Drafting.{before-change, drafted, more-told, result-rewound}
 use Rattle.card_replay.proofs.Reached.{folding_of}
+use Rattle.card_replay.proofs.Settled.{settled-today}
 use Rattle.card_replay.specs.Rewinds.{IsAgain, IsBeforeChange, MayRewind}
 use Rattle.card_replay.specs.Replays.{Replay, given_of, present_of}
 use Rattle.card_replay.proofs.replay.Replay.drafted.Goals as goal
@@ -58,7 +60,7 @@ new-inputs-requires-clause-sound c =
     let new = c.draft.new.self in
     let u = c.requires.may.read in
     let h = drafted shared today key c.copy-key.result p r posts new c.deref.result.now c.in_ok-draft.draft c.requires.may.replay u c.requires.may.sound (ap (λ (x : Replay). x.lists.posts) c.self.view_is) (ap (λ (x : Replay). x.corrected) c.self.view_is)
-    (c.deref.ensures.value ∙ ap (λ (x : Replay). x.lists.issued) c.self.view_is) c.copy-key.ensures c.in_ok-draft.ensures.draft (subst (λ holidays. StandsFor holidays new) c.calendar.ensures c.in_ok-draft.ensures.stands) in
+    (c.deref.ensures.value ∙ (ap (λ (x : Replay). x.late.made) c.self.view_is ∙ (settled-today shared today r c.requires.may.replay c.requires.may.reach (c.requires.may.ready (ap (λ b. b || is_bill p) c.requires.sets))).made)) c.copy-key.ensures c.in_ok-draft.ensures.draft (subst (λ holidays. StandsFor holidays new) c.calendar.ensures c.in_ok-draft.ensures.stands) in
     subst IsSound (sym h.inputs) h.more.sound
 
 pub lent-book-requires : goal.lent-book-requires
@@ -75,7 +77,7 @@ rewind-made-requires c =
     let new = c.draft.new.self in
     let u = c.requires.may.read in
     let h = drafted shared today key c.copy-key.result p r posts new c.deref.result.now c.in_ok-draft.draft c.requires.may.replay u c.requires.may.sound (ap (λ (x : Replay). x.lists.posts) c.self.view_is) (ap (λ (x : Replay). x.corrected) c.self.view_is)
-    (c.deref.ensures.value ∙ ap (λ (x : Replay). x.lists.issued) c.self.view_is) c.copy-key.ensures c.in_ok-draft.ensures.draft (subst (λ holidays. StandsFor holidays new) c.calendar.ensures c.in_ok-draft.ensures.stands) in
+    (c.deref.ensures.value ∙ (ap (λ (x : Replay). x.late.made) c.self.view_is ∙ (settled-today shared today r c.requires.may.replay c.requires.may.reach (c.requires.may.ready (ap (λ b. b || is_bill p) c.requires.sets))).made)) c.copy-key.ensures c.in_ok-draft.ensures.draft (subst (λ holidays. StandsFor holidays new) c.calendar.ensures c.in_ok-draft.ensures.stands) in
     let at = more-told shared today key p r c.args.from c.requires.may c.requires.first in
     let inputs = c.new-inputs.ensures ∙ h.inputs in
     let was = given_of r.lists shared in
@@ -99,7 +101,7 @@ withdraw-requires c =
     let new = c.draft.new.self in
     let u = c.requires.may.read in
     let h = drafted shared today key c.copy-key.result p r posts new c.deref.result.now c.in_ok-draft.draft c.requires.may.replay u c.requires.may.sound (ap (λ (x : Replay). x.lists.posts) c.self.view_is) (ap (λ (x : Replay). x.corrected) c.self.view_is)
-    (c.deref.ensures.value ∙ ap (λ (x : Replay). x.lists.issued) c.self.view_is) c.copy-key.ensures c.in_ok-draft.ensures.draft (subst (λ holidays. StandsFor holidays new) c.calendar.ensures c.in_ok-draft.ensures.stands) in
+    (c.deref.ensures.value ∙ (ap (λ (x : Replay). x.late.made) c.self.view_is ∙ (settled-today shared today r c.requires.may.replay c.requires.may.reach (c.requires.may.ready (ap (λ b. b || is_bill p) c.requires.sets))).made)) c.copy-key.ensures c.in_ok-draft.ensures.draft (subst (λ holidays. StandsFor holidays new) c.calendar.ensures c.in_ok-draft.ensures.stands) in
     record { draft = record { kept = kept_as (length r.lists.posts + 1) key today p; old = posts; draft = h.draft } }
 
 -- ---- what it is taken back to, with the post taken out
@@ -114,7 +116,7 @@ returns c =
     let new = c.draft.new.self in
     let u = c.requires.may.read in
     let h = drafted shared today key c.copy-key.result p r posts new c.deref.result.now c.in_ok-draft.draft c.requires.may.replay u c.requires.may.sound (ap (λ (x : Replay). x.lists.posts) c.self.view_is) (ap (λ (x : Replay). x.corrected) c.self.view_is)
-    (c.deref.ensures.value ∙ ap (λ (x : Replay). x.lists.issued) c.self.view_is) c.copy-key.ensures c.in_ok-draft.ensures.draft (subst (λ holidays. StandsFor holidays new) c.calendar.ensures c.in_ok-draft.ensures.stands) in
+    (c.deref.ensures.value ∙ (ap (λ (x : Replay). x.late.made) c.self.view_is ∙ (settled-today shared today r c.requires.may.replay c.requires.may.reach (c.requires.may.ready (ap (λ b. b || is_bill p) c.requires.sets))).made)) c.copy-key.ensures c.in_ok-draft.ensures.draft (subst (λ holidays. StandsFor holidays new) c.calendar.ensures c.in_ok-draft.ensures.stands) in
     let at = more-told shared today key p r c.args.from c.requires.may c.requires.first in
     let inputs = c.new-inputs.ensures ∙ h.inputs in
     let made = c.rewind-made.result in
@@ -126,10 +128,11 @@ returns c =
     (subst (λ given. IfOk made (IsAgain given c.args.from c.args.reached c.self.inside.past)) inputs did)) in
     record {
       same = record {
-        lists = ap (λ (w : Posted). lists_by w.history c.self.inside.issued.items) back ∙ ap (λ (x : Replay). x.lists) c.self.view_is;
+        lists = ap (λ (w : Posted). lists_by w.history c.self.inside.told.rows) back ∙ ap (λ (x : Replay). x.lists) c.self.view_is;
         corrected = ap (λ (w : Posted). w.corrected) back ∙ ap (λ (x : Replay). x.corrected) c.self.view_is;
         room = λ e. ap (λ (x : Replay). x.has_room) c.self.view_is ∙ e;
       };
       folding = ap (λ (w : Posted). folding_of w.history c.self.inside.book c.self.inside.past c.self.inside.eve) back ∙ ap (λ (x : Replay). x.folding) c.self.view_is;
+      late = ap (λ (x : Replay). x.late) c.self.view_is;
       rewound = result-rewound shared today key p r c.args.from made c.requires.may at again;
     }

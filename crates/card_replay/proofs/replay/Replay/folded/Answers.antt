@@ -3,7 +3,7 @@ use Rattle.card_book.specs.Rewound.{AreFolded}
 use Rattle.card_book.specs.Stands.{StandsFor}
 use Rattle.card_model.specs.Refusals.{book_today}
 use Rattle.card_replay.proofs.Reached.{book-today, folded-today}
-use Rattle.card_replay.proofs.Through.{last-is}
+use Rattle.card_past.proofs.Through.{last-is}
 use Rattle.card_replay.specs.Replays.{Replay, Stands, day_of, given_of}
 use Rattle.card_replay.proofs.replay.Replay.folded.Goals as goal
 

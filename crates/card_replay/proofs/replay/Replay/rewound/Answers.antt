@@ -10,6 +10,9 @@ returns-then-is_unread-clause-rewound c =
 pub returns-then-is_unread-clause-folding : goal.returns-then-is_unread-clause-folding
 returns-then-is_unread-clause-folding c = refl
 
+pub returns-then-is_unread-clause-late : goal.returns-then-is_unread-clause-late
+returns-then-is_unread-clause-late c = refl
+
 pub returns-then-is_unread-clause-same : goal.returns-then-is_unread-clause-same
 returns-then-is_unread-clause-same c = record { lists = refl; corrected = refl; room = λ e. e }
 

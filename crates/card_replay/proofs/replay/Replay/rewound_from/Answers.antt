@@ -1,7 +1,7 @@
 use Rattle.std.proofs.Common.{◌≡◌, ℕ, ◌<◌, sym, ap, subst, ◌∙◌, Some}
 use Rattle.card_events.specs.History.{anchor_of}
 use Rattle.card_replay.proofs.Drafting.{later-rewound}
-use Rattle.card_replay.proofs.Through.{some-book}
+use Rattle.card_past.proofs.Through.{some-book}
 use Rattle.card_replay.specs.Replays.{Replay, day_of, day_reached}
 use Rattle.card_replay.proofs.replay.Replay.rewound_from.Goals as goal
 

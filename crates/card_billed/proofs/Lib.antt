@@ -1,0 +1,5 @@
+pub mod Fronts
+pub mod Late
+pub mod Rests
+pub mod Sheets
+pub mod Steps

@@ -1,0 +1,15 @@
+pub mod Through
+pub mod Eves
+pub mod Grown
+pub mod Parts
+pub mod Reaching
+pub mod Keeping
+pub mod Marked
+pub mod NextClosing
+pub mod CycleBefore
+pub mod Statements
+pub mod Waiting
+pub mod NextRow
+pub mod AllRows
+pub mod NoneLeft
+pub mod Ghosts
