@@ -2,11 +2,13 @@
 
     python3 -m bench [NAME[:CASE]..] [--count N] [--seed N] [--folder DIR] [--beside PROGRAM]
     python3 -m bench --list
+    python3 -m bench year [--help]
 
 Without a name it runs the measures that take minutes at most; those marked `long` run where they
 are named. CASE is one of a measure's cases. The variable BILLCTL names another program than the
 built one; where a measure takes a second program (--beside), it holds the two side by side. An
-idle machine measures best. None of it is part of the gate.
+idle machine measures best. None of it is part of the gate. `year` is a run of hours with options of
+its own: a year of a million accounts.
 """
 
 import argparse
@@ -22,6 +24,7 @@ import bench
 from tests.support.program import not_built
 
 from .measure import Missing, Options, Row
+from .year.command import main as year
 
 WIDTHS = "{:14} {:44} {:>14} {:22} {}"
 
@@ -75,6 +78,7 @@ def list_all(found: dict[str, ModuleType]) -> None:
         print(f"{name}{' (long)' if is_long(module) else ''}: {first.rstrip('.')}")
         if cases != ["all"]:
             print(f"    cases: {', '.join(cases)}")
+    print("year (hours): python3 -m bench year --help")
 
 
 def run(words: list[str], options: Options, found: dict[str, ModuleType]) -> int:
@@ -93,6 +97,8 @@ def run(words: list[str], options: Options, found: dict[str, ModuleType]) -> int
 
 
 def main() -> int:
+    if sys.argv[1:2] == ["year"]:
+        return year(sys.argv[2:])
     parser = argparse.ArgumentParser(
         prog="python3 -m bench", description=__doc__,
         formatter_class=argparse.RawDescriptionHelpFormatter)
