@@ -1,15 +1,15 @@
 """What one account of up to 200,000 posts takes: the least seconds of three runs, the most memory.
 
-Usual years, corrections, returns, disputes, payments of one cycle, posts dated back, a statement of
-many transactions, and a load from a file with a question. Then the memory of a million accounts
-that were only opened. An idle machine measures best.
+Usual years, corrections in order and in none, returns, disputes, payments of one cycle, posts dated
+back, a statement of many transactions, and a load from a file with a question. Then the memory of a
+million accounts that were only opened. An idle machine measures best.
 """
 
 import os
 from collections.abc import Callable, Iterator
 
 from .measure import Options, Row, least, measured, memory_room, written
-from .one_account import billed, corrected, dated_back, disputed, numbered, opened
+from .one_account import amended, billed, corrected, dated_back, disputed, numbered, opened
 from .one_account import paid_after_a_bill, random_key, returned, usual
 
 LONG = True
@@ -23,6 +23,7 @@ STREAMS: dict[str, Callable[[], Iterator[str]]] = {
     "shown-each-200000": lambda: usual(200_000, each=True),
     "amended-2400": lambda: numbered(corrected(False)),
     "amended-2400-beside-a-return": lambda: numbered(corrected(True)),
+    "amended-in-any-order-120000": lambda: amended(120_000),
     "dated-back-20000": lambda: dated_back(20_000),
     "dated-back-60000": lambda: dated_back(60_000),
     "disputed-20000": lambda: disputed(20_000),

@@ -9,20 +9,21 @@ from collections.abc import Callable, Iterator
 from .measure import Options, Row, measured, memory_room, written
 from .streams import cycled, opens
 
-ACCOUNTS = 1_000
-STREAMS: dict[str, Callable[[int], Iterator[str]]] = {
-    "3-posts": lambda accounts: cycled(accounts, 3),
-    "10-posts": lambda accounts: cycled(accounts, 10),
-    "opens": lambda accounts: opens(100 * accounts),
+# case -> how many accounts, and their lines
+STREAMS: dict[str, tuple[int, Callable[[int], Iterator[str]]]] = {
+    "3-posts": (1_000, lambda accounts: cycled(accounts, 3)),
+    "10-posts": (1_000, lambda accounts: cycled(accounts, 10)),
+    "opens": (100_000, opens),
 }
 CASES = tuple(STREAMS)
 
 
 def measure(case: str, options: Options) -> Iterator[Row]:
-    accounts = options.size(ACCOUNTS)
+    usual, stream = STREAMS[case]
+    accounts = options.size(usual)
     with memory_room() as room:
         path = os.path.join(room, "lines")
-        lines = written(lambda: STREAMS[case](accounts), path)
+        lines = written(lambda: stream(accounts), path)
         for program in options.programs():
             used = measured([program, "-", "apply"], path)
             note = f"{used.seconds:.2f} s, {used.megabytes * 1e6 / lines:.0f} bytes a line"

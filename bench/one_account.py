@@ -85,6 +85,15 @@ def dated_back(count: int) -> Iterator[str]:
         yield f"charge a k{number} {day} purchase 100"
 
 
+def amended(count: int) -> Iterator[str]:
+    """Half of so many posts are charges, each of which is then amended, in no order."""
+    yield from OPEN
+    charges = list(range(count // 2))
+    yield from (f"charge a c{number} {FIRST} purchase 1000" for number in charges)
+    random.Random(7).shuffle(charges)
+    yield from (f"amend a m{number} {number + 2} {FIRST} 900" for number in charges)
+
+
 def disputed(count: int) -> Iterator[str]:
     yield from OPEN
     yield "roll 2011-02-01"

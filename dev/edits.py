@@ -44,7 +44,7 @@ def try_edits(rt: ModuleType, crate: Any, only: list[str], seed: str, room: str)
         if only and os.path.basename(edit)[:-len(".edit")] not in only:
             continue
         over = f"{room}/over"
-        rt.linked(seed, over)
+        kit.copied(rt, seed, over)
         (_, text), seconds = timed(lambda: rt.must_fail(crate, edit, FLAGS, over))
         print(f"{seconds:7.1f}  {text[:230]}", flush=True)
         shutil.rmtree(over)

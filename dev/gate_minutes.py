@@ -83,12 +83,16 @@ def table_of(seen: Seen, minutes: float) -> list[str]:
 
 
 def main() -> int:
-    if "--" not in sys.argv[:-1]:
+    words = sys.argv[1:]
+    if words and words[0] in ("-h", "--help"):
+        print((__doc__ or "").strip())
+        return 0
+    if "--" not in words[:-1]:
         print((__doc__ or "").strip(), file=sys.stderr)
-        return 1
+        return 2
     seen: Seen = {}
     begun = time.time()
-    run = subprocess.Popen(sys.argv[sys.argv.index("--") + 1:])
+    run = subprocess.Popen(words[words.index("--") + 1:])
     while run.poll() is None:
         look(run.pid, seen)
         time.sleep(0.25)

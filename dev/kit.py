@@ -12,7 +12,7 @@ import os
 import resource
 import shutil
 import sys
-import tempfile
+import threading
 from types import ModuleType
 from typing import Any
 
@@ -22,10 +22,20 @@ LOGIC = "logic dac8208d650f15bf"
 
 def load() -> ModuleType:
     """rt, with the handles that this repository allows, as `rt ci` begins."""
+    rt = module()
+    os.chdir(TOP)
+    rt.Crate.allowed = rt.handles_of(TOP)
+    rt.Crate.cuts_libraries = True
+    rt.rtlib.guarded()
+    remember(rt)
+    return rt
+
+
+def module() -> ModuleType:
+    """rt as it is."""
     found = shutil.which("rt")
     if not found:
         sys.exit("the command rt of the Rattle kit isn't on the PATH: install the kit")
-    os.chdir(TOP)
     path = os.path.realpath(found)
     sys.path.insert(0, os.path.dirname(path))
     loader = importlib.machinery.SourceFileLoader("rt", path)
@@ -34,37 +44,64 @@ def load() -> ModuleType:
         sys.exit(f"{path} can't be loaded as a module: it isn't a kit's rt")
     rt = importlib.util.module_from_spec(spec)
     loader.exec_module(rt)
-    rt.Crate.allowed = rt.handles_of(TOP)
-    rt.Crate.cuts_libraries = True
-    rt.rtlib.guarded()
     return rt
+
+
+def remember(rt: ModuleType) -> None:
+    """Has the crates remember what is below them, and compute each stamp below a crate once.
+
+    Some kits compute both anew for each path that leads to a crate, a minute each time over the
+    crates of this repository. What is below a crate stays. A stamp is remembered only while the
+    stamp of a crate above it is computed, since files change in a run.
+    """
+    below_owner, stamp_owner = owner(rt.Crate, "below"), owner(rt.Crate, "stamp")
+    below, stamp, under_way = below_owner.below, stamp_owner.stamp, threading.local()
+
+    def below_of(crate: Any) -> list[Any]:
+        if not hasattr(crate, "known_below"):
+            crate.known_below = below(crate)
+        return list(crate.known_below)
+
+    def stamp_of(crate: Any) -> str:
+        is_outermost = not hasattr(under_way, "known")
+        if is_outermost:
+            under_way.known = dict[str, str]()
+        try:
+            if crate.folder not in under_way.known:
+                under_way.known[crate.folder] = stamp(crate)
+            return str(under_way.known[crate.folder])
+        finally:
+            if is_outermost:
+                del under_way.known
+
+    below_owner.below, stamp_owner.stamp = below_of, stamp_of
+
+
+def owner(kind: Any, name: str) -> Any:
+    """The class that a method of this one is written in."""
+    return next(one for one in kind.__mro__ if name in vars(one))
 
 
 def crates(rt: ModuleType) -> dict[str, Any]:
     """The crates of the repository by name, the lowest first.
 
-    Some kits' crates_of takes a second folder, into which it moves what each crate has built.
+    Some kits' crates_of takes a second folder, into which it moves what each crate has built. It
+    isn't asked there: the program would be gone for whoever runs it meanwhile.
     """
     if len(inspect.signature(rt.crates_of).parameters) == 1:
         found = rt.crates_of(TOP)
     else:
-        found = crates_with_builds_aside(rt)
+        rt.rtlib.Crate = rt.Crate
+        found = sorted(rt.rtlib.crates_below(TOP), key=lambda crate: len(crate.below()))
     return {crate.name: crate for crate in found}
 
 
-def crates_with_builds_aside(rt: ModuleType) -> list[Any]:
-    """The crates by the form of crates_of with two folders. What was built is moved back."""
-    # a folder of the same disk, where a rename is enough, and one that the kit doesn't look through
-    git = f"{TOP}/.git"
-    aside = tempfile.mkdtemp(prefix="built-", dir=git if os.path.isdir(git) else None)
-    try:
-        return list(rt.crates_of(TOP, aside))
-    finally:
-        for name in os.listdir(aside):
-            out = f"{TOP}/crates/{name}/out"
-            if not os.path.lexists(out):
-                shutil.move(f"{aside}/{name}", out)
-        shutil.rmtree(aside)
+def copied(rt: ModuleType, seed: str, to: str) -> None:
+    """Copies what a check proved, for another check to begin with and to write to."""
+    if hasattr(rt, "linked"):
+        rt.linked(seed, to)
+    else:
+        shutil.copytree(seed, to)
 
 
 def named(all_crates: dict[str, Any], name: str) -> Any:
