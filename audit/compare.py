@@ -5,10 +5,13 @@
 runs both over the same input and the same views, and tells the first
 difference.  WAY is `memory` (one run of `apply` or `trial` with rows in memory), or, over
 a file of rows that the views are read from afterwards, `lines` (the default, in
-three runs), `csv` (records that come twice) or `http` (a connection a request).
+three runs), `csv` (records that come twice), `http` (a connection a request), or
+`asked` (the same in some runs of the server, each over the rows of those before it,
+so that questions come behind a load in any order).
 """
 
 import argparse
+import random
 import socket
 import subprocess
 import sys
@@ -26,7 +29,8 @@ from .inputs import connections, csv_bytes
 from .program import Program, free_port
 
 RUNS = 3
-WAYS = ("memory", "lines", "csv", "http")
+SERVERS = 6
+WAYS = ("memory", "lines", "csv", "http", "asked")
 SETUP = ("feerow", "roll", "open", "openvar", "index", "holiday", "plan")
 
 
@@ -151,6 +155,16 @@ def compare_http(model: Model, program: Program, datas: list[bytes]) -> str | No
     return found and f"serve, {found}"
 
 
+def compare_asked(model: Model, program: Program, datas: list[bytes], seed: int) -> str | None:
+    """The same by some servers, one after the other, which begin at drawn places."""
+    starts = sorted(random.Random(seed).sample(range(1, len(datas)), SERVERS - 1))
+    for first, last in zip([0, *starts], [*starts, len(datas)], strict=True):
+        found = compare_http(model, program, datas[first:last])
+        if found:
+            return f"behind {first} connections, {found}"
+    return None
+
+
 # -- one input -------------------------------------------------------------------------------
 
 
@@ -161,6 +175,8 @@ def compare_over_file(program: Program, seed: int, n: int, accounts: int, way: s
         found = compare_lines(model, program, lines, RUNS)
     elif way == "csv":
         found = compare_csv(model, program, lines, csv_bytes(seed, n, accounts))
+    elif way == "asked":
+        found = compare_asked(model, program, connections(seed, n, accounts), seed)
     else:
         found = compare_http(model, program, connections(seed, n, accounts))
     for words in [] if found else views(model, program.commands()):

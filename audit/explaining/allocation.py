@@ -6,11 +6,14 @@ from ..allocation import next_cent
 from ..effects import ranks
 from ..segments import CREDIT
 from .nodes import Node
+from .sentences import MINIMUM_PART
 
 if TYPE_CHECKING:
     from .balances import Balances
 
 Parts = list[tuple[int, Node]]
+# what is given -> its rule: the regulation has an order for the excess of a payment alone
+RULE_OF = {"minimum": "minimum part", "excess": "excess", "place": "merchant"}
 
 
 class Allocation:
@@ -28,7 +31,7 @@ class Allocation:
         rest = cents
         if left is not None and left.value > 0:
             first = b.nodes.make("least", [cents, left], f"minimum part of the {name}",
-                                 "minimum part")
+                                 "minimum part", said=MINIMUM_PART)
             rest = b.nodes.make("difference", [cents, first], f"rest of the {name}, above its "
                                 "minimum part", "excess")
             amounts.append(("minimum", first))
@@ -49,7 +52,7 @@ class Allocation:
             alone = len({segment for segment, _ in steps}) == 1
             whole = "the whole" if alone else "all parts of the"
             part = of[0] if len(of) == 1 else b.nodes.make(
-                "sum", of, f"{whole} {name}, for {b.segments[s].name}", of[0].rule)
+                "sum", of, f"{whole} {name}, for {b.segments[s].name}", of[-1].rule)
             entry = b.nodes.make("product", [part], f"{name} on {b.segments[s].name}", part.rule,
                                  by=-1, on=on)
             b.enter(s, entry, f"the {name}", part.rule, on)
@@ -89,7 +92,7 @@ class Allocation:
         unpaid = [n for n in range(2, len(left)) if left[n].value > 0]
         if kind == "place" and s in first:
             return "merchant", [], "its own place, the oldest balance first"
-        rule = "minimum part" if kind == "minimum" else "excess"
+        rule = RULE_OF[kind]
         if len(unpaid) == 1:
             return rule, [], "the one balance that is owed"
         rank = ranks(b.book, on.value)[s]
@@ -97,10 +100,11 @@ class Allocation:
             k = b.all.cycle_of(on.value)
             end = b.facts.post(b.segments[s].post, "end", f"end of {b.segments[s].name}")
             last = k if b.facts.closing(k).value == rank.last_two else k + 1
+            rule = "ending plan" if kind == "excess" else rule
             why = b.nodes.make("equal", [end, b.facts.closing(last)],
                                f"{b.segments[s].name} is in the last two cycles of its period",
-                               "ending plan")
-            return "ending plan", [why], "a plan in its last two cycles"
+                               rule)
+            return rule, [why], "a plan in its last two cycles"
         rates = [b.all.rates.on(n, on.value) for n in unpaid]
         how, said = ("least", "lowest") if kind == "minimum" else ("greatest", "highest")
         extreme = b.nodes.make(how, rates, f"the {said} rate of the balances that are owed", rule)

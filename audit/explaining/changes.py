@@ -252,16 +252,28 @@ class Changes:
             "issued\"); Regulation Z has no rule on it.") + [""]
 
     def _owed(self, step: Step) -> list[str]:
-        """When what the new balance rose by is asked for."""
+        """When what the new balance rose or fell by is asked for, and whether it bears interest."""
         more = sum(c.after - c.before for c in step.changes if c.word == "balance")
-        if more <= 0:
+        if not more:
             return []
-        held = any(c.would is not None for c in step.changes)
-        return _wrapped(
-            f"{'The new balance is not held: ' if held else 'By this post '}"
-            f"{money_text(more)} more is owed. The next statement that "
-            "is issued after this post shows what the post changed under EARLIER CORRECTIONS, and "
-            "its new balance and minimum payment are made with it.") + [""]
+        if more < 0:
+            begin = f"By this post {money_text(-more)} less is owed."
+            interest = (
+                "Interest is computed anew from this, in this cycle and in every later one. What "
+                "issued statements charged above it is taken back with those corrections.")
+        else:
+            held = any(c.would is not None for c in step.changes)
+            begin = (f"{'The new balance is not held: ' if held else 'By this post '}"
+                     f"{money_text(more)} more is owed.")
+            interest = (
+                "Does it bear interest? In a cycle whose statement was issued before this post, no "
+                "balance is charged more interest than that statement charged. In every other "
+                f"cycle the {money_text(more)} is part of its balance from the day on which it "
+                "counts, and bears interest as the rest of that balance does.")
+        return [*_wrapped(
+            f"{begin} The next statement that is issued after this post shows what the post "
+            "changed under EARLIER CORRECTIONS, and its new balance and minimum payment are made "
+            "with it."), *_wrapped(interest), ""]
 
     def json(self) -> dict[str, Any]:
         """The steps, with nodes from each issued number to the one of now."""

@@ -121,5 +121,6 @@ class Fees:
         amounts = [self.facts.in_force("feerow", field, day, f"{said} amount of the fee table on "
                                        f"{day_text(day.value)}", "table")
                    for field, said in (("repeat", "repeat"), ("first", "first"))]
-        return self.nodes.make("choose", [repeat, *amounts], f"the fee table's "
-                               f"{'repeat' if fee.repeat else 'first'} amount", "tier")
+        taken, rule = ("repeat", "tier") if fee.repeat else ("first", "first amount")
+        return self.nodes.make("choose", [repeat, *amounts], f"the fee table's {taken} amount",
+                               rule)

@@ -4,6 +4,11 @@ from ..days import day_text
 from ..money import money_text
 from .nodes import Node, value_text
 
+MINIMUM_PART = (
+    "Up to the required minimum payment, the issuer may choose which balance a payment goes to: "
+    "Regulation Z sets the order only for what is above it (.53(a), comment 53-1). This ledger "
+    "takes the balance with the lowest rate first, and the oldest of those with equal rates.")
+
 
 def interest_of_days(purchases: bool, paid: Node | None, j: int, due: int, less: bool,
                      back: str) -> str:

@@ -50,5 +50,6 @@ class Lacking:
             found.append(f"no name in --names, [name] on the page: "
                          f"{', '.join(self.names[:SHOWN])}{more}")
         if self.notes:
-            found.append(f"no note in --notes, [merchant] on the page: {self.notes} purchases")
+            purchases = "1 purchase" if self.notes == 1 else f"{self.notes} purchases"
+            found.append(f"no note in --notes, [merchant] on the page: {purchases}")
         return found

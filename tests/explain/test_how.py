@@ -6,6 +6,7 @@ from audit.explaining.document import Document
 from audit.explaining.how import how_text
 from audit.explaining.nodes import Node, Nodes
 from audit.explaining.text import text_of
+from audit.views import view
 from tests.explain.common import LATE_TWICE, PART_PAID, RETURNED, ExplainCase
 from tests.explain.test_texts import CORRECTION
 from tests.support.program import EXAMPLES
@@ -76,6 +77,51 @@ class Said(ExplainCase):
                 self.assertNotIn(f"(not taken: {taken} amount", text)
                 self.assertIn("before it?", text)
 
+    def test_minimum_part(self) -> None:
+        """The regulation's order is cited for what is above the minimum part alone, and the choice
+        that it leaves is said."""
+        nodes = {node["what"]: node for node in self.document(PART_PAID, 2).json()["nodes"]}
+        name = "payment, post 4 (key p, entered 2024-02-20)"
+        part = nodes[f"minimum part of the {name}"]
+        self.assertNotIn("section", part)
+        self.assertIn("the issuer may choose", part["said"])
+        self.assertIn("sets the order only for what is above it (.53(a), ", part["said"])
+        self.assertIn("the lowest rate first", part["said"])
+        for what in (f"rest of the {name}, above its minimum part",
+                     f"the whole {name}, for purchase:2", f"{name} on purchase:2"):
+            self.assertEqual(nodes[what]["section"], "12 CFR 1026.53(a)", what)
+
+    def test_merchants_credit(self) -> None:
+        """What of a merchant's credit its own place doesn't take goes as the excess of a payment
+        does, by the ledger's choice: no section is cited."""
+        lines = RETURNED.split("roll 2024-02-06")[0] + """charge a d 2024-01-10 cash 20000
+charge a e 2024-01-10 transfer 30000
+credit a k 2024-01-10 purchase 110000
+roll 2024-02-06
+bill a b1 1
+"""
+        _, _, cycles = next(self.accounts(lines))
+        parts = [node for node in cycles.issued(1).json()["nodes"]
+                 if "credit, post 5" in node["what"] and node["how"] == "least"]
+        self.assertEqual([(node["value"], node["what"].split("for ")[1].split(",")[0])
+                          for node in parts], [(100_000, "purchase:2"), (10_000, "cash:3")])
+        for node in parts:
+            self.assertEqual((node["rule"], node.get("section")),
+                             ("Allocation / A merchant's credit", None))
+
+    def test_amounts_of_fees(self) -> None:
+        """The first amount has a section of its own; the question which one applies has that of the
+        repeat amount, which decides it."""
+        of_first, of_repeat = (f"12 CFR 1026.52(b)(1)(ii)({letter})" for letter in "AB")
+        for lines, k, amount, section in ((RETURNED, 2, "first", of_first),
+                                          (LATE_TWICE, 5, "repeat", of_repeat)):
+            with self.subTest(amount):
+                nodes = {node["what"]: node for node in self.document(lines, k).json()["nodes"]}
+                taken = nodes[f"the fee table's {amount} amount"]
+                self.assertEqual(taken["section"], section)
+                question, = (node for node in nodes.values() if node["id"] == taken["of"][0])
+                self.assertEqual(question["section"], of_repeat)
+
     def test_reason_first(self) -> None:
         """The missed payment stands before the days, with both numbers."""
         text = " ".join(text_of(self.document(PART_PAID, 2), "interest").replace("|", "").split())
@@ -104,3 +150,26 @@ class Said(ExplainCase):
         self.assertIn("No correction raises", text)
         self.assertIn("No correction raises", text_of(cycles.recomputed(2), "interest"))
         self.assertNotIn("No correction raises", text_of(cycles.issued(2), "interest"))
+
+    def test_interest_of_a_correction(self) -> None:
+        """What a correction adds bears interest in the cycles that are issued after it alone, and
+        what it takes off lowers that of all; by hand, 10.00 for 31 days bear 0.17."""
+        lines = (EXAMPLES / "two-years.txt").read_bytes()
+        shown = {}
+        for cents in (1000, 2000, 500):
+            change = CORRECTION.replace(b"2000", b"%d" % cents) + b"roll 2026-02-06\n"
+            _, machine, cycles = next(self.accounts(lines + change))
+            shown[cents] = [(view(machine, "restate", "anna", k) or "").splitlines()
+                            for k in (2, 24, 25)]
+            text = " ".join(Changes(machine, cycles.rows, 2).text().split())
+            self.assertEqual("no balance is charged more interest than that statement charged. In "
+                             "every other cycle the 10.00 is part of its balance" in text,
+                             cents == 2000)
+            self.assertEqual("By this post 5.07 less is owed." in text, cents == 500)
+            self.assertEqual("Interest is computed anew from this" in text, cents == 500)
+        interest = {cents: [line.split()[-1] for cycle in cycles for line in cycle
+                            if line.startswith("INTEREST THIS PERIOD")]
+                    for cents, cycles in shown.items()}
+        self.assertEqual(interest, {1000: ["0.32", "21.74", "22.97"],
+                                    2000: ["0.32", "21.74", "23.14"],
+                                    500: ["0.25", "21.50", "22.73"]})
