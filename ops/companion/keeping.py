@@ -36,7 +36,7 @@ def add_files(words: Words) -> None:
         "restore", "the file as a backup has it",
         "Has billctl load a copy of BACKUP, compares its seal, moves FILE, its log and its\n"
         "journal into a new folder FILE.before-TIME, and puts a copy of BACKUP in its place. In\n"
-        "the home of a night it names the files that were entered behind the backup, and the\n"
+        "the home of a night it names the files that were entered after the backup, and the\n"
         "statements that were printed since; --again puts these files back into the inbox, each\n"
         "for the night of its day, and sets reports and books of the undone nights apart.",
         lambda asked: restores.restore(find_program(asked.program), asked.backup, asked.file,
@@ -44,7 +44,7 @@ def add_files(words: Words) -> None:
     word.add_argument("backup", metavar="BACKUP")
     word.add_argument("file", metavar="FILE")
     word.add_argument("--again", action="store_true",
-                      help="put what was entered behind the backup back into the inbox")
+                      help="put what was entered after the backup back into the inbox")
 
 
 def carry_night(asked: argparse.Namespace) -> int:

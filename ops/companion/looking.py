@@ -21,29 +21,30 @@ def add_file(words: Words) -> None:
     words.add("today", "the ledger's today", "Prints the day that the ledger was rolled to last.",
               lambda asked: looks.today(asked.file, asked.wait))
     word = words.add("accounts", "the accounts",
-                     "Prints a line an account, in the order in which they were opened: name,\n"
-                     "opening day, closing day of the month, posts, closed cycles, bills; with\n"
-                     "--owed also what is owed, the credit balance, and what is in dispute.",
+                     "Prints a line for each account, in the order in which they were opened:\n"
+                     "name, opening day, closing day of the month, posts, closed cycles, bills;\n"
+                     "with --owed also what is owed, the credit balance, and what is in dispute.",
                      lambda asked: looks.accounts(
                          asked.file, asked.wait,
                          find_program(asked.program) if asked.owed else None), program=True)
     word.add_argument("--owed", action="store_true", help="with balances")
     words.add("due", "closed cycles without a bill",
-              "Prints a line a closed cycle that has no bill yet, the most urgent first: account,\n"
-              "cycle, closing, last day on which its bill asks for a payment\n"
+              "Prints a line for each closed cycle that has no bill yet, the most urgent first:\n"
+              "account, cycle, closing, last day on which its bill asks for a payment\n"
               "(12 CFR 1026.5(b)(2)(ii)).", lambda asked: looks.due(asked.file, asked.wait))
     words.add("bills", "the bill lines of all that are due",
               "Prints the bill line of each closed cycle that has no bill yet, for `run`.\n"
               "The keys are bill- and the cycle.",
               lambda asked: looks.bills(asked.file, asked.wait))
     rows = words.add("rows", "the rows as request lines",
-                     "Prints the kept rows as request lines, all or those behind the first N.",
+                     "Prints the kept rows as request lines, all or those after the first N.",
                      lambda asked: looks.rows(asked.file, asked.since, asked.wait))
     rows.add_argument("--since", type=count, default=0, metavar="N",
                       help="leave out the first N rows")
     posts = words.add("posts", "the posts of an account, as they stand",
-                      "Prints a line a post: account, number, key, word, day of acceptance, own\n"
-                      "day, and cents as corrections have them now, 0 where it is void.",
+                      "Prints a line for each post: account, number, key, word, day of\n"
+                      "acceptance, own day, and cents as corrections have them now, 0 where it\n"
+                      "is void.",
                       lambda asked: looks.posts(asked.file, asked.account, asked.wait))
     posts.add_argument("account", metavar="ACCOUNT", nargs="?", help="else all accounts")
     add_explain(words)
@@ -85,9 +86,9 @@ def add_home(words: Words) -> None:
                      lambda asked: undo.undo(asked.home, asked.path, asked.wait), place="home")
     word.add_argument("path", metavar="done/DAY/NAME")
     words.add("chain", "do the reports prove one another",
-              "Prints a line a report: its name, its seal, and whether the ledger's first rows\n"
-              "are those, and the seal that it names is that of the report before. Status 1: not\n"
-              "so.",
+              "Prints a line for each report: its name, its seal, and `ok` if the ledger's first\n"
+              "rows are those of the seal and the report before it has the seal that it names.\n"
+              "Status 1: one isn't.",
               lambda asked: chain(asked.home, asked.wait), place="home")
     word = words.add("examine", "what an examiner would ask about",
                      "Prints a record for each thing that the ledger takes and an examiner asks\n"

@@ -101,8 +101,8 @@ def add_statements(words: Words) -> None:
     way = words.add(
         "statements", "the statements of a day, in files",
         "Writes each statement that was issued on DAY to DIR/ACCOUNT-CYCLE.txt, and the open\n"
-        "tasks of today to DIR/work.txt. One server on loopback tells them, or a call each where\n"
-        "they are few.\n"
+        "tasks of today to DIR/work.txt. One server on loopback answers for them, or a call for\n"
+        "each where they are few.\n"
         "With --form the independent model writes them in these forms, from one reading of the\n"
         "rows, with DIR/manifest.csv: each number is held against billctl's before. The files of\n"
         "the issuer are described in docs/PAGES.md. PDF needs Chromium.",

@@ -1,11 +1,12 @@
 """Kills of runs over a file of rows. Of six kills two hit `apply`, one `import`, one an `import`
 whose replies nobody reads, and two `serve` with four clients at it.
 
-A run of `apply` or `import` makes the same system calls each time, so it is killed before a call of
-a number that the seed gives; the second one of `apply` and `serve` are killed at a moment that the
-seed gives. Each time the file then loads, every reply that was written whole has its row, no more
-rows are there than may wait with their replies (of `serve` one), and a stock SQLite reads the same
-rows and finds the file sound. What was sent is then sent again, and gets its old numbers.
+A run of `apply` or `import` makes the same system calls each time, but for a few by which it asks
+for memory, so it is killed before a call of a number that the seed gives; the second one of `apply`
+and `serve` are killed at a moment that the seed gives. Each time the file then loads, every reply
+that was written whole has its row, no more rows are there than may wait with their replies (of
+`serve` one), and a stock SQLite reads the same rows and finds the file sound. What was sent is then
+sent again, and gets its old numbers.
 """
 
 import contextlib
@@ -27,6 +28,7 @@ from .posts import killed_server
 from .requests import IMPORT, LINES, OPENING
 
 PAGE = 4096
+SPARE = 8  # calls that one run may make less than another: where memory begins is random
 SERVED = 5  # seconds at most of a server, also where a busy machine takes longer for a whole run
 
 
@@ -77,7 +79,7 @@ class Kills:
         words = [kill.file, command]
         with open(source, "rb") as given, open(replies, "wb") as sink:
             if by_call and self.calls[command]:
-                call = 1 + int(kill.after * self.calls[command])
+                call = 1 + int(kill.after * max(0, self.calls[command] - SPARE))
                 _, status = run_to_call(words, call, given=given, out=sink)
                 was_killed(status)
             else:

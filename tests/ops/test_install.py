@@ -62,7 +62,8 @@ class Installation(Case):
             done = subprocess.run(words, cwd=self.room, capture_output=True, text=True,
                                   env=environment, check=False)
             self.assertIn(told, done.stdout, done.stderr)
-        for name in ("month/opening.txt", "moving/accounts.csv", "sheet/columns.toml"):
+        for name in ("issuer/night.toml", "month/opening.txt", "moving/accounts.csv",
+                     "sheet/columns.toml"):
             self.assertTrue(os.path.isfile(os.path.join(
                 root, "usr/local/share/doc/billctl/examples", name)), name)
 

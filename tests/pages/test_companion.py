@@ -10,7 +10,7 @@ from unittest import mock
 
 from tests.ops.common import LEDGER, LINES, Case, Told, ledger
 from tests.ops.home import OPENING, Home
-from tests.support.program import PROGRAM, TOP, run
+from tests.support.program import EXAMPLES, PROGRAM, TOP, run
 from companion.pages import owed_at_closings
 
 from .issuer import NAMES, NOTES, toml
@@ -47,6 +47,23 @@ class Word(Case):
         data = json.loads((self.out / "anna-1.json").read_text(encoding="utf-8"))
         self.assertEqual(data["addressee"]["name"], "Anna Lee")
         self.assertEqual(os.stat(self.out).st_mode & 0o777, 0o700)
+
+    def test_examples(self) -> None:
+        """The files of examples/issuer leave nothing in brackets on the pages of examples/month."""
+        file, issuer = self.at("month.db"), EXAMPLES / "issuer"
+        for word, name in (("apply", "opening.txt"), ("import", "records-corrected.csv"),
+                           ("apply", "closing.txt")):
+            run([file, word], (EXAMPLES / "month" / name).read_bytes())
+        status, printed, said = called(
+            "statements", file, "2026-03-29", self.out, *FORMS, "--issuer", issuer / "issuer.toml",
+            "--names", issuer / "names.csv", "--notes", issuer / "notes.csv")
+        self.assertEqual((status, len(printed.splitlines())), (0, 7), said)
+        self.assertEqual(said.splitlines()[0],
+                         f"statements: 3 issued on 2026-03-29, 7 new files in {self.out}")
+        for page in self.out.glob("*.html"):
+            text = page.read_text(encoding="utf-8")
+            self.assertIn("Harbor Bank", text)
+            self.assertNotRegex(text, r"\[(name|merchant|address|telephone)\]")
 
     def test_text(self) -> None:
         """The text with a manifest is the text without a form."""
