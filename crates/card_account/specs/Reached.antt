@@ -1,7 +1,12 @@
 -- The day that an account has reached, before a call on it and after it. Days are day numbers.
-use Rattle.std.specs.Prelude.{◌≡◌, ◌≤◌, ℕ, ◌⊎◌}
+use Rattle.std.specs.Prelude.{◌≡◌, ◌≤◌, ℕ, false, ◌⊎◌}
 use Rattle.card_events.specs.SharedRows.{SharedRows}
+use Rattle.card_events.specs.declared.post.Post.{Post}
 use Rattle.card_model.specs.Refusals.{Lists}
+use Rattle.card_posts.specs.Draft.{IsFirstWith}
+use Rattle.card_replay.specs.Changes.{StaysUnfolded}
+use Rattle.card_replay.specs.Needs.{folds_to_load}
+use Rattle.card_replay.specs.Replays.{Replay, posted_of}
 use Rattle.card_replay.specs.Steps.{IsNear}
 use Rattle.card_account.specs.Accounts.{OpenAccount}
 
@@ -20,3 +25,9 @@ pub record StaysNear (today : ℕ) (shared : SharedRows) (old new : Lists) (befo
 pub record IsIdle (old new : OpenAccount) (before after : ℕ) : Type 0 where
   pub account : new ≡ old
   pub steps : after ≡ before
+
+-- While it is loaded, nothing is folded for a post unless a load folds for it by the first day that it changes
+pub record IsIdleToLoad (shared : SharedRows) (today : ℕ) (p : Post) (old new : Replay) (before after : ℕ) : Type 0 where
+  pub from : ℕ
+  pub first : IsFirstWith shared.holidays today p (posted_of old) from
+  pub idle : folds_to_load p from old.late.owed ≡ false → StaysUnfolded old new before after

@@ -43,7 +43,7 @@ impl Account {
     ghost use Rattle.card_events.specs.Range.{last_request_day};
     ghost use Rattle.card_account.specs.Accounts.{HasTold, IsAccount, IsFoldedToday, IsIssueOf, IsTold, issued_statement, owing_in, replay_of, restated_statement, steps_of};
     ghost use Rattle.card_account.specs.Entries.{AreSmallEntries, entries_today};
-    ghost use Rattle.card_account.specs.Reached.{IsIdle, StaysNear};
+    ghost use Rattle.card_account.specs.Reached.{IsIdle, IsIdleToLoad, StaysNear};
     ghost use Rattle.card_account.specs.Verdicts.{verdict_of};
     ghost use Rattle.card_account.specs.Works.{tasks_of};
     ghost use Rattle.card_book.specs.Stands.{steps_over};
@@ -55,7 +55,7 @@ impl Account {
     ghost use Rattle.card_model.specs.Machine.{accepted, at_key, is_repeat_of};
     ghost use Rattle.card_model.specs.Refusals.{book_today, reason_against};
     ghost use Rattle.card_reasons.specs.Reasons.{reads_book};
-    ghost use Rattle.card_replay.specs.Changes.{FoldsIfNeeded, IsChangeOf, IsPrepared, IsReadyFor};
+    ghost use Rattle.card_replay.specs.Changes.{FoldsIfNeeded, IsChangeOf, IsPrepared, IsReadyFor, OwesBill};
     ghost use Rattle.card_replay.specs.Replays.{IsToday, given_of, opened_lists, present_of};
     ghost use Rattle.card_replay.specs.Standing.{AreStanding, IsStandingCount};
     ghost use Rattle.card_replay.specs.Steps.{AreFewToPrepare};
@@ -292,7 +292,7 @@ impl Account {
 
     /// Prepares a post as `prepare` does, for rows that are loaded: the statement of a Bill is owed where today isn't reached, so that
     /// nothing is folded for it. For what sets rates, and for a post that changes a day up to the closing of a cycle whose statement is
-    /// owed, the account reaches today. If memory runs out, it is the same account too.
+    /// owed, the account reaches today. For any other post nothing is folded or made, and no step is taken. If memory runs out, it is the same account too.
     pub fn prepare_loaded<L: Ledger>(
         &mut self,
         alloc: Global,
@@ -311,6 +311,8 @@ impl Account {
         ensures told { IsTold today shared.now self.old self.new }
         ensures prepared { IfOk result (λ c. IsPrepared shared.now c (replay_of self.new)) }
         ensures post { IfOk result (λ c. IsChangeOf key today post.now c) }
+        ensures owes { IfOk result (OwesBill today post.now self.old.folding.reached) }
+        ensures idle { IsIdleToLoad shared.now today post.now (replay_of self.old) (replay_of self.new) steps.old steps.new }
     {
         let first = self.replay.first_change(post, today, shared);
         self.replay

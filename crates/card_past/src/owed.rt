@@ -1,6 +1,7 @@
 // Bills whose statement isn't made yet.
-ghost use Rattle.std.specs.Prelude.{◌≡◌, ◌<◌, ◌≤◌, ◌++◌, ℕ, false, nat_le, IfSome, vec_len, vec_capacity};
+ghost use Rattle.std.specs.Prelude.{◌≡◌, ◌<◌, ◌≤◌, ◌++◌, ℕ, false, nat_le, None, IfSome, vec_len, vec_capacity};
 ghost use Rattle.std.specs.List.{All, list_any};
+ghost use Rattle.card_book.specs.Laws.{is_bill};
 ghost use Rattle.card_events.specs.Billing.{closing};
 ghost use Rattle.card_events.specs.History.{anchor_of};
 ghost use Rattle.card_events.specs.Range.{last_calendar_day};
@@ -30,7 +31,8 @@ pub fn is_reached(owed: &[Owed], from: Day) -> bool
 pub fn owed_for(posts: &Posts, post: &Post) -> Option<Owed>
     requires opening { IsOpening (anchor_of posts.now.history) }
     requires closed { (cycle : ℕ) → post.now ≡ variants.Bill cycle → (1 ≤ cycle) × (closing (anchor_of posts.now.history) cycle ≤ last_calendar_day) }
-    ensures { IfSome result (IsBillOf posts.now.history post.now) }
+    ensures bill { IfSome result (IsBillOf posts.now.history post.now) }
+    ensures none { result ≡ None → is_bill post.now ≡ false }
 {
     match post {
         Post::Bill { cycle } => {

@@ -18,6 +18,7 @@ pub mod Lates
 pub mod LaterReplay
 pub mod Settled
 pub mod Owing
+pub mod Loading
 pub mod ChangeOwes
 pub mod GivenMade
 pub mod Anew

@@ -10,6 +10,7 @@ use Rattle.card_events.specs.declared.post.Post.{Post}
 use Rattle.card_model.specs.Machine.{accepted, issues, kept_as}
 use Rattle.card_model.specs.Refusals.{Lists, reason_against}
 use Rattle.card_model.specs.Unread.{is_unread}
+use Rattle.card_book.specs.Laws.{is_bill}
 use Rattle.card_daily.specs.Given.{IsSound}
 use Rattle.card_posts.specs.Posted.{IsReceived, target_of}
 pub use Rattle.card_past.specs.Rows.{issued_as, issued_from, sheet_on}
@@ -85,6 +86,14 @@ LeavesOwed p from r = is_unread p ≡ false → All (λ o. o.closing < from) r.l
 -- where the post doesn't ask for that, nothing is folded and no step is taken
 abbrev pub FoldsIfNeeded : Post → Folding → Folding → ℕ → ℕ → Type 0
 FoldsIfNeeded p old new before after = needs_today p ≡ false → (new ≡ old) × (after ≡ before)
+
+-- nothing is folded, no statement is made, and no step is taken
+abbrev pub StaysUnfolded : Replay → Replay → ℕ → ℕ → Type 0
+StaysUnfolded old new before after = (new.folding ≡ old.folding) × (new.late ≡ old.late) × (after ≡ before)
+
+-- a Bill's statement is owed where today isn't reached
+abbrev pub OwesBill : ℕ → Post → ℕ → Change → Type 0
+OwesBill today p reached c = is_bill p ≡ true → reached < today → c.owes ≡ None → ⊥
 
 -- What is asked of an account for which a post is prepared that a fold reads: there is room for it, today is reached where the post asks
 -- for that, no reason is against it, its key is new, and the account may be folded with it

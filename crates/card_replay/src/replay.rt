@@ -481,6 +481,7 @@ impl Replay {
         ensures same { SameLists self.old self.new }
         ensures replay { IsReplay shared.now self.new }
         ensures folding { self.new.folding ≡ self.old.folding }
+        ensures late { self.new.late ≡ self.old.late }
         ensures prepared { IfOk result (λ c. IsPrepared shared.now c self.new) }
         ensures post { IfOk result (λ c. IsChangeOf key today post.now c) }
         ensures made { IfOk result (λ c. c.owes ≡ None) }

@@ -28,10 +28,12 @@ impl Keeper for Untold {
 }
 
 impl Desk {
-    ghost use Rattle.std.specs.Prelude.{◌≡◌, true, None, OnOk};
+    ghost use Rattle.std.specs.Prelude.{◌≡◌, true, None, OnOk, List, ℕ};
+    ghost use Rattle.card_book.specs.Laws.{is_bill};
     ghost use Rattle.card_desk.specs.Desks.{now_at};
     ghost use Rattle.card_desk.specs.Places.{IsPlace, place_from};
     ghost use Rattle.card_events.specs.Dated.{is_dated};
+    ghost use Rattle.card_events.specs.declared.post.Post.{Post};
     ghost use Rattle.card_model.specs.Machine.{Accepts, NamedAccount, accepted, outcome_in, step};
     ghost use Rattle.card_model.specs.Refusals.{reason_against};
     ghost use Rattle.card_rows.specs.Held.{is_request};
@@ -84,7 +86,8 @@ impl Desk {
         requires place { IsPlace given.now.account.now self.old.state.accounts at }
         requires no_reason { (d : NamedAccount) → reason_against (now_at self.old.state at d) given.now.post.now ≡ None }
         requires accepted { (d : NamedAccount) → outcome_in self.old.state given.now.account.now given.now.key.now given.now.post.now ≡ Accepts (accepted (now_at self.old.state at d) given.now.key.now given.now.post.now) }
-        ensures { OnOk result (self.new.state ≡ (step self.old.state given.now.request.now).0) }
+        ensures state { OnOk result (self.new.state ≡ (step self.old.state given.now.request.now).0) }
+        ensures idle { is_bill given.now.post.now ≡ true → steps.new ≡ steps.old }
     {
         let key = given.key.copy();
         let account = &mut self.accounts[at];
@@ -113,7 +116,8 @@ impl Desk {
         requires dated { is_dated given.now.request.now ≡ true }
         requires taken { is_request given.now.request.now ≡ true }
         requires place { IsPlace given.now.account.now self.old.state.accounts at }
-        ensures { OnOk result (self.new.state ≡ (step self.old.state given.now.request.now).0) }
+        ensures state { OnOk result (self.new.state ≡ (step self.old.state given.now.request.now).0) }
+        ensures idle { is_bill given.now.post.now ≡ true → steps.new ≡ steps.old }
     {
         match self.judge_at(alloc, at, given.key, given.post, steps) {
             Ok(Verdict::Refused(_)) => Ok(()),
@@ -133,7 +137,8 @@ impl Desk {
         requires request { given.now.request.now ≡ Request.Post given.now.account.now given.now.key.now given.now.post.now }
         requires dated { is_dated given.now.request.now ≡ true }
         requires taken { is_request given.now.request.now ≡ true }
-        ensures { OnOk result (self.new.state ≡ (step self.old.state given.now.request.now).0) }
+        ensures state { OnOk result (self.new.state ≡ (step self.old.state given.now.request.now).0) }
+        ensures idle { is_bill given.now.post.now ≡ true → steps.new ≡ steps.old }
     {
         match self.index.find(given.account.bytes()) {
             Some(at) => self.take_loaded(alloc, at as usize, given, steps),
@@ -142,6 +147,7 @@ impl Desk {
     }
 
     // One step of the machine for a request that a row spells, without keeping its row again; a refusal or a repeat changes nothing.
+    // No step is taken for a Bill.
     pub(crate) fn carry_loaded<L: Ledger>(
         &mut self,
         alloc: Global,
@@ -150,7 +156,8 @@ impl Desk {
     ) -> Result<(), NoMemory>
         requires dated { is_dated request.now ≡ true }
         requires taken { is_request request.now ≡ true }
-        ensures { OnOk result (self.new.state ≡ (step self.old.state request.now).0) }
+        ensures state { OnOk result (self.new.state ≡ (step self.old.state request.now).0) }
+        ensures idle { (account key : List ℕ) (p : Post) → request.now ≡ Request.Post account key p → is_bill p ≡ true → steps.new ≡ steps.old }
     {
         match request {
             Request::Shared(shared) => self.share_loaded(alloc, request, shared),

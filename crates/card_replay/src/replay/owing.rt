@@ -1,5 +1,8 @@
 // Statements that an account owes: how they are made, and how a Bill comes to owe one.
-ghost use Rattle.std.specs.Prelude.{◌≡◌, ◌+◌, ◌≤◌, true, false, [], None, IfOk, IfSome, OnOk, OnErr, ◌⊎◌};
+ghost use Rattle.std.specs.Prelude.{◌≡◌, ◌+◌, ◌<◌, ◌≤◌, true, false, [], None, Some, IfOk, IfSome, OnOk, OnErr, ◌⊎◌};
+ghost use Rattle.std.specs.List.{All};
+ghost use Rattle.card_book.specs.GoingOn as going;
+ghost use Rattle.card_book.specs.Laws.{is_bill};
 ghost use Rattle.card_book.specs.Stands.{steps_over};
 ghost use Rattle.card_daily.specs.Given.{IsSound};
 ghost use Rattle.card_events.specs.Blanks.{IsBlankOf};
@@ -8,19 +11,31 @@ ghost use Rattle.card_events.specs.History.{anchor_of, is_open};
 ghost use Rattle.card_events.specs.Keys.{with_key};
 ghost use Rattle.card_model.specs.Machine.{accepted};
 ghost use Rattle.card_model.specs.Refusals.{reason_against};
+ghost use Rattle.card_model.specs.Unread as unread;
 ghost use Rattle.card_posts.specs.Draft.{IsFirstWith};
-ghost use Rattle.card_replay.specs.Changes.{IsChangeOf, IsOwedFor, IsPrepared, IsReadyFor, LeavesOwed};
+ghost use Rattle.card_replay.specs.Changes.{IsChangeOf, IsOwedFor, IsPrepared, IsReadyFor, LeavesOwed, OwesBill, StaysUnfolded};
+ghost use Rattle.card_replay.specs.Needs as needs;
 ghost use Rattle.card_replay.specs.Replays.{IsReplay, MayReach, SameLists, given_of, posted_of, present_of};
 
 use super::Replay;
 use crate::change::Change;
-use crate::rewinding::{is_folded_to, is_unread, needs_today};
+use crate::rewinding::{is_folded_to, is_unread, sets_rates};
 use card_events::{Day, Name, NoMemory, Post, Steps};
 use card_fees::SharedRows;
 use card_past::{IssuedIfAny, Owed, is_reached, make_anew, owed_for};
 use std::alloc::Global;
 use std::marker::Brand;
 use std::sync::ledger::{Blank, Ledger};
+
+// Whether a load folds for a post, where this is the first day that it changes: one that sets rates, and one that a fold reads and that
+// changes a day up to the closing of a cycle whose statement is owed.
+fn folds_to_load(post: &Post, from: Day, owed: &[Owed]) -> bool
+    ensures value { result ≡ needs.folds_to_load post.now from owed.now }
+    ensures rates { result ≡ false → going.sets_rates post.now ≡ false }
+    ensures leaves { result ≡ false → unread.is_unread post.now ≡ false → All (λ o. o.closing < from) owed.now }
+{
+    sets_rates(post) || (!is_unread(post) && is_reached(owed, from))
+}
 
 impl Replay {
     /// Makes the statements that are owed, from the opening day on: the day last reached stays. It takes no step where none is owed, and
@@ -107,7 +122,8 @@ impl Replay {
         requires replay { IsReplay _shared.now self.now }
         requires reach { MayReach today self.now }
         requires no_reason { reason_against (present_of today _shared.now self.now.lists) post.now ≡ None }
-        ensures { IfSome result (IsOwedFor today post.now self.now) }
+        ensures bill { IfSome result (IsOwedFor today post.now self.now) }
+        ensures none { result ≡ None → is_bill post.now ≡ true → self.now.folding.reached ≡ today }
     {
         if is_folded_to(&self.book, today) {
             None
@@ -134,8 +150,10 @@ impl Replay {
         ensures same { SameLists self.old self.new }
         ensures replay { IsReplay _shared.now self.new }
         ensures folding { self.new.folding ≡ self.old.folding }
+        ensures late { self.new.late ≡ self.old.late }
         ensures prepared { IfOk result (λ c. IsPrepared _shared.now c self.new) }
         ensures post { IfOk result (λ c. IsChangeOf key today post.now c) }
+        ensures owes { IfOk result (λ c. c.owes ≡ Some one) }
     {
         self.make_room(alloc)?;
         Ok(Change {
@@ -148,7 +166,8 @@ impl Replay {
         })
     }
 
-    // Folds to the end of today for a post that asks for it, or that changes a day up to the closing of a cycle whose statement is owed.
+    // Folds to the end of today for a post that sets rates, or that changes a day up to the closing of a cycle whose statement is owed. For a
+    // Bill today is reached.
     fn reach_loaded<L: Ledger>(
         &mut self,
         alloc: Global,
@@ -160,13 +179,15 @@ impl Replay {
     ) -> Result<(), NoMemory>
         requires replay { IsReplay shared.now self.old }
         requires reach { MayReach today self.old }
+        requires bill { is_bill post.now ≡ true → self.old.folding.reached ≡ today }
         ensures same { SameLists self.old self.new }
         ensures replay { IsReplay shared.now self.new }
         ensures reached { (self.new.folding.reached ≡ self.old.folding.reached) ⊎ (self.new.folding.reached ≡ today) }
         ensures ready { OnOk result (IsReadyFor today post.now self.new) }
         ensures leaves { OnOk result (LeavesOwed post.now from self.new) }
+        ensures idle { needs.folds_to_load post.now from self.old.late.owed ≡ false → StaysUnfolded self.old self.new steps.old steps.new }
     {
-        if needs_today(post) || (!is_unread(post) && is_reached(&self.owed, from)) {
+        if folds_to_load(post, from, &self.owed) {
             self.to_day(alloc, today, shared, steps)?;
         }
         Ok(())
@@ -174,7 +195,7 @@ impl Replay {
 
     /// Prepares a post as `prepare` does, for an account that is loaded: the statement of a Bill is owed where today isn't reached, so that
     /// nothing is folded for it. For what sets rates, and for a post that changes a day up to the closing of a cycle whose statement is
-    /// owed, the account reaches today. If memory runs out, it is the same account too.
+    /// owed, the account reaches today. For any other post nothing is folded or made, and no step is taken. If memory runs out, it is the same account too.
     pub fn prepare_loaded<L: Ledger>(
         &mut self,
         alloc: Global,
@@ -198,6 +219,8 @@ impl Replay {
         ensures reached { (self.new.folding.reached ≡ self.old.folding.reached) ⊎ (self.new.folding.reached ≡ today) }
         ensures prepared { IfOk result (λ c. IsPrepared shared.now c self.new) }
         ensures post { IfOk result (λ c. IsChangeOf key today post.now c) }
+        ensures owes { IfOk result (OwesBill today post.now self.old.folding.reached) }
+        ensures idle { needs.folds_to_load post.now from self.old.late.owed ≡ false → StaysUnfolded self.old self.new steps.old steps.new }
     {
         match self.owes(post, today, shared) {
             Some(one) => self.owing(alloc, key, post, today, one, shared),

@@ -1,10 +1,13 @@
 use Rattle.std.proofs.Common.{◌≡◌, None, sym, subst}
+use Rattle.std.specs.Prelude.{IfOk}
 use Rattle.card_account.specs.Accounts.{IsTold, OpenAccount, replay_of}
+use Rattle.card_account.specs.Reached.{IsIdleToLoad}
 use Rattle.card_account.proofs.Told.{told-by, turned, with_replay}
 use Rattle.card_daily.specs.Given.{IsSound}
 use Rattle.card_events.specs.Keys.{with_key}
 use Rattle.card_model.specs.Machine.{accepted}
 use Rattle.card_model.specs.Refusals.{reason_against}
+use Rattle.card_replay.specs.Changes.{OwesBill}
 use Rattle.card_replay.specs.Replays.{IsReplay, MayReach, given_of, present_of}
 use Rattle.card_account.proofs.account.Account.prepare_loaded.Goals as goal
 
@@ -50,3 +53,12 @@ returns-clause-told g c =
 
 pub returns-clause-prepared : goal.returns-clause-prepared
 returns-clause-prepared g c = c.prepare_loaded.ensures.prepared
+
+pub returns-clause-owes : goal.returns-clause-owes
+returns-clause-owes g c =
+    subst (λ (a : OpenAccount). IfOk c.prepare_loaded.result (OwesBill c.args.today c.args.post.now a.folding.reached)) c.self.view_is c.prepare_loaded.ensures.owes
+
+pub returns-clause-idle : goal.returns-clause-idle
+returns-clause-idle g c =
+    subst (λ (a : OpenAccount). IsIdleToLoad c.args.shared.now c.args.today c.args.post.now (replay_of a) c.prepare_loaded.new.self c.args.steps.now c.prepare_loaded.new.steps) c.self.view_is
+    (record { from = c.first_change-first.result; first = c.first_change-first.ensures; idle = c.prepare_loaded.ensures.idle })

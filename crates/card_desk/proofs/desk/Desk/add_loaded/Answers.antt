@@ -1,6 +1,7 @@
 use Rattle.std.proofs.Common.{◌≡◌, ℕ, true, ◌+◌, ◌≤◌, List, length, get_or, set, refl, sym, ap, subst, ◌∙◌, arith}
 use Rattle.std.proofs.lemmas.List.{length-map, map-set}
 use Rattle.card_account.specs.Accounts.{IsAccount, OpenAccount}
+use Rattle.card_replay.proofs.Loading.{bill-alone}
 use Rattle.card_replay.specs.Replays.{given_of, present_of}
 use Rattle.card_daily.specs.Given.{IsSound}
 use Rattle.card_events.specs.Dated.{is_dated}
@@ -156,8 +157,8 @@ invariant_of-self-2 g c =
     posted_desk d.index d.common d.count d.today d.shared.items items at a b name key p c.self.invariant taken place low named comes
     (grew ∙ ap (λ (y : OpenAccount). length y.named.lists.posts + 1) is) short (subst (λ (n : ℕ). IsAccount n d.common a) says.today c.commit.ensures.account)
 
-pub returns : goal.returns
-returns g c =
+pub returns-clause-state : goal.returns-clause-state
+returns-clause-state g c =
     let d = c.self.inside in
     let items = d.accounts.items in
     let at = c.args.at in
@@ -190,3 +191,10 @@ returns g c =
     let allows = ap (λ (y : State). outcome_in y name key p) (sym state) ∙ (outcome ∙ ap (λ (l : Lists). Accepts l) (sym lists)) in
     let next = changed_state s t name a.named.lists at a.named b.named c.requires.place today shared accounts named refl in
     next ∙ sym (ap (λ (y : State × Reply). y.0) (ap (step s) c.requires.request ∙ post_step s name key p (Accepts a.named.lists) allows))
+
+-- ---- no step for a Bill
+pub returns-clause-idle : goal.returns-clause-idle
+returns-clause-idle g c = λ bill.
+    let b = c.index_mut-account.result.now in
+    let idle = c.prepare_loaded.ensures.idle in
+    (idle.idle (bill-alone c.args.given.now.post.now idle.from b.late.owed bill)).2

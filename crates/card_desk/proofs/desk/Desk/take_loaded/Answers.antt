@@ -1,6 +1,7 @@
-use Rattle.std.proofs.Common.{◌≡◌, [], true, None, get_or, sym, ap, subst, ◌∙◌}
+use Rattle.std.proofs.Common.{◌≡◌, [], true, false, None, get_or, refl, sym, ap, subst, ◌∙◌}
 use Rattle.card_account.specs.Verdicts.{verdict_of}
 use Rattle.card_account.specs.declared.verdict.Verdict.TheVariants as verdict
+use Rattle.card_book.specs.Laws.{is_bill}
 use Rattle.card_events.specs.Dated.{is_dated}
 use Rattle.card_events.specs.Keys.{with_key}
 use Rattle.card_events.specs.declared.reply.Reply.{Reply}
@@ -8,6 +9,9 @@ use Rattle.card_events.specs.declared.request.Request.{Request}
 use Rattle.card_model.specs.Machine.{Accepts, NamedAccount, Refuses, Repeats, State, accepted, outcome_in, step}
 use Rattle.card_model.specs.Refusals.{reason_against}
 use Rattle.card_model.specs.Work.{present_in}
+use Rattle.card_events.specs.declared.post.Post.{Post}
+use Rattle.card_reasons.specs.Reasons.{reads_book}
+use Rattle.card_replay.proofs.Loading.{of-bill}
 use Rattle.card_desk.specs.Desks.{now_at}
 use Rattle.card_desk.specs.Places.{IsPlace}
 use Rattle.card_desk.proofs.DeskLemmas.{outcome_at}
@@ -51,8 +55,8 @@ add_loaded-requires-clause-accepted g c =
     both.1 ∙ new_at_key (present_in s a.lists) key p (with_key key a.lists.posts) (both.0 ∙ ap verdict_of both.1))
 
 -- ---- what changes nothing
-pub returns-in-Ok-Refused : goal.returns-in-Ok-Refused
-returns-in-Ok-Refused g c =
+pub returns-in-Ok-Refused-clause-state : goal.returns-in-Ok-Refused-clause-state
+returns-in-Ok-Refused-clause-state g c =
     let s = c.args.self.now.state in
     let name = c.args.given.now.account.now in
     let key = c.args.given.now.key.now in
@@ -62,8 +66,8 @@ returns-in-Ok-Refused g c =
     let stays : (step s c.args.given.now.request.now).0 ≡ s = ap (λ (x : State × Reply). x.0) (ap (step s) c.requires.request ∙ post_step s name key p (Refuses r) (refused_by (outcome_in s name key p) r both.0)) in
     c.judge_at.ensures.state ∙ sym stays
 
-pub returns-in-Ok-Repeat : goal.returns-in-Ok-Repeat
-returns-in-Ok-Repeat g c =
+pub returns-in-Ok-Repeat-clause-state : goal.returns-in-Ok-Repeat-clause-state
+returns-in-Ok-Repeat-clause-state g c =
     let s = c.args.self.now.state in
     let name = c.args.given.now.account.now in
     let key = c.args.given.now.key.now in
@@ -72,3 +76,19 @@ returns-in-Ok-Repeat g c =
     let both = outcome_at s name key p c.args.at no_account (verdict.Repeat n) c.requires.place (sym c.in-Ok-Repeat.field-0-is ∙ c.in-Ok-Repeat.ensures.value no_account) in
     let stays : (step s c.args.given.now.request.now).0 ≡ s = ap (λ (x : State × Reply). x.0) (ap (step s) c.requires.request ∙ post_step s name key p (Repeats n) (repeated_by (outcome_in s name key p) n both.0)) in
     c.judge_at.ensures.state ∙ sym stays
+
+-- ---- no step for a Bill, which is judged alone
+alone : (p : Post) → is_bill p ≡ true → reads_book p ≡ false
+alone p bill = of-bill (λ (q : Post). reads_book q ≡ false) (λ cycle. refl) p bill
+
+pub returns-in-Ok-Refused-clause-idle : goal.returns-in-Ok-Refused-clause-idle
+returns-in-Ok-Refused-clause-idle g c = λ bill. c.judge_at.ensures.idle.unread (alone c.args.given.now.post.now bill)
+
+pub returns-in-Ok-Repeat-clause-idle : goal.returns-in-Ok-Repeat-clause-idle
+returns-in-Ok-Repeat-clause-idle g c = λ bill. c.judge_at.ensures.idle.unread (alone c.args.given.now.post.now bill)
+
+pub returns-in-Err-clause-idle : goal.returns-in-Err-clause-idle
+returns-in-Err-clause-idle g c = λ bill. c.judge_at.ensures.idle.unread (alone c.args.given.now.post.now bill)
+
+pub returns-in-Ok-New-clause-idle : goal.returns-in-Ok-New-clause-idle
+returns-in-Ok-New-clause-idle g c = λ bill. c.add_loaded.ensures.idle bill ∙ c.judge_at.ensures.idle.unread (alone c.args.given.now.post.now bill)
