@@ -2,6 +2,7 @@
 
     python3 -m bench year [--shards N] [--accounts N] [--months N] [--seed N] [--sample N]
                           [--results FILE] [--folder DIR]
+    python3 -m bench year --table FILE [FILE ..]
 
 It takes hours and is run once, by hand. 50 shards of 20,000 accounts are made one after the other,
 each a ledger of its own. For each shard it notes rows, seconds, memory, bytes and statements as a
@@ -17,6 +18,9 @@ it is called again. At the end it prints a table in Markdown, and looks at three
 3. The rows. A stock SQLite counts as many as there were accepted lines.
 
 Status 1 says that the sums or the audit of a shard disagree; its files stay then.
+
+Several calls can run at once, each with a seed, a results file and a folder of its own. `--table`
+then prints one table of their files; seconds by the clock are those of shards side by side.
 
 **The load.** All accounts of a shard close on the same day of the month, those of the next shard
 on another one. Every day has a night: its roll, and the records of the day before, some of them

@@ -16,7 +16,7 @@ from tests.support.program import PROGRAM, not_built
 
 from ..measure import stop
 from .calendar import MOST_MONTHS
-from .results import Result, Results, Setup, digest_of
+from .results import Result, Results, Setup, all_of, digest_of
 from .shard import carried_out, say
 from .table import report
 
@@ -47,6 +47,9 @@ def options(words: list[str]) -> argparse.Namespace:
                         help=f"a line for each shard that is done; otherwise {RESULTS}")
     parser.add_argument("--folder", metavar="DIR", help="where the shards' files are, whose disk "
                         "decides what a commit takes; otherwise a new temporary folder")
+    parser.add_argument("--table", nargs="+", metavar="FILE",
+                        help="runs nothing, and prints one table of the results of several calls, "
+                        "which differ in their seed alone")
     given = parser.parse_args(words)
     if given.months > MOST_MONTHS:
         parser.error(f"--months {given.months} is more than {MOST_MONTHS}")
@@ -97,8 +100,16 @@ def all_shards(shards: int, setup: Setup, results: Results, place: Path) -> None
         say(f"shard {at} is done; {left} are left, about {minutes:.0f} minutes")
 
 
+def printed(found: list[Result]) -> int:
+    """Prints what was found of all shards, and gives the status."""
+    print("\n".join(report(found)))
+    return 0 if all(result.is_right for result in found) else 1
+
+
 def main(words: list[str]) -> int:
     given = options(words)
+    if given.table:
+        return printed(all_of(given.table))
     if not_built():
         stop(not_built())
     setup = Setup(given.accounts, given.months, given.seed, given.sample, digest_of(PROGRAM))
@@ -111,6 +122,4 @@ def main(words: list[str]) -> int:
             all_shards(given.shards, setup, results, place)
     except KeyboardInterrupt:
         stop("year: stopped; the same call goes on behind the last whole shard")
-    found = results.first(given.shards)
-    print("\n".join(report(found)))
-    return 0 if all(result.is_right for result in found) else 1
+    return printed(results.first(given.shards))

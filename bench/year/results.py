@@ -76,17 +76,48 @@ def read_line(line: str) -> Result:
     return Result(**fields)
 
 
+def result_of(path: str, number: int, line: str) -> Result:
+    """The result that a line of a file has."""
+    try:
+        return read_line(line)
+    except (ValueError, TypeError, KeyError):
+        stop(f"year: line {number} of {path} is no result of a shard: name another file, or remove "
+             "this line")
+
+
+def lines_of(path: str) -> list[str]:
+    try:
+        with open(path, encoding="utf-8") as file:
+            return file.readlines()
+    except OSError as error:
+        stop(f"year: {path} can't be read: {error.strerror}")
+
+
+def all_of(paths: list[str]) -> list[Result]:
+    """The results of calls that differ in their seed alone, by seed and shard."""
+    found, setups = dict[tuple[int, int], Result](), set[Setup]()
+    for path in paths:
+        for number, line in enumerate(lines_of(path), 1):
+            result = result_of(path, number, line)
+            setups.add(dataclasses.replace(result.setup, seed=0))
+            place = (result.setup.seed, result.shard)
+            if place in found:
+                stop(f"year: line {number} of {path}: shard {result.shard} of seed {place[0]} "
+                     "stands twice: name each file once, and give calls seeds of their own")
+            found[place] = result
+    if len(setups) != 1:
+        stop(f"year: {', '.join(paths)}: the shards are of {len(setups)} kinds of runs, and not of "
+             "one: name files of calls that differ in their seed alone")
+    return [found[place] for place in sorted(found)]
+
+
 class Results:
     """The results file. A line that a stop cut short is written over."""
 
     def __init__(self, path: str, setup: Setup) -> None:
         self.path, self.found = path, dict[int, Result]()
         for number, line in enumerate(self.whole_lines(), 1):
-            try:
-                result = read_line(line)
-            except (ValueError, TypeError, KeyError):
-                stop(f"year: line {number} of {path} is no result of a shard: name another file by "
-                     "--results, or remove this line")
+            result = result_of(path, number, line)
             if result.setup != setup:
                 stop(f"year: line {number} of {path} is of {result.setup}, and this run of {setup}:"
                      " call it as before, or name another file by --results")

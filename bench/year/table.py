@@ -85,6 +85,12 @@ def table(results: list[Result]) -> Iterator[str]:
     yield figures("bytes on the disk", results, lambda result: result.size, megabytes)
 
 
+def name_of(result: Result, results: list[Result]) -> str:
+    """What a shard is called: with its seed, where the shards are of several."""
+    seeds = {other.setup.seed for other in results}
+    return f"Shard {result.shard}" + (f" of seed {result.setup.seed}" if len(seeds) > 1 else "")
+
+
 def sums(results: list[Result]) -> Iterator[str]:
     """The sums of all shards, and each shard in which they, or its audit, disagree."""
     trial = sum(result.trial for result in results)
@@ -94,10 +100,11 @@ def sums(results: list[Result]) -> Iterator[str]:
            f"{money(balances)}: {verdict}.")
     for result in results:
         if result.trial != result.balances:
-            yield (f"Shard {result.shard} disagrees: its trial balance is {money(result.trial)}, "
-                   f"the sum of its new balances {money(result.balances)}.")
+            yield (f"{name_of(result, results)} disagrees: its trial balance is "
+                   f"{money(result.trial)}, the sum of its new balances {money(result.balances)}.")
         if result.difference:
-            yield f"Shard {result.shard}: its audit found a difference: {result.difference}"
+            yield (f"{name_of(result, results)}: its audit found a difference: "
+                   f"{result.difference}")
 
 
 def audits(results: list[Result]) -> Iterator[str]:
@@ -105,7 +112,7 @@ def audits(results: list[Result]) -> Iterator[str]:
         audit, accounts = result.audit, result.setup.accounts
         if audit and audit.compared:
             whole = audit.seconds / audit.accounts * accounts / HOUR
-            yield (f"Shard {result.shard}, audited by a sample of {audit.accounts:,} of its "
+            yield (f"{name_of(result, results)}, audited by a sample of {audit.accounts:,} of its "
                    f"{accounts:,} accounts in {short(audit.seconds)} seconds, where all would take "
                    f"{short(whole)} hours: the same: {audit.compared}.")
 

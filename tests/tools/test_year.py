@@ -90,6 +90,47 @@ class Year(Case):
                 self.assertTrue(all(memory > 0 for memory in line["memory"].values()))
                 self.assertTrue(all(taken[0] > 0 for taken in line["seconds"].values()))
 
+    def seeded(self, seed: int, **more: Any) -> str:
+        """A file with the results as if they were of another seed, with other figures."""
+        lines = []
+        for line in results(self.place):
+            line["setup"]["seed"] = seed
+            lines.append(json.dumps({**line, **more}) + "\n")
+        return self.write(f"results-{seed}", "".join(lines))
+
+    def test_table_of_several_calls(self) -> None:
+        """Calls side by side give one table; a shard that is wrong is named with its seed."""
+        first = os.path.join(self.place, "results")
+        done = year(self.room, "--table", self.seeded(2), first)
+        self.assertEqual(done.returncode, 0, done.stderr)
+        count, rows = ACCOUNTS * MONTHS, sum(line["rows"] for line in results(self.place))
+        for wanted in (f"| all shards ({2 * SHARDS}) |",
+                       f"| statements issued | {count} | {count} | {2 * SHARDS * count} |",
+                       f"| {2 * rows:,} |\n", "\nShard 0 of seed 1, audited by a sample of ",
+                       "\nShard 0 of seed 2, audited by a sample of "):
+            self.assertIn(wanted, done.stdout)
+        self.assertFalse(os.path.exists(self.at("results")))
+        wrong = year(self.room, "--table", first, self.seeded(3, trial=1))
+        self.assertEqual(wrong.returncode, 1, wrong.stderr)
+        self.assertEqual(re.findall("^(.*) disagrees: its trial balance is 0.01,", wrong.stdout,
+                                    re.M), ["Shard 0 of seed 3", "Shard 1 of seed 3"])
+
+    def test_table_refuses(self) -> None:
+        """The same shard twice, other runs, what is no result, and a file that isn't there."""
+        first = os.path.join(self.place, "results")
+        other = self.seeded(4)
+        with open(other, encoding="utf-8") as file:
+            text = file.read().replace(f'"months": {MONTHS}', f'"months": {MONTHS + 1}')
+        for files, why in (((first, first), "shard 0 of seed 1 stands twice"),
+                           ((first, self.write("months", text)), "are of 2 kinds of runs"),
+                           ((self.write("text", "a\n"),), "is no result of a shard"),
+                           ((self.at("none"),), "can't be read: No such file or directory")):
+            with self.subTest(why=why):
+                done = year(self.room, "--table", *files)
+                self.assertEqual(done.returncode, 1)
+                self.assertIn(why, done.stderr)
+                self.assertEqual(done.stdout, "")
+
     def changing(self, shard: str) -> str:
         """A program that changes a row of this shard's file."""
         program = self.write("billctl", CHANGING.format(python=sys.executable, program=PROGRAM,
