@@ -195,7 +195,8 @@ impl Replay {
 
     /// Prepares a post as `prepare` does, for an account that is loaded: the statement of a Bill is owed where today isn't reached, so that
     /// nothing is folded for it. For what sets rates, and for a post that changes a day up to the closing of a cycle whose statement is
-    /// owed, the account reaches today. For any other post nothing is folded or made, and no step is taken. If memory runs out, it is the same account too.
+    /// owed, the account reaches today. For any other post nothing is folded or made, and no step is taken. If memory runs out, it is the
+    /// same account too.
     pub fn prepare_loaded<L: Ledger>(
         &mut self,
         alloc: Global,
