@@ -36,8 +36,9 @@ load a shard 730 times a year, and all shards for a day or longer. So the nights
 through one `apply`, each with its roll and its records as lines: so the companion's night sends
 them where many records wait. Then one `serve` answers for the statements. The rows are those that
 a run for each night would leave. A shard's year has 24 starts so, and one for `trial`. They take
-half of the time still. A shard takes some three minutes on a processor of 2.5 GHz, so all 50 take
-two and a half hours one after the other; by four calls at once they took 41 minutes.
+half of the time still. A shard takes some three minutes on a processor of 2.5 GHz, so all 50
+would take some two and a half hours one after the other; by four calls at once they took 41
+minutes.
 
 **What is measured.** `starts` are the seconds from the begin of a run until it has loaded the rows
 and answers; `imports` those of openings and records; `nights` those of rolls, bills, statements,
