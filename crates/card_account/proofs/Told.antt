@@ -11,9 +11,10 @@ use Rattle.card_model.proofs.Spans.{spans_are_steps}
 use Rattle.card_model.specs.Cycles.{IssuedRow}
 use Rattle.card_model.specs.Refusals.{Lists}
 use Rattle.card_posts.specs.Posted.{Posted, StandsFor, last_accepted}
+use Rattle.card_replay.proofs.Reached.{reach-same}
 use Rattle.card_replay.proofs.Settled.{settled-today}
 use Rattle.card_past.proofs.Waiting.{front-sound}
-use Rattle.card_replay.specs.Replays.{Folding, IsReplay, IsToday, MayReach, Replay, SameLists, given_of, present_of}
+use Rattle.card_replay.specs.Replays.{Folding, IsReplay, IsToday, MakesAllOrNone, MayReach, Replay, SameLists, given_of, present_of}
 
 pub may-be-folded : (today : ℕ) (shared : SharedRows) (a : OpenAccount) → IsAccount today shared a → MayBeFolded today shared a
 may-be-folded today shared a h = record {
@@ -80,12 +81,13 @@ reaches today shared a l same h = record {
 -- ---- to tell of it
 -- nothing was folded
 pub stays-told : (today : ℕ) (shared : SharedRows) (a : OpenAccount) → IsAccount today shared a → IsTold today shared a a
-stays-told today shared a h = record { named = refl; corrected = refl; account = h; reached = inr refl }
+stays-told today shared a h = record { named = refl; corrected = refl; account = h; reached = inr refl; made = inl refl }
 
 -- its replay was folded on, to today if at all
 pub told-by : (today : ℕ) (shared : SharedRows) (name : List ℕ) (old new : Replay) → MayReach today old → SameLists old new → IsReplay shared new
-    → (new.folding.reached ≡ today) ⊎ (new.folding.reached ≡ old.folding.reached) → IsTold today shared (with_replay name old) (with_replay name new)
-told-by today shared name old new reach same replay reached = record {
+    → (new.folding.reached ≡ today) ⊎ (new.folding.reached ≡ old.folding.reached) → MakesAllOrNone old.late new.late
+    → IsTold today shared (with_replay name old) (with_replay name new)
+told-by today shared name old new reach same replay reached made = record {
   named = ap (λ (l : Lists). record { name = name; lists = l }) same.lists;
   corrected = same.corrected;
   account = record {
@@ -98,6 +100,7 @@ told-by today shared name old new reach same replay reached = record {
     };
   };
   reached = reached;
+  made = made;
 }
   where
     later : (new.folding.reached ≡ today) ⊎ (new.folding.reached ≡ old.folding.reached) → new.folding.reached ≤ today
@@ -106,8 +109,14 @@ told-by today shared name old new reach same replay reached = record {
 
 -- what it owed was made, and its folding stays
 pub told-made : (today : ℕ) (shared : SharedRows) (name : List ℕ) (old new : Replay) → MayReach today old → SameLists old new → IsReplay shared new → new.folding ≡ old.folding
-    → IsTold today shared (with_replay name old) (with_replay name new)
-told-made today shared name old new reach same replay folding = told-by today shared name old new reach same replay (inr (ap (λ (f : Folding). f.reached) folding))
+    → MakesAllOrNone old.late new.late → IsTold today shared (with_replay name old) (with_replay name new)
+told-made today shared name old new reach same replay folding made = told-by today shared name old new reach same replay (inr (ap (λ (f : Folding). f.reached) folding)) made
+
+-- all that it owed is made where today is reached; after a want of memory what is made and owed is as it was
+pub all-or-none : {T E : Type 0} (r : Result T E) (today : ℕ) (shared : SharedRows) (old new : Replay) → MayReach today old → SameLists old new → IsReplay shared new
+    → OnOk r (new.folding.reached ≡ today) → OnErr r (new.late ≡ old.late) → MakesAllOrNone old.late new.late
+all-or-none r today shared old new reach same replay = either-of r (new.folding.reached ≡ today) (new.late ≡ old.late) (MakesAllOrNone old.late new.late)
+    (λ reached. inr (settled-today shared today new replay (reach-same today old new same (omega (arith, reached)) reach) reached).owed) (λ e. inl e)
 
 pub has-told : (today : ℕ) (shared : SharedRows) (old new : OpenAccount) → IsTold today shared old new → new.folding.reached ≡ today → HasTold today shared old new
 has-told today shared old new told reached = record { told = told; reached = reached }

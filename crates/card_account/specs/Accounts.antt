@@ -20,7 +20,7 @@ use Rattle.card_model.specs.Machine.{NamedAccount}
 use Rattle.card_model.specs.Refusals.{Lists, Present, book_today}
 use Rattle.card_model.specs.Sheets.{sheet_of}
 use Rattle.card_replay.specs.Owes.{Late}
-use Rattle.card_replay.specs.Replays.{Folding, IsReplay, MayReach, Replay, present_of}
+use Rattle.card_replay.specs.Replays.{Folding, IsReplay, MakesAllOrNone, MayReach, Replay, present_of}
 use Rattle.card_replay.specs.Steps.{steps_to}
 use Rattle.card_rates.specs.Segments.{account_segments}
 
@@ -53,12 +53,14 @@ pub record IsAccount (today : ℕ) (shared : SharedRows) (a : OpenAccount) : Typ
   pub replay : IsReplay shared (replay_of a)
   pub reach : MayReach today (replay_of a)
 
--- after a call that tells of it, it is the same account, and has reached today or the day that it had reached
+-- After a call that tells of it, it is the same account, and has reached today or the day that it had reached; of the statements that it
+-- owed, all are made or none is
 pub record IsTold (today : ℕ) (shared : SharedRows) (old new : OpenAccount) : Type 0 where
   pub named : new.named ≡ old.named
   pub corrected : new.corrected ≡ old.corrected
   pub account : IsAccount today shared new
   pub reached : (new.folding.reached ≡ today) ⊎ (new.folding.reached ≡ old.folding.reached)
+  pub made : MakesAllOrNone old.late new.late
 
 -- and a call that answers has reached today
 pub record HasTold (today : ℕ) (shared : SharedRows) (old new : OpenAccount) : Type 0 where

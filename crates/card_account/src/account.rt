@@ -20,9 +20,10 @@ use std::marker::Model;
 use std::sync::ledger::Ledger;
 
 /// An account: its name, and its posts and issued statements with its book folded to the day last reached. One that was just opened has
-/// reached none. Of the statements some may be owed where the account was loaded: they are made when a fold passes the days of their
-/// Bills, or when an issued statement is asked for. A call that is given today and shared rows requires an account that stands under these
-/// rows, and a today that is at most 2099-12-31 and not before the opening day, the day last reached or a day on which a post was accepted.
+/// reached none. Of the statements some may be owed where the account was loaded: all of them are made when it is folded to today, when an
+/// issued statement is asked for, and before it takes a post that changes a day up to the closing of one of them. A call that is given
+/// today and shared rows requires an account that stands under these rows, and a today that is at most 2099-12-31 and not before the
+/// opening day, the day last reached or a day on which a post was accepted.
 #[derive(Drop)]
 pub struct Account {
     name: Name,
@@ -138,7 +139,8 @@ impl Account {
         self.replay.folded(today, shared)
     }
 
-    /// Folds it to the end of today.
+    /// Folds it to the end of today, and makes the statements that are owed on the way. If memory runs out, those that are made and those
+    /// that are owed are as before.
     pub fn to_day<L: Ledger>(
         &mut self,
         alloc: Global,
@@ -151,6 +153,7 @@ impl Account {
         ensures today { OnOk result (HasTold today shared.now self.old self.new) }
         ensures most { steps.new ≤ steps.old + steps_of today shared.now self.old }
         ensures spent { OnOk result (steps.new + steps_of today shared.now self.new ≤ steps.old + steps_of today shared.now self.old) }
+        ensures late { OnErr result (self.new.late ≡ self.old.late) }
     {
         self.replay.to_day(alloc, today, shared, steps)
     }
@@ -336,7 +339,7 @@ impl Account {
         self.replay.commit(change, shared)
     }
 
-    /// What is owed on it today, which it reaches.
+    /// What is owed on it today, which it reaches. If memory runs out, the statements that are made and those that are owed are as before.
     pub fn show<L: Ledger>(
         &mut self,
         alloc: Global,
@@ -350,6 +353,7 @@ impl Account {
         ensures value { IfOk result (λ o. o ≡ owing_in (book_today (present_of today shared.now self.old.named.lists))) }
         ensures most { steps.new ≤ steps.old + steps_of today shared.now self.old }
         ensures spent { OnOk result (steps.new + steps_of today shared.now self.new ≤ steps.old + steps_of today shared.now self.old) }
+        ensures late { OnErr result (self.new.late ≡ self.old.late) }
     {
         self.to_day(alloc, today, shared, steps)?;
         let folded = self.folded(today, shared);
@@ -380,8 +384,9 @@ impl Account {
         entries_today(alloc, &self.present(today, shared), &folded)
     }
 
-    /// The statement of a cycle as it was issued, none where no Bill has issued it. Statements that are owed are made first, since it may
-    /// be one of them. The day last reached stays, and no step is taken where none is owed.
+    /// The statement of a cycle as it was issued, none where no Bill has issued it (12 CFR 1026.5(b)(2), .7(b)). Statements that are owed
+    /// are made first, since it may be one of them. The day last reached stays. No step is taken where none is owed, and else at most one a
+    /// break day from the opening day to today. If memory runs out, all that were owed are made, or none is.
     pub fn issued<L: Ledger>(
         &mut self,
         alloc: Global,

@@ -1,5 +1,5 @@
--- How many steps a call on a desk takes. A step is a span of an account: at most one day with its posts, and the days before it. Days
--- are day numbers.
+-- How many steps a call on a desk takes. A step is a span of an account: at most one day with its posts, and the days before it. Those that
+-- make what a load put off are the load's, and aren't counted. Days are day numbers.
 use Rattle.std.specs.Prelude.{ℕ, Bool, false, ◌+◌, ◌*◌, ◌≡◌, ◌≤◌, List, [], slice_index_or, Option, Some, None}
 use Rattle.std.specs.List.{sum_by, zip}
 use Rattle.card_events.specs.Keys.{with_key}
@@ -107,7 +107,7 @@ abbrev pub asks_today : Post → Outcome → Bool
 asks_today p (Accepts new) = needs_today p
 asks_today p _ = false
 
--- No step is taken for a post whose key is used in its account, whether it is a repeat or refused; nor for one that isn't judged by a
+-- No step is counted for a post whose key is used in its account, whether it is a repeat or refused; nor for one that isn't judged by a
 -- book, where it isn't accepted, or sets no rates and is no Bill
 pub record IsIdleToPost (a : ReachedLists) (key : List ℕ) (p : Post) (o : Outcome) (before after : ℕ) : Type 0 where
   pub used : (with_key key a.lists.posts ≡ None → ⊥) → after ≡ before

@@ -426,13 +426,14 @@ impl Desk {
     }
 
     /// One step of the machine. The request has days of requests, and the keeper's rows continue the desk's state. A newly accepted
-    /// request is prepared, then its row is kept, then it is carried out without memory; a refusal or a repeat changes nothing. No account but the one that the request names is touched, and the reply
-    /// depends on no other. After a fault the state and the rows are as they were. It takes at most two steps more than twice the
-    /// break days, before or after the request, from the first day of the cycle in which the first changed day lies, or from the day
-    /// last reached where that is earlier, to today; of a request that isn't accepted, from the day last reached on. An opening and a
-    /// shared request take none, nor does a post of an account that isn't there, or one under a key that its account has used. Of other
-    /// posts only a Penalty and a Refund may take any, and a Bill, a Plan, a Notice and a Lower that is accepted. Steps that make statements
-    /// which a load put off, where a post changes a day up to the closing of one, aren't counted.
+    /// request is prepared, then its row is kept, then it is carried out without memory; a refusal or a repeat changes nothing. No account
+    /// except the one that the request names is touched, and the reply depends on no other. After a fault the state and the rows are as
+    /// they were. It takes at most two steps more than twice the break days, before or after the request, from the first day of the cycle
+    /// in which the first changed day lies, or from the day last reached where that is earlier, to today; of a request that isn't accepted,
+    /// from the day last reached on. An opening and a shared request take none, nor does a post of an account that isn't there, or one under
+    /// a key that its account has used. Of other posts only a Penalty and a Refund may take any, and a Bill, a Plan, a Notice and a Lower
+    /// that is accepted. Where a post changes a day up to the closing of a statement that a load put off, all that the load put off for its
+    /// account is made first. The steps of that aren't counted: they are the load's, and afterwards none are left.
     ///
     /// `Keeper`: the keeper failed, which alone raises its count. `Memory`: memory ran out.
     #[tactic(auto, using(crate::proofs::Apart::apart_of_step), unfolding(crate::specs::Reached::MovesToApply, crate::specs::Recorded::AppliedStays, crate::specs::Steps::AreFewToApply, crate::specs::Steps::IsIdleToApply))]
@@ -659,7 +660,8 @@ impl Desk {
     /// The answer to what is asked, or that memory ran out. The state stays; the accounts that the answer is of reach today, and if memory
     /// runs out, some may have. It takes at most one step more than there are break days from the day last reached to today, none
     /// where the account isn't there or for what was issued, and for `Work` at most the sum of these over all accounts. Where an issued
-    /// statement is asked for, the steps that make what a load put off aren't counted.
+    /// statement is asked for, the steps that make what a load put off for its account aren't counted: they are the load's, and afterwards
+    /// none are left.
     #[tactic(auto, unfolding(crate::specs::Reached::MovesToSee, crate::specs::Recorded::SeenStays, crate::specs::Views::seen, crate::specs::Steps::AreFewToSee))]
     pub fn see<L: Ledger>(
         &mut self,

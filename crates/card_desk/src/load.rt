@@ -24,7 +24,8 @@ impl Desk {
     ghost use Rattle.card_desk.specs.Kept.{AreDamagedAt, IsLoadedOf, Fits};
 
     /// The desk that the kept rows give: that of a run of their requests. The rows stay, whatever is answered. Nothing is said of the
-    /// steps. No account is folded for a Bill: its statement is made when a fold passes its day, or when it is asked for.
+    /// steps. No account is folded for a Bill: its statement is made when a fold passes its day, when it is asked for, or before a post is
+    /// taken that changes a day up to its closing.
     ///
     /// `Damaged(n)`: row n, counted from 1, is the first whose number isn't n, whose body is no spelling, or whose request
     /// is refused or a repeat in its place; it never comes for rows that a desk wrote.

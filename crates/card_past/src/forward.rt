@@ -34,7 +34,8 @@ pub fn folded_on<L: Ledger>(
     Ok(kept)
 }
 
-/// The same; if memory runs out, the past is as it was.
+/// Folds a copy of a Book, or, where there is none, the one before the opening day, to the end of today. If memory runs out, the past is
+/// as it was.
 pub fn reach<L: Ledger>(
     alloc: Global,
     inputs: &Inputs,

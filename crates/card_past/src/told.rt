@@ -9,7 +9,7 @@ use card_fees::SharedRows;
 use card_posts::Posts;
 use std::marker::Model;
 
-/// A list of rows that takes no memory.
+/// All rows that the Bills of an account issued, whether they are made or owed, as clauses know them. It takes no memory: no row is in it.
 #[derive(Drop)]
 pub struct Told {
     pub ghost rows: { List IssuedRow },
@@ -20,14 +20,14 @@ impl Model for Told {
 }
 
 impl Told {
-    /// None.
+    /// The list without a row, as of an account that was just opened.
     pub fn none() -> Told
         ensures { result.rows ≡ [] }
     {
         Told {}
     }
 
-    /// With those that a post issues which is accepted behind these posts.
+    /// The list with the row behind the others that a post issues, where it is a Bill that is accepted behind these posts.
     pub fn with(&self, _posts: &Posts, _shared: &SharedRows, _post: &Post, _today: &Day) -> Told
         ensures { result.rows ≡ self.now.rows ++ issues (record { today = _today.now; shared = _shared.now; lists = record { posts = _posts.now.history; issued = self.now.rows } }) _post.now }
     {
@@ -35,7 +35,7 @@ impl Told {
     }
 }
 
-/// Tells what a post issues that is accepted behind these posts.
+/// Adds the row that a post issues, where it is a Bill that is accepted today behind these posts. It doesn't allocate.
 pub fn tell(told: &mut Told, posts: &Posts, shared: &SharedRows, post: &Post, today: Day)
     ensures { told.new.rows ≡ told.old.rows ++ issues (record { today = today; shared = shared.now; lists = record { posts = posts.now.history; issued = told.old.rows } }) post.now }
 {

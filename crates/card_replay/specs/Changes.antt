@@ -83,7 +83,7 @@ pub record IsOwedFor (today : ℕ) (p : Post) (r : Replay) (o : Owed) : Type 0 w
 abbrev pub LeavesOwed : Post → ℕ → Replay → Type 0
 LeavesOwed p from r = is_unread p ≡ false → All (λ o. o.closing < from) r.late.owed
 
--- where the post doesn't ask for that, nothing is folded and no step is taken
+-- where the post doesn't ask for that, what is folded of it stays, and no step is counted
 abbrev pub FoldsIfNeeded : Post → Folding → Folding → ℕ → ℕ → Type 0
 FoldsIfNeeded p old new before after = needs_today p ≡ false → (new ≡ old) × (after ≡ before)
 
@@ -107,8 +107,8 @@ pub record MayPrepare (shared : SharedRows) (today : ℕ) (key : List ℕ) (p : 
   pub sound : IsSound (given_of (accepted (present_of today shared r.lists) key p) shared)
   pub read : is_unread p ≡ false
 
--- The post was prepared for this account: the row is the one that the post issues, unless its statement is owed, and whatever the account becomes by taking the
--- post, it stands, and may be brought to today, from a day that isn't before the last closing before the change
+-- The post was prepared for this account: the row is the one that the post issues, unless its statement is owed, and whatever the account
+-- becomes by taking the post, it stands, and may be brought to today, from a day that isn't before the last closing before the change
 pub record IsPrepared (shared : SharedRows) (c : Change) (r : Replay) : Type 0 where
   pub replay : IsReplay shared r
   pub reach : MayReach c.today r

@@ -70,7 +70,7 @@ impl Replay {
     ghost use Rattle.card_book.specs.GoingOn as rates;
     ghost use Rattle.card_replay.specs.Changes.{FoldsIfNeeded, IsChangeOf, IsCommitted, IsPrepared, IsReadyFor, IsRewoundBy, LeavesOwed, MayPrepare, issued_as};
     ghost use Rattle.card_posts.specs.Draft.{IsFirstWith};
-    ghost use Rattle.card_replay.specs.Replays.{IsReplay, IsToday, KeepsEve, MayReach, SameLists, day_of, given_of, opened_lists, posted_of, present_of};
+    ghost use Rattle.card_replay.specs.Replays.{IsReplay, IsToday, KeepsEve, MakesAllOrNone, MayReach, SameLists, day_of, given_of, opened_lists, posted_of, present_of};
     ghost use Rattle.card_replay.specs.Standing.{AreStanding, IsForetold, IsStandingCount, MayCome};
     ghost use Rattle.card_replay.specs.Steps.{AreFewToPrepare, IsNear, steps_to};
 
@@ -109,8 +109,10 @@ impl Replay {
     }
 
     /// Folds to the end of today, which isn't before the opening day, the day last reached or a day on which a post was accepted, and is
-    /// at most 2099-12-31. The posts and the issued statements stay. It takes one step a break day after the day last reached, and one more where today is later and none. The Book of the day that was last
-    /// reached is kept, where a later one is. If memory runs out, the day last reached is as before.
+    /// at most 2099-12-31. The posts and the issued statements stay, and those that are owed are made on the way. It takes one step a break
+    /// day after the day last reached, and one more where today is later and none. The Book of the day that was last reached is kept, where
+    /// a later one is. If memory runs out, the day last reached is as before, and so are the statements that are made and those that are
+    /// owed.
     pub fn to_day<L: Ledger>(
         &mut self,
         alloc: Global,
@@ -125,6 +127,7 @@ impl Replay {
         ensures reached { OnOk result (self.new.folding.reached ≡ today) }
         ensures eve { OnOk result (KeepsEve today self.old.folding self.new.folding) }
         ensures err { OnErr result (self.new.folding.reached ≡ self.old.folding.reached) }
+        ensures late { OnErr result (self.new.late ≡ self.old.late) }
         ensures steps { OnOk result (steps.new ≡ steps.old + steps_to today shared.now self.old) }
         ensures most { steps.new ≤ steps.old + steps_to today shared.now self.old }
     {
@@ -155,6 +158,7 @@ impl Replay {
         ensures reached { OnOk result (self.new.folding.reached ≡ today) }
         ensures eve { OnOk result (KeepsEve today self.old.folding self.new.folding) }
         ensures err { OnErr result (self.new.folding.reached ≡ self.old.folding.reached) }
+        ensures late { OnErr result (self.new.late ≡ self.old.late) }
         ensures steps { OnOk result (steps.new ≡ steps.old + steps_to today shared.now self.old) }
         ensures most { steps.new ≤ steps.old + steps_to today shared.now self.old }
     {
@@ -182,6 +186,7 @@ impl Replay {
         ensures reached { OnOk result (self.new.folding.reached ≡ today) }
         ensures eve { OnOk result (KeepsEve today self.old.folding self.new.folding) }
         ensures err { OnErr result (self.new.folding.reached ≡ self.old.folding.reached) }
+        ensures late { OnErr result (self.new.late ≡ self.old.late) }
         ensures steps { OnOk result (steps.new ≡ steps.old + steps_to today shared.now self.old) }
         ensures most { steps.new ≤ steps.old + steps_to today shared.now self.old }
     {
@@ -235,6 +240,7 @@ impl Replay {
         ensures reached { (self.new.folding.reached ≡ self.old.folding.reached) ⊎ (self.new.folding.reached ≡ today) }
         ensures idle { FoldsIfNeeded post.now self.old.folding self.new.folding steps.old steps.new }
         ensures most { steps.new ≤ steps.old + steps_to today shared.now self.old }
+        ensures all { MakesAllOrNone self.old.late self.new.late }
     {
         if !needs_today(post) {
             return Ok(());
@@ -420,13 +426,13 @@ impl Replay {
     }
 
     /// Prepares a post that is no opening, against which there is no reason, under a new key, with the first day that it changes; its
-    /// days are days of requests. There is room for it, and
-    /// the Book is there that it takes the account back to, where that day isn't after the one last reached: that of the eve, of the
-    /// closing before the cycle in which the day lies, or, in the first cycle, none. The account reaches today for a Bill, whose row is
-    /// read off the book of today, and for a Plan, a Notice or a Lower; for any other post its folding stays, and no step is taken. Where
-    /// such a post changes a day up to the closing of a cycle whose statement is owed, what is owed is made first, without a count.
-    /// The posts and the issued statements stay as they are; with the post, they are as every run leaves them. The day last reached
-    /// is as before, or today.
+    /// days are days of requests. There is room for it, and the Book is there that it takes the account back to, where that day isn't after
+    /// the one last reached: that of the eve, of the closing before the cycle in which the day lies, or, in the first cycle, none. The
+    /// account reaches today for a Bill, whose row is read off the book of today, and for a Plan, a Notice or a Lower; for any other post
+    /// its folding stays, and no step is taken. Where such a post changes a day up to the closing of a cycle whose statement is owed, all
+    /// that is owed is made first, and the steps of that aren't counted. The posts and the issued statements stay as they are; with the
+    /// post, they are as every run leaves them. The day last reached is as before, or today. If memory runs out, all that was owed is made,
+    /// or none is.
     pub fn prepare<L: Ledger>(
         &mut self,
         alloc: Global,
@@ -454,6 +460,7 @@ impl Replay {
         ensures made { IfOk result (λ c. c.owes ≡ None) }
         ensures idle { FoldsIfNeeded post.now self.old.folding self.new.folding steps.old steps.new }
         ensures most { AreFewToPrepare today shared.now self.old.lists self.old.folding.reached key post.now steps.old steps.new }
+        ensures all { MakesAllOrNone self.old.late self.new.late }
     {
         self.reach_for(alloc, post, today, shared, steps)?;
         self.make_for(alloc, post, today, from, shared)?;

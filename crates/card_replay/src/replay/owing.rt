@@ -15,7 +15,7 @@ ghost use Rattle.card_model.specs.Unread as unread;
 ghost use Rattle.card_posts.specs.Draft.{IsFirstWith};
 ghost use Rattle.card_replay.specs.Changes.{IsChangeOf, IsOwedFor, IsPrepared, IsReadyFor, LeavesOwed, OwesBill, StaysUnfolded};
 ghost use Rattle.card_replay.specs.Needs as needs;
-ghost use Rattle.card_replay.specs.Replays.{IsReplay, MayReach, SameLists, given_of, posted_of, present_of};
+ghost use Rattle.card_replay.specs.Replays.{IsReplay, MakesAllOrNone, MayReach, SameLists, given_of, posted_of, present_of};
 
 use super::Replay;
 use crate::change::Change;
@@ -38,8 +38,8 @@ fn folds_to_load(post: &Post, from: Day, owed: &[Owed]) -> bool
 }
 
 impl Replay {
-    /// Makes the statements that are owed, from the opening day on: the day last reached stays. It takes no step where none is owed, and
-    /// else at most one a break day from the opening day to today. If memory runs out, they are owed as before.
+    /// Makes the statements that are owed (12 CFR 1026.5(b)(2), .7(b)), from the opening day on: the day last reached stays. It takes no step
+    /// where none is owed, and else at most one a break day from the opening day to today. If memory runs out, they are owed as before.
     pub fn make_owed<L: Ledger>(
         &mut self,
         alloc: Global,
@@ -89,6 +89,7 @@ impl Replay {
         ensures replay { IsReplay shared.now self.new }
         ensures folding { self.new.folding ≡ self.old.folding }
         ensures none { OnOk result (self.new.late.owed ≡ []) }
+        ensures all { MakesAllOrNone self.old.late self.new.late }
     {
         let mut steps = Steps::<L>::new(blank);
         self.make_owed(alloc, today, shared, &mut steps)
@@ -110,6 +111,7 @@ impl Replay {
         ensures replay { IsReplay shared.now self.new }
         ensures folding { self.new.folding ≡ self.old.folding }
         ensures leaves { OnOk result (LeavesOwed post.now from self.new) }
+        ensures all { MakesAllOrNone self.old.late self.new.late }
     {
         if is_unread(post) || !is_reached(&self.owed, from) {
             return Ok(());
@@ -186,6 +188,7 @@ impl Replay {
         ensures ready { OnOk result (IsReadyFor today post.now self.new) }
         ensures leaves { OnOk result (LeavesOwed post.now from self.new) }
         ensures idle { needs.folds_to_load post.now from self.old.late.owed ≡ false → StaysUnfolded self.old self.new steps.old steps.new }
+        ensures all { MakesAllOrNone self.old.late self.new.late }
     {
         if folds_to_load(post, from, &self.owed) {
             self.to_day(alloc, today, shared, steps)?;
@@ -222,6 +225,7 @@ impl Replay {
         ensures post { IfOk result (λ c. IsChangeOf key today post.now c) }
         ensures owes { IfOk result (OwesBill today post.now self.old.folding.reached) }
         ensures idle { needs.folds_to_load post.now from self.old.late.owed ≡ false → StaysUnfolded self.old self.new steps.old steps.new }
+        ensures all { MakesAllOrNone self.old.late self.new.late }
     {
         match self.owes(post, today, shared) {
             Some(one) => self.owing(alloc, key, post, today, one, shared),

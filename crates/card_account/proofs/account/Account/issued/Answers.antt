@@ -6,6 +6,7 @@ use Rattle.card_book.specs.Stands.{steps_over}
 use Rattle.card_events.specs.History.{anchor_of}
 use Rattle.card_model.specs.Cycles.{IssuedRow}
 use Rattle.card_replay.specs.Replays.{IsReplay, MayReach, given_of}
+use Rattle.card_replay.proofs.Anew.{all-or-none}
 use Rattle.card_account.proofs.account.Account.issued.Goals as goal
 
 pub make_owed-requires-clause-replay : goal.make_owed-requires-clause-replay
@@ -22,7 +23,8 @@ returns-clause-told g c =
     let did = c.make_owed.ensures in
     let reach = subst (λ (a : OpenAccount). MayReach today (replay_of a)) (sym c.self.view_is) c.requires.reach in
     subst (λ (a : OpenAccount). IsTold today shared a (with_replay name c.make_owed.new.self)) c.self.view_is
-    (told-made today shared name c.self.inside.replay c.make_owed.new.self reach did.same did.replay did.folding)
+    (told-made today shared name c.self.inside.replay c.make_owed.new.self reach did.same did.replay did.folding
+    (all-or-none c.make_owed.result c.self.inside.replay.late c.make_owed.new.self.late did.none did.err))
 
 pub returns-clause-folding : goal.returns-clause-folding
 returns-clause-folding g c = c.make_owed.ensures.folding ∙ ap (λ (a : OpenAccount). a.folding) c.self.view_is

@@ -48,7 +48,7 @@ returns-clause-told g c =
     let reach = subst (λ (a : OpenAccount). MayReach today (replay_of a)) (sym c.self.view_is) c.requires.account.reach in
     subst (λ (a : OpenAccount). IsTold today shared a (with_replay name new)) c.self.view_is
     (told-by today shared name old new reach did.same did.replay
-    (turned (new.folding.reached ≡ old.folding.reached) (new.folding.reached ≡ today) did.reached))
+    (turned (new.folding.reached ≡ old.folding.reached) (new.folding.reached ≡ today) did.reached) did.all)
 
 pub returns-clause-idle : goal.returns-clause-idle
 returns-clause-idle g c =

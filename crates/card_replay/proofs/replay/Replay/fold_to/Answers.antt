@@ -74,6 +74,7 @@ returns g c =
         behind = λ _. c.eve_of.ensures.day ∙ ap day_of (c.replace-book.ensures.value ∙ ap (λ (x : Replay). x.folding.book) c.self.view_is);
       };
       err = tt;
+      late = tt;
       steps = c.in_ok-later.ensures.steps ∙ ap (λ n. c.args.steps.now + n) left;
       most = omega (arith, c.reach.ensures.most, left);
     }

@@ -4,6 +4,7 @@ use Rattle.card_daily.specs.Given.{Given, IsSound, opened_in}
 use Rattle.card_book.specs.Stands.{Summary, day_to_fold, steps_over}
 use Rattle.card_events.specs.History.{anchor_of, corrected}
 use Rattle.card_model.specs.Cycles.{IssuedRow}
+use Rattle.card_replay.proofs.Anew.{any-err}
 use Rattle.card_replay.proofs.Lates.{late_rows_can_be_made}
 use Rattle.card_replay.proofs.Reached.{IsEveOf, day-is, eve-stands, later-replay, replay-put-back, with-eve}
 use Rattle.card_replay.proofs.Settled.{all-made}
@@ -93,6 +94,7 @@ returns g c =
         behind = λ _. c.eve_of.ensures.day ∙ ap day_of (c.replace-book.ensures.value ∙ ap (λ (x : Replay). x.folding.book) c.self.view_is);
       };
       err = tt;
+      late = tt;
       steps = c.in_ok-later.ensures.steps ∙ ap (λ n. c.args.steps.now + n) left;
       most = omega (arith, c.reach_with_all.ensures.most, left);
     }
@@ -124,3 +126,7 @@ returns-in_err-later-clause-replay g c =
     (replay-put-back shared c.args.self.now late c.reach_with_all.new.past
     (ap (λ (rows : List IssuedRow). record { made = rows; owed = in'.owed.items }) c.in_err-later.ensures.front ∙ ap (λ (x : Replay). x.late) c.self.view_is)
     (subst (λ (x : Replay). AreSame x.folding.past c.reach_with_all.new.past) c.self.view_is c.in_err-later.ensures.same) c.requires.replay)
+
+pub returns-in_err-later-clause-late : goal.returns-in_err-later-clause-late
+returns-in_err-later-clause-late g c =
+    any-err c.from_residual.result _ (ap (λ (rows : List IssuedRow). record { made = rows; owed = c.self.inside.owed.items }) c.in_err-later.ensures.front ∙ ap (λ (x : Replay). x.late) c.self.view_is)

@@ -1,9 +1,9 @@
-use Rattle.std.proofs.Common.{◌≡◌, sym, ap, subst, ◌∙◌, arith, None}
+use Rattle.std.proofs.Common.{◌≡◌, inl, sym, ap, subst, ◌∙◌, arith, None}
 use Rattle.card_events.specs.Keys.{with_key}
 use Rattle.card_model.specs.Machine.{accepted}
 use Rattle.card_model.specs.Refusals.{Lists, reason_against}
 use Rattle.card_daily.specs.Given.{IsSound}
-use Rattle.card_replay.proofs.Anew.{any-ok}
+use Rattle.card_replay.proofs.Anew.{all-then, any-ok}
 use Rattle.card_replay.proofs.Reached.{either-same, first-same, ready-same, reach-same, same-lists, within-today}
 use Rattle.card_replay.specs.Replays.{given_of, present_of}
 use Rattle.card_replay.proofs.replay.Replay.prepare.Goals as goal
@@ -73,7 +73,17 @@ returns-clause-idle g c = λ not. let was = c.reach_for.ensures.idle not in (c.c
 pub returns-clause-most : goal.returns-clause-most
 returns-clause-most g c = λ from first. omega (arith, c.reach_for.ensures.most)
 
+pub returns-clause-all : goal.returns-clause-all
+returns-clause-all g c =
+    let a = c.args.self.now.late in
+    let b = c.reach_for.new.self.late in
+    let d = c.make_for.new.self.late in
+    all-then a b c.changed.new.self.late c.reach_for.ensures.all (all-then b d c.changed.new.self.late c.make_for.ensures.all (inl c.changed.ensures.late))
+
 -- ---- after want of memory
+pub returns-in_err-make_for-clause-all : goal.returns-in_err-make_for-clause-all
+returns-in_err-make_for-clause-all g c = all-then c.args.self.now.late c.reach_for.new.self.late c.make_for.new.self.late c.reach_for.ensures.all c.make_for.ensures.all
+
 pub returns-in_err-reach_for-clause-idle : goal.returns-in_err-reach_for-clause-idle
 returns-in_err-reach_for-clause-idle g c = c.reach_for.ensures.idle
 
