@@ -395,6 +395,6 @@ class Inbox(Home):
         with Session([self.file, "apply"]) as session:
             session.ask("show anna")
             self.expect(self.night("2024-02-06", "--wait", "0"), 5,
-                        f"{self.file} is in use by process {session.pid} (billctl)")
+                        f"{self.file} is in use by {session.process}")
             session.end()
         self.assertEqual(self.night("2024-02-06")[0], 0)
