@@ -67,7 +67,7 @@ class Killed(Home):
         self.assertIn(f"{name}.csv", os.listdir(os.path.join(self.home, "inbox")))
         done = self.night(day)
         self.assertEqual(done[0], 0, done)
-        self.assertIn("it is gone on with", done[2])
+        self.assertIn("this one continues it", done[2])
         self.assertIn(f"inbox {name}.csv: {BIG} records, ", done[2])
         self.assertEqual(self.kept(name), BIG)
         self.assertGreater(rows, 0)
