@@ -213,8 +213,8 @@ class Month(Killed):
         with open(os.path.join(self.home, "night.lock"), "w", encoding="ascii") as file:
             file.write(f"{gone.pid}\n")
         done = self.night(day)
-        self.expect(done, 0, f"night: the night of process {gone.pid} didn't end; it is gone on "
-                             "with\n")
+        self.expect(done, 0, f"night: the night of process {gone.pid} didn't end; this one "
+                             "continues it\n")
 
     def saved(self) -> None:
         """The last backup has all rows, and its seal is that of the report."""
