@@ -6,8 +6,8 @@ runs both over the same input and the same views, and tells the first
 difference.  WAY is `memory` (one run of `apply` or `trial` with rows in memory), or, over
 a file of rows that the views are read from afterwards, `lines` (the default, in
 three runs), `csv` (records that come twice), `http` (a connection a request), or
-`asked` (the same in some runs of the server, each over the rows of those before it,
-so that questions come behind a load in any order).
+`asked` (the same, by six servers one after the other over the same rows, so that
+questions come after a load, in any order).
 """
 
 import argparse
@@ -156,12 +156,12 @@ def compare_http(model: Model, program: Program, datas: list[bytes]) -> str | No
 
 
 def compare_asked(model: Model, program: Program, datas: list[bytes], seed: int) -> str | None:
-    """The same by some servers, one after the other, which begin at drawn places."""
+    """The same by several servers, one after the other, which begin at drawn places."""
     starts = sorted(random.Random(seed).sample(range(1, len(datas)), SERVERS - 1))
     for first, last in zip([0, *starts], [*starts, len(datas)], strict=True):
         found = compare_http(model, program, datas[first:last])
         if found:
-            return f"behind {first} connections, {found}"
+            return f"after {first} connections, {found}"
     return None
 
 

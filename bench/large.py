@@ -1,8 +1,8 @@
 """What one account of up to 200,000 posts takes: the least seconds of three runs, the most memory.
 
-Usual years, corrections in order and in none, returns, disputes, payments of one cycle, posts dated
-back, a statement of many transactions, and a load from a file with a question. Then the memory of a
-million accounts that were only opened. An idle machine measures best.
+Usual years, corrections in order and in any order, returns, disputes, payments of one cycle, posts
+dated back, a statement of many transactions, and a load from a file with a question. Then the
+memory of a million accounts that were only opened. An idle machine measures best.
 """
 
 import os

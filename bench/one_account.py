@@ -86,7 +86,7 @@ def dated_back(count: int) -> Iterator[str]:
 
 
 def amended(count: int) -> Iterator[str]:
-    """Half of so many posts are charges, each of which is then amended, in no order."""
+    """Half of so many posts are charges; each is then amended, in a random order."""
     yield from OPEN
     charges = list(range(count // 2))
     yield from (f"charge a c{number} {FIRST} purchase 1000" for number in charges)

@@ -32,7 +32,7 @@ def load() -> ModuleType:
 
 
 def module() -> ModuleType:
-    """rt as it is."""
+    """rt, with nothing set in it."""
     found = shutil.which("rt")
     if not found:
         sys.exit("the command rt of the Rattle kit isn't on the PATH: install the kit")

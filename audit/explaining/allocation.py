@@ -12,7 +12,7 @@ if TYPE_CHECKING:
     from .balances import Balances
 
 Parts = list[tuple[int, Node]]
-# what is given -> its rule: the regulation has an order for the excess of a payment alone
+# a part of a payment or credit -> its rule: Regulation Z sets an order for the excess alone
 RULE_OF = {"minimum": "minimum part", "excess": "excess", "place": "merchant"}
 
 

@@ -121,5 +121,5 @@ def main(words: list[str]) -> int:
         with place_of(given.folder) as place:
             all_shards(given.shards, setup, results, place)
     except KeyboardInterrupt:
-        stop("year: stopped; the same call goes on behind the last whole shard")
+        stop("year: stopped; the same call continues after the last whole shard")
     return printed(results.first(given.shards))

@@ -124,7 +124,7 @@ class Results:
             self.found[result.shard] = result
 
     def whole_lines(self) -> list[str]:
-        """The lines that have their line feed; what is behind the last one goes."""
+        """The lines that have their line feed; what is after the last one is removed."""
         if not os.path.exists(self.path):
             return []
         with open(self.path, "r+b") as file:

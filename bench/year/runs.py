@@ -158,7 +158,7 @@ class Lines(Run):
         return len(lines)
 
     def end(self) -> str:
-        """Ends the input: what is written behind the replies."""
+        """Ends the input: what is written after the replies."""
         assert self.running.stdin
         self.note_memory()
         with self.phase("nights"):

@@ -6,7 +6,7 @@ from .results import Result
 from .runs import PHASES
 
 MEGABYTE, HOUR = 1_000_000, 3600
-FEW = 100  # numbers below have a digit behind the point
+FEW = 100  # numbers below have a digit after the point
 SECONDS = "seconds (of the processor)"
 MADE_OF = {
     "imports": "openings and records",

@@ -105,7 +105,7 @@ def named(given: Input, dated: list[Dated], known: Numbers) -> list[str]:
 
 def late_refusal(texts: list[str]) -> str:
     return ("; ".join(texts) + ". Such a record is on no statement as a transaction, only in the "
-            "corrections of the next one (12 CFR 1026.8); give it a day behind the closing, or "
+            "corrections of the next one (12 CFR 1026.8); give it a day after the closing, or "
             "--late takes it as it is")
 
 

@@ -120,7 +120,7 @@ def charges_of_billed_cycles(view: View) -> Iterator[Finding]:
                               f"{post.word} {post.number} of {day} was entered after the statement "
                               f"of {billed}: none shows it as a transaction",
                               "send the consumer its day, amount and description with the next "
-                              "statement, or give it a day behind the closing by amend")
+                              "statement, or give it a day after the closing by amend")
 
 
 def mail_on_closed_days(view: View) -> Iterator[Finding]:

@@ -164,7 +164,7 @@ def undone_of(home: str, seal: Seal, state: State) -> Undone:
 def tell_undone(home: str, undone: Undone) -> None:
     """Says which files and statements came of rows that are gone."""
     for day, name in undone.files:
-        say(f"restore: done/{day}/{name} was entered behind the backup")
+        say(f"restore: done/{day}/{name} was entered after the backup")
     for day, number in undone.statements.items():
         say(f"restore: statements/{day}: {counted(number, 'statement')} printed from rows that "
             "are gone")

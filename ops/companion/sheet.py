@@ -92,7 +92,7 @@ def settings_in(found: dict[str, Any]) -> dict[str, Any]:
     if len(settings["separator"]) != 1 or settings["skip"] < 0:
         raise wrong("the separator is one character or tab, and skip isn't negative")
     if settings["least_digits"] not in (1, 2):
-        raise wrong("least_digits is 2, or 1 where amounts may have one digit behind the point")
+        raise wrong("least_digits is 2, or 1 where amounts may have one digit after the point")
     return settings
 
 

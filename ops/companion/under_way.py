@@ -44,7 +44,7 @@ def locked(home: str) -> Iterator[None]:
             raise Trouble(f"another night is under way in {home}: process {before or '?'}",
                           LOCKED) from None
         if before:
-            say(f"night: the night of process {before} didn't end; it is gone on with")
+            say(f"night: the night of process {before} didn't end; this one continues it")
         file.truncate(0)
         try:
             file.write(f"{os.getpid()}\n")

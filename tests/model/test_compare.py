@@ -3,7 +3,7 @@
 60 inputs of 250 generated lines over four accounts with rows in memory, half of them with a trial
 balance behind their replies; then 60 such inputs over a file of rows, in three runs each, 60 of CSV
 records that come twice, 60 as requests over HTTP, and 60 as requests to six servers one after the
-other, whose questions come behind a load in any order, each with the open tasks, the entries of
+other, whose questions come after a load in any order, each with the open tasks, the entries of
 every account, the statements of every cycle, what their balances come to where they are repaid, and
 trial balances of six ranges of days afterwards; then 10 demonstrations.
 """

@@ -141,7 +141,7 @@ class Locks(Case):
         with Session([self.file, "apply"]) as session:
             self.assertIn("show anna", session.ask("show anna"))
             self.expect(ledger("check", self.file, "--wait", "0"), 5,
-                        f"{self.file} is in use by process {session.pid} (billctl)")
+                        f"{self.file} is in use by {session.process}")
             self.assertEqual(session.end(), 0)
         self.assertEqual(ledger("check", self.file)[0], 0)
 
@@ -152,7 +152,7 @@ class Locks(Case):
             session.ask("show anna")
             done = ledger("today", self.file, "--wait", "1")
             self.expect(done, 5,
-                        f"waiting for {self.file}, in use by process {session.pid} (billctl)")
+                        f"waiting for {self.file}, in use by {session.process}")
             session.kill()
         self.assertEqual(ledger("today", self.file, "--wait", "0")[:2], (0, "2024-02-06\n"))
 

@@ -153,7 +153,7 @@ class Backups(Case):
             session.ask("show anna")
             for words in (("backup", self.file, self.at("saved")), ("restore", to, self.file)):
                 self.expect(ledger(*words, "--wait", "0"), 5,
-                            f"{self.file} is in use by process {session.pid} (billctl)")
+                            f"{self.file} is in use by {session.process}")
             session.end()
         self.assertEqual(sorted(os.listdir(self.room)),
                          sorted(["rows.db", "saved",

@@ -67,7 +67,7 @@ class Killed(Home):
         self.assertIn(f"{name}.csv", os.listdir(os.path.join(self.home, "inbox")))
         done = self.night(day)
         self.assertEqual(done[0], 0, done)
-        self.assertIn("it is gone on with", done[2])
+        self.assertIn("this one continues it", done[2])
         self.assertIn(f"inbox {name}.csv: {BIG} records, ", done[2])
         self.assertEqual(self.kept(name), BIG)
         self.assertGreater(rows, 0)
@@ -213,8 +213,8 @@ class Month(Killed):
         with open(os.path.join(self.home, "night.lock"), "w", encoding="ascii") as file:
             file.write(f"{gone.pid}\n")
         done = self.night(day)
-        self.expect(done, 0, f"night: the night of process {gone.pid} didn't end; it is gone on "
-                             "with\n")
+        self.expect(done, 0, f"night: the night of process {gone.pid} didn't end; this one "
+                             "continues it\n")
 
     def saved(self) -> None:
         """The last backup has all rows, and its seal is that of the report."""
@@ -395,6 +395,6 @@ class Inbox(Home):
         with Session([self.file, "apply"]) as session:
             session.ask("show anna")
             self.expect(self.night("2024-02-06", "--wait", "0"), 5,
-                        f"{self.file} is in use by process {session.pid} (billctl)")
+                        f"{self.file} is in use by {session.process}")
             session.end()
         self.assertEqual(self.night("2024-02-06")[0], 0)

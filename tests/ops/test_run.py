@@ -131,7 +131,7 @@ class Guards(Case):
         with Session([self.file, "apply"]) as session:
             session.ask("show anna")
             done = ledger("run", self.file, "--wait", "0", given="show anna\n")
-            self.expect(done, 5, f"run: {self.file} is in use by process {session.pid} (billctl)")
+            self.expect(done, 5, f"run: {self.file} is in use by {session.process}")
             session.end()
 
 

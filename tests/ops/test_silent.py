@@ -102,8 +102,8 @@ class Restored(Home):
     def test_again(self) -> None:
         """Two nights are undone: their files go back in their order, each for its night."""
         done = ledger("restore", self.backup, self.file)
-        for text in ("done/2024-02-06/cards.csv was entered behind the backup",
-                     "done/2024-02-07/cards.csv was entered behind the backup",
+        for text in ("done/2024-02-06/cards.csv was entered after the backup",
+                     "done/2024-02-07/cards.csv was entered after the backup",
                      "statements/2024-02-06: 2 statements printed from rows that are gone",
                      "reports/2024-02-07.txt sealed rows that are gone",
                      "--again puts these files back"):
@@ -160,7 +160,7 @@ class Restored(Home):
         self.put("bank.csv", "a,k,d,c\nben,b1,2024-02-07,1.00\n")
         self.assertEqual(self.night("2024-02-07")[0], 0)
         done = ledger("restore", os.path.join(self.home, "backups", first), self.file, "--again")
-        self.expect(done, 0, "done/2024-02-07/bank.csv was entered behind the backup")
+        self.expect(done, 0, "done/2024-02-07/bank.csv was entered after the backup")
         self.assertNotIn("done/2024-02-07/cards.csv", done[2])
         self.assertEqual(self.night("2024-02-07")[0], 0)
         self.assertIn("charge ben b1 ", ledger("rows", self.file)[1])

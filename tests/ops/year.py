@@ -169,7 +169,7 @@ class Year(Home):
         """The night is killed at each of its steps, and goes on each time."""
         for step in STEPS:
             self.assertTrue(killed_at(step, self.home, "--day", str(day)), step)
-        self.refused(day, 0, "night: the night of process [0-9]+ didn't end; it is gone on with")
+        self.refused(day, 0, "night: the night of process [0-9]+ didn't end; this one continues it")
         self.assertEqual(self.names("inbox"), [])
         return day
 

@@ -18,6 +18,7 @@ PROGRAM = os.environ.get("BILLCTL") or str(TOP / "crates" / "billctl" / "out" / 
 Word = str | os.PathLike[str]
 Channel = int | IO[Any]
 
+LONGEST_NAME = 15  # of a process, to Linux
 PTRACE_TRACEME, PTRACE_SYSCALL, PTRACE_SETOPTIONS = 0, 24, 0x4200
 TRACE_CALLS, KILL_WITH_TRACER = 1, 0x100000
 CALL_STOP = signal.SIGTRAP | 0x80
@@ -156,6 +157,11 @@ class Session:
     def __init__(self, words: Sequence[Word], **how: Any) -> None:
         self.running = start(words, **how)
         self.pid = self.running.pid
+
+    @property
+    def process(self) -> str:
+        """What the companion calls it, by the name of the program that is tested."""
+        return f"process {self.pid} ({Path(PROGRAM).name[:LONGEST_NAME]})"
 
     def __enter__(self) -> "Session":
         return self
