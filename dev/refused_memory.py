@@ -1,6 +1,7 @@
 #!/usr/bin/env python3
 """Refuses the built program memory, one growth at a time, over a first path, an import that is sent
-twice, an account with corrections and two disputes, with the rows in a file and in memory.
+twice, an account with corrections and two disputes, with the rows in a file and in memory; and over
+corrections of a cycle whose statement a load has put off.
 
 Each run goes over rows that were kept before it, and its n-th growth is refused, for n = 1, 2, ..
 until a run meets no refusal. Each time the status has to be 6, or, where the program does without
@@ -29,7 +30,9 @@ from typing import NoReturn
 
 TOP = os.path.dirname(os.path.dirname(os.path.abspath(__file__)))
 SOURCE = os.path.join(TOP, "dev", "refused_memory.c")
-CORRECTED = 175  # the lines of examples/worked-days.txt up to the third correction of a charge
+# the lines of examples/worked-days.txt up to the bills before the first correction of a charge, and
+# up to the third correction
+BILLED, CORRECTED = 165, 175
 Rows = list[tuple[int, bytes]]
 
 
@@ -69,12 +72,14 @@ class Path:
 
 def paths() -> tuple[Path, ...]:
     records = example("month/records.csv")
-    corrected = "".join(example("worked-days.txt").splitlines(keepends=True)[:CORRECTED])
+    worked = example("worked-days.txt").splitlines(keepends=True)
+    billed, later = "".join(worked[:BILLED]), "".join(worked[BILLED:CORRECTED])
     return (
         Path("a first path", "", "apply", example("two-cycles.txt")),
         Path("an import", example("month/opening.txt"), "import", records),
         Path("the import, sent again", None, "import", records),
-        Path("accounts with corrections", "", "apply", corrected),
+        Path("accounts with corrections", "", "apply", billed + later),
+        Path("corrections after a load", billed, "apply", later),
         Path("two disputes", "", "apply", example("two-disputes.txt")),
     )
 
