@@ -47,7 +47,6 @@ impl Account {
     ghost use Rattle.card_account.specs.Reached.{IsIdle, IsIdleToLoad, StaysNear};
     ghost use Rattle.card_account.specs.Verdicts.{verdict_of};
     ghost use Rattle.card_account.specs.Works.{tasks_of};
-    ghost use Rattle.card_book.specs.Stands.{steps_over};
     ghost use Rattle.card_daily.specs.Given.{IsSound};
     ghost use Rattle.card_events.specs.Dated.{is_dated_post};
     ghost use Rattle.card_events.specs.History.{anchor_of, at_number, is_open, opening_in, terms_in};
@@ -56,8 +55,9 @@ impl Account {
     ghost use Rattle.card_model.specs.Machine.{accepted, at_key, is_repeat_of};
     ghost use Rattle.card_model.specs.Refusals.{book_today, reason_against};
     ghost use Rattle.card_reasons.specs.Reasons.{reads_book};
-    ghost use Rattle.card_replay.specs.Changes.{FoldsIfNeeded, IsChangeOf, IsPrepared, IsReadyFor, OwesBill};
-    ghost use Rattle.card_replay.specs.Replays.{IsToday, given_of, opened_lists, present_of};
+    ghost use Rattle.card_replay.specs.Changes.{FoldsIfNeeded, IsChangeOf, IsPrepared, IsReadyFor, OwesBill, late_with};
+    ghost use Rattle.card_replay.specs.Needs.{makes_before};
+    ghost use Rattle.card_replay.specs.Replays.{IsToday, MakesOnce, given_of, opened_lists, present_of};
     ghost use Rattle.card_replay.specs.Standing.{AreStanding, IsStandingCount};
     ghost use Rattle.card_replay.specs.Steps.{AreFewToPrepare};
 
@@ -79,6 +79,7 @@ impl Account {
         ensures named { IfOk result (λ a. a.named ≡ record { name = name; lists = opened_lists key.now today post.now }) }
         ensures account { IfOk result (IsAccount today shared.now) }
         ensures reached { IfOk result (λ a. a.folding.reached + 1 ≡ opening_in post.now) }
+        ensures none { IfOk result (λ a. a.late.owed ≡ []) }
     {
         Ok(Account {
             name,
@@ -263,9 +264,9 @@ impl Account {
     /// Prepares a post that is no opening, against which there is no reason, under a new key; its days are days of requests. There is
     /// room for the post, and the Book is there that it takes the account back to. For a Bill and for what sets rates the account reaches
     /// today; else its folding stays, and no step is taken. Where the post changes a day up to the closing of a cycle whose statement is
-    /// owed, what is owed is made first, and the steps of that aren't counted. Its posts and issued statements stay; with the post, they
-    /// are as every run leaves them. If memory runs out, it is the same account too.
-    pub fn prepare<L: Ledger>(
+    /// owed, all that is owed is made first: the steps of that are counted as put off, and both counts together keep the bound. Its posts
+    /// and issued statements stay; with the post, they are as every run leaves them. If memory runs out, it is the same account too.
+    pub fn prepare<L: Ledger, M: Ledger>(
         &mut self,
         alloc: Global,
         key: Name,
@@ -273,6 +274,7 @@ impl Account {
         post: &Post,
         shared: &SharedRows,
         steps: &mut Steps<L>,
+        put_off: &mut Steps<M>,
     ) -> Result<Change, NoMemory>
         requires account { IsAccount today shared.now self.old }
         requires dated { is_dated_post post.now ≡ true }
@@ -287,10 +289,13 @@ impl Account {
         ensures made { IfOk result (λ c. c.owes ≡ None) }
         ensures idle { FoldsIfNeeded post.now self.old.folding self.new.folding steps.old steps.new }
         ensures most { AreFewToPrepare today shared.now self.old.named.lists self.old.folding.reached key post.now steps.old steps.new }
+        ensures both { AreFewToPrepare today shared.now self.old.named.lists self.old.folding.reached key post.now (steps.old + put_off.old) (steps.new + put_off.new) }
+        ensures once { MakesOnce result self.old.late self.new.late put_off.old put_off.new }
+        ensures put_off { makes_before post.now ≡ false → put_off.new ≡ put_off.old }
     {
         let from = self.replay.first_change(post, today, shared);
         self.replay
-            .prepare(alloc, key, post, today, from, shared, steps)
+            .prepare(alloc, key, post, today, from, shared, steps, put_off)
     }
 
     /// Prepares a post as `prepare` does, for rows that are loaded: the statement of a Bill is owed where today isn't reached, so that
@@ -334,6 +339,7 @@ impl Account {
         ensures lists { self.new.named.lists ≡ accepted (present_of change.today shared.now self.old.named.lists) change.key change.post }
         ensures account { IsAccount change.today shared.now self.new }
         ensures reached { StaysNear change.today shared.now self.old.named.lists self.new.named.lists self.old.folding.reached self.new.folding.reached }
+        ensures late { self.new.late ≡ late_with change self.old.late }
         ensures number { result ≡ length self.old.named.lists.posts + 1 }
     {
         self.replay.commit(change, shared)
@@ -385,8 +391,8 @@ impl Account {
     }
 
     /// The statement of a cycle as it was issued, none where no Bill has issued it (12 CFR 1026.5(b)(2), .7(b)). Statements that are owed
-    /// are made first, since it may be one of them. The day last reached stays. No step is taken where none is owed, and else at most one a
-    /// break day from the opening day to today. If memory runs out, all that were owed are made, or none is.
+    /// are made first, since it may be one of them. The day last reached stays. No step is taken where none is owed, and else at most those
+    /// that bring it to today. If memory runs out, all that were owed are made, or none is.
     pub fn issued<L: Ledger>(
         &mut self,
         alloc: Global,
@@ -399,8 +405,9 @@ impl Account {
         ensures told { IsTold today shared.now self.old self.new }
         ensures folding { self.new.folding ≡ self.old.folding }
         ensures value { IfOk result (λ s. s ≡ issued_statement cycle self.old.named.lists.issued) }
+        ensures none { OnOk result (self.new.late.owed ≡ []) }
         ensures idle { self.old.late.owed ≡ [] → steps.new ≡ steps.old }
-        ensures most { steps.new ≤ steps.old + steps_over (given_of self.old.named.lists shared.now) today (anchor_of self.old.named.lists.posts).opened }
+        ensures most { steps.new ≤ steps.old + steps_of today shared.now self.old }
     {
         self.replay.make_owed(alloc, today, shared, steps)?;
         issued_of(alloc, self.replay.made(), cycle)

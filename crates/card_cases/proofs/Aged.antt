@@ -196,20 +196,20 @@ pub whole : steps_over given_charged 21187 19728 ≡ 96
 whole = ap steps_by none-charged ∙ all-steps
 
 -- ---- the charge
-abbrev before_charge : List (List Entry) → OpenDesk
-before_charge recorded = record { state = ledger 21187 later_rolls opened; reached = 21186 ∷ []; recorded = recorded }
+abbrev before_charge : OpenDesk → OpenDesk
+before_charge d = record { state = ledger 21187 later_rolls opened; reached = 21186 ∷ []; recorded = d.recorded; unmade = d.unmade }
 
-desk-is : (d : OpenDesk) (s : State) (days : List ℕ) → d.state ≡ s → d.reached ≡ days → d ≡ record { state = s; reached = days; recorded = d.recorded }
-desk-is d s days e f = ap (λ (x : State). record { state = x; reached = d.reached; recorded = d.recorded }) e ∙ ap (λ (l : List ℕ). record { state = s; reached = l; recorded = d.recorded }) f
+desk-is : (d : OpenDesk) (s : State) (days : List ℕ) → d.state ≡ s → d.reached ≡ days → d ≡ record { state = s; reached = days; recorded = d.recorded; unmade = d.unmade }
+desk-is d s days e f = ap (λ (x : State). record { state = x; reached = d.reached; recorded = d.recorded; unmade = d.unmade }) e ∙ ap (λ (l : List ℕ). record { state = s; reached = l; recorded = d.recorded; unmade = d.unmade }) f
 
 abbrev reached_before : ReachedLists
 reached_before = record { lists = lists_of opened; reached = 21186 }
 
-six-at : (recorded : List (List Entry)) (before after : ℕ) → AreFewToApply (before_charge recorded) (request.Post account second_key late_charge) before after → after ≤ before + 6
+six-at : (d : OpenDesk) (before after : ℕ) → AreFewToApply (before_charge d) (request.Post account second_key late_charge) before after → after ≤ before + 6
 unfolding AreFewToApply
-six-at recorded before after few =
+six-at d before after few =
     let s = ledger 21187 later_rolls opened in
-    let placed = subst (λ (o : Option ℕ). AreFewOn s (reached_at (before_charge recorded) o) (outcome_in s account second_key late_charge) before after) (place-is 21187 later_rolls opened) few in
+    let placed = subst (λ (o : Option ℕ). AreFewOn s (reached_at (before_charge d) o) (outcome_in s account second_key late_charge) before after) (place-is 21187 later_rolls opened) few in
     let most = subst (λ (o : Outcome). AreFewToPost s reached_before o before after) accepts placed in
     let first : breaks_changed 21187 no_rows (lists_of opened) (lists_of charged) 21186 21187 ≡ 2 = ap (λ (n : ℕ). breaks_with given_opened given_charged (min n 21186) 21187) cycle-begins ∙ two-breaks in
     least before after (breaks_changed 21187 no_rows (lists_of opened) (lists_of charged) 21186 21187) (most 21187 first-changed) first
@@ -219,11 +219,11 @@ six-at recorded before after few =
 
 pub six : (d : OpenDesk) (r : Request) (before after : ℕ) → d.state ≡ ledger 21187 later_rolls opened → d.reached ≡ 21186 ∷ [] → r ≡ request.Post account second_key late_charge → AreFewToApply d r before after → after ≤ before + 6
 six d r before after state reached is few =
-    six-at d.recorded before after (subst (λ (q : Request). AreFewToApply (before_charge d.recorded) q before after) is (subst (λ (x : OpenDesk). AreFewToApply x r before after) (desk-is d (ledger 21187 later_rolls opened) (21186 ∷ []) state reached) few))
+    six-at d before after (subst (λ (q : Request). AreFewToApply (before_charge d) q before after) is (subst (λ (x : OpenDesk). AreFewToApply x r before after) (desk-is d (ledger 21187 later_rolls opened) (21186 ∷ []) state reached) few))
 
 -- where the account is then
-near-by : (recorded : List (List Entry)) (new : OpenDesk) → MovesBy (Some 0) (Accepts (lists_of charged)) (before_charge recorded) new → HasReachedNear new.reached
-near-by recorded new h =
+near-by : (d : OpenDesk) (new : OpenDesk) → MovesBy (Some 0) (Accepts (lists_of charged)) (before_charge d) new → HasReachedNear new.reached
+near-by d new h =
     let low = subst (λ (n : ℕ). min n 21187 ≤ day_there new 0 + 1) cycle-begins (h.own.near 21187 first-changed) in
     let last = h.own.last in
     record { day = day_there new 0; is = h.others; first = omega (arith, low); last = last }
@@ -234,9 +234,9 @@ unfolding MovesToApply
 near-then {T} E x d new r state reached is moves =
     let s = ledger 21187 later_rolls opened in
     let there = subst (λ (y : OpenDesk). MovesToApply {T = T} {E = E} r (Ok x) y new) (desk-is d s (21186 ∷ []) state reached) moves in
-    let post = subst (λ (q : Request). MovesToApply {T = T} {E = E} q (Ok x) (before_charge d.recorded) new) is there in
-    let placed = subst (λ (o : Option ℕ). MovesOn {T = T} {E = E} o (outcome_in s account second_key late_charge) (Ok x) (before_charge d.recorded) new) (place-is 21187 later_rolls opened) post in
-    near-by d.recorded new (subst (λ (o : Outcome). MovesBy (Some 0) o (before_charge d.recorded) new) accepts placed.done)
+    let post = subst (λ (q : Request). MovesToApply {T = T} {E = E} q (Ok x) (before_charge d) new) is there in
+    let placed = subst (λ (o : Option ℕ). MovesOn {T = T} {E = E} o (outcome_in s account second_key late_charge) (Ok x) (before_charge d) new) (place-is 21187 later_rolls opened) post in
+    near-by d new (subst (λ (o : Outcome). MovesBy (Some 0) o (before_charge d) new) accepts placed.done)
 
 pub near : {T E : Type 0} (result : Result T E) (d new : OpenDesk) (r : Request) → d.state ≡ ledger 21187 later_rolls opened → d.reached ≡ 21186 ∷ [] → r ≡ request.Post account second_key late_charge
     → OnOk result (MovesToApply r result d new) → OnOk result (HasReachedNear new.reached)
@@ -251,12 +251,12 @@ told-today name d new today day rows posts named state reached h =
     let there = subst (λ (o : Option ℕ). OneReaches o d new) placed h in
     there.others ∙ (ap (λ (l : List ℕ). set l 0 (day_there new 0)) reached ∙ ap (λ (n : ℕ). n ∷ []) (there.own ∙ ap (λ (s : State). s.today) state))
 
-abbrev after_charge : List (List Entry) → ℕ → OpenDesk
-after_charge recorded day = record { state = ledger 21187 later_rolls charged; reached = day ∷ []; recorded = recorded }
+abbrev after_charge : OpenDesk → ℕ → OpenDesk
+after_charge d day = record { state = ledger 21187 later_rolls charged; reached = day ∷ []; recorded = d.recorded; unmade = d.unmade }
 
-four-at : (recorded : List (List Entry)) (day before after : ℕ) → 21157 ≤ day → AreFewToTell (ledger 21187 later_rolls charged) (reached_of account (after_charge recorded day)) before after → after ≤ before + 4
-four-at recorded day before after low few =
-    let most = subst (λ (o : Option ℕ). AreFewToTell (ledger 21187 later_rolls charged) (reached_at (after_charge recorded day) o) before after) (place-is 21187 later_rolls charged) few in
+four-at : (d : OpenDesk) (day before after : ℕ) → 21157 ≤ day → AreFewToTell (ledger 21187 later_rolls charged) (reached_of account (after_charge d day)) before after → after ≤ before + 4
+four-at d day before after low few =
+    let most = subst (λ (o : Option ℕ). AreFewToTell (ledger 21187 later_rolls charged) (reached_at (after_charge d day) o) before after) (place-is 21187 later_rolls charged) few in
     least before after (breaks_from given_charged day 21187) most (three-breaks day low)
   where
     least : (before after n : ℕ) → after ≤ before + (n + 1) → n ≤ 3 → after ≤ before + 4
@@ -265,7 +265,7 @@ four-at recorded day before after low few =
 pub four : (name : List ℕ) (d : OpenDesk) (before after : ℕ) → name ≡ account → d.state ≡ ledger 21187 later_rolls charged → HasReachedNear d.reached → AreFewToTell d.state (reached_of name d) before after → after ≤ before + 4
 four name d before after named state near few =
     let own = subst (λ (l : List ℕ). AreFewToTell d.state (reached_of l d) before after) named few in
-    four-at d.recorded near.day before after near.first
+    four-at d near.day before after near.first
     (subst (λ (x : OpenDesk). AreFewToTell x.state (reached_of account x) before after) (desk-is d (ledger 21187 later_rolls charged) (near.day ∷ []) state near.is) own)
 
 -- ---- it was opened, and has reached the day before
@@ -273,8 +273,8 @@ opened-then : {T : Type 0} (E : Type 0) (x : T) (d new : OpenDesk) (r : Request)
 unfolding MovesToApply place_from
 opened-then {T} E x d new r state reached is moves =
     let there = subst (λ (y : OpenDesk). MovesToApply {T = T} {E = E} r (Ok x) y new) (desk-is d first_day [] state reached) moves in
-    let absent = subst (λ (q : Request). MovesToApply {T = T} {E = E} q (Ok x) (record { state = first_day; reached = []; recorded = d.recorded }) new) is there in
-    subst (λ (o : Outcome). MovesBy None o (record { state = first_day; reached = []; recorded = d.recorded }) new) accepts-first absent.done
+    let absent = subst (λ (q : Request). MovesToApply {T = T} {E = E} q (Ok x) (record { state = first_day; reached = []; recorded = d.recorded; unmade = d.unmade }) new) is there in
+    subst (λ (o : Outcome). MovesBy None o (record { state = first_day; reached = []; recorded = d.recorded; unmade = d.unmade }) new) accepts-first absent.done
 
 pub opened-before : {T E : Type 0} (result : Result T E) (d new : OpenDesk) (r : Request) (key : List ℕ) (p : Post) → d.state ≡ first_day → d.reached ≡ [] → r ≡ request.Post account key p → key ≡ first_key → p ≡ opening
     → OnOk result (MovesToApply r result d new) → OnOk result (new.reached ≡ 19727 ∷ [])

@@ -24,12 +24,13 @@ use std::sync::ledger::{Blank, Ledger};
 use std::test::Fail;
 
 // A request that is carried out.
-fn carry<L: Ledger>(
+fn carry<L: Ledger, M: Ledger>(
     alloc: Global,
     desk: &mut Desk,
     keeper: &mut MemoryKeeper,
     request: &Request,
     steps: &mut Steps<L>,
+    put_off: &mut Steps<M>,
 ) -> Result<(), Fail>
     requires dated { is_dated request.now ≡ true }
     requires fits { Fits (Some keeper.old) desk.old.state }
@@ -38,18 +39,19 @@ fn carry<L: Ledger>(
     ensures reached { OnOk result (MovesToApply request.now result desk.old desk.new) }
     ensures most { AreFewToApply desk.old request.now steps.old steps.new }
 {
-    match desk.apply(alloc, keeper, request, steps) {
+    match desk.apply(alloc, keeper, request, steps, put_off) {
         Ok(_) => Ok(()),
         Err(_) => Err(Fail::from("a fault")),
     }
 }
 
-fn roll<L: Ledger>(
+fn roll<L: Ledger, M: Ledger>(
     alloc: Global,
     desk: &mut Desk,
     keeper: &mut MemoryKeeper,
     day: Day,
     steps: &mut Steps<L>,
+    put_off: &mut Steps<M>,
 ) -> Result<(), Fail>
     requires dated { day ≤ last_request_day }
     requires fits { Fits (Some keeper.old) desk.old.state }
@@ -63,6 +65,7 @@ fn roll<L: Ledger>(
         keeper,
         &Request::Shared(Shared::Roll(day)),
         steps,
+        put_off,
     )
 }
 
@@ -78,12 +81,13 @@ fn post_of(rt: &impl Abort, key: &str, post: Post) -> Request
 }
 
 // It is opened on 2024-01-06, and has reached the day before.
-fn open_account<L: Ledger>(
+fn open_account<L: Ledger, M: Ledger>(
     rt: &impl Abort,
     alloc: Global,
     desk: &mut Desk,
     keeper: &mut MemoryKeeper,
     steps: &mut Steps<L>,
+    put_off: &mut Steps<M>,
 ) -> Result<(), Fail>
     requires state { desk.old.state ≡ first_day }
     requires reached { desk.old.reached ≡ [] }
@@ -93,16 +97,17 @@ fn open_account<L: Ledger>(
     ensures reached { OnOk result (desk.new.reached ≡ 19_727 ∷ []) }
 {
     let request = post_of(rt, "o", opening(rt));
-    carry(alloc, desk, keeper, &request, steps)
+    carry(alloc, desk, keeper, &request, steps, put_off)
 }
 
 // Four years go by, to 2028-01-03.
-fn age<L: Ledger>(
+fn age<L: Ledger, M: Ledger>(
     rt: &impl Abort,
     alloc: Global,
     desk: &mut Desk,
     keeper: &mut MemoryKeeper,
     steps: &mut Steps<L>,
+    put_off: &mut Steps<M>,
 ) -> Result<(), Fail>
     requires state { desk.old.state ≡ ledger 19_728 first_rolls opened }
     requires fits { Fits (Some keeper.old) desk.old.state }
@@ -110,10 +115,10 @@ fn age<L: Ledger>(
     ensures fits { OnOk result (Fits (Some keeper.new) desk.new.state) }
     ensures reached { OnOk result (desk.new.reached ≡ desk.old.reached) }
 {
-    roll(alloc, desk, keeper, day(rt, 20_094), steps)?;
-    roll(alloc, desk, keeper, day(rt, 20_460), steps)?;
-    roll(alloc, desk, keeper, day(rt, 20_826), steps)?;
-    roll(alloc, desk, keeper, day(rt, 21_186), steps)
+    roll(alloc, desk, keeper, day(rt, 20_094), steps, put_off)?;
+    roll(alloc, desk, keeper, day(rt, 20_460), steps, put_off)?;
+    roll(alloc, desk, keeper, day(rt, 20_826), steps, put_off)?;
+    roll(alloc, desk, keeper, day(rt, 21_186), steps, put_off)
 }
 
 // What is owed on it is asked, so that it reaches that day.
@@ -135,12 +140,13 @@ fn ask<L: Ledger>(
 // On the next day it takes a charge of that day, in at most six steps: two of the days of its open cycle, 2028-01-02, the day
 // after a due date, and 2028-01-04, are break days. Folded from its opening day on it takes 96. It isn't taken back behind the
 // last closing, 2027-12-05.
-fn charge<L: Ledger>(
+fn charge<L: Ledger, M: Ledger>(
     rt: &impl Abort,
     alloc: Global,
     desk: &mut Desk,
     keeper: &mut MemoryKeeper,
     steps: &mut Steps<L>,
+    put_off: &mut Steps<M>,
 ) -> Result<(), Fail>
     requires state { desk.old.state ≡ ledger 21_187 later_rolls opened }
     requires reached { desk.old.reached ≡ 21_186 ∷ [] }
@@ -156,7 +162,7 @@ fn charge<L: Ledger>(
         cents: num(rt, 5_000),
     };
     let request = post_of(rt, "c", charge);
-    carry(alloc, desk, keeper, &request, steps)
+    carry(alloc, desk, keeper, &request, steps, put_off)
 }
 
 // So what is owed after it is told in at most four steps: one for each break day from that closing on, and one more.
@@ -175,25 +181,46 @@ fn owed<L: Ledger>(
     Ok(desk.show(alloc, &account, steps)?)
 }
 
-// All of these, with a counter of its own.
-fn charge_and_ask<L: Ledger>(rt: &impl Abort, alloc: Global, blank: Blank) -> Result<View, Fail>
+// All of these, with counters of its own.
+fn charge_and_ask<L: Ledger, M: Ledger>(
+    rt: &impl Abort,
+    alloc: Global,
+    blank: Blank,
+    other: Blank,
+) -> Result<View, Fail>
     requires own { IsBlankOf L.name L.parts blank.name blank.parts }
+    requires other { IsBlankOf M.name M.parts other.name other.parts }
 {
     let mut desk = Desk::new(alloc);
     let mut keeper = MemoryKeeper::new(alloc);
     let mut steps = Steps::<L>::new(blank);
-    roll(alloc, &mut desk, &mut keeper, day(rt, 19_728), &mut steps)?;
-    open_account(rt, alloc, &mut desk, &mut keeper, &mut steps)?;
-    age(rt, alloc, &mut desk, &mut keeper, &mut steps)?;
+    let mut put_off = Steps::<M>::new(other);
+    roll(
+        alloc,
+        &mut desk,
+        &mut keeper,
+        day(rt, 19_728),
+        &mut steps,
+        &mut put_off,
+    )?;
+    open_account(rt, alloc, &mut desk, &mut keeper, &mut steps, &mut put_off)?;
+    age(rt, alloc, &mut desk, &mut keeper, &mut steps, &mut put_off)?;
     ask(rt, alloc, &mut desk, &mut steps)?;
-    roll(alloc, &mut desk, &mut keeper, day(rt, 21_187), &mut steps)?;
-    charge(rt, alloc, &mut desk, &mut keeper, &mut steps)?;
+    roll(
+        alloc,
+        &mut desk,
+        &mut keeper,
+        day(rt, 21_187),
+        &mut steps,
+        &mut put_off,
+    )?;
+    charge(rt, alloc, &mut desk, &mut keeper, &mut steps, &mut put_off)?;
     owed(rt, alloc, &mut desk, &mut steps)
 }
 
-// With a counter that counts nothing.
+// With counters that count nothing.
 fn shown(rt: &impl Abort, alloc: Global) -> Result<View, Fail> {
-    charge_and_ask::<Brand>(rt, alloc, Blank::new(1))
+    charge_and_ask::<Brand, Brand>(rt, alloc, Blank::new(1), Blank::new(1))
 }
 
 #[test]

@@ -101,44 +101,53 @@ fn charge(rt: &impl Abort) -> Post
 }
 
 // It is accepted on its day, and its number answered: one step to reach that day, at most two to fold its cycle again, and none
-// to take it.
-fn accept<L: Ledger>(
+// to take it; no load put off any.
+fn accept<L: Ledger, M: Ledger>(
     rt: &impl Abort,
     alloc: Global,
     shared: &SharedRows,
     account: &mut Replay,
     steps: &mut Steps<L>,
+    put_off: &mut Steps<M>,
 ) -> Result<u32, Fail>
     requires nothing { shared.now ≡ no_rows }
     requires alone { HasOpeningAlone account.old.lists }
     requires today { IsToday 19_793 shared.now account.old }
     ensures three { OnOk result (steps.new ≤ steps.old + 3) }
+    ensures both { OnOk result (steps.new + put_off.new ≤ steps.old + put_off.old + 3) }
 {
     let key = name(rt, "c");
     assert!(rt; account.posts().with_key(&key).is_none());
     let today = day(rt, 19_794);
     let post = charge(rt);
     let from = account.first_change(&post, today, shared);
-    let change = account.prepare(alloc, key, &post, today, from, shared, steps)?;
+    let change = account.prepare(alloc, key, &post, today, from, shared, steps, put_off)?;
     Ok(account.commit(change, shared))
 }
 
-// All of these, with a counter of its own: the number of the charge.
-fn accept_alone<L: Ledger>(rt: &impl Abort, alloc: Global, blank: Blank) -> Result<u32, Fail>
+// All of these, with counters of its own: the number of the charge.
+fn accept_alone<L: Ledger, M: Ledger>(
+    rt: &impl Abort,
+    alloc: Global,
+    blank: Blank,
+    other: Blank,
+) -> Result<u32, Fail>
     requires own { IsBlankOf L.name L.parts blank.name blank.parts }
+    requires other { IsBlankOf M.name M.parts other.name other.parts }
 {
     let shared = SharedRows::new(alloc);
     let mut steps = Steps::<L>::new(blank);
+    let mut put_off = Steps::<M>::new(other);
     let mut account = opened(rt, alloc, &shared, &mut steps)?;
     reach_march_10(rt, alloc, &shared, &mut account, &mut steps)?;
     reach_march_11(rt, alloc, &shared, &mut account, &mut steps)?;
     stay_at_march_11(rt, alloc, &shared, &mut account, &mut steps)?;
-    accept(rt, alloc, &shared, &mut account, &mut steps)
+    accept(rt, alloc, &shared, &mut account, &mut steps, &mut put_off)
 }
 
-// With a counter that counts nothing.
+// With counters that count nothing.
 fn accepted(rt: &impl Abort, alloc: Global) -> Result<u32, Fail> {
-    accept_alone::<Brand>(rt, alloc, Blank::new(1))
+    accept_alone::<Brand, Brand>(rt, alloc, Blank::new(1), Blank::new(1))
 }
 
 #[test]

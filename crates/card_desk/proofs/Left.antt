@@ -236,6 +236,13 @@ pub none_on_absent : (d : OpenDesk) (name key : List ℕ) (p : Post) (n : ℕ) �
 unfolding AreFewToApply
 none_on_absent d name key p n absent = subst (λ (o : Option ℕ). AreFewOn d.state (reached_at d o) (outcome_in d.state name key p) n n) (sym absent) refl
 
+-- ---- with as many that were put off
+pub left_both : (before after n left : ℕ) → after ≤ before + left → after + n ≤ before + n + left
+left_both before after n left l = omega (arith, l)
+
+pub spent_both : (before after n was left : ℕ) → after + left ≤ before + was → after + n + left ≤ before + n + was
+spent_both before after n was left l = omega (arith, l)
+
 -- ---- to carry out a post without a step
 -- what is said of the account is said of the desk
 pub idle_there : (rows : List Shared) (today : ℕ) (accounts : List OpenAccount) (i : ℕ) (b : OpenAccount) (d : OpenDesk) (key : List ℕ) (p : Post) (before after : ℕ)

@@ -23,3 +23,4 @@ pub mod MixedRows
 pub mod Recording
 pub mod Entries
 pub mod Standing
+pub mod Unmade

@@ -24,12 +24,13 @@ named_all accounts = map (λ a. a.named) accounts
 abbrev pub state_of : ℕ → List Shared → List OpenAccount → State
 state_of today rows accounts = record { today = today; shared = rows; accounts = named_all accounts }
 
--- a desk, as clauses see it: its state; and the day last reached of each account and what is recorded of it up to then, in the order
--- of their opening
+-- a desk, as clauses see it: its state; and of each account, in the order of their opening, the day last reached, what is recorded up
+-- to then, and how many statements a load put off that aren't made yet
 pub record OpenDesk : Type 0 where
   pub state : State
   pub reached : List ℕ
   pub recorded : List (List Entry)
+  pub unmade : List ℕ
 
 -- the days that accounts have reached
 abbrev pub reached_all : List OpenAccount → List ℕ
@@ -39,9 +40,13 @@ reached_all accounts = map (λ a. a.folding.reached) accounts
 abbrev pub recorded_all : List OpenAccount → List (List Entry)
 recorded_all accounts = map (λ a. a.folding.past.track.entries.items) accounts
 
+-- how many statements they owe
+abbrev pub unmade_all : List OpenAccount → List ℕ
+unmade_all accounts = map (λ a. length a.late.owed) accounts
+
 -- the desk that these are
 abbrev pub open_desk : ℕ → List Shared → List OpenAccount → OpenDesk
-open_desk today rows accounts = record { state = state_of today rows accounts; reached = reached_all accounts; recorded = recorded_all accounts }
+open_desk today rows accounts = record { state = state_of today rows accounts; reached = reached_all accounts; recorded = recorded_all accounts; unmade = unmade_all accounts }
 
 -- what the account at a place is judged and shown by, in a state
 abbrev pub now_at : State → ℕ → NamedAccount → Present

@@ -10,3 +10,4 @@ pub mod Steps
 pub mod Views
 pub mod IndexPlaces
 pub mod Recorded
+pub mod PutOff

@@ -1,5 +1,5 @@
 -- How many steps a call on a desk takes. A step is a span of an account: at most one day with its posts, and the days before it. Those that
--- make what a load put off are the load's, and aren't counted. Days are day numbers.
+-- make what a load put off are counted apart, as put off. Days are day numbers.
 use Rattle.std.specs.Prelude.{ℕ, Bool, false, ◌+◌, ◌*◌, ◌≡◌, ◌≤◌, List, [], slice_index_or, Option, Some, None}
 use Rattle.std.specs.List.{sum_by, zip}
 use Rattle.card_events.specs.Keys.{with_key}

@@ -21,12 +21,12 @@ use card_fees::SharedRows;
 use card_model::Entry;
 use card_ports::{Keeper, Row};
 use std::alloc::Global;
-use std::marker::{Brand, Model};
-use std::sync::ledger::{Blank, Ledger};
+use std::marker::Model;
+use std::sync::ledger::Ledger;
 
 /// Today, the accepted shared requests with the holidays, the fee rows and the index in them, and all accounts in the order of
 /// their opening, each folded to the day that it has reached, if it has reached one. Clauses see it as a record of its state, these
-/// days and what is recorded up to them; without one, the day is that before the opening.
+/// days, what is recorded up to them, and how many statements of each a load put off; without a day, it is that before the opening.
 #[derive(Drop)]
 pub struct Desk {
     today: Day,
@@ -73,7 +73,6 @@ impl Desk {
     ghost use Rattle.card_rows.specs.Held.{is_request};
     ghost use Rattle.card_desk.specs.Desks.{IsRun, now_at};
     ghost use Rattle.card_events.specs.Billing.{IsCloseDay};
-    ghost use Rattle.card_events.specs.Blanks.{IsBlankOf};
     ghost use Rattle.card_events.specs.Dated.{is_dated, is_dated_post};
     ghost use Rattle.card_events.specs.History.{is_open, terms_in};
     ghost use Rattle.card_ports.specs.Rows.{KeepsRows, SameRowsTold};
@@ -86,6 +85,7 @@ impl Desk {
     ghost use Rattle.card_desk.specs.Kept.{Fits, accepted_count};
     ghost use Rattle.card_desk.specs.Places.{IsPlace, place_from};
     ghost use Rattle.card_desk.specs.Reached.{AllMove, MovesNamed, MovesOn, MovesToApply, MovesToSee, MovesToTell, NoneMoves, OneStays};
+    ghost use Rattle.card_desk.specs.PutOff.{AreFewToIssue, AreOwedToApply, AreOwedToSee, AreTakenThere, MakesForAll, MakesNamed, MakesOn, MakesThere, MakesToApply, MakesToSee, MakesToTell, unmade_there};
     ghost use Rattle.card_desk.specs.Recorded.{AppliedStays, ChangesAt, MayChange, MayGrow, SeenStays, AreStanding, all_entries, entries_there};
     ghost use Rattle.card_desk.specs.Views.{issued, listed, restated, seen, shown};
 
@@ -94,6 +94,7 @@ impl Desk {
         ensures state { result.state ≡ start }
         ensures reached { result.reached ≡ [] }
         ensures recorded { result.recorded ≡ [] }
+        ensures unmade { result.unmade ≡ [] }
     {
         Desk {
             today: Day::first(),
@@ -201,6 +202,7 @@ impl Desk {
         ensures state { self.new.state ≡ self.old.state }
         ensures reached { AllMove result self.old self.new }
         ensures most { steps.new ≤ steps.old + most_for_all self.old }
+        ensures unmade { MakesForAll result self.old self.new }
     {
         reach_today(alloc, &mut self.accounts, self.today, &self.common, steps)
     }
@@ -228,6 +230,7 @@ impl Desk {
         ensures carried { Carried (K.rows keeper.old) (K.rows keeper.new) (K.faults keeper.old) (K.faults keeper.new) self.old.state request.now self.new.state result }
         ensures reached { NoneMoves self.old self.new }
         ensures recorded { self.new.recorded ≡ self.old.recorded }
+        ensures unmade { self.new.unmade ≡ self.old.unmade }
     {
         // All that may fail comes before the row, so what was kept is always carried out.
         let row = self.next_row(alloc, request)?;
@@ -254,6 +257,7 @@ impl Desk {
         ensures carried { Carried (K.rows keeper.old) (K.rows keeper.new) (K.faults keeper.old) (K.faults keeper.new) self.old.state request.now self.new.state result }
         ensures reached { NoneMoves self.old self.new }
         ensures recorded { self.new.recorded ≡ self.old.recorded }
+        ensures unmade { self.new.unmade ≡ self.old.unmade }
     {
         match shared_reason(self.today, self.accounts.len(), shared) {
             Some(refusal) => Ok(Reply::Refused(refusal)),
@@ -278,6 +282,7 @@ impl Desk {
         ensures carried { Carried (K.rows keeper.old) (K.rows keeper.new) (K.faults keeper.old) (K.faults keeper.new) self.old.state given.now.request.now self.new.state result }
         ensures reached { MovesOn None (outcome_in self.old.state given.now.account.now given.now.key.now given.now.post.now) result self.old self.new }
         ensures recorded { MayGrow self.old.recorded self.new.recorded }
+        ensures unmade { MakesOn None self.old self.new }
     {
         // All that may fail comes before the row, so what was kept is always carried out.
         let row = self.next_row(alloc, given.request)?;
@@ -313,6 +318,7 @@ impl Desk {
         ensures carried { Carried (K.rows keeper.old) (K.rows keeper.new) (K.faults keeper.old) (K.faults keeper.new) self.old.state given.now.request.now self.new.state result }
         ensures reached { MovesOn None (outcome_in self.old.state given.now.account.now given.now.key.now given.now.post.now) result self.old self.new }
         ensures recorded { MayGrow self.old.recorded self.new.recorded }
+        ensures unmade { MakesOn None self.old self.new }
     {
         if !is_open(given.post) {
             return Ok(Reply::Refused(Refusal::UnknownAccount));
@@ -324,13 +330,14 @@ impl Desk {
     }
 
     // Keeps the row of a post, and adds the post to its account.
-    fn keep_post<K: Keeper, L: Ledger>(
+    fn keep_post<K: Keeper, L: Ledger, M: Ledger>(
         &mut self,
         alloc: Global,
         keeper: &mut K,
         at: usize,
         given: &Given<'_>,
         steps: &mut Steps<L>,
+        put_off: &mut Steps<M>,
     ) -> Result<Reply, Fault>
         requires request { given.now.request.now ≡ Request.Post given.now.account.now given.now.key.now given.now.post.now }
         requires asked { IsAsked (K.rows keeper.old) self.old.state given.now.request.now }
@@ -340,14 +347,25 @@ impl Desk {
         ensures carried { Carried (K.rows keeper.old) (K.rows keeper.new) (K.faults keeper.old) (K.faults keeper.new) self.old.state given.now.request.now self.new.state result }
         ensures reached { MovesOn (Some at) (outcome_in self.old.state given.now.account.now given.now.key.now given.now.post.now) result self.old self.new }
         ensures most { AreFewToKeep self.old.state (reached_at self.old (Some at)) (outcome_in self.old.state given.now.account.now given.now.key.now given.now.post.now) steps.old steps.new }
+        ensures both { AreFewToKeep self.old.state (reached_at self.old (Some at)) (outcome_in self.old.state given.now.account.now given.now.key.now given.now.post.now) (steps.old + put_off.old) (steps.new + put_off.new) }
         ensures idle { needs_today given.now.post.now ≡ false → steps.new ≡ steps.old }
         ensures recorded { ChangesAt at self.old.recorded self.new.recorded }
+        ensures unmade { MakesThere at self.old self.new }
+        ensures put_off { AreTakenThere at given.now.post.now (outcome_in self.old.state given.now.account.now given.now.key.now given.now.post.now) result self.old self.new put_off.old put_off.new }
     {
         // All that may fail comes before the row, so what was kept is always carried out.
         let row = self.next_row(alloc, given.request)?;
         let key = given.key.copy();
         let account = &mut self.accounts[at];
-        let change = account.prepare(alloc, key, self.today, given.post, &self.common, steps)?;
+        let change = account.prepare(
+            alloc,
+            key,
+            self.today,
+            given.post,
+            &self.common,
+            steps,
+            put_off,
+        )?;
         keep_row(alloc, keeper, row)?;
         let number = account.commit(change, &self.common);
         self.count += 1;
@@ -372,19 +390,21 @@ impl Desk {
         ensures recorded { ChangesAt at self.old.recorded self.new.recorded }
         ensures idle { IsIdleToJudge (reached_there self.old at) key.now post.now steps.old steps.new }
         ensures spent { OnOk result (steps.new + steps_at self.new at ≤ steps.old + steps_at self.old at) }
+        ensures unmade { MakesThere at self.old self.new }
     {
         let account = &mut self.accounts[at];
         account.judge(alloc, self.today, key, post, &self.common, steps)
     }
 
     // A post of the account at a place.
-    fn post_known<K: Keeper, L: Ledger>(
+    fn post_known<K: Keeper, L: Ledger, M: Ledger>(
         &mut self,
         alloc: Global,
         keeper: &mut K,
         at: usize,
         given: &Given<'_>,
         steps: &mut Steps<L>,
+        put_off: &mut Steps<M>,
     ) -> Result<Reply, Fault>
         requires request { given.now.request.now ≡ Request.Post given.now.account.now given.now.key.now given.now.post.now }
         requires asked { IsAsked (K.rows keeper.old) self.old.state given.now.request.now }
@@ -392,35 +412,42 @@ impl Desk {
         ensures carried { Carried (K.rows keeper.old) (K.rows keeper.new) (K.faults keeper.old) (K.faults keeper.new) self.old.state given.now.request.now self.new.state result }
         ensures reached { MovesOn (Some at) (outcome_in self.old.state given.now.account.now given.now.key.now given.now.post.now) result self.old self.new }
         ensures most { AreFewOn self.old.state (reached_at self.old (Some at)) (outcome_in self.old.state given.now.account.now given.now.key.now given.now.post.now) steps.old steps.new }
+        ensures both { AreFewOn self.old.state (reached_at self.old (Some at)) (outcome_in self.old.state given.now.account.now given.now.key.now given.now.post.now) (steps.old + put_off.old) (steps.new + put_off.new) }
         ensures idle { IsIdleToPost (reached_there self.old at) given.now.key.now given.now.post.now (outcome_in self.old.state given.now.account.now given.now.key.now given.now.post.now) steps.old steps.new }
         ensures recorded { ChangesAt at self.old.recorded self.new.recorded }
+        ensures unmade { MakesThere at self.old self.new }
+        ensures put_off { AreTakenThere at given.now.post.now (outcome_in self.old.state given.now.account.now given.now.key.now given.now.post.now) result self.old self.new put_off.old put_off.new }
     {
         match self.judge_at(alloc, at, given.key, given.post, steps) {
             Ok(Verdict::Refused(refusal)) => Ok(Reply::Refused(refusal)),
             Ok(Verdict::Repeat(number)) => Ok(Reply::Accepted(number)),
-            Ok(Verdict::New) => self.keep_post(alloc, keeper, at, given, steps),
+            Ok(Verdict::New) => self.keep_post(alloc, keeper, at, given, steps, put_off),
             Err(NoMemory) => Err(Fault::Memory),
         }
     }
 
     // A post of an account.
-    fn post<K: Keeper, L: Ledger>(
+    fn post<K: Keeper, L: Ledger, M: Ledger>(
         &mut self,
         alloc: Global,
         keeper: &mut K,
         given: &Given<'_>,
         steps: &mut Steps<L>,
+        put_off: &mut Steps<M>,
     ) -> Result<Reply, Fault>
         requires request { given.now.request.now ≡ Request.Post given.now.account.now given.now.key.now given.now.post.now }
         requires asked { IsAsked (K.rows keeper.old) self.old.state given.now.request.now }
         ensures carried { Carried (K.rows keeper.old) (K.rows keeper.new) (K.faults keeper.old) (K.faults keeper.new) self.old.state given.now.request.now self.new.state result }
         ensures reached { MovesToApply given.now.request.now result self.old self.new }
         ensures most { AreFewToApply self.old given.now.request.now steps.old steps.new }
+        ensures both { AreFewToApply self.old given.now.request.now (steps.old + put_off.old) (steps.new + put_off.new) }
         ensures idle { IsIdleToApply self.old given.now.request.now steps.old steps.new }
         ensures recorded { AppliedStays self.old given.now.request.now self.new }
+        ensures unmade { MakesToApply given.now.request.now self.old self.new }
+        ensures put_off { AreOwedToApply given.now.request.now result self.old self.new put_off.old put_off.new }
     {
         match self.index.find(given.account.bytes()) {
-            Some(at) => self.post_known(alloc, keeper, at as usize, given, steps),
+            Some(at) => self.post_known(alloc, keeper, at as usize, given, steps, put_off),
             None => self.post_unknown(alloc, keeper, given),
         }
     }
@@ -432,17 +459,19 @@ impl Desk {
     /// in which the first changed day lies, or from the day last reached where that is earlier, to today; of a request that isn't accepted,
     /// from the day last reached on. An opening and a shared request take none, nor does a post of an account that isn't there, or one under
     /// a key that its account has used. Of other posts only a Penalty and a Refund may take any, and a Bill, a Plan, a Notice and a Lower
-    /// that is accepted. Where a post changes a day up to the closing of a statement that a load put off, all that the load put off for its
-    /// account is made first. The steps of that aren't counted: they are the load's, and afterwards none are left.
+    /// that is accepted. Where an accepted post changes a day up to the closing of a cycle whose statement a load put off, all that the load
+    /// put off for its account is made first, once. The steps of that are counted as put off, and both counts together keep the same bound:
+    /// none is taken where nothing is left to make, nor for a post that no fold reads or for which today is reached.
     ///
     /// `Keeper`: the keeper failed, which alone raises its count. `Memory`: memory ran out.
-    #[tactic(auto, using(crate::proofs::Apart::apart_of_step), unfolding(crate::specs::Reached::MovesToApply, crate::specs::Recorded::AppliedStays, crate::specs::Steps::AreFewToApply, crate::specs::Steps::IsIdleToApply))]
-    pub fn apply<K: Keeper, L: Ledger>(
+    #[tactic(auto, using(crate::proofs::Apart::apart_of_step), unfolding(crate::specs::Reached::MovesToApply, crate::specs::Recorded::AppliedStays, crate::specs::Steps::AreFewToApply, crate::specs::Steps::IsIdleToApply, crate::specs::PutOff::AreOwedToApply, crate::specs::PutOff::MakesToApply))]
+    pub fn apply<K: Keeper, L: Ledger, M: Ledger>(
         &mut self,
         alloc: Global,
         keeper: &mut K,
         request: &Request,
         steps: &mut Steps<L>,
+        put_off: &mut Steps<M>,
     ) -> Result<Reply, Fault>
         requires dated { is_dated request.now ≡ true }
         requires fits { Fits (K.rows keeper.old) self.old.state }
@@ -454,8 +483,11 @@ impl Desk {
         ensures counts { IsCounted Fault.Keeper Fault.Memory (K.faults keeper.old) (K.faults keeper.new) result }
         ensures reached { MovesToApply request.now result self.old self.new }
         ensures most { AreFewToApply self.old request.now steps.old steps.new }
+        ensures both { AreFewToApply self.old request.now (steps.old + put_off.old) (steps.new + put_off.new) }
         ensures idle { IsIdleToApply self.old request.now steps.old steps.new }
         ensures recorded { AppliedStays self.old request.now self.new }
+        ensures unmade { MakesToApply request.now self.old self.new }
+        ensures put_off { AreOwedToApply request.now result self.old self.new put_off.old put_off.new }
     {
         match request {
             Request::Shared(shared) => self.share(alloc, keeper, request, shared),
@@ -466,7 +498,7 @@ impl Desk {
                     key,
                     post,
                 };
-                self.post(alloc, keeper, &given, steps)
+                self.post(alloc, keeper, &given, steps, put_off)
             }
         }
     }
@@ -484,6 +516,7 @@ impl Desk {
         ensures reached { MovesToTell (Some at) result self.old self.new }
         ensures most { steps.new ≤ steps.old + steps_at self.old at }
         ensures recorded { ChangesAt at self.old.recorded self.new.recorded }
+        ensures unmade { MakesToTell (Some at) result self.old self.new }
     {
         let account = &mut self.accounts[at];
         account.show(alloc, self.today, &self.common, steps)
@@ -503,6 +536,7 @@ impl Desk {
         ensures reached { MovesToTell (Some at) result self.old self.new }
         ensures most { steps.new ≤ steps.old + steps_at self.old at }
         ensures recorded { ChangesAt at self.old.recorded self.new.recorded }
+        ensures unmade { MakesToTell (Some at) result self.old self.new }
     {
         let account = &mut self.accounts[at];
         account.restated(alloc, self.today, cycle, &self.common, steps)
@@ -521,6 +555,7 @@ impl Desk {
         ensures reached { MovesToTell (Some at) result self.old self.new }
         ensures most { steps.new ≤ steps.old + steps_at self.old at }
         ensures recorded { ChangesAt at self.old.recorded self.new.recorded }
+        ensures unmade { MakesToTell (Some at) result self.old self.new }
     {
         let account = &mut self.accounts[at];
         account.entries(alloc, self.today, &self.common, steps)
@@ -538,6 +573,7 @@ impl Desk {
         ensures reached { MovesNamed account.now result self.old self.new }
         ensures most { AreFewToTell self.old.state (reached_of account.now self.old) steps.old steps.new }
         ensures recorded { MayChange (place_from account.now 0 self.old.state.accounts) self.old.recorded self.new.recorded }
+        ensures unmade { MakesNamed account.now result self.old self.new }
     {
         let today = self.today();
         match self.index.find(account.bytes()) {
@@ -549,39 +585,46 @@ impl Desk {
         }
     }
 
-    // The statement of a cycle of the account at a place as it was issued. What the account owes is made for it.
-    fn issued_with<L: Ledger>(
+    // The statement of a cycle of the account at a place as it was issued. What a load put off for the account is made for it.
+    fn issued_at<L: Ledger>(
         &mut self,
         alloc: Global,
         at: usize,
         cycle: Num,
-        blank: Blank,
+        put_off: &mut Steps<L>,
     ) -> Result<Option<Statement>, NoMemory>
-        requires own { IsBlankOf L.name L.parts blank.name blank.parts }
         requires place { at < length self.old.state.accounts }
         ensures state { self.new.state ≡ self.old.state }
         ensures value { IfOk result (λ x. (d : NamedAccount) → x ≡ issued_statement cycle (now_at self.old.state at d).lists.issued) }
         ensures reached { NoneMoves self.old self.new }
+        ensures most { put_off.new ≤ put_off.old + steps_at self.old at }
         ensures recorded { self.new.recorded ≡ self.old.recorded }
+        ensures unmade { MakesToTell (Some at) result self.old self.new }
+        ensures idle { unmade_there self.old at ≡ 0 → put_off.new ≡ put_off.old }
     {
-        let mut steps = Steps::<L>::new(blank);
         let account = &mut self.accounts[at];
-        account.issued(alloc, self.today, cycle, &self.common, &mut steps)
+        account.issued(alloc, self.today, cycle, &self.common, put_off)
     }
 
-    // The statement of a cycle of an account as it was issued. Nobody counts the steps that make what the account owes: they are
-    // those that a load put off. The day that it has reached stays.
-    fn issued(&mut self, alloc: Global, account: &Name, cycle: Num) -> Result<View, NoMemory>
+    // The statement of a cycle of an account as it was issued. The day that the account has reached stays.
+    fn issued<L: Ledger>(
+        &mut self,
+        alloc: Global,
+        account: &Name,
+        cycle: Num,
+        put_off: &mut Steps<L>,
+    ) -> Result<View, NoMemory>
         ensures state { self.new.state ≡ self.old.state }
         ensures view { IfOk result (λ view. view ≡ issued cycle (lists_of account.now self.old.state.accounts)) }
         ensures reached { NoneMoves self.old self.new }
         ensures recorded { self.new.recorded ≡ self.old.recorded }
+        ensures unmade { MakesNamed account.now result self.old self.new }
+        ensures put_off { AreFewToIssue account.now self.old put_off.old put_off.new }
     {
         match self.index.find(account.bytes()) {
             None => Ok(View::NoAccount),
             Some(at) => {
-                let blank = Blank::new(1);
-                let statement = self.issued_with::<Brand>(alloc, at as usize, cycle, blank)?;
+                let statement = self.issued_at(alloc, at as usize, cycle, put_off)?;
                 Ok(stated(statement))
             }
         }
@@ -600,6 +643,7 @@ impl Desk {
         ensures reached { MovesNamed account.now result self.old self.new }
         ensures most { AreFewToTell self.old.state (reached_of account.now self.old) steps.old steps.new }
         ensures recorded { MayChange (place_from account.now 0 self.old.state.accounts) self.old.recorded self.new.recorded }
+        ensures unmade { MakesNamed account.now result self.old self.new }
     {
         match self.index.find(account.bytes()) {
             None => Ok(View::NoAccount),
@@ -622,6 +666,7 @@ impl Desk {
         ensures reached { MovesNamed account.now result self.old self.new }
         ensures most { AreFewToTell self.old.state (reached_of account.now self.old) steps.old steps.new }
         ensures recorded { MayChange (place_from account.now 0 self.old.state.accounts) self.old.recorded self.new.recorded }
+        ensures unmade { MakesNamed account.now result self.old self.new }
     {
         match self.index.find(account.bytes()) {
             None => Ok(View::NoAccount),
@@ -642,6 +687,7 @@ impl Desk {
         ensures tasks { IfOk result (λ tasks. tasks ≡ work self.old.state) }
         ensures reached { AllMove result self.old self.new }
         ensures most { steps.new ≤ steps.old + most_for_all self.old }
+        ensures unmade { MakesForAll result self.old self.new }
     {
         work_today(alloc, &mut self.accounts, self.today, &self.common, steps)
     }
@@ -652,6 +698,7 @@ impl Desk {
         ensures view { IfOk result (λ view. view ≡ View.Work (work self.old.state)) }
         ensures reached { AllMove result self.old self.new }
         ensures most { steps.new ≤ steps.old + most_for_all self.old }
+        ensures unmade { MakesForAll result self.old self.new }
     {
         let tasks = self.all_tasks(alloc, steps)?;
         Ok(View::Work(tasks))
@@ -660,24 +707,27 @@ impl Desk {
     /// The answer to what is asked, or that memory ran out. The state stays; the accounts that the answer is of reach today, and if memory
     /// runs out, some may have. It takes at most one step more than there are break days from the day last reached to today, none
     /// where the account isn't there or for what was issued, and for `Work` at most the sum of these over all accounts. Where an issued
-    /// statement is asked for, the steps that make what a load put off for its account aren't counted: they are the load's, and afterwards
-    /// none are left.
-    #[tactic(auto, unfolding(crate::specs::Reached::MovesToSee, crate::specs::Recorded::SeenStays, crate::specs::Views::seen, crate::specs::Steps::AreFewToSee))]
-    pub fn see<L: Ledger>(
+    /// statement is asked for, what a load put off for its account is made first, once: the steps of that are counted as put off, and are at
+    /// most as many as to tell of the account. Any other question makes it on its way, and takes none of these.
+    #[tactic(auto, unfolding(crate::specs::Reached::MovesToSee, crate::specs::Recorded::SeenStays, crate::specs::Views::seen, crate::specs::Steps::AreFewToSee, crate::specs::PutOff::AreOwedToSee, crate::specs::PutOff::MakesToSee))]
+    pub fn see<L: Ledger, M: Ledger>(
         &mut self,
         alloc: Global,
         ask: &Ask,
         steps: &mut Steps<L>,
+        put_off: &mut Steps<M>,
     ) -> Result<View, NoMemory>
         ensures state { self.new.state ≡ self.old.state }
         ensures view { IfOk result (λ view. view ≡ seen self.old.state ask.now) }
         ensures reached { MovesToSee ask.now result self.old self.new }
         ensures most { AreFewToSee self.old ask.now steps.old steps.new }
         ensures recorded { SeenStays self.old ask.now self.new }
+        ensures unmade { MakesToSee ask.now result self.old self.new }
+        ensures put_off { AreOwedToSee self.old ask.now put_off.old put_off.new }
     {
         match ask {
             Ask::Show(account) => self.show(alloc, account, steps),
-            Ask::Issued(account, cycle) => self.issued(alloc, account, *cycle),
+            Ask::Issued(account, cycle) => self.issued(alloc, account, *cycle, put_off),
             Ask::Restated(account, cycle) => self.restated(alloc, account, *cycle, steps),
             Ask::Entries(account) => self.entries(alloc, account, steps),
             Ask::Work => self.work(alloc, steps),

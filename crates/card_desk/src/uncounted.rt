@@ -18,14 +18,16 @@ use std::alloc::Global;
 use std::marker::Brand;
 use std::sync::ledger::{Blank, Ledger};
 
-fn apply_counted<K: Keeper, L: Ledger>(
+fn apply_counted<K: Keeper, L: Ledger, M: Ledger>(
     alloc: Global,
     desk: &mut Desk,
     keeper: &mut K,
     request: &Request,
     blank: Blank,
+    other: Blank,
 ) -> Result<Reply, Fault>
     requires own { IsBlankOf L.name L.parts blank.name blank.parts }
+    requires other { IsBlankOf M.name M.parts other.name other.parts }
     requires dated { is_dated request.now ≡ true }
     requires fits { Fits (K.rows keeper.old) desk.old.state }
     ensures ok { IfOk result (applied.Steps (K.rows keeper.old) (K.rows keeper.new) desk.old.state request.now desk.new.state) }
@@ -37,7 +39,8 @@ fn apply_counted<K: Keeper, L: Ledger>(
     ensures reached { MovesToApply request.now result desk.old desk.new }
 {
     let mut steps = Steps::<L>::new(blank);
-    desk.apply(alloc, keeper, request, &mut steps)
+    let mut put_off = Steps::<M>::new(other);
+    desk.apply(alloc, keeper, request, &mut steps, &mut put_off)
 }
 
 /// Carries out a request, as `Desk::apply` does: one step of the machine, and the row of a newly accepted request is kept. The
@@ -61,22 +64,26 @@ pub fn apply<K: Keeper>(
     ensures counts { IsCounted Fault.Keeper Fault.Memory (K.faults keeper.old) (K.faults keeper.new) result }
     ensures reached { MovesToApply request.now result desk.old desk.new }
 {
-    apply_counted::<K, Brand>(alloc, desk, keeper, request, Blank::new(1))
+    let (blank, other) = (Blank::new(1), Blank::new(1));
+    apply_counted::<K, Brand, Brand>(alloc, desk, keeper, request, blank, other)
 }
 
-fn see_counted<L: Ledger>(
+fn see_counted<L: Ledger, M: Ledger>(
     alloc: Global,
     desk: &mut Desk,
     ask: &Ask,
     blank: Blank,
+    other: Blank,
 ) -> Result<View, NoMemory>
     requires own { IsBlankOf L.name L.parts blank.name blank.parts }
+    requires other { IsBlankOf M.name M.parts other.name other.parts }
     ensures state { desk.new.state ≡ desk.old.state }
     ensures view { IfOk result (λ view. view ≡ seen desk.old.state ask.now) }
     ensures reached { MovesToSee ask.now result desk.old desk.new }
 {
     let mut steps = Steps::<L>::new(blank);
-    desk.see(alloc, ask, &mut steps)
+    let mut put_off = Steps::<M>::new(other);
+    desk.see(alloc, ask, &mut steps, &mut put_off)
 }
 
 /// The answer to what is asked, as `Desk::see` gives it, or that memory ran out. The state stays, whatever is answered.
@@ -85,7 +92,7 @@ pub fn see(alloc: Global, desk: &mut Desk, ask: &Ask) -> Result<View, NoMemory>
     ensures view { IfOk result (λ view. view ≡ seen desk.old.state ask.now) }
     ensures reached { MovesToSee ask.now result desk.old desk.new }
 {
-    see_counted::<Brand>(alloc, desk, ask, Blank::new(1))
+    see_counted::<Brand, Brand>(alloc, desk, ask, Blank::new(1), Blank::new(1))
 }
 
 fn show_counted<L: Ledger>(

@@ -9,7 +9,7 @@ use Rattle.card_events.specs.declared.kept.Kept.{Kept}
 use Rattle.card_model.specs.Cycles.{IssuedRow}
 use Rattle.card_model.specs.Refusals.{Lists}
 use Rattle.card_past.specs.Owes.{AreLater}
-use Rattle.card_past.specs.Pasts.{IsEmpty}
+use Rattle.card_past.specs.Pasts.{AreSame}
 use Rattle.card_past.specs.Foldings.{Folding, IsFolding, day_of, given_of}
 use Rattle.card_past.specs.Waiting.{given_by}
 use Rattle.card_past.specs.declared.past.Past.{Past}
@@ -47,9 +47,9 @@ pub record AreToMake (shared : SharedRows) (history : List Kept) (all made : Lis
   pub numbers : bills ≡ map (λ r. r.bill) rest
   pub within : All (λ r. r.day ≤ to) rest
 
--- so they are to a fold from the opening day, where nothing is folded
-abbrev pub AreToMakeAnew : SharedRows → List Kept → List IssuedRow → List IssuedRow → List ℕ → ℕ → Type 0
-AreToMakeAnew shared history all made bills to = (b : Option Summary) (empty : Past) → b ≡ None → IsEmpty empty → AreToMake shared history all made bills to b empty
+-- so they are to a fold of a copy of what is recorded
+abbrev pub AreToMakeBeside : SharedRows → List Kept → List IssuedRow → List IssuedRow → List ℕ → ℕ → Option Summary → Past → Type 0
+AreToMakeBeside shared history all made bills to book past = (copied : Past) → AreSame past copied → AreToMake shared history all made bills to book copied
 
 -- the steps that a fold over all rows takes from there on
 abbrev pub steps_on : SharedRows → List Kept → List IssuedRow → ℕ → Option Summary → ℕ

@@ -18,7 +18,7 @@ pub use eve::{Eve, eve_of};
 pub use forward::reach;
 pub use issued::IssuedIfAny;
 pub use issuing::{closed_number, issued_by, push_issued};
-pub use making::{make_anew, reach_with_all};
+pub use making::{make_beside, reach_with_all};
 pub use owed::{Owed, is_reached, owed_for, push_owed};
 pub use past::{Ends, Past, cut, ends_at, ends_of, entries_up_to, first_ends, nothing};
 pub use statement::statement_at;

@@ -8,7 +8,7 @@ ghost use Rattle.card_events.specs.declared.post.Post.TheVariants as variants;
 ghost use Rattle.card_model.specs.Cycles.{IssuedRow};
 ghost use Rattle.card_posts.specs.Posted.{StandsFor};
 ghost use Rattle.card_past.specs.Rows.{issued_as, issued_from};
-ghost use Rattle.card_past.specs.Making.{AreLeft, AreToMake, AreToMakeAnew, IsMade, IsNext, folded_at, steps_on};
+ghost use Rattle.card_past.specs.Making.{AreLeft, AreToMake, AreToMakeBeside, IsMade, IsNext, folded_at, steps_on};
 ghost use Rattle.card_past.specs.Owes.{bills_in};
 ghost use Rattle.card_past.specs.Pasts.{AreSame, PastBegins};
 ghost use Rattle.card_past.specs.Foldings.{FoldsOn, IsFolding, day_of};
@@ -19,7 +19,7 @@ use crate::forward::folded_on;
 use crate::issued::IssuedIfAny;
 use crate::issuing::{issued_by, push_issued};
 use crate::owed::Owed;
-use crate::past::{Past, cut, ends_of, nothing};
+use crate::past::{Past, copy_past, cut, ends_of};
 use crate::told::Told;
 use card_book::{Inputs, Issued};
 use card_dayend::make_cycle_room;
@@ -248,32 +248,42 @@ fn make_with_room<L: Ledger>(
     Ok(())
 }
 
-/// Makes the rows of all these Bills, folded anew from the opening day: what is kept of the account's book isn't asked. It takes at most
-/// the steps of a fold from the opening day to today. If memory runs out, what is made is as it was.
-pub fn make_anew<L: Ledger>(
+/// Makes the rows of all these Bills on a copy of what is kept of the account's book, so that the account's own fold stays at the day last
+/// reached. It takes at most the steps of a fold from the day after that one to today. If memory runs out, what is made is as it was.
+pub fn make_beside<L: Ledger>(
     alloc: Global,
     told: &Told,
     posts: &Posts,
     issued: &mut Vec<Issued>,
     owed: &[Owed],
     today: Day,
+    book: &BookIfAny,
+    past: &Past,
     shared: &SharedRows,
     steps: &mut Steps<L>,
 ) -> Result<(), NoMemory>
     requires stands { StandsFor shared.now.holidays posts.now }
     requires sound { IsSound (given_by posts.now.history told.now.rows shared.now) }
     requires last { today ≤ last_request_day }
-    requires left { AreToMakeAnew shared.now posts.now.history told.now.rows issued.old.items (bills_in owed.now) today }
+    requires left { AreToMakeBeside shared.now posts.now.history told.now.rows issued.old.items (bills_in owed.now) today book.now past.now }
     ensures rows { OnOk result (issued.new.items ≡ told.now.rows) }
-    ensures most { steps.new ≤ steps.old + steps_over (given_by posts.now.history told.now.rows shared.now) today (anchor_of posts.now.history).opened }
+    ensures most { steps.new ≤ steps.old + steps_on shared.now posts.now.history told.now.rows today book.now }
     ensures front { OnErr result (issued.new.items ≡ issued.old.items) }
     ensures room { vec_len issued.old < vec_capacity issued.old → vec_len issued.new < vec_capacity issued.new }
 {
     let count = issued.len();
-    let mut past = nothing(alloc);
-    let book = BookIfAny::none();
+    let mut copied = copy_past(past, alloc)?;
     match make_with_room(
-        alloc, told, posts, issued, owed, today, &book, &mut past, shared, steps,
+        alloc,
+        told,
+        posts,
+        issued,
+        owed,
+        today,
+        book,
+        &mut copied,
+        shared,
+        steps,
     ) {
         Ok(()) => Ok(()),
         Err(NoMemory) => {

@@ -1,11 +1,11 @@
 // What is recorded of an account up to the day last reached.
-ghost use Rattle.std.specs.Prelude.{◌≡◌, ◌-◌, ◌≤◌, nat_le, length, slice_index_or};
+ghost use Rattle.std.specs.Prelude.{◌≡◌, ◌-◌, ◌≤◌, IfOk, nat_le, length, slice_index_or};
 ghost use Rattle.std.specs.List.{filter};
 ghost use Rattle.card_model.specs.Cycles.{Cycle};
-ghost use Rattle.card_past.specs.Pasts.{AreEnds, AreFirst, IsEmpty, IsFront};
+ghost use Rattle.card_past.specs.Pasts.{AreEnds, AreFirst, AreSame, IsEmpty, IsFront};
 
-use card_book::{Accruing, Track, fees_up_to};
-use card_events::Day;
+use card_book::{Accruing, Cycle, Track, fees_up_to};
+use card_events::{Day, NoMemory};
 use std::alloc::Global;
 
 /// The entries, the closed cycles and the penalty fees of an account, each in order; of each closed cycle the first day of the run
@@ -39,6 +39,31 @@ pub fn nothing(alloc: Global) -> Past
         since: Vec::new(alloc),
         accrued: Vec::new(alloc),
     }
+}
+
+fn copy_cycles(cycles: &[Cycle], alloc: Global) -> Result<Vec<Cycle>, NoMemory>
+    ensures { IfOk result (λ copy. copy.items ≡ cycles.now) }
+{
+    let mut copy = Vec::new(alloc);
+    for cycle in cycles {
+        copy.push(cycle.copy(alloc)?)?;
+    }
+    Ok(copy)
+}
+
+/// The same in memory of its own.
+pub fn copy_past(past: &Past, alloc: Global) -> Result<Past, NoMemory>
+    ensures { IfOk result (λ copy. AreSame past.now copy) }
+{
+    Ok(Past {
+        track: Track {
+            entries: Vec::from_slice(alloc, &past.track.entries)?,
+            cycles: copy_cycles(&past.track.cycles, alloc)?,
+            fees: Vec::from_slice(alloc, &past.track.fees)?,
+        },
+        since: Vec::from_slice(alloc, &past.since)?,
+        accrued: Vec::from_slice(alloc, &past.accrued)?,
+    })
 }
 
 /// Before the first of each list.

@@ -21,4 +21,4 @@ pub mod Owing
 pub mod Loading
 pub mod ChangeOwes
 pub mod GivenMade
-pub mod Anew
+pub mod Beside

@@ -1,2 +1,2 @@
 -- Making the rows that aren't made, one after the other.
-pub use Rattle.card_past.specs.Making.{AreToMake, AreToMakeAnew, folded_at}
+pub use Rattle.card_past.specs.Making.{AreToMake, AreToMakeBeside, folded_at}

@@ -11,6 +11,11 @@ use Rattle.card_past.specs.declared.owed.Owed.{Owed}
 abbrev pub needs_today : Post → Bool
 needs_today p = sets_rates p || is_bill p
 
+-- those before which statements that are owed are made by themselves, where they are made at all: a fold reads them, and today isn't
+-- reached for them
+abbrev pub makes_before : Post → Bool
+makes_before p = not (needs_today p) && not (is_unread p)
+
 -- Those for which a load folds, where statements are owed and a day is the first that the post changes: those that set rates, and those
 -- that a fold reads and that change a day up to the closing of a cycle whose statement is owed. A Bill is none of them
 abbrev pub folds_to_load : Post → ℕ → List Owed → Bool

@@ -1,5 +1,5 @@
 -- An account with its book folded to the day last reached. Days are day numbers.
-use Rattle.std.specs.Prelude.{◌≡◌, ◌⊎◌, ℕ, ◌+◌, ◌≤◌, Bool, true, List, [], ◌∷◌, Some}
+use Rattle.std.specs.Prelude.{◌≡◌, ◌⊎◌, ℕ, ◌+◌, ◌≤◌, Bool, true, List, [], ◌∷◌, OnOk, Result, Some}
 use Rattle.std.specs.Option.{option_map}
 use Rattle.card_events.specs.Business.{AgreeUpTo}
 use Rattle.card_events.specs.Range.{last_request_day}
@@ -79,6 +79,11 @@ pub record SameLists (old new : Replay) : Type 0 where
 -- of the statements that were owed, all are made or none is
 abbrev pub MakesAllOrNone : Late → Late → Type 0
 MakesAllOrNone old new = (new ≡ old) ⊎ (new.owed ≡ [])
+
+-- Steps that make what is owed are taken where something is, and where an answer comes after them, nothing is owed any more
+pub record MakesOnce {T E : Type 0} (result : Result T E) (old new : Late) (before after : ℕ) : Type 0 where
+  pub idle : old.owed ≡ [] → after ≡ before
+  pub once : OnOk result ((after ≡ before) ⊎ (new.owed ≡ []))
 
 -- shared rows that an account doesn't see before the day after this one; index rows only where its opening rates follow the index
 pub record AreLaterRows (variable : Bool) (day : ℕ) (old new : SharedRows) : Type 0 where

@@ -70,7 +70,8 @@ impl Replay {
     ghost use Rattle.card_book.specs.GoingOn as rates;
     ghost use Rattle.card_replay.specs.Changes.{FoldsIfNeeded, IsChangeOf, IsCommitted, IsPrepared, IsReadyFor, IsRewoundBy, LeavesOwed, MayPrepare, issued_as};
     ghost use Rattle.card_posts.specs.Draft.{IsFirstWith};
-    ghost use Rattle.card_replay.specs.Replays.{IsReplay, IsToday, KeepsEve, MakesAllOrNone, MayReach, SameLists, day_of, given_of, opened_lists, posted_of, present_of};
+    ghost use Rattle.card_replay.specs.Needs.{makes_before};
+    ghost use Rattle.card_replay.specs.Replays.{IsReplay, IsToday, KeepsEve, MakesAllOrNone, MakesOnce, MayReach, SameLists, day_of, given_of, opened_lists, posted_of, present_of};
     ghost use Rattle.card_replay.specs.Standing.{AreStanding, IsForetold, IsStandingCount, MayCome};
     ghost use Rattle.card_replay.specs.Steps.{AreFewToPrepare, IsNear, steps_to};
 
@@ -430,10 +431,10 @@ impl Replay {
     /// the one last reached: that of the eve, of the closing before the cycle in which the day lies, or, in the first cycle, none. The
     /// account reaches today for a Bill, whose row is read off the book of today, and for a Plan, a Notice or a Lower; for any other post
     /// its folding stays, and no step is taken. Where such a post changes a day up to the closing of a cycle whose statement is owed, all
-    /// that is owed is made first, and the steps of that aren't counted. The posts and the issued statements stay as they are; with the
-    /// post, they are as every run leaves them. The day last reached is as before, or today. If memory runs out, all that was owed is made,
+    /// that is owed is made first: the steps of that are counted as put off, and both counts together keep the bound. The posts and the
+    /// issued statements stay as they are; with the post, they are as every run leaves them. The day last reached is as before, or today. If memory runs out, all that was owed is made,
     /// or none is.
-    pub fn prepare<L: Ledger>(
+    pub fn prepare<L: Ledger, M: Ledger>(
         &mut self,
         alloc: Global,
         key: Name,
@@ -442,6 +443,7 @@ impl Replay {
         from: Day,
         shared: &SharedRows,
         steps: &mut Steps<L>,
+        put_off: &mut Steps<M>,
     ) -> Result<Change, NoMemory>
         requires replay { IsReplay shared.now self.old }
         requires reach { MayReach today self.old }
@@ -460,10 +462,13 @@ impl Replay {
         ensures made { IfOk result (λ c. c.owes ≡ None) }
         ensures idle { FoldsIfNeeded post.now self.old.folding self.new.folding steps.old steps.new }
         ensures most { AreFewToPrepare today shared.now self.old.lists self.old.folding.reached key post.now steps.old steps.new }
+        ensures both { AreFewToPrepare today shared.now self.old.lists self.old.folding.reached key post.now (steps.old + put_off.old) (steps.new + put_off.new) }
         ensures all { MakesAllOrNone self.old.late self.new.late }
+        ensures once { MakesOnce result self.old.late self.new.late put_off.old put_off.new }
+        ensures put_off { makes_before post.now ≡ false → put_off.new ≡ put_off.old }
     {
         self.reach_for(alloc, post, today, shared, steps)?;
-        self.make_for(alloc, post, today, from, shared)?;
+        self.make_for(alloc, post, today, from, shared, put_off)?;
         self.changed(alloc, key, post, today, from, shared)
     }
 
@@ -610,7 +615,8 @@ impl Replay {
     }
 
     /// The statement of a cycle, as if it were issued on a day (12 CFR 1026.5(b)(2), .7(b)), by the book at the end of today, which the
-    /// account has reached; none where the cycle, numbered up to 48,576, isn't closed. It costs what the entries behind its closing cost.
+    /// account has reached, and after which no post was accepted: so all its statements are made. None comes where the cycle, numbered up
+    /// to 48,576, isn't closed. It costs what the entries behind its closing cost.
     pub fn statement(
         &self,
         alloc: Global,

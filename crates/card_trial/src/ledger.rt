@@ -60,6 +60,7 @@ impl LedgerDesk {
     ghost use Rattle.card_desk.specs.Places.{place_from};
     ghost use Rattle.card_desk.specs.Reached.{AllMove, MovesNamed, MovesToApply};
     ghost use Rattle.card_desk.specs.Recorded.{AppliedStays, MayChange, all_entries};
+    ghost use Rattle.card_desk.specs.PutOff.{AreOwedToApply, MakesToApply};
     ghost use Rattle.card_desk.specs.Steps.{AreFewToApply, AreFewToTell, most_for_all, reached_of};
     ghost use Rattle.card_desk.specs.Views.{shown};
     ghost use Rattle.card_trial.specs.Sums.{all_between, of_all_kinds};
@@ -127,12 +128,13 @@ impl LedgerDesk {
 
     /// One step of the machine, as `Desk::apply` takes it. The totals are those of what is recorded then, whatever comes of the request:
     /// a refusal or a fault may have folded the account on.
-    pub fn apply<K: Keeper, L: Ledger>(
+    pub fn apply<K: Keeper, L: Ledger, M: Ledger>(
         &mut self,
         alloc: Global,
         keeper: &mut K,
         request: &Request,
         steps: &mut Steps<L>,
+        put_off: &mut Steps<M>,
     ) -> Result<Reply, Fault>
         requires dated { is_dated request.now ≡ true }
         requires fits { Fits (K.rows keeper.old) self.old.desk.state }
@@ -144,10 +146,13 @@ impl LedgerDesk {
         ensures counts { IsCounted Fault.Keeper Fault.Memory (K.faults keeper.old) (K.faults keeper.new) result }
         ensures reached { MovesToApply request.now result self.old.desk self.new.desk }
         ensures most { AreFewToApply self.old.desk request.now steps.old steps.new }
+        ensures both { AreFewToApply self.old.desk request.now (steps.old + put_off.old) (steps.new + put_off.new) }
         ensures recorded { AppliedStays self.old.desk request.now self.new.desk }
+        ensures unmade { MakesToApply request.now self.old.desk self.new.desk }
+        ensures put_off { AreOwedToApply request.now result self.old.desk self.new.desk put_off.old put_off.new }
     {
         match request {
-            Request::Shared(_) => self.desk.apply(alloc, keeper, request, steps),
+            Request::Shared(_) => self.desk.apply(alloc, keeper, request, steps, put_off),
             Request::Post { account, post, .. } => match self.desk.place_of(account) {
                 Some(at) => {
                     let _few = self.desk.accounts();
@@ -155,13 +160,13 @@ impl LedgerDesk {
                     let standing = self.desk.standing(at, post);
                     self.totals
                         .take_out(behind(self.desk.recorded(at), standing));
-                    let result = self.desk.apply(alloc, keeper, request, steps);
+                    let result = self.desk.apply(alloc, keeper, request, steps, put_off);
                     self.totals.put_in(behind(self.desk.recorded(at), standing));
                     result
                 }
                 None => {
                     let before = self.desk.accounts();
-                    let result = self.desk.apply(alloc, keeper, request, steps);
+                    let result = self.desk.apply(alloc, keeper, request, steps, put_off);
                     if self.desk.accounts() > before {
                         self.totals.put_in(self.desk.recorded(before as usize));
                     }

@@ -213,16 +213,17 @@ fn day(rt: &impl Abort, text: &[u8]) -> Day {
 }
 
 // Carries out a request, which is accepted.
-fn accept<L: Ledger>(
+fn accept<L: Ledger, M: Ledger>(
     rt: &impl Abort,
     alloc: Global,
     ledger: &mut LedgerDesk,
     request: &Request,
     steps: &mut Steps<L>,
+    put_off: &mut Steps<M>,
 ) {
     assert!(rt; request.is_dated());
     let mut keeper = Untold {};
-    let accepted = match ledger.apply(alloc, &mut keeper, request, steps) {
+    let accepted = match ledger.apply(alloc, &mut keeper, request, steps, put_off) {
         Ok(Reply::Done | Reply::Accepted(_)) => true,
         _ => false,
     };
@@ -230,15 +231,16 @@ fn accept<L: Ledger>(
 }
 
 // Carries out a line.
-fn carry_out<L: Ledger>(
+fn carry_out<L: Ledger, M: Ledger>(
     rt: &impl Abort,
     alloc: Global,
     ledger: &mut LedgerDesk,
     line: &[u8],
     steps: &mut Steps<L>,
+    put_off: &mut Steps<M>,
 ) -> Result<(), Fail> {
     match read_line(line) {
-        Line::Request(request) => accept(rt, alloc, ledger, &request, steps),
+        Line::Request(request) => accept(rt, alloc, ledger, &request, steps, put_off),
         Line::Show(account) => {
             let _view = ledger.show(alloc, &account, steps)?;
         }
@@ -257,41 +259,45 @@ fn are_of(rt: &impl Abort, ledger: &LedgerDesk, case: &Case) -> bool {
 }
 
 // Carries out the lines of a case, and brings all accounts to today.
-fn run_case<L: Ledger>(
+fn run_case<L: Ledger, M: Ledger>(
     rt: &impl Abort,
     alloc: Global,
     ledger: &mut LedgerDesk,
     case: &Case,
     steps: &mut Steps<L>,
+    put_off: &mut Steps<M>,
 ) -> Result<(), Fail> {
     for line in case.lines {
-        carry_out(rt, alloc, ledger, line, steps)?;
+        carry_out(rt, alloc, ledger, line, steps, put_off)?;
     }
     ledger.to_today(alloc, steps)?;
     Ok(())
 }
 
 // Each case goes on from the one before it.
-fn run_cases<L: Ledger>(
+fn run_cases<L: Ledger, M: Ledger>(
     rt: &impl Abort,
     alloc: Global,
     cases: &[Case],
     blank: Blank,
+    other: Blank,
 ) -> Result<(), Fail>
     requires own { IsBlankOf L.name L.parts blank.name blank.parts }
+    requires other { IsBlankOf M.name M.parts other.name other.parts }
 {
     let mut steps = Steps::<L>::new(blank);
+    let mut put_off = Steps::<M>::new(other);
     let mut ledger = LedgerDesk::of(alloc, Desk::new(alloc))?;
     for case in cases {
-        run_case(rt, alloc, &mut ledger, case, &mut steps)?;
+        run_case(rt, alloc, &mut ledger, case, &mut steps, &mut put_off)?;
         assert!(rt; are_of(rt, &ledger, case));
     }
     Ok(())
 }
 
-// With a ledger of their own.
+// With ledgers of their own.
 fn try_cases(rt: &impl Abort, alloc: Global, cases: &[Case]) -> Result<(), Fail> {
-    run_cases::<Brand>(rt, alloc, cases, Blank::new(1))
+    run_cases::<Brand, Brand>(rt, alloc, cases, Blank::new(1), Blank::new(1))
 }
 
 #[test]

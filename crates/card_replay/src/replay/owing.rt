@@ -3,11 +3,9 @@ ghost use Rattle.std.specs.Prelude.{◌≡◌, ◌+◌, ◌<◌, ◌≤◌, true
 ghost use Rattle.std.specs.List.{All};
 ghost use Rattle.card_book.specs.GoingOn as going;
 ghost use Rattle.card_book.specs.Laws.{is_bill};
-ghost use Rattle.card_book.specs.Stands.{steps_over};
 ghost use Rattle.card_daily.specs.Given.{IsSound};
-ghost use Rattle.card_events.specs.Blanks.{IsBlankOf};
 ghost use Rattle.card_events.specs.Dated.{is_dated_post};
-ghost use Rattle.card_events.specs.History.{anchor_of, is_open};
+ghost use Rattle.card_events.specs.History.{is_open};
 ghost use Rattle.card_events.specs.Keys.{with_key};
 ghost use Rattle.card_model.specs.Machine.{accepted};
 ghost use Rattle.card_model.specs.Refusals.{reason_against};
@@ -15,17 +13,17 @@ ghost use Rattle.card_model.specs.Unread as unread;
 ghost use Rattle.card_posts.specs.Draft.{IsFirstWith};
 ghost use Rattle.card_replay.specs.Changes.{IsChangeOf, IsOwedFor, IsPrepared, IsReadyFor, LeavesOwed, OwesBill, StaysUnfolded};
 ghost use Rattle.card_replay.specs.Needs as needs;
-ghost use Rattle.card_replay.specs.Replays.{IsReplay, MakesAllOrNone, MayReach, SameLists, given_of, posted_of, present_of};
+ghost use Rattle.card_replay.specs.Steps.{steps_to};
+ghost use Rattle.card_replay.specs.Replays.{IsReplay, MakesAllOrNone, MakesOnce, MayReach, SameLists, given_of, posted_of, present_of};
 
 use super::Replay;
 use crate::change::Change;
 use crate::rewinding::{is_folded_to, is_unread, sets_rates};
 use card_events::{Day, Name, NoMemory, Post, Steps};
 use card_fees::SharedRows;
-use card_past::{IssuedIfAny, Owed, is_reached, make_anew, owed_for};
+use card_past::{IssuedIfAny, Owed, is_reached, make_beside, owed_for};
 use std::alloc::Global;
-use std::marker::Brand;
-use std::sync::ledger::{Blank, Ledger};
+use std::sync::ledger::Ledger;
 
 // Whether a load folds for a post, where this is the first day that it changes: one that sets rates, and one that a fold reads and that
 // changes a day up to the closing of a cycle whose statement is owed.
@@ -38,8 +36,8 @@ fn folds_to_load(post: &Post, from: Day, owed: &[Owed]) -> bool
 }
 
 impl Replay {
-    /// Makes the statements that are owed (12 CFR 1026.5(b)(2), .7(b)), from the opening day on: the day last reached stays. It takes no step
-    /// where none is owed, and else at most one a break day from the opening day to today. If memory runs out, they are owed as before.
+    /// Makes the statements that are owed (12 CFR 1026.5(b)(2), .7(b)) on a copy of what is folded: the day last reached stays. It takes no
+    /// step where none is owed, and else at most those that `to_day` takes. If memory runs out, they are owed as before.
     pub fn make_owed<L: Ledger>(
         &mut self,
         alloc: Global,
@@ -56,18 +54,20 @@ impl Replay {
         ensures made { OnOk result (self.new.late.made ≡ self.old.lists.issued) }
         ensures err { OnErr result (self.new.late ≡ self.old.late) }
         ensures idle { self.old.late.owed ≡ [] → steps.new ≡ steps.old }
-        ensures most { steps.new ≤ steps.old + steps_over (given_of self.old.lists shared.now) today (anchor_of self.old.lists.posts).opened }
+        ensures most { steps.new ≤ steps.old + steps_to today shared.now self.old }
     {
         if self.owed.is_empty() {
             return Ok(());
         }
-        make_anew(
+        make_beside(
             alloc,
             &self.told,
             &self.posts,
             &mut self.issued,
             &self.owed,
             today,
+            &self.book,
+            &self.past,
             shared,
             steps,
         )?;
@@ -75,35 +75,16 @@ impl Replay {
         Ok(())
     }
 
-    fn make_on<L: Ledger>(
-        &mut self,
-        alloc: Global,
-        today: Day,
-        shared: &SharedRows,
-        blank: Blank,
-    ) -> Result<(), NoMemory>
-        requires own { IsBlankOf L.name L.parts blank.name blank.parts }
-        requires replay { IsReplay shared.now self.old }
-        requires reach { MayReach today self.old }
-        ensures same { SameLists self.old self.new }
-        ensures replay { IsReplay shared.now self.new }
-        ensures folding { self.new.folding ≡ self.old.folding }
-        ensures none { OnOk result (self.new.late.owed ≡ []) }
-        ensures all { MakesAllOrNone self.old.late self.new.late }
-    {
-        let mut steps = Steps::<L>::new(blank);
-        self.make_owed(alloc, today, shared, &mut steps)
-    }
-
     // Makes the statements that are owed where a post changes a day up to the closing of one of them, since they are of the posts before
-    // it. The day last reached stays, and nobody counts the steps, which are those that a load put off.
-    pub(super) fn make_for(
+    // it. The day last reached stays. The steps are those that a load put off.
+    pub(super) fn make_for<L: Ledger>(
         &mut self,
         alloc: Global,
         post: &Post,
         today: Day,
         from: Day,
         shared: &SharedRows,
+        put_off: &mut Steps<L>,
     ) -> Result<(), NoMemory>
         requires replay { IsReplay shared.now self.old }
         requires reach { MayReach today self.old }
@@ -112,11 +93,14 @@ impl Replay {
         ensures folding { self.new.folding ≡ self.old.folding }
         ensures leaves { OnOk result (LeavesOwed post.now from self.new) }
         ensures all { MakesAllOrNone self.old.late self.new.late }
+        ensures once { MakesOnce result self.old.late self.new.late put_off.old put_off.new }
+        ensures skips { unread.is_unread post.now ≡ true → put_off.new ≡ put_off.old }
+        ensures most { put_off.new ≤ put_off.old + steps_to today shared.now self.old }
     {
         if is_unread(post) || !is_reached(&self.owed, from) {
             return Ok(());
         }
-        self.make_on::<Brand>(alloc, today, shared, Blank::new(1))
+        self.make_owed(alloc, today, shared, put_off)
     }
 
     // The Bill whose statement can be made later, where a post is one and today isn't reached.

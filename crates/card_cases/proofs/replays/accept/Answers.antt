@@ -1,4 +1,4 @@
-use Rattle.std.proofs.Common.{arith}
+use Rattle.std.proofs.Common.{◌+◌, arith}
 use Rattle.card_cases.proofs.Reached.{charge-dated, may-reach, no-reason, sound-with, three-steps}
 use Rattle.card_cases.proofs.replays.accept.Goals as goal
 
@@ -16,6 +16,8 @@ returns g c =
     record {
       three = three-steps c.day-today.result c.args.shared.now c.args.account.now.lists c.args.account.now.folding.reached c.name-key.result c.charge-post.result c.args.steps.now c.prepare.new.steps
           c.day-today.ensures c.requires.nothing c.requires.alone c.requires.today.reached c.charge-post.ensures c.prepare.ensures.most;
+      both = three-steps c.day-today.result c.args.shared.now c.args.account.now.lists c.args.account.now.folding.reached c.name-key.result c.charge-post.result (c.args.steps.now + c.args.put_off.now) (c.prepare.new.steps + c.prepare.new.put_off)
+          c.day-today.ensures c.requires.nothing c.requires.alone c.requires.today.reached c.charge-post.ensures c.prepare.ensures.both;
     }
 
 pub prepare-requires-clause-reach : goal.prepare-requires-clause-reach

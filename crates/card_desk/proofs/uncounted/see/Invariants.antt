@@ -1,4 +1,7 @@
 use Rattle.card_desk.proofs.uncounted.see.Given as goal
 
-abbrev pub ghosts-see_counted : goal.ghosts-see_counted
-ghosts-see_counted a = record { name = a.blank.name; parts = a.blank.parts }
+abbrev pub ghosts-see_counted-L-Ledger : goal.ghosts-see_counted-L-Ledger
+ghosts-see_counted-L-Ledger a = record { name = a.blank.name; parts = a.blank.parts }
+
+abbrev pub ghosts-see_counted-M-Ledger : goal.ghosts-see_counted-M-Ledger
+ghosts-see_counted-M-Ledger a = record { name = a.other.name; parts = a.other.parts }

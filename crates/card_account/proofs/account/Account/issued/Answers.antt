@@ -1,12 +1,10 @@
 use Rattle.std.proofs.Common.{◌≡◌, ◌+◌, ◌≤◌, List, ap, sym, subst, ◌∙◌}
 use Rattle.std.specs.Prelude.{IfOk}
-use Rattle.card_account.specs.Accounts.{IsTold, OpenAccount, issued_statement, replay_of}
+use Rattle.card_account.specs.Accounts.{IsTold, OpenAccount, issued_statement, replay_of, steps_of}
 use Rattle.card_account.proofs.Told.{told-made, with_replay}
-use Rattle.card_book.specs.Stands.{steps_over}
-use Rattle.card_events.specs.History.{anchor_of}
 use Rattle.card_model.specs.Cycles.{IssuedRow}
-use Rattle.card_replay.specs.Replays.{IsReplay, MayReach, given_of}
-use Rattle.card_replay.proofs.Anew.{all-or-none}
+use Rattle.card_replay.specs.Replays.{IsReplay, MayReach}
+use Rattle.card_replay.proofs.Beside.{all-or-none, any-ok}
 use Rattle.card_account.proofs.account.Account.issued.Goals as goal
 
 pub make_owed-requires-clause-replay : goal.make_owed-requires-clause-replay
@@ -39,4 +37,7 @@ returns-clause-idle g c none = c.make_owed.ensures.idle (ap (λ (a : OpenAccount
 
 pub returns-clause-most : goal.returns-clause-most
 returns-clause-most g c =
-    subst (λ (a : OpenAccount). c.make_owed.new.steps ≤ c.args.steps.now + steps_over (given_of a.named.lists c.args.shared.now) c.args.today (anchor_of a.named.lists.posts).opened) c.self.view_is c.make_owed.ensures.most
+    subst (λ (a : OpenAccount). c.make_owed.new.steps ≤ c.args.steps.now + steps_of c.args.today c.args.shared.now a) c.self.view_is c.make_owed.ensures.most
+
+pub returns-clause-none : goal.returns-clause-none
+returns-clause-none g c = any-ok c.issued_of.result _ c.in_ok-make_owed.ensures.none

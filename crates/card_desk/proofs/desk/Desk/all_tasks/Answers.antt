@@ -12,6 +12,8 @@ use Rattle.card_model.specs.Work.{work}
 use Rattle.card_model.specs.declared.task.Task.{Task}
 use Rattle.card_desk.proofs.Moves.{all-move}
 use Rattle.card_desk.specs.Reached.{AllMove}
+use Rattle.card_desk.proofs.Unmade.{all-made}
+use Rattle.card_desk.specs.PutOff.{MakesForAll}
 use Rattle.card_desk.proofs.desk.Desk.all_tasks.Goals as goal
 
 pub work_today-requires : goal.work_today-requires
@@ -58,3 +60,12 @@ returns-clause-reached g c =
     let items = with_items_is d.accounts c.work_today.new.accounts (omega (arith, count, d.accounts.ok.0)) in
     subst (λ (xs : List OpenAccount). AllMove c.work_today.result c.args.self.now (open_desk d.today d.shared.items xs)) (sym items)
     (all-move c.work_today.result d.index d.common d.count d.today d.shared.items d.accounts.items c.work_today.new.accounts c.args.self.now c.self.invariant c.self.view_is told c.work_today.ensures.today)
+
+pub returns-clause-unmade : goal.returns-clause-unmade
+returns-clause-unmade g c =
+    let d = c.self.inside in
+    let told = subst (λ (xs : List OpenAccount). AreTold d.today d.common xs c.work_today.new.accounts) c.deref_mut.ensures.value c.work_today.ensures.told in
+    let count = told.count in
+    let items = with_items_is d.accounts c.work_today.new.accounts (omega (arith, count, d.accounts.ok.0)) in
+    subst (λ (xs : List OpenAccount). MakesForAll c.work_today.result c.args.self.now (open_desk d.today d.shared.items xs)) (sym items)
+    (all-made c.work_today.result d.common d.today d.shared.items d.accounts.items c.work_today.new.accounts c.args.self.now c.self.view_is told c.work_today.ensures.today)

@@ -10,6 +10,7 @@ use Rattle.card_desk.specs.Places.{IsPlace, place_from}
 use Rattle.card_model.specs.Machine.{NamedAccount, State, lists_of}
 use Rattle.card_model.specs.Refusals.{Lists}
 use Rattle.card_desk.proofs.Moves.{absent-moves, answered-moves, named-moves, wanting-moves}
+use Rattle.card_desk.proofs.Unmade.{absent-made, answered-made, named-made, wanting-made}
 use Rattle.card_desk.proofs.desk.Desk.entries.Goals as goal
 
 pub entries_at-requires : goal.entries_at-requires
@@ -64,3 +65,22 @@ pub returns-in_ok-entries-in-Some-clause-reached : goal.returns-in_ok-entries-in
 returns-in_ok-entries-in-Some-clause-reached g c =
     let place = ap (λ (s : State). place_from c.args.account.now 0 s.accounts) (sym (state_by _ _ c.self.view_is)) ∙ placed_at c.self.inside.index (named_all c.self.inside.accounts.items) c.args.account.now c.bytes.result.now c.in-Some.at c.self.invariant.index c.bytes.ensures.value c.in-Some.ensures in
     named-moves _ _ _ c.args.account.now c.in-Some.at place (answered-moves _ _ _ _ c.in_ok-entries-in-Some.ensures.reached.answered)
+
+-- ---- what a load put off
+pub returns-in-None-clause-unmade : goal.returns-in-None-clause-unmade
+returns-in-None-clause-unmade g c =
+    let d = c.self.inside in
+    let absent = found_none d.index (named_all d.accounts.items) c.args.account.now c.bytes.result.now c.self.invariant.index c.bytes.ensures.value c.in-None.ensures in
+    absent-made _ _ _ c.args.account.now (ap (λ (s : State). place_from c.args.account.now 0 s.accounts) (sym (state_by _ _ c.self.view_is)) ∙ absent) refl
+
+pub returns-in_err-entries-in-Some-clause-unmade : goal.returns-in_err-entries-in-Some-clause-unmade
+returns-in_err-entries-in-Some-clause-unmade g c =
+    let place = ap (λ (s : State). place_from c.args.account.now 0 s.accounts) (sym (state_by _ _ c.self.view_is))
+    ∙ placed_at c.self.inside.index (named_all c.self.inside.accounts.items) c.args.account.now c.bytes.result.now c.in-Some.at c.self.invariant.index c.bytes.ensures.value c.in-Some.ensures in
+    named-made _ _ _ c.args.account.now c.in-Some.at place (wanting-made c.entries_at.result _ _ _ _ c.from_residual.ensures.0 c.entries_at.ensures.unmade)
+
+pub returns-in_ok-entries-in-Some-clause-unmade : goal.returns-in_ok-entries-in-Some-clause-unmade
+returns-in_ok-entries-in-Some-clause-unmade g c =
+    let place = ap (λ (s : State). place_from c.args.account.now 0 s.accounts) (sym (state_by _ _ c.self.view_is))
+    ∙ placed_at c.self.inside.index (named_all c.self.inside.accounts.items) c.args.account.now c.bytes.result.now c.in-Some.at c.self.invariant.index c.bytes.ensures.value c.in-Some.ensures in
+    named-made _ _ _ c.args.account.now c.in-Some.at place (answered-made _ _ _ _ c.entries_at.ensures.unmade.made c.in_ok-entries-in-Some.ensures.unmade.answered)

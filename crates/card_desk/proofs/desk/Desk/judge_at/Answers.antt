@@ -13,6 +13,7 @@ use Rattle.card_model.specs.Machine.{NamedAccount, at_key}
 use Rattle.card_replay.specs.Replays.{present_of}
 use Rattle.card_desk.proofs.Moves.{told-moves}
 use Rattle.card_desk.proofs.Recording.{changed_at}
+use Rattle.card_desk.proofs.Unmade.{told-made}
 use Rattle.card_desk.proofs.desk.Desk.judge_at.Goals as goal
 
 pub judge-requires-clause-account : goal.judge-requires-clause-account
@@ -118,3 +119,13 @@ pub returns-clause-recorded : goal.returns-clause-recorded
 returns-clause-recorded g c =
     let d = c.self.inside in
     changed_at d.today d.shared.items d.accounts.items c.args.at c.judge.new.self c.args.self.now c.self.view_is
+
+pub returns-clause-unmade : goal.returns-clause-unmade
+returns-clause-unmade g c =
+    let d = c.self.inside in
+    let items = d.accounts.items in
+    let b = c.index_mut-account.result.now in
+    let s = c.args.self.now.state in
+    let state = state_by _ _ c.self.view_is in
+    let is = c.index_mut-account.ensures.value in
+    told-made d.shared.items d.common d.today items c.args.at c.judge.new.self b c.args.self.now c.self.view_is (low_in d.shared.items d.today items s c.args.at state c.requires.place) is c.judge.ensures.told

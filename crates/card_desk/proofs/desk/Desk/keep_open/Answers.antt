@@ -25,6 +25,7 @@ use Rattle.card_desk.specs.Desks.{OpenDesk, reached_all}
 use Rattle.card_desk.proofs.Recording.{grown_by}
 use Rattle.card_desk.specs.Desks.{recorded_all}
 use Rattle.card_desk.specs.Recorded.{MayGrow}
+use Rattle.card_desk.proofs.Unmade.{opened-made}
 use Rattle.card_desk.proofs.desk.Desk.keep_open.Goals as goal
 
 pub keep_row-requires : goal.keep_row-requires
@@ -166,3 +167,10 @@ returns-in-Ok-clause-recorded g c =
     let made = c.in_ok-made.made in
     let items : c.push_account.new.list.items ≡ d.accounts.items ++ made ∷ [] = c.push_account.ensures ∙ ap (λ l. l ++ made ∷ []) c.in_ok-reserve.ensures.items in
     subst (λ (xs : List OpenAccount). MayGrow c.args.self.now.recorded (recorded_all xs)) (sym items) (grown_by d.today d.shared.items d.accounts.items made c.args.self.now c.self.view_is)
+
+pub returns-in-Ok-clause-unmade : goal.returns-in-Ok-clause-unmade
+returns-in-Ok-clause-unmade g c =
+    let d = c.self.inside in
+    let made = c.in_ok-made.made in
+    let items : c.push_account.new.list.items ≡ d.accounts.items ++ made ∷ [] = c.push_account.ensures ∙ ap (λ l. l ++ made ∷ []) c.in_ok-reserve.ensures.items in
+    opened-made d.shared.items d.today d.accounts.items c.push_account.new.list.items made c.args.self.now c.self.view_is items c.in_ok-made.ensures.none

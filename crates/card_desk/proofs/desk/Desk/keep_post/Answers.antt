@@ -33,6 +33,9 @@ use Rattle.card_account.specs.Reached.{StaysNear}
 use Rattle.card_account.specs.Runs.{AreRunning}
 use Rattle.card_desk.proofs.Moves.{done-moves, failed-moves, none-moves, posted-moves, told-moves}
 use Rattle.card_desk.proofs.Recording.{changed_at, unchanged}
+use Rattle.card_desk.proofs.Unmade.{after-post, makes-none, none-there, posted-made, same-owed, told-made}
+use Rattle.card_desk.specs.PutOff.{makes_first}
+use Rattle.card_replay.proofs.Beside.{no-answer}
 use Rattle.card_desk.proofs.desk.Desk.keep_post.Goals as goal
 
 pub keep_row-requires : goal.keep_row-requires
@@ -343,6 +346,74 @@ returns-clause-most g c =
     let least = subst (λ (k : List ℕ). AreFewToPrepare d.today d.common b.named.lists b.folding.reached k p c.args.steps.now c.prepare.new.steps) c.copy-key.ensures c.prepare.ensures.most in
     few_posted d.index d.common d.count d.today d.shared.items items at b c.args.self.now name key p c.args.steps.now c.prepare.new.steps c.self.invariant c.self.view_is low is outcome one least
 
+-- ---- with those that were put off
+pub returns-in_err-row-clause-both : goal.returns-in_err-row-clause-both
+returns-in_err-row-clause-both g c =
+    none_to_keep c.args.self.now.state (reached_at c.args.self.now (Some c.args.at)) (outcome_in c.args.self.now.state c.args.given.now.account.now c.args.given.now.key.now c.args.given.now.post.now) (c.args.steps.now + c.args.put_off.now)
+
+pub returns-in_err-change-clause-both : goal.returns-in_err-change-clause-both
+returns-in_err-change-clause-both g c =
+    let d = c.self.inside in
+    let items = d.accounts.items in
+    let at = c.args.at in
+    let name = c.args.given.now.account.now in
+    let key = c.args.given.now.key.now in
+    let p = c.args.given.now.post.now in
+    let s = c.args.self.now.state in
+    let state = state_by _ _ c.self.view_is in
+    let b = c.index_mut-account.result.now in
+    let is = c.index_mut-account.ensures.value in
+    let low = low_in d.shared.items d.today items s at state c.requires.place.bound in
+    let taken : is_request (request.Post name key p) ≡ true = ap is_request (sym c.requires.request) ∙ c.in_ok-row.ensures.held in
+    let place = subst (λ (x : State). IsPlace name x.accounts at) (sym state) c.requires.place in
+    let allowed = subst (λ (x : State). (e : NamedAccount) → outcome_in x name key p ≡ Accepts (accepted (present_in x (get_or x.accounts at e).lists) key p)) (sym state) c.requires.accepted in
+    let outcome = posted_outcome d.index d.common d.count d.today d.shared.items items at b name key p c.self.invariant low is allowed in
+    let one = posted_in d.index d.common d.count d.today d.shared.items items at b name key p c.self.invariant taken place outcome in
+    let least = subst (λ (k : List ℕ). AreFewToPrepare d.today d.common b.named.lists b.folding.reached k p (c.args.steps.now + c.args.put_off.now) (c.prepare.new.steps + c.prepare.new.put_off)) c.copy-key.ensures c.prepare.ensures.both in
+    few_posted d.index d.common d.count d.today d.shared.items items at b c.args.self.now name key p (c.args.steps.now + c.args.put_off.now) (c.prepare.new.steps + c.prepare.new.put_off) c.self.invariant c.self.view_is low is outcome one least
+
+pub returns-in_err-keep_row-clause-both : goal.returns-in_err-keep_row-clause-both
+returns-in_err-keep_row-clause-both g c =
+    let d = c.self.inside in
+    let items = d.accounts.items in
+    let at = c.args.at in
+    let name = c.args.given.now.account.now in
+    let key = c.args.given.now.key.now in
+    let p = c.args.given.now.post.now in
+    let s = c.args.self.now.state in
+    let state = state_by _ _ c.self.view_is in
+    let b = c.index_mut-account.result.now in
+    let is = c.index_mut-account.ensures.value in
+    let low = low_in d.shared.items d.today items s at state c.requires.place.bound in
+    let taken : is_request (request.Post name key p) ≡ true = ap is_request (sym c.requires.request) ∙ c.in_ok-row.ensures.held in
+    let place = subst (λ (x : State). IsPlace name x.accounts at) (sym state) c.requires.place in
+    let allowed = subst (λ (x : State). (e : NamedAccount) → outcome_in x name key p ≡ Accepts (accepted (present_in x (get_or x.accounts at e).lists) key p)) (sym state) c.requires.accepted in
+    let outcome = posted_outcome d.index d.common d.count d.today d.shared.items items at b name key p c.self.invariant low is allowed in
+    let one = posted_in d.index d.common d.count d.today d.shared.items items at b name key p c.self.invariant taken place outcome in
+    let least = subst (λ (k : List ℕ). AreFewToPrepare d.today d.common b.named.lists b.folding.reached k p (c.args.steps.now + c.args.put_off.now) (c.prepare.new.steps + c.prepare.new.put_off)) c.copy-key.ensures c.prepare.ensures.both in
+    few_posted d.index d.common d.count d.today d.shared.items items at b c.args.self.now name key p (c.args.steps.now + c.args.put_off.now) (c.prepare.new.steps + c.prepare.new.put_off) c.self.invariant c.self.view_is low is outcome one least
+
+pub returns-clause-both : goal.returns-clause-both
+returns-clause-both g c =
+    let d = c.self.inside in
+    let items = d.accounts.items in
+    let at = c.args.at in
+    let name = c.args.given.now.account.now in
+    let key = c.args.given.now.key.now in
+    let p = c.args.given.now.post.now in
+    let s = c.args.self.now.state in
+    let state = state_by _ _ c.self.view_is in
+    let b = c.index_mut-account.result.now in
+    let is = c.index_mut-account.ensures.value in
+    let low = low_in d.shared.items d.today items s at state c.requires.place.bound in
+    let taken : is_request (request.Post name key p) ≡ true = ap is_request (sym c.requires.request) ∙ c.in_ok-row.ensures.held in
+    let place = subst (λ (x : State). IsPlace name x.accounts at) (sym state) c.requires.place in
+    let allowed = subst (λ (x : State). (e : NamedAccount) → outcome_in x name key p ≡ Accepts (accepted (present_in x (get_or x.accounts at e).lists) key p)) (sym state) c.requires.accepted in
+    let outcome = posted_outcome d.index d.common d.count d.today d.shared.items items at b name key p c.self.invariant low is allowed in
+    let one = posted_in d.index d.common d.count d.today d.shared.items items at b name key p c.self.invariant taken place outcome in
+    let least = subst (λ (k : List ℕ). AreFewToPrepare d.today d.common b.named.lists b.folding.reached k p (c.args.steps.now + c.args.put_off.now) (c.prepare.new.steps + c.prepare.new.put_off)) c.copy-key.ensures c.prepare.ensures.both in
+    few_posted d.index d.common d.count d.today d.shared.items items at b c.args.self.now name key p (c.args.steps.now + c.args.put_off.now) (c.prepare.new.steps + c.prepare.new.put_off) c.self.invariant c.self.view_is low is outcome one least
+
 -- ---- no step
 pub returns-in_err-change-clause-idle : goal.returns-in_err-change-clause-idle
 returns-in_err-change-clause-idle g c = λ not. (c.prepare.ensures.idle not).1
@@ -433,3 +504,94 @@ pub returns-clause-recorded : goal.returns-clause-recorded
 returns-clause-recorded g c =
     let d = c.self.inside in
     changed_at d.today d.shared.items d.accounts.items c.args.at c.commit-number.new.self c.args.self.now c.self.view_is
+
+-- ---- what a load put off
+pub returns-in_err-row-clause-unmade : goal.returns-in_err-row-clause-unmade
+returns-in_err-row-clause-unmade g c = makes-none c.args.self.now c.args.at
+
+pub returns-in_err-row-clause-put_off : goal.returns-in_err-row-clause-put_off
+returns-in_err-row-clause-put_off g c = record { asked = λ none. refl; idle = λ none. refl; once = no-answer _ _ c.from_residual.ensures.0 }
+
+pub returns-in_err-change-clause-unmade : goal.returns-in_err-change-clause-unmade
+returns-in_err-change-clause-unmade g c =
+    let d = c.self.inside in
+    let items = d.accounts.items in
+    let b = c.index_mut-account.result.now in
+    let s = c.args.self.now.state in
+    let state = state_by _ _ c.self.view_is in
+    let is = c.index_mut-account.ensures.value in
+    let low = low_in d.shared.items d.today items s c.args.at state c.requires.place.bound in
+    told-made d.shared.items d.common d.today items c.args.at c.prepare.new.self b c.args.self.now c.self.view_is low is c.prepare.ensures.told
+
+pub returns-in_err-change-clause-put_off : goal.returns-in_err-change-clause-put_off
+returns-in_err-change-clause-put_off g c =
+    let d = c.self.inside in
+    let items = d.accounts.items in
+    let b = c.index_mut-account.result.now in
+    let s = c.args.self.now.state in
+    let state = state_by _ _ c.self.view_is in
+    let is = c.index_mut-account.ensures.value in
+    let low = low_in d.shared.items d.today items s c.args.at state c.requires.place.bound in
+    record {
+      asked = λ none. c.prepare.ensures.put_off (sym (ap (makes_first c.args.given.now.post.now) (c.requires.accepted b.named)) ∙ none);
+      idle = λ none. c.prepare.ensures.once.idle (none-there d.shared.items d.today items c.args.at b c.args.self.now c.self.view_is low is none);
+      once = no-answer _ _ c.from_residual-in_err-change.ensures.0;
+    }
+
+pub returns-in_err-keep_row-clause-unmade : goal.returns-in_err-keep_row-clause-unmade
+returns-in_err-keep_row-clause-unmade g c =
+    let d = c.self.inside in
+    let items = d.accounts.items in
+    let b = c.index_mut-account.result.now in
+    let s = c.args.self.now.state in
+    let state = state_by _ _ c.self.view_is in
+    let is = c.index_mut-account.ensures.value in
+    let low = low_in d.shared.items d.today items s c.args.at state c.requires.place.bound in
+    told-made d.shared.items d.common d.today items c.args.at c.prepare.new.self b c.args.self.now c.self.view_is low is c.prepare.ensures.told
+
+pub returns-in_err-keep_row-clause-put_off : goal.returns-in_err-keep_row-clause-put_off
+returns-in_err-keep_row-clause-put_off g c =
+    let d = c.self.inside in
+    let items = d.accounts.items in
+    let b = c.index_mut-account.result.now in
+    let s = c.args.self.now.state in
+    let state = state_by _ _ c.self.view_is in
+    let is = c.index_mut-account.ensures.value in
+    let low = low_in d.shared.items d.today items s c.args.at state c.requires.place.bound in
+    record {
+      asked = λ none. c.prepare.ensures.put_off (sym (ap (makes_first c.args.given.now.post.now) (c.requires.accepted b.named)) ∙ none);
+      idle = λ none. c.prepare.ensures.once.idle (none-there d.shared.items d.today items c.args.at b c.args.self.now c.self.view_is low is none);
+      once = no-answer _ _ c.from_residual-in_err-keep_row.ensures.0;
+    }
+
+pub returns-clause-unmade : goal.returns-clause-unmade
+returns-clause-unmade g c =
+    let d = c.self.inside in
+    let items = d.accounts.items in
+    let b = c.index_mut-account.result.now in
+    let s = c.args.self.now.state in
+    let state = state_by _ _ c.self.view_is in
+    let is = c.index_mut-account.ensures.value in
+    let low = low_in d.shared.items d.today items s c.args.at state c.requires.place.bound in
+    let x = c.prepare.new.self in
+    let a = c.commit-number.new.self in
+    posted-made d.shared.items d.common d.today items c.args.at a x b c.args.self.now c.self.view_is low is c.prepare.ensures.told
+    (same-owed c.in_ok-change.change x.late a.late c.commit-number.ensures.late c.in_ok-change.ensures.made)
+
+pub returns-clause-put_off : goal.returns-clause-put_off
+returns-clause-put_off g c =
+    let d = c.self.inside in
+    let items = d.accounts.items in
+    let b = c.index_mut-account.result.now in
+    let s = c.args.self.now.state in
+    let state = state_by _ _ c.self.view_is in
+    let is = c.index_mut-account.ensures.value in
+    let low = low_in d.shared.items d.today items s c.args.at state c.requires.place.bound in
+    let x = c.prepare.new.self in
+    let a = c.commit-number.new.self in
+    let same = same-owed c.in_ok-change.change x.late a.late c.commit-number.ensures.late c.in_ok-change.ensures.made in
+    record {
+      asked = λ none. c.prepare.ensures.put_off (sym (ap (makes_first c.args.given.now.post.now) (c.requires.accepted b.named)) ∙ none);
+      idle = λ none. c.prepare.ensures.once.idle (none-there d.shared.items d.today items c.args.at b c.args.self.now c.self.view_is low is none);
+      once = after-post d.shared.items d.today items c.args.at a c.args.put_off.now c.prepare.new.put_off low x.late same c.in_ok-change.ensures.once.once;
+    }

@@ -1,4 +1,4 @@
-use Rattle.std.proofs.Common.{Some, ◌≡◌, [], true, Ok, None, get_or, sym, ap, subst, ◌∙◌}
+use Rattle.std.proofs.Common.{inl, refl, Some, ◌≡◌, ◌+◌, [], true, Ok, None, get_or, sym, ap, subst, ◌∙◌}
 use Rattle.card_account.specs.Verdicts.{verdict_of}
 use Rattle.card_account.specs.declared.verdict.Verdict.TheVariants as verdict
 use Rattle.card_events.specs.Dated.{is_dated}
@@ -11,13 +11,15 @@ use Rattle.card_model.specs.Work.{present_in}
 use Rattle.card_desk.specs.Applied.{Carried, IsAsked, Steps}
 use Rattle.card_desk.specs.Desks.{now_at}
 use Rattle.card_desk.specs.Places.{IsPlace}
-use Rattle.card_desk.specs.Steps.{reached_there}
+use Rattle.card_desk.specs.Steps.{reached_there, steps_at}
 use Rattle.card_desk.proofs.DeskLemmas.{outcome_at}
-use Rattle.card_desk.proofs.Left.{few_judged, few_left, idle_judged, idle_kept}
+use Rattle.card_desk.proofs.Left.{few_judged, few_left, idle_judged, idle_kept, left_both, spent_both}
 use Rattle.card_desk.proofs.OutcomeLemmas.{fresh_of, new_at_key, none_against}
 use Rattle.card_desk.proofs.StepLemmas.{answered, out_of_memory, post_refused, post_repeated, refused_by, repeated_by}
 use Rattle.card_desk.proofs.Moves.{done-moves, judged-moves, refused-moves, repeated-moves}
 use Rattle.card_desk.proofs.Recording.{changed_twice}
+use Rattle.card_desk.proofs.Unmade.{makes-twice, none-still}
+use Rattle.card_desk.specs.PutOff.{makes_first}
 use Rattle.card_desk.proofs.desk.Desk.post_known.Goals as goal
 
 -- what stands for no account
@@ -118,6 +120,35 @@ pub returns-in-Err-clause-most : goal.returns-in-Err-clause-most
 returns-in-Err-clause-most g c =
     few_left c.args.self.now.state (reached_there c.args.self.now c.args.at) (outcome_in c.args.self.now.state c.args.given.now.account.now c.args.given.now.key.now c.args.given.now.post.now) c.args.steps.now c.judge_at.new.steps c.judge_at.ensures.most
 
+-- ---- with those that were put off
+pub returns-in-Ok-Refused-clause-both : goal.returns-in-Ok-Refused-clause-both
+returns-in-Ok-Refused-clause-both g c =
+    few_left c.args.self.now.state (reached_there c.args.self.now c.args.at) (outcome_in c.args.self.now.state c.args.given.now.account.now c.args.given.now.key.now c.args.given.now.post.now) (c.args.steps.now + c.args.put_off.now) (c.judge_at.new.steps + c.args.put_off.now)
+    (left_both c.args.steps.now c.judge_at.new.steps c.args.put_off.now (steps_at c.args.self.now c.args.at) c.judge_at.ensures.most)
+
+pub returns-in-Ok-Repeat-clause-both : goal.returns-in-Ok-Repeat-clause-both
+returns-in-Ok-Repeat-clause-both g c =
+    few_left c.args.self.now.state (reached_there c.args.self.now c.args.at) (outcome_in c.args.self.now.state c.args.given.now.account.now c.args.given.now.key.now c.args.given.now.post.now) (c.args.steps.now + c.args.put_off.now) (c.judge_at.new.steps + c.args.put_off.now)
+    (left_both c.args.steps.now c.judge_at.new.steps c.args.put_off.now (steps_at c.args.self.now c.args.at) c.judge_at.ensures.most)
+
+pub returns-in-Err-clause-both : goal.returns-in-Err-clause-both
+returns-in-Err-clause-both g c =
+    few_left c.args.self.now.state (reached_there c.args.self.now c.args.at) (outcome_in c.args.self.now.state c.args.given.now.account.now c.args.given.now.key.now c.args.given.now.post.now) (c.args.steps.now + c.args.put_off.now) (c.judge_at.new.steps + c.args.put_off.now)
+    (left_both c.args.steps.now c.judge_at.new.steps c.args.put_off.now (steps_at c.args.self.now c.args.at) c.judge_at.ensures.most)
+
+pub returns-in-Ok-New-clause-both : goal.returns-in-Ok-New-clause-both
+returns-in-Ok-New-clause-both g c =
+    let s = c.args.self.now.state in
+    let key = c.args.given.now.key.now in
+    let p = c.args.given.now.post.now in
+    let e = no_account in
+    let judged = sym c.in-Ok-New.field-0-is ∙ c.in-Ok-New.ensures.value e in
+    let a = get_or s.accounts c.args.at e in
+    let both = outcome_at s c.args.given.now.account.now key p c.args.at e verdict.New c.requires.place judged in
+    let accepts = both.1 ∙ new_at_key (present_in s a.lists) key p (with_key key a.lists.posts) (both.0 ∙ ap verdict_of both.1) in
+    few_judged c.args.self.now c.judge_at.new.self c.args.given.now.account.now key p c.args.at (accepted (present_in s a.lists) key p) (c.args.steps.now + c.args.put_off.now) (c.judge_at.new.steps + c.args.put_off.now) (c.keep_post.new.steps + c.keep_post.new.put_off)
+    c.judge_at.ensures.state accepts (spent_both c.args.steps.now c.judge_at.new.steps c.args.put_off.now (steps_at c.args.self.now c.args.at) (steps_at c.judge_at.new.self c.args.at) c.in-Ok-New.ensures.spent) c.keep_post.ensures.both
+
 -- ---- no step
 pub returns-in-Ok-Refused-clause-idle : goal.returns-in-Ok-Refused-clause-idle
 returns-in-Ok-Refused-clause-idle g c =
@@ -195,3 +226,27 @@ returns-in-Err-clause-reached g c = record { done = tt; failed = c.judge_at.ensu
 pub returns-in-Ok-New-clause-recorded : goal.returns-in-Ok-New-clause-recorded
 returns-in-Ok-New-clause-recorded g c =
     changed_twice c.args.at c.args.self.now.recorded c.judge_at.new.self.recorded c.keep_post.new.self.recorded c.judge_at.ensures.recorded c.keep_post.ensures.recorded
+
+-- ---- what a load put off
+pub returns-in-Ok-New-clause-unmade : goal.returns-in-Ok-New-clause-unmade
+returns-in-Ok-New-clause-unmade g c = makes-twice c.args.at c.args.self.now c.judge_at.new.self c.keep_post.new.self c.judge_at.ensures.unmade c.keep_post.ensures.unmade
+
+pub returns-in-Ok-New-clause-put_off : goal.returns-in-Ok-New-clause-put_off
+returns-in-Ok-New-clause-put_off g c =
+    let name = c.args.given.now.account.now in
+    let key = c.args.given.now.key.now in
+    let p = c.args.given.now.post.now in
+    record {
+      asked = λ none. c.keep_post.ensures.put_off.asked (ap (λ (x : State). makes_first p (outcome_in x name key p)) c.judge_at.ensures.state ∙ none);
+      idle = λ none. c.keep_post.ensures.put_off.idle (none-still c.args.at c.args.self.now c.judge_at.new.self c.judge_at.ensures.unmade none);
+      once = c.keep_post.ensures.put_off.once;
+    }
+
+pub returns-in-Ok-Refused-clause-put_off : goal.returns-in-Ok-Refused-clause-put_off
+returns-in-Ok-Refused-clause-put_off g c = record { asked = λ none. refl; idle = λ none. refl; once = inl refl }
+
+pub returns-in-Ok-Repeat-clause-put_off : goal.returns-in-Ok-Repeat-clause-put_off
+returns-in-Ok-Repeat-clause-put_off g c = record { asked = λ none. refl; idle = λ none. refl; once = inl refl }
+
+pub returns-in-Err-clause-put_off : goal.returns-in-Err-clause-put_off
+returns-in-Err-clause-put_off g c = record { asked = λ none. refl; idle = λ none. refl; once = tt }

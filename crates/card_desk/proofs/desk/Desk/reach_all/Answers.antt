@@ -8,6 +8,8 @@ use Rattle.card_desk.proofs.WorkLemmas.{worked_desk, worked_state}
 use Rattle.card_desk.proofs.Moves.{all-move}
 use Rattle.card_desk.specs.Desks.{IsDesk, open_desk, state_of}
 use Rattle.card_desk.specs.Reached.{AllMove}
+use Rattle.card_desk.proofs.Unmade.{all-made}
+use Rattle.card_desk.specs.PutOff.{MakesForAll}
 use Rattle.card_desk.proofs.desk.Desk.reach_all.Goals as goal
 
 pub reach_today-requires : goal.reach_today-requires
@@ -47,3 +49,12 @@ returns-clause-reached g c =
     let items = with_items_is d.accounts c.reach_today.new.accounts (omega (arith, count, d.accounts.ok.0)) in
     subst (λ (xs : List OpenAccount). AllMove c.reach_today.result c.args.self.now (open_desk d.today d.shared.items xs)) (sym items)
     (all-move c.reach_today.result d.index d.common d.count d.today d.shared.items d.accounts.items c.reach_today.new.accounts c.args.self.now c.self.invariant c.self.view_is told c.reach_today.ensures.today)
+
+pub returns-clause-unmade : goal.returns-clause-unmade
+returns-clause-unmade g c =
+    let d = c.self.inside in
+    let told = subst (λ (xs : List OpenAccount). AreTold d.today d.common xs c.reach_today.new.accounts) c.deref_mut.ensures.value c.reach_today.ensures.told in
+    let count = told.count in
+    let items = with_items_is d.accounts c.reach_today.new.accounts (omega (arith, count, d.accounts.ok.0)) in
+    subst (λ (xs : List OpenAccount). MakesForAll c.reach_today.result c.args.self.now (open_desk d.today d.shared.items xs)) (sym items)
+    (all-made c.reach_today.result d.common d.today d.shared.items d.accounts.items c.reach_today.new.accounts c.args.self.now c.self.view_is told c.reach_today.ensures.today)

@@ -4,7 +4,7 @@ use Rattle.card_daily.specs.Given.{Given, IsSound, opened_in}
 use Rattle.card_book.specs.Stands.{Summary, day_to_fold, steps_over}
 use Rattle.card_events.specs.History.{anchor_of, corrected}
 use Rattle.card_model.specs.Cycles.{IssuedRow}
-use Rattle.card_replay.proofs.Anew.{any-err}
+use Rattle.card_replay.proofs.Beside.{any-err}
 use Rattle.card_replay.proofs.Lates.{late_rows_can_be_made}
 use Rattle.card_replay.proofs.Reached.{IsEveOf, day-is, eve-stands, later-replay, replay-put-back, with-eve}
 use Rattle.card_replay.proofs.Settled.{all-made}

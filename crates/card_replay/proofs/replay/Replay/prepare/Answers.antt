@@ -1,11 +1,17 @@
-use Rattle.std.proofs.Common.{◌≡◌, inl, sym, ap, subst, ◌∙◌, arith, None}
+use Rattle.std.proofs.Common.{◌≡◌, ◌⊎◌, ◌+◌, [], true, false, inl, inr, sym, ap, subst, ◌∙◌, arith, None}
 use Rattle.card_events.specs.Keys.{with_key}
 use Rattle.card_model.specs.Machine.{accepted}
 use Rattle.card_model.specs.Refusals.{Lists, reason_against}
 use Rattle.card_daily.specs.Given.{IsSound}
-use Rattle.card_replay.proofs.Anew.{all-then, any-ok}
+use Rattle.card_replay.proofs.Beside.{all-then, any-ok, both-within, makes-none, no-answer, none-then}
+use Rattle.card_replay.proofs.Settled.{settled-today}
 use Rattle.card_replay.proofs.Reached.{either-same, first-same, ready-same, reach-same, same-lists, within-today}
-use Rattle.card_replay.specs.Replays.{given_of, present_of}
+use Rattle.card_replay.specs.Needs.{needs_today}
+use Rattle.card_replay.specs.Replays.{Folding, given_of, present_of}
+use Rattle.card_replay.specs.Owes.{Late}
+use Rattle.card_replay.specs.Steps.{steps_to}
+use Rattle.card_book.specs.Stands.{steps_over}
+use Rattle.card_model.specs.Unread.{is_unread}
 use Rattle.card_replay.proofs.replay.Replay.prepare.Goals as goal
 
 -- ---- the account where it is asked
@@ -101,3 +107,70 @@ returns-in_err-make_for-clause-idle g c = λ not. let was = c.reach_for.ensures.
 
 pub returns-in_err-make_for-clause-most : goal.returns-in_err-make_for-clause-most
 returns-in_err-make_for-clause-most g c = λ from first. omega (arith, c.reach_for.ensures.most)
+
+-- ---- the two counts
+pub returns-clause-both : goal.returns-clause-both
+returns-clause-both g c =
+    let today = c.args.today in
+    let shared = c.args.shared.now in
+    let old = c.args.self.now in
+    let mid = c.reach_for.new.self in
+    let may = reach-same today old mid c.reach_for.ensures.same (within-today today old mid c.requires.reach c.reach_for.ensures.reached) c.requires.reach in
+    let none : needs_today c.args.post.now ≡ true → c.make_for.new.put_off ≡ c.args.put_off.now = λ needs. c.make_for.ensures.once.idle (settled-today shared today mid c.reach_for.ensures.replay may (c.in_ok-reach_for.ensures.ready needs)).owed in
+    let left : needs_today c.args.post.now ≡ false → steps_to today shared mid ≡ steps_to today shared old = λ needs.
+    ap (λ (l : Lists). steps_over (given_of l shared) today (mid.folding.reached + 1)) c.reach_for.ensures.same.lists ∙ ap (λ (f : Folding). steps_over (given_of old.lists shared) today (f.reached + 1)) (c.reach_for.ensures.idle needs).0 in
+    let few = both-within (needs_today c.args.post.now) c.args.steps.now c.reach_for.new.steps c.args.put_off.now c.make_for.new.put_off (steps_to today shared old) (steps_to today shared mid)
+    c.reach_for.ensures.most c.make_for.ensures.most none (λ needs. (c.reach_for.ensures.idle needs).1) left in
+    λ from first. omega (arith, few)
+
+pub returns-clause-put_off : goal.returns-clause-put_off
+returns-clause-put_off g c =
+    let today = c.args.today in
+    let shared = c.args.shared.now in
+    let old = c.args.self.now in
+    let mid = c.reach_for.new.self in
+    let may = reach-same today old mid c.reach_for.ensures.same (within-today today old mid c.requires.reach c.reach_for.ensures.reached) c.requires.reach in
+    makes-none (needs_today c.args.post.now) (is_unread c.args.post.now) _
+    (λ needs. c.make_for.ensures.once.idle (settled-today shared today mid c.reach_for.ensures.replay may (c.in_ok-reach_for.ensures.ready needs)).owed)
+    c.make_for.ensures.skips
+
+pub returns-clause-once : goal.returns-clause-once
+returns-clause-once g c = record {
+  idle = λ none. c.make_for.ensures.once.idle (none-then c.args.self.now.late c.reach_for.new.self.late c.reach_for.ensures.all none);
+  once = any-ok c.changed.result _ (later c.in_ok-make_for.ensures.once.once);
+}
+  where
+    later : (c.make_for.new.put_off ≡ c.args.put_off.now) ⊎ (c.make_for.new.self.late.owed ≡ []) → (c.make_for.new.put_off ≡ c.args.put_off.now) ⊎ (c.changed.new.self.late.owed ≡ [])
+    later (inl e) = inl e
+    later (inr n) = inr (ap (λ (l : Late). l.owed) c.changed.ensures.late ∙ n)
+
+pub returns-in_err-make_for-clause-both : goal.returns-in_err-make_for-clause-both
+returns-in_err-make_for-clause-both g c =
+    let today = c.args.today in
+    let shared = c.args.shared.now in
+    let old = c.args.self.now in
+    let mid = c.reach_for.new.self in
+    let may = reach-same today old mid c.reach_for.ensures.same (within-today today old mid c.requires.reach c.reach_for.ensures.reached) c.requires.reach in
+    let none : needs_today c.args.post.now ≡ true → c.make_for.new.put_off ≡ c.args.put_off.now = λ needs. c.make_for.ensures.once.idle (settled-today shared today mid c.reach_for.ensures.replay may (c.in_ok-reach_for.ensures.ready needs)).owed in
+    let left : needs_today c.args.post.now ≡ false → steps_to today shared mid ≡ steps_to today shared old = λ needs.
+    ap (λ (l : Lists). steps_over (given_of l shared) today (mid.folding.reached + 1)) c.reach_for.ensures.same.lists ∙ ap (λ (f : Folding). steps_over (given_of old.lists shared) today (f.reached + 1)) (c.reach_for.ensures.idle needs).0 in
+    let few = both-within (needs_today c.args.post.now) c.args.steps.now c.reach_for.new.steps c.args.put_off.now c.make_for.new.put_off (steps_to today shared old) (steps_to today shared mid)
+    c.reach_for.ensures.most c.make_for.ensures.most none (λ needs. (c.reach_for.ensures.idle needs).1) left in
+    λ from first. omega (arith, few)
+
+pub returns-in_err-make_for-clause-put_off : goal.returns-in_err-make_for-clause-put_off
+returns-in_err-make_for-clause-put_off g c =
+    let today = c.args.today in
+    let shared = c.args.shared.now in
+    let old = c.args.self.now in
+    let mid = c.reach_for.new.self in
+    let may = reach-same today old mid c.reach_for.ensures.same (within-today today old mid c.requires.reach c.reach_for.ensures.reached) c.requires.reach in
+    makes-none (needs_today c.args.post.now) (is_unread c.args.post.now) _
+    (λ needs. c.make_for.ensures.once.idle (settled-today shared today mid c.reach_for.ensures.replay may (c.in_ok-reach_for.ensures.ready needs)).owed)
+    c.make_for.ensures.skips
+
+pub returns-in_err-make_for-clause-once : goal.returns-in_err-make_for-clause-once
+returns-in_err-make_for-clause-once g c = record { idle = λ none. c.make_for.ensures.once.idle (none-then c.args.self.now.late c.reach_for.new.self.late c.reach_for.ensures.all none); once = no-answer _ _ c.from_residual-in_err-make_for.ensures.0 }
+
+pub returns-in_err-reach_for-clause-both : goal.returns-in_err-reach_for-clause-both
+returns-in_err-reach_for-clause-both g c = λ from first. let most = c.reach_for.ensures.most in omega (arith, most)
