@@ -604,7 +604,7 @@ impl Replay {
         }
     }
 
-    /// What was folded, to be asked: the book at the end of today, which the account has reached.
+    /// What was folded, to be asked: the book at the end of today, which the account has reached, with its issued statements made.
     pub fn folded<'a>(&'a self, _today: Day, _shared: &SharedRows) -> Folded<'a>
         requires { IsToday _today _shared.now self.now }
         ensures book { result.book ≡ book_today (present_of _today _shared.now self.now.lists) }
@@ -615,8 +615,8 @@ impl Replay {
     }
 
     /// The statement of a cycle, as if it were issued on a day (12 CFR 1026.5(b)(2), .7(b)), by the book at the end of today, which the
-    /// account has reached, and after which no post was accepted: so all its statements are made. None comes where the cycle, numbered up
-    /// to 48,576, isn't closed. It costs what the entries behind its closing cost.
+    /// account has reached, with its issued statements made; none where the cycle, numbered up to 48,576, isn't closed. It costs what the
+    /// entries behind its closing cost.
     pub fn statement(
         &self,
         alloc: Global,
@@ -626,7 +626,6 @@ impl Replay {
         shared: &SharedRows,
     ) -> Result<Option<Statement>, NoMemory>
         requires today { IsToday _today shared.now self.now }
-        requires reach { MayReach _today self.now }
         requires small { cycle ≤ last_calendar_day }
         ensures { IfOk result (λ s. s ≡ option_map (statement_on (given_of self.now.lists shared.now) issue) (cycle_at cycle (book_today (present_of _today shared.now self.now.lists)).cycles)) }
     {

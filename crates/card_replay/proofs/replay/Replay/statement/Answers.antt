@@ -9,7 +9,7 @@ use Rattle.card_book.specs.Statements.{statement_on}
 use Rattle.card_replay.proofs.GivenMade.{given-made}
 use Rattle.card_past.proofs.CycleBefore.{there-is}
 use Rattle.card_replay.proofs.Reached.{cycles-today, has-closings}
-use Rattle.card_replay.proofs.Settled.{settled-today}
+use Rattle.card_replay.proofs.Settled.{settled-now}
 use Rattle.card_replay.specs.Replays.{HasClosings, Replay, given_of, present_of}
 use Rattle.card_replay.proofs.replay.Replay.statement.Goals as goal
 
@@ -20,13 +20,13 @@ new-inputs-requires-clause-stands c =
 pub new-inputs-requires-clause-sound : goal.new-inputs-requires-clause-sound
 new-inputs-requires-clause-sound c =
     let shared = c.args.shared.now in
-    let parts = given-made shared c.args.self.now c.self.inside.posts.history c.self.inside.issued.items c.deref.result.now (ap (λ (x : Replay). x.lists.posts) c.self.view_is) c.deref.ensures.value (ap (λ (x : Replay). x.late.made) c.self.view_is) (settled-today shared c.args._today c.args.self.now c.requires.today.replay c.requires.reach c.requires.today.reached) in
+    let parts = given-made shared c.args.self.now c.self.inside.posts.history c.self.inside.issued.items c.deref.result.now (ap (λ (x : Replay). x.lists.posts) c.self.view_is) c.deref.ensures.value (ap (λ (x : Replay). x.late.made) c.self.view_is) (settled-now shared c.args._today c.args.self.now c.requires.today) in
     subst IsSound (sym parts) c.requires.today.replay.sound
 
 pub statement_at-requires-clause-closings : goal.statement_at-requires-clause-closings
 statement_at-requires-clause-closings c =
     let shared = c.args.shared.now in
-    let parts = given-made shared c.args.self.now c.self.inside.posts.history c.self.inside.issued.items c.deref.result.now (ap (λ (x : Replay). x.lists.posts) c.self.view_is) c.deref.ensures.value (ap (λ (x : Replay). x.late.made) c.self.view_is) (settled-today shared c.args._today c.args.self.now c.requires.today.replay c.requires.reach c.requires.today.reached) in
+    let parts = given-made shared c.args.self.now c.self.inside.posts.history c.self.inside.issued.items c.deref.result.now (ap (λ (x : Replay). x.lists.posts) c.self.view_is) c.deref.ensures.value (ap (λ (x : Replay). x.late.made) c.self.view_is) (settled-now shared c.args._today c.args.self.now c.requires.today) in
     subst (λ (x : Replay). HasClosings c.new-inputs.result x.folding.book x.folding.past) (sym c.self.view_is) (has-closings c.new-inputs.result shared c.args.self.now (c.new-inputs.ensures ∙ parts) c.requires.today.replay)
 
 pub statement_at-requires-clause-first : goal.statement_at-requires-clause-first
@@ -40,7 +40,7 @@ returns-in_ok-statement_at-in-Some c =
     let shared = c.args.shared.now in
     let r = c.args.self.now in
     let g = given_of r.lists shared in
-    let parts = given-made shared c.args.self.now c.self.inside.posts.history c.self.inside.issued.items c.deref.result.now (ap (λ (x : Replay). x.lists.posts) c.self.view_is) c.deref.ensures.value (ap (λ (x : Replay). x.late.made) c.self.view_is) (settled-today shared c.args._today c.args.self.now c.requires.today.replay c.requires.reach c.requires.today.reached) in
+    let parts = given-made shared c.args.self.now c.self.inside.posts.history c.self.inside.issued.items c.deref.result.now (ap (λ (x : Replay). x.lists.posts) c.self.view_is) c.deref.ensures.value (ap (λ (x : Replay). x.late.made) c.self.view_is) (settled-now shared c.args._today c.args.self.now c.requires.today) in
     let inputs = c.new-inputs.ensures ∙ parts in
     let is = c.closed_number.ensures.some c.in-Some.number c.in-Some.is in
     let mine = c.self.inside.past.track.cycles.items in
