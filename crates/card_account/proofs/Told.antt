@@ -12,7 +12,7 @@ use Rattle.card_model.specs.Cycles.{IssuedRow}
 use Rattle.card_model.specs.Refusals.{Lists}
 use Rattle.card_posts.specs.Posted.{Posted, StandsFor, last_accepted}
 use Rattle.card_replay.proofs.Reached.{reach-same}
-use Rattle.card_replay.proofs.Settled.{reached-today, settled-today}
+use Rattle.card_replay.proofs.Settled.{settled-today}
 use Rattle.card_past.proofs.Waiting.{front-sound}
 use Rattle.card_replay.specs.Replays.{Folding, IsReplay, IsToday, MakesAllOrNone, MayReach, Replay, SameLists, given_of, present_of}
 
@@ -123,7 +123,7 @@ has-told today shared old new told reached = record { told = told; reached = rea
 
 -- what has reached today, as its replay says it
 pub is-today : (today : ℕ) (shared : SharedRows) (old new : OpenAccount) → HasTold today shared old new → IsToday today shared (replay_of new)
-is-today today shared old new h = reached-today shared today (replay_of new) h.told.account.replay h.told.account.reach h.reached
+is-today today shared old new h = record { replay = h.told.account.replay; reached = h.reached; opened = h.told.account.reach.opened }
 
 -- ---- steps
 no-more : (before after x y : ℕ) → after ≡ before + x → y ≡ 0 → after + y ≤ before + x

@@ -2,4 +2,5 @@ pub mod Fronts
 pub mod Late
 pub mod Rests
 pub mod Sheets
+pub mod SheetsStay
 pub mod Steps

@@ -1,5 +1,5 @@
 -- A row that is made late is the row that was issued. Days are day numbers.
-use Rattle.std.specs.Prelude.{ℕ, ◌+◌, ◌≡◌, ◌≤◌, ◌<◌, List, [], ◌∷◌, ◌++◌, length, true, Some}
+use Rattle.std.specs.Prelude.{ℕ, ◌+◌, ◌-◌, ◌≡◌, ◌≤◌, ◌<◌, List, [], ◌∷◌, ◌++◌, length, true, Some}
 use Rattle.std.specs.List.{All}
 use Rattle.card_events.specs.Billing.{closing}
 use Rattle.card_events.specs.Range.{last_calendar_day}
@@ -8,9 +8,10 @@ use Rattle.card_events.specs.SharedRows.{SharedRows}
 use Rattle.card_events.specs.declared.kept.Kept.{Kept}
 use Rattle.card_model.specs.Accepted.{AreAccepted}
 use Rattle.card_model.specs.Cuts.{is_break_by}
+use Rattle.card_model.specs.Closing.{previous_of}
 use Rattle.card_model.specs.CycleDays.{IsOpening}
-use Rattle.card_model.specs.Cycles.{IssuedRow}
-use Rattle.card_model.specs.Folds.{book, rows_issued}
+use Rattle.card_model.specs.Cycles.{Cycle, IssuedRow}
+use Rattle.card_model.specs.Folds.{book, cycle_at, rows_issued}
 use Rattle.card_model.specs.Laws.{HistoriesAgree, bill_of, fees_up_to}
 use Rattle.card_model.specs.Sheets.{sheet_of}
 use Rattle.card_model.specs.Spans.{steps_among}
@@ -42,6 +43,13 @@ abbrev pub UnmadeRowsChangeNoPastDay : Type 0
 UnmadeRowsChangeNoPastDay =
     (history : List Kept) (made rest : List IssuedRow) (shared : SharedRows) (day : ℕ) → AreUnmade history made shared rest → All (λ r. day ≤ r.day) rest
     → book history (made ++ rest) shared day ≡ book history made shared day
+
+-- Nor is the sheet of a cycle that closed by then and goes on from the cycle before it: a row of that one says of it what its book says
+abbrev pub UnmadeRowsLeaveSheets : Type 0
+UnmadeRowsLeaveSheets =
+    (history : List Kept) (made rest : List IssuedRow) (shared : SharedRows) (issue : ℕ) (c : Cycle) → AreUnmade history made shared rest → All (λ r. c.closing ≤ r.day) rest
+    → closing (anchor_of history) (c.number - 1) ≤ c.closing → c.previous ≡ previous_of (cycle_at (c.number - 1) (book history made shared c.closing).cycles)
+    → sheet_of history (made ++ rest) shared issue c ≡ sheet_of history made shared issue c
 
 -- ---- the steps of a fold
 -- The day of an issued row is a break day

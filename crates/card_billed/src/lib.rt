@@ -1,7 +1,7 @@
 //! Laws of statements that are made later than their Bills were accepted. Their functions do nothing; their clauses are what holds.
 #![tactic(auto)]
 
-ghost use Rattle.card_billed.specs.Laws.{BillsMayWait, FrontsAreAccepted, IssueDaysAreBreaks, LaterPostsLeaveIt, RowsAreMadeLate, RowsGrowUnmade, RowsStayUnmade, StepsToTheFirst, UnmadeRowsChangeNoPastDay};
+ghost use Rattle.card_billed.specs.Laws.{BillsMayWait, FrontsAreAccepted, IssueDaysAreBreaks, LaterPostsLeaveIt, RowsAreMadeLate, RowsGrowUnmade, RowsStayUnmade, StepsToTheFirst, UnmadeRowsChangeNoPastDay, UnmadeRowsLeaveSheets};
 
 /// What a Bill issues today may be made later.
 pub fn bills_may_wait()
@@ -21,6 +21,12 @@ pub fn later_posts_leave_it()
 /// Rows that aren't made change the book of no day up to that of the first of them.
 pub fn unmade_rows_change_no_past_day()
     ensures { UnmadeRowsChangeNoPastDay }
+{}
+
+/// Rows that aren't made change no sheet of a cycle that closed by the day of the first of them and goes on from the cycle before it: a row
+/// of that one says of it what its book says.
+pub fn unmade_rows_leave_sheets()
+    ensures { UnmadeRowsLeaveSheets }
 {}
 
 /// The day of an issued row is a break day.

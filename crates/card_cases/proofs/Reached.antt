@@ -29,7 +29,6 @@ use Rattle.card_book.specs.StepCounts.{breaks_with}
 use Rattle.card_replay.specs.Replays.{IsReplay, IsToday, MayReach, Replay, SameLists, given_of, opened_lists, present_of}
 use Rattle.card_replay.specs.Steps.{AreFewToPrepare, IsFirstBetween, first_in_cycle, steps_to}
 use Rattle.card_replay.proofs.Reaching.{one-step as one-step-alone}
-use Rattle.card_replay.proofs.Settled.{settled-by-day}
 use Rattle.card_cases.proofs.Alone.{breaks_by, four, no-bill, no-days, sound}
 use Rattle.card_cases.specs.Account.{opening}
 use Rattle.card_cases.specs.Alone.{HasOpeningAlone, alone, charge, given_alone, lists_alone, no_rows}
@@ -53,15 +52,11 @@ may-reach today r h reached later last = record {
 
 -- when it has reached it, it is at today
 pub at-today : (today day : ℕ) (shared : SharedRows) (old new : Replay) → HasOpeningAlone old.lists → day ≡ today → 19728 ≤ today → SameLists old new → IsReplay shared new → new.folding.reached ≡ day → IsToday today shared new
-at-today today day shared old new h is later same replay reached =
-    let here = reached ∙ is in
-    let last = subst (λ (l : Lists). last_accepted l.posts ≤ today) (sym (same.lists ∙ h.is)) (accepted-early h.number h.key h.accepted today h.early later) in
-    record {
-      replay = replay;
-      reached = here;
-      opened = subst (λ (l : Lists). (anchor_of l.posts).opened ≤ today) (sym (same.lists ∙ h.is)) later;
-      owed = (settled-by-day shared new.lists new.folding.reached new.late (omega (arith, last, here)) replay.late).owed;
-    }
+at-today today day shared old new h is later same replay reached = record {
+  replay = replay;
+  reached = reached ∙ is;
+  opened = subst (λ (l : Lists). (anchor_of l.posts).opened ≤ today) (sym (same.lists ∙ h.is)) later;
+}
 
 pub is-today : {T E : Type 0} (result : Result T E) (today day : ℕ) (shared : SharedRows) (old new : Replay) → HasOpeningAlone old.lists → day ≡ today → 19728 ≤ today → SameLists old new → IsReplay shared new
     → OnOk result (new.folding.reached ≡ day) → OnOk result (IsToday today shared new)

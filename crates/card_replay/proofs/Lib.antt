@@ -22,3 +22,4 @@ pub mod Loading
 pub mod ChangeOwes
 pub mod GivenMade
 pub mod Beside
+pub mod WhileOwed

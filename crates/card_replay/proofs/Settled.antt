@@ -15,7 +15,7 @@ use Rattle.card_model.specs.Refusals.{Lists}
 use Rattle.card_posts.specs.Posted.{last_accepted}
 use Rattle.card_replay.proofs.Lates.{earlier-day}
 use Rattle.card_replay.specs.Owes.{AreLate, AreLater, Late, owed_by}
-use Rattle.card_replay.specs.Replays.{IsReplay, IsToday, MayReach, Replay}
+use Rattle.card_replay.specs.Replays.{IsReplay, MayReach, Replay}
 use Rattle.card_past.specs.declared.owed.Owed.{Owed}
 
 none-behind : (reached : ℕ) (rest : List IssuedRow) → All (λ r. reached < r.day) rest → All (λ r. r.day ≤ reached) rest → rest ≡ []
@@ -51,14 +51,6 @@ settled-today shared today r h may reached = let last = may.accepted in settled-
 -- nor where none is in the list
 pub settled-by-list : (shared : SharedRows) (lists : Lists) (reached : ℕ) (late : Late) → late.owed ≡ [] → AreLate shared lists reached late → IsSettledOn lists late
 settled-by-list shared lists reached late none h = without-rest shared lists reached late h (none-owed (anchor_of lists.posts) h.rest (sym none ∙ h.bills))
-
--- so none is owed by an account that has reached today, if no post was accepted after today
-pub reached-today : (shared : SharedRows) (today : ℕ) (r : Replay) → IsReplay shared r → MayReach today r → r.folding.reached ≡ today → IsToday today shared r
-reached-today shared today r h may reached = record { replay = h; reached = reached; opened = may.opened; owed = (settled-today shared today r h may reached).owed }
-
--- and what it has made is all that was issued
-pub settled-now : (shared : SharedRows) (today : ℕ) (r : Replay) → IsToday today shared r → IsSettledOn r.lists r.late
-settled-now shared today r h = settled-by-list shared r.lists r.folding.reached r.late h.owed h.replay.late
 
 -- ---- and the other way round
 pub all-made : (shared : SharedRows) (lists : Lists) (reached : ℕ) (late : Late) → late.made ≡ lists.issued → late.owed ≡ [] → AreLate shared lists reached late

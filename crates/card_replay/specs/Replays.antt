@@ -48,12 +48,11 @@ pub record IsReplay (shared : SharedRows) (r : Replay) : Type 0 where
   pub late : AreLate shared r.lists r.folding.reached r.late
   pub folding : IsFolding (given_of r.lists shared) r.folding
 
--- the account has reached today, which isn't before the opening day, and all its issued statements are made
+-- the account has reached today, which isn't before the opening day
 pub record IsToday (today : ℕ) (shared : SharedRows) (r : Replay) : Type 0 where
   pub replay : IsReplay shared r
   pub reached : r.folding.reached ≡ today
   pub opened : (anchor_of r.lists.posts).opened ≤ today
-  pub owed : r.late.owed ≡ []
 
 -- the lists of an account that a post opens today
 abbrev pub opened_lists : List ℕ → ℕ → Post → Lists

@@ -604,7 +604,7 @@ impl Replay {
         }
     }
 
-    /// What was folded, to be asked: the book at the end of today, which the account has reached, with its issued statements made.
+    /// What was folded, to be asked: the book at the end of today, which the account has reached.
     pub fn folded<'a>(&'a self, _today: Day, _shared: &SharedRows) -> Folded<'a>
         requires { IsToday _today _shared.now self.now }
         ensures book { result.book ≡ book_today (present_of _today _shared.now self.now.lists) }
@@ -615,8 +615,8 @@ impl Replay {
     }
 
     /// The statement of a cycle, as if it were issued on a day (12 CFR 1026.5(b)(2), .7(b)), by the book at the end of today, which the
-    /// account has reached, with its issued statements made; none where the cycle, numbered up to 48,576, isn't closed. It costs what the
-    /// entries behind its closing cost.
+    /// account has reached; none where the cycle, numbered up to 48,576, isn't closed. It costs what the entries behind its closing cost. It
+    /// needs no statement that is owed: one of a cycle that is closed by then says of it what the book says.
     pub fn statement(
         &self,
         alloc: Global,

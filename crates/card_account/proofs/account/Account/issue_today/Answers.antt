@@ -1,11 +1,10 @@
 use Rattle.std.proofs.Common.{sym, ap, subst, ◌∙◌}
-use Rattle.card_account.specs.Accounts.{IsIssueOf, replay_of}
+use Rattle.card_account.specs.Accounts.{IsIssueOf}
 use Rattle.card_model.specs.Refusals.{Present, book_today}
-use Rattle.card_replay.proofs.Settled.{reached-today}
 use Rattle.card_account.proofs.account.Account.issue_today.Goals as goal
 
 pub folded-folded-requires : goal.folded-folded-requires
-folded-folded-requires c = reached-today c.args.shared.now c.args.today (replay_of c.args.self.now) c.requires.account.replay c.requires.account.reach c.requires.today
+folded-folded-requires c = record { replay = c.requires.account.replay; reached = c.requires.today; opened = c.requires.account.reach.opened }
 
 pub restated_issue-requires : goal.restated_issue-requires
 restated_issue-requires c = record { book = c.folded-folded.ensures.book ∙ ap book_today (sym c.present.ensures) }

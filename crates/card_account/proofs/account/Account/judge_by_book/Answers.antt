@@ -1,13 +1,11 @@
 use Rattle.std.proofs.Common.{sym, ap, ◌∙◌}
 use Rattle.card_account.proofs.Judging.{reason-verdict}
-use Rattle.card_account.specs.Accounts.{replay_of}
 use Rattle.card_model.specs.Refusals.{Present, book_today, reason_against}
-use Rattle.card_replay.proofs.Settled.{reached-today}
 use Rattle.card_replay.specs.Replays.{present_of}
 use Rattle.card_account.proofs.account.Account.judge_by_book.Goals as goal
 
 pub folded-folded-requires : goal.folded-folded-requires
-folded-folded-requires c = reached-today c.args.shared.now c.args.today (replay_of c.args.self.now) c.requires.account.replay c.requires.account.reach c.requires.today
+folded-folded-requires c = record { replay = c.requires.account.replay; reached = c.requires.today; opened = c.requires.account.reach.opened }
 
 pub reason_by_book-requires : goal.reason_by_book-requires
 reason_by_book-requires c = record { book = c.folded-folded.ensures.book ∙ ap book_today (sym c.present.ensures) }

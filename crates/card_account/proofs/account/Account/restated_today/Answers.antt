@@ -6,14 +6,13 @@ use Rattle.card_book.specs.Statements.{statement_on}
 use Rattle.card_daily.specs.declared.track.Statement.{Statement}
 use Rattle.card_model.specs.Folds.{cycle_at}
 use Rattle.card_model.specs.Refusals.{Lists, book_today}
-use Rattle.card_replay.proofs.Settled.{reached-today}
 use Rattle.card_replay.specs.Replays.{IsToday, given_of, present_of}
 use Rattle.card_account.proofs.account.Account.restated_today.Goals as goal
 
 pub statement-requires-clause-today : goal.statement-requires-clause-today
 statement-requires-clause-today c =
     subst (λ (a : OpenAccount). IsToday c.args.today c.args.shared.now (replay_of a)) (sym c.self.view_is)
-    (reached-today c.args.shared.now c.args.today (replay_of c.args.self.now) c.requires.account.replay c.requires.account.reach c.requires.today)
+    (record { replay = c.requires.account.replay; reached = c.requires.today; opened = c.requires.account.reach.opened })
 
 pub statement-requires-clause-small : goal.statement-requires-clause-small
 statement-requires-clause-small c =
